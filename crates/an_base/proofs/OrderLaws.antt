@@ -1,0 +1,103 @@
+use Rattle.std.proofs.Common.{◌≡◌, ◌∙◌, ap, ℕ, List, [], ◌∷◌, refl, Less, Equal, Greater, IsTrue}
+use Rattle.std.specs.declared.cmp.Ordering.{Ordering}
+use Rattle.std.specs.Ordering.{nat_cmp, ordering_then, ordering_reverse, is_le}
+use Rattle.std.specs.Cmp.{IsTotalOrder, then_total, on_total, nat_cmp_total}
+use Rattle.std.specs.Cmp.Lexicographic.{slice_cmp, lists_total}
+use Rattle.std.proofs.lemmas.Map.Lookups.{exact_unsigned}
+use Rattle.an_base.specs.Values.{LifeId, EndId, Place, PeerAt, EntryOf}
+use Rattle.an_base.specs.Order.{life_cmp, end_cmp, link_cmp, position_cmp, entry_cmp}
+
+-- two comparisons of which neither tells apart
+pub then_equal : (a b : Ordering) → ordering_then a b ≡ Equal → (a ≡ Equal) × (b ≡ Equal)
+then_equal Less b e = absurd (cc)
+then_equal Equal b e = (refl, e)
+then_equal Greater b e = absurd (cc)
+
+pub nat_apart : (a b : ℕ) → nat_cmp a b ≡ Equal → a ≡ b
+nat_apart = exact_unsigned
+
+pub life_total : IsTotalOrder life_cmp
+life_total = then_total (on_total (λ l. l.uid) nat_cmp_total) (on_total (λ l. l.boot) nat_cmp_total)
+
+pub life_apart : (a b : LifeId) → life_cmp a b ≡ Equal → a ≡ b
+life_apart a b e =
+    let f = then_equal (nat_cmp a.uid b.uid) (nat_cmp a.boot b.boot) e in
+    let mk : ℕ → ℕ → LifeId = λ u n. record { uid = u; boot = n } in
+    ap (λ (u : ℕ). mk u a.boot) (nat_apart a.uid b.uid f.0) ∙ ap (λ (n : ℕ). mk b.uid n) (nat_apart a.boot b.boot f.1)
+
+end_total : IsTotalOrder end_cmp
+end_total = then_total (on_total (λ e. e.life) life_total) (on_total (λ e. e.port) nat_cmp_total)
+
+end_apart : (a b : EndId) → end_cmp a b ≡ Equal → a ≡ b
+end_apart a b e =
+    let f = then_equal (life_cmp a.life b.life) (nat_cmp a.port b.port) e in
+    let mk : LifeId → ℕ → EndId = λ l p. record { life = l; port = p } in
+    ap (λ (l : LifeId). mk l a.port) (life_apart a.life b.life f.0) ∙ ap (λ (p : ℕ). mk b.life p) (nat_apart a.port b.port f.1)
+
+link_total : IsTotalOrder link_cmp
+link_total = then_total (on_total (λ l. l.port) nat_cmp_total) (on_total (λ l. l.peer) end_total)
+
+link_apart : (a b : PeerAt) → link_cmp a b ≡ Equal → a ≡ b
+link_apart a b e =
+    let f = then_equal (nat_cmp a.port b.port) (end_cmp a.peer b.peer) e in
+    let mk : ℕ → EndId → PeerAt = λ p x. record { port = p; peer = x } in
+    ap (λ (p : ℕ). mk p a.peer) (nat_apart a.port b.port f.0) ∙ ap (λ (x : EndId). mk b.port x) (end_apart a.peer b.peer f.1)
+
+links_apart : (xs ys : List PeerAt) → slice_cmp link_cmp xs ys ≡ Equal → xs ≡ ys
+links_apart [] [] e = refl
+links_apart [] (y ∷ ys) e = absurd (cc)
+links_apart (x ∷ xs) [] e = absurd (cc)
+links_apart (x ∷ xs) (y ∷ ys) e =
+    let f = then_equal (link_cmp x y) (slice_cmp link_cmp xs ys) e in
+    let first = link_apart x y f.0 in
+    let others = links_apart xs ys f.1 in
+    cc
+
+-- places that agree in their parts are one
+pub place_is : (p q : Place) → p.root ≡ q.root → p.level ≡ q.level → p.parent ≡ q.parent → p.port ≡ q.port → p ≡ q
+place_is p q a b c d =
+    let mk : LifeId → ℕ → LifeId → ℕ → Place = λ r l u n. record { root = r; level = l; parent = u; port = n } in
+    ap (λ (r : LifeId). mk r p.level p.parent p.port) a ∙ ap (λ (l : ℕ). mk q.root l p.parent p.port) b ∙ ap (λ (u : LifeId). mk q.root q.level u p.port) c ∙ ap (λ (n : ℕ). mk q.root q.level q.parent n) d
+
+pub position_total : IsTotalOrder position_cmp
+position_total =
+    then_total (on_total (λ p. p.root) life_total)
+    (then_total (on_total (λ p. p.level) nat_cmp_total) (then_total (on_total (λ p. p.parent) life_total) (on_total (λ p. p.port) nat_cmp_total)))
+
+pub position_apart : (a b : Place) → position_cmp a b ≡ Equal → a ≡ b
+position_apart a b e =
+    let f = then_equal (life_cmp a.root b.root) _ e in
+    let g = then_equal (nat_cmp a.level b.level) _ f.1 in
+    let h = then_equal (life_cmp a.parent b.parent) (nat_cmp a.port b.port) g.1 in
+    let root = life_apart a.root b.root f.0 in
+    let level = nat_apart a.level b.level g.0 in
+    let parent = life_apart a.parent b.parent h.0 in
+    let port = nat_apart a.port b.port h.1 in
+    place_is a b root level parent port
+
+pub entry_total : IsTotalOrder entry_cmp
+entry_total =
+    then_total (on_total (λ e. e.position) position_total)
+    (then_total (on_total (λ e. e.proposed) nat_cmp_total) (on_total (λ e. e.links) (lists_total link_total)))
+
+pub entry_apart : (a b : EntryOf) → a.life ≡ b.life → entry_cmp a b ≡ Equal → a ≡ b
+entry_apart a b life e =
+    let f = then_equal (position_cmp a.position b.position) _ e in
+    let g = then_equal (nat_cmp a.proposed b.proposed) (slice_cmp link_cmp a.links b.links) f.1 in
+    let position = position_apart a.position b.position f.0 in
+    let proposed = nat_apart a.proposed b.proposed g.0 in
+    let links = links_apart a.links b.links g.1 in
+    let mk : LifeId → Place → ℕ → List PeerAt → EntryOf = λ l p n k. record { life = l; position = p; proposed = n; links = k } in
+    ap (λ (l : LifeId). mk l a.position a.proposed a.links) life ∙ ap (λ (p : Place). mk b.life p a.proposed a.links) position
+    ∙ ap (λ (n : ℕ). mk b.life b.position n a.links) proposed ∙ ap (λ (k : List PeerAt). mk b.life b.position b.proposed k) links
+
+tied : (r s : Ordering) → r ≡ ordering_reverse s → IsTrue (is_le r) → IsTrue (is_le s) → r ≡ Equal
+tied Less Less e le ge = absurd (cc)
+tied Less Equal e le ge = absurd (cc)
+tied Less Greater e le ge = absurd (cc)
+tied Equal s e le ge = refl
+tied Greater s e le ge = absurd (cc)
+
+-- lives of which neither is above the other are one
+pub both_least : (a b : LifeId) → IsTrue (is_le (life_cmp a b)) → IsTrue (is_le (life_cmp b a)) → a ≡ b
+both_least a b le ge = life_apart a b (tied (life_cmp a b) (life_cmp b a) (life_total.antisymm a b) le ge)

@@ -1,0 +1,269 @@
+ghost use Rattle.std.specs.Prelude.{◌≡◌, ◌≤◌, length, IfOk};
+
+use crate::entry::Entries;
+use crate::life::Life;
+use crate::memory::OutOfMemory;
+use crate::numbers::Numbers;
+use std::alloc::Global;
+use std::marker::Model;
+
+/// A life tells its position to a neighbour.
+#[derive(Clone, Copy, Debug, PartialEq, Eq)]
+pub struct PosBody {
+    /// The version of the position, from 1.
+    pub version: u32,
+    /// The root of the position.
+    pub root: Life,
+    /// The level of the position, 0 to 125.
+    pub level: u8,
+    /// Whether this link is the sender's link to its parent.
+    pub to_parent: bool,
+}
+
+impl Model for PosBody {
+    ghost use Rattle.std.specs.Prelude.{◌≤◌};
+    ghost use Rattle.an_base.specs.Values.{PosOf};
+
+    ghost Value = { PosOf };
+
+    ghost view = { λ b. record { version = b.version; root = b.root; level = b.level; to_parent = b.to_parent } };
+
+    ghost invariant = { λ b. (1 ≤ b.version) × (b.level ≤ 125) };
+
+    ghost inverse = { λ v. record { version = v.version; root = v.root; level = v.level; to_parent = v.to_parent } };
+}
+
+impl PosBody {
+    /// The body of these four parts.
+    pub fn new(version: u32, root: Life, level: u8, to_parent: bool) -> Self
+        requires version { 1 ≤ version }
+        requires level { level ≤ 125 }
+        ensures { result ≡ record { version = version; root = root; level = level; to_parent = to_parent } }
+    {
+        PosBody {
+            version,
+            root,
+            level,
+            to_parent,
+        }
+    }
+
+    /// The version of the position, from 1.
+    pub fn version(self) -> u32
+        ensures version { result ≡ self.version }
+        ensures least { 1 ≤ self.version }
+    {
+        self.version
+    }
+
+    /// The root of the position.
+    pub fn root(self) -> Life
+        ensures { result ≡ self.root }
+    {
+        self.root
+    }
+
+    /// The level of the position, 0 to 125.
+    pub fn level(self) -> u8
+        ensures level { result ≡ self.level }
+        ensures most { self.level ≤ 125 }
+    {
+        self.level
+    }
+
+    /// Whether this link is the sender's link to its parent.
+    pub fn to_parent(self) -> bool
+        ensures { result ≡ self.to_parent }
+    {
+        self.to_parent
+    }
+}
+
+/// A life answers the position that a neighbour told it.
+#[derive(Clone, Copy, Debug, PartialEq, Eq)]
+pub struct AnswerBody {
+    /// The version that was received, from 1.
+    pub version: u32,
+    /// Whether this link is the sender's link to its parent.
+    pub to_parent: bool,
+}
+
+impl Model for AnswerBody {
+    ghost use Rattle.std.specs.Prelude.{◌≤◌};
+    ghost use Rattle.an_base.specs.Values.{AnswerOf};
+
+    ghost Value = { AnswerOf };
+
+    ghost view = { λ b. record { version = b.version; to_parent = b.to_parent } };
+
+    ghost invariant = { λ b. 1 ≤ b.version };
+
+    ghost inverse = { λ v. record { version = v.version; to_parent = v.to_parent } };
+}
+
+impl AnswerBody {
+    /// The body of these two parts.
+    pub fn new(version: u32, to_parent: bool) -> Self
+        requires { 1 ≤ version }
+        ensures { result ≡ record { version = version; to_parent = to_parent } }
+    {
+        AnswerBody { version, to_parent }
+    }
+
+    /// The version that was received, from 1.
+    pub fn version(self) -> u32
+        ensures version { result ≡ self.version }
+        ensures least { 1 ≤ self.version }
+    {
+        self.version
+    }
+
+    /// Whether this link is the sender's link to its parent.
+    pub fn to_parent(self) -> bool
+        ensures { result ≡ self.to_parent }
+    {
+        self.to_parent
+    }
+}
+
+/// A topology goes down the tree: entries by rising life, and the number of each.
+#[derive(Debug, Drop)]
+pub struct TopoBody {
+    /// The entries of the topology.
+    pub entries: Entries,
+    /// As many numbers, in the order of the entries.
+    pub numbers: Numbers,
+}
+
+impl Model for TopoBody {
+    ghost use Rattle.std.specs.Prelude.{◌≡◌, length};
+    ghost use Rattle.an_base.specs.Values.{TopoOf};
+
+    ghost Value = { TopoOf };
+
+    ghost view = { λ b. record { entries = b.entries; numbers = b.numbers } };
+
+    ghost invariant = { λ b. length b.entries ≡ length b.numbers };
+}
+
+impl TopoBody {
+    /// The topology of these entries with these numbers.
+    pub fn new(entries: Entries, numbers: Numbers) -> Self
+        requires { length entries ≡ length numbers }
+        ensures { result ≡ record { entries = entries; numbers = numbers } }
+    {
+        TopoBody { entries, numbers }
+    }
+
+    /// The entries by rising life.
+    pub fn entries(&self) -> &Entries
+        ensures entries { result.now ≡ self.now.entries }
+        ensures as_many { length self.now.entries ≡ length self.now.numbers }
+    {
+        &self.entries
+    }
+
+    /// The number of each entry.
+    pub fn numbers(&self) -> &Numbers
+        ensures numbers { result.now ≡ self.now.numbers }
+        ensures as_many { length self.now.entries ≡ length self.now.numbers }
+    {
+        &self.numbers
+    }
+
+    /// The same topology.
+    pub fn copy(&self, alloc: Global) -> Result<Self, OutOfMemory>
+        ensures { IfOk result (λ copy. copy ≡ self.now) }
+    {
+        Ok(TopoBody {
+            entries: self.entries.copy(alloc)?,
+            numbers: self.numbers.copy(alloc)?,
+        })
+    }
+}
+
+/// What two lives with a link between them tell each other within an epoch.
+#[derive(Debug, Drop)]
+pub enum Body {
+    /// The sender's position changed.
+    Pos(PosBody),
+    /// The sender received a position.
+    Answer(AnswerBody),
+    /// The sender is stable, and this is its report.
+    Stable {
+        /// The report, by rising life.
+        entries: Entries,
+    },
+    /// The sender has finished with this topology.
+    Topo(TopoBody),
+}
+
+impl Body {
+    /// The same body.
+    pub fn copy(&self, alloc: Global) -> Result<Self, OutOfMemory>
+        ensures { IfOk result (λ copy. copy ≡ self.now) }
+    {
+        match self {
+            Body::Pos(body) => Ok(Body::Pos(*body)),
+            Body::Answer(body) => Ok(Body::Answer(*body)),
+            Body::Stable { entries } => {
+                let entries = entries.copy(alloc)?;
+                Ok(Body::Stable { entries })
+            }
+            Body::Topo(body) => Ok(Body::Topo(body.copy(alloc)?)),
+        }
+    }
+}
+
+#[cfg(test)]
+mod tests {
+    use super::*;
+    use crate::entry::Entry;
+    use crate::links::Links;
+    use crate::position::Position;
+    use std::test::Fail;
+
+    // The topology of one life.
+    fn alone(alloc: Global) -> Result<TopoBody, Fail> {
+        let life = Life::new(7, 1);
+        let entry = Entry {
+            life,
+            position: Position::new(life, 0, life, 0),
+            proposed: 5,
+            links: Links::new(),
+        };
+        let mut numbers = Vec::new(alloc);
+        numbers.push(5)?;
+        let entries = Entries::of(alloc, entry)?;
+        if numbers.len() != entries.len() {
+            return Err(Fail::from("lengths"));
+        }
+        Ok(TopoBody::new(entries, Numbers::new(numbers)))
+    }
+
+    #[test]
+    fn a_copy_of_a_body_says_the_same(rt: HostRuntime) -> Result<(), Fail> {
+        let pos = PosBody::new(3, Life::new(1, 2), 125, true);
+        match Body::Pos(pos).copy(rt.alloc())? {
+            Body::Pos(copy) => {
+                assert_eq!(rt; copy, pos);
+                assert_eq!(rt;
+                    (copy.version(), copy.level(), copy.to_parent()),
+                    (3, 125, true)
+                );
+                assert_eq!(rt; copy.root(), Life::new(1, 2));
+            }
+            _ => assert!(rt; false),
+        }
+        match Body::Topo(alone(rt.alloc())?).copy(rt.alloc())? {
+            Body::Topo(copy) => {
+                assert_eq!(rt; copy.entries().len(), 1);
+                assert_eq!(rt; copy.numbers().as_slice(), [5].as_slice());
+            }
+            _ => assert!(rt; false),
+        }
+        let answer = AnswerBody::new(9, false);
+        assert_eq!(rt; (answer.version(), answer.to_parent()), (9, false));
+        Ok(())
+    }
+}

@@ -1,0 +1,215 @@
+ghost use Rattle.std.specs.Prelude.{◌≡◌, ◌<◌, ◌≤◌, [], ◌∷◌, ◌++◌, length, All, IfOk, OnOk, OnErr};
+
+use crate::life::Life;
+use crate::links::Links;
+use crate::memory::OutOfMemory;
+use crate::position::Position;
+use std::alloc::Global;
+use std::cmp::Ordering;
+use std::marker::Model;
+
+/// The most lives in one topology, so the most entries.
+pub const MOST_ENTRIES: usize = 126;
+
+/// What is known of one life: where it stands, the number that it proposes for itself, 1 to 126,
+/// and its links by rising port.
+#[derive(Debug, Drop)]
+pub struct Entry {
+    /// The life of which this is known.
+    pub life: Life,
+    /// Where it stands in its tree.
+    pub position: Position,
+    /// The number that it proposes for itself, 1 to 126.
+    pub proposed: u8,
+    /// Its links by rising port.
+    pub links: Links,
+}
+
+impl Model for Entry {
+    ghost use Rattle.std.specs.Prelude.{◌≤◌};
+    ghost use Rattle.an_base.specs.Values.{EntryOf};
+
+    ghost Value = { EntryOf };
+
+    ghost view = { λ e. record { life = e.life; position = e.position; proposed = e.proposed; links = e.links } };
+
+    ghost invariant = { λ e. (1 ≤ e.proposed) × (e.proposed ≤ 126) };
+}
+
+impl Entry {
+    ghost use Rattle.an_base.specs.Order.{entry_cmp};
+
+    /// The number that the life proposes for itself, 1 to 126.
+    pub fn proposed(&self) -> u8
+        ensures proposed { result ≡ self.now.proposed }
+        ensures least { 1 ≤ self.now.proposed }
+        ensures most { self.now.proposed ≤ 126 }
+    {
+        self.proposed
+    }
+
+    /// The same entry, without taking memory.
+    pub fn copy(&self) -> Self
+        ensures { result ≡ self.now }
+    {
+        Entry {
+            life: self.life,
+            position: self.position,
+            proposed: self.proposed,
+            links: self.links.copy(),
+        }
+    }
+
+    /// Which of two entries is the lesser: by position, then by proposed number, then by links as a
+    /// list. The life does not count, since it is entries of one life that are compared.
+    pub fn compare(&self, other: &Entry) -> Ordering
+        ensures { result ≡ entry_cmp self.now other.now }
+    {
+        self.position
+            .cmp(&other.position)
+            .then(self.proposed.cmp(&other.proposed))
+            .then(self.links.as_slice().cmp(&other.links.as_slice()))
+    }
+}
+
+/// Entries of one topology by rising life, 1 to 126, which contracts see as a list.
+#[derive(Debug, Drop)]
+pub struct Entries {
+    items: Vec<Entry>,
+}
+
+impl Model for Entries {
+    ghost use Rattle.std.specs.Prelude.{List, ◌≤◌, length};
+    ghost use Rattle.an_base.specs.Values.{EntryOf};
+    ghost use Rattle.an_base.specs.Order.{LivesRise};
+
+    ghost Value = { List EntryOf };
+
+    ghost view = { λ e. e.items.items };
+
+    ghost invariant = { λ e. (1 ≤ length e.items.items) × (length e.items.items ≤ 126) × LivesRise e.items.items };
+}
+
+impl Entries {
+    ghost use Rattle.an_base.specs.Order.{IsBelow, LivesRise};
+
+    /// The entries of a vector, without taking memory.
+    pub fn new(items: Vec<Entry>) -> Self
+        requires some { 1 ≤ length items.items }
+        requires most { length items.items ≤ 126 }
+        requires rising { LivesRise items.items }
+        ensures { result ≡ items.items }
+    {
+        Entries { items }
+    }
+
+    /// One entry.
+    pub fn of(alloc: Global, entry: Entry) -> Result<Self, OutOfMemory>
+        ensures { IfOk result (λ entries. entries ≡ entry ∷ []) }
+    {
+        let mut items = Vec::new(alloc);
+        items.push(entry)?;
+        Ok(Entries { items })
+    }
+
+    /// How many entries there are, 1 to 126.
+    pub fn len(&self) -> usize
+        ensures { result ≡ length self.now }
+    {
+        self.items.len()
+    }
+
+    /// The entries by rising life.
+    pub fn as_slice(&self) -> &[Entry]
+        ensures all { result.now ≡ self.now }
+        ensures some { 1 ≤ length self.now }
+        ensures most { length self.now ≤ 126 }
+        ensures rising { LivesRise self.now }
+    {
+        &self.items
+    }
+
+    /// The same entries.
+    pub fn copy(&self, alloc: Global) -> Result<Self, OutOfMemory>
+        ensures { IfOk result (λ copy. copy ≡ self.now) }
+    {
+        let mut items = Vec::with_capacity(alloc, self.items.len())?;
+        'entries: for entry in self.as_slice() {
+            items.push(entry.copy())?;
+        }
+        Ok(Entries { items })
+    }
+
+    /// The entries as a vector, without taking memory.
+    pub fn into_vec(self) -> Vec<Entry>
+        ensures { result.items ≡ self }
+    {
+        self.items
+    }
+
+    /// Adds an entry at the end. Its life is above those before it. Where no memory is found
+    /// nothing is added.
+    pub fn push(&mut self, entry: Entry) -> Result<(), OutOfMemory>
+        requires room { length self.old < 126 }
+        requires rising { All (λ e. IsBelow e.life entry.life) self.old }
+        ensures ok { OnOk result (self.new ≡ self.old ++ entry ∷ []) }
+        ensures err { OnErr result (self.new ≡ self.old) }
+    {
+        self.items.push(entry)?;
+        Ok(())
+    }
+}
+
+#[cfg(test)]
+mod tests {
+    use super::*;
+    use crate::life::End;
+    use crate::links::PortLink;
+    use std::test::Fail;
+
+    // An entry at the root, with a link at this port.
+    fn entry_of(uid: u64, proposed: u8, port: u8) -> Entry
+        requires uid { uid < 100 }
+        requires least { 1 ≤ proposed }
+        requires most { proposed ≤ 126 }
+        requires port_least { 1 ≤ port }
+        requires port_most { port ≤ 12 }
+        ensures { result.life ≡ record { uid = uid; boot = 1 } }
+    {
+        let life = Life::new(uid, 1);
+        let mut links = Links::new();
+        links.push(PortLink::new(port, End::new(Life::new(9, 1), 1)));
+        Entry {
+            life,
+            position: Position::new(Life::new(1, 1), 0, Life::new(1, 1), 0),
+            proposed,
+            links,
+        }
+    }
+
+    #[test]
+    fn entries_are_ordered_by_position_number_and_links(rt: HostRuntime) {
+        let least = entry_of(1, 1, 1);
+        assert_eq!(rt; least.compare(&entry_of(2, 1, 1)), Ordering::Equal);
+        assert_eq!(rt; least.compare(&entry_of(1, 2, 1)), Ordering::Less);
+        assert_eq!(rt; entry_of(1, 1, 2).compare(&least), Ordering::Greater);
+        assert_eq!(rt;
+            entry_of(1, 1, 2).compare(&entry_of(1, 2, 1)),
+            Ordering::Less
+        );
+    }
+
+    #[test]
+    fn entries_stand_by_rising_life(rt: HostRuntime) -> Result<(), Fail> {
+        let mut entries = Entries::of(rt.alloc(), entry_of(1, 1, 1)).map_err(|_error| "memory")?;
+        entries.push(entry_of(2, 5, 1)).map_err(|_error| "memory")?;
+        assert_eq!(rt; entries.len(), 2);
+        let last = &entries.as_slice()[1];
+        assert_eq!(rt; last.proposed, 5);
+        assert_eq!(rt; entries.into_vec().len(), 2);
+        let mut items = Vec::new(rt.alloc());
+        items.push(entry_of(3, 1, 1))?;
+        assert_eq!(rt; Entries::new(items).len(), 1);
+        Ok(())
+    }
+}

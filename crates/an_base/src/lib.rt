@@ -1,0 +1,17 @@
+//! What all layers speak of: lives, ends of links, positions in a spanning tree, entries of a
+//! topology, the bodies that switches exchange, words and bytes, each within its range, and their
+//! orders.
+//!
+//! It stands on std alone. Its contract: contracts see each type as a number, a record or a list;
+//! the types keep the ranges; the orders are total; and a node has one place in a spanning tree.
+#![tactic(auto)]
+
+pub mod body;
+pub mod entry;
+pub mod law;
+pub mod life;
+pub mod links;
+pub mod memory;
+pub mod numbers;
+pub mod position;
+pub mod text;

@@ -1,0 +1,118 @@
+ghost use Rattle.std.specs.Prelude.{◌≡◌, ◌≤◌, ◌<◌, ◌^◌};
+
+use std::marker::Model;
+
+/// A life of a switch: the switch's identifier, below 2^48, and the number of its boot, from 1.
+/// Lives are ordered by identifier, then by boot.
+#[derive(Clone, Copy, Debug, PartialEq, Eq, PartialOrd, Ord)]
+pub struct Life {
+    /// The switch's identifier, below 2^48.
+    pub uid: u64,
+    /// The number of the boot, from 1.
+    pub boot: u32,
+}
+
+impl Model for Life {
+    ghost use Rattle.std.specs.Prelude.{◌<◌, ◌≤◌, ◌^◌};
+    ghost use Rattle.an_base.specs.Values.{LifeId};
+
+    ghost Value = { LifeId };
+
+    ghost view = { λ l. record { uid = l.uid; boot = l.boot } };
+
+    ghost invariant = { λ l. (l.uid < 2 ^ 48) × (1 ≤ l.boot) };
+
+    ghost inverse = { λ v. record { uid = v.uid; boot = v.boot } };
+}
+
+impl Life {
+    /// The life of this identifier and boot.
+    pub const fn new(uid: u64, boot: u32) -> Self
+        requires uid { uid < 2 ^ 48 }
+        requires boot { 1 ≤ boot }
+        ensures { result ≡ record { uid = uid; boot = boot } }
+    {
+        Life { uid, boot }
+    }
+
+    /// The switch's identifier, below 2^48.
+    pub fn uid(self) -> u64
+        ensures uid { result ≡ self.uid }
+        ensures most { self.uid < 2 ^ 48 }
+    {
+        self.uid
+    }
+
+    /// The number of the boot, from 1.
+    pub fn boot(self) -> u32
+        ensures boot { result ≡ self.boot }
+        ensures least { 1 ≤ self.boot }
+    {
+        self.boot
+    }
+}
+
+/// One end of a link: a life and an external port of it, 1 to 12.
+#[derive(Clone, Copy, Debug, PartialEq, Eq, PartialOrd, Ord)]
+pub struct End {
+    /// The life at this end.
+    pub life: Life,
+    /// Its port, 1 to 12.
+    pub port: u8,
+}
+
+impl Model for End {
+    ghost use Rattle.std.specs.Prelude.{◌≤◌};
+    ghost use Rattle.an_base.specs.Values.{EndId};
+
+    ghost Value = { EndId };
+
+    ghost view = { λ e. record { life = e.life; port = e.port } };
+
+    ghost invariant = { λ e. (1 ≤ e.port) × (e.port ≤ 12) };
+
+    ghost inverse = { λ v. record { life = v.life; port = v.port } };
+}
+
+impl End {
+    /// The end at this port of this life.
+    pub fn new(life: Life, port: u8) -> Self
+        requires least { 1 ≤ port }
+        requires most { port ≤ 12 }
+        ensures { result ≡ record { life = life; port = port } }
+    {
+        End { life, port }
+    }
+
+    /// The life at this end.
+    pub fn life(self) -> Life
+        ensures { result ≡ self.life }
+    {
+        self.life
+    }
+
+    /// The port at this end, 1 to 12.
+    pub fn port(self) -> u8
+        ensures port { result ≡ self.port }
+        ensures least { 1 ≤ self.port }
+        ensures most { self.port ≤ 12 }
+    {
+        self.port
+    }
+}
+
+#[cfg(test)]
+mod tests {
+    use super::*;
+
+    #[test]
+    fn lives_are_ordered_by_identifier_and_then_by_boot(rt: HostRuntime) {
+        assert!(rt; Life::new(1, 9) < Life::new(2, 1));
+        assert!(rt; Life::new(2, 1) < Life::new(2, 2));
+        assert_eq!(rt; Life::new(2, 2).uid(), 2);
+        assert_eq!(rt; Life::new(1, 2).boot(), 2);
+        let end = End::new(Life::new(7, 1), 12);
+        assert_eq!(rt; end.port(), 12);
+        assert_eq!(rt; end.life(), Life::new(7, 1));
+    }
+}

@@ -1,0 +1,154 @@
+ghost use Rattle.std.specs.Prelude.{◌≡◌, ◌==◌, ◌<◌, ◌≤◌, [], ◌∷◌, ◌++◌, length, All};
+
+use crate::life::{End, Life};
+use std::marker::Model;
+
+/// The most links that a switch has: one for each external port.
+pub const MOST_LINKS: usize = 12;
+
+/// A link as one of its ends names it: the own port, 1 to 12, and the other end.
+/// Such links are ordered by port, then by the other end.
+#[derive(Clone, Copy, Debug, PartialEq, Eq, PartialOrd, Ord)]
+pub struct PortLink {
+    /// The own port, 1 to 12.
+    pub port: u8,
+    /// The other end.
+    pub peer: End,
+}
+
+impl Model for PortLink {
+    ghost use Rattle.std.specs.Prelude.{◌≤◌};
+    ghost use Rattle.an_base.specs.Values.{PeerAt};
+
+    ghost Value = { PeerAt };
+
+    ghost view = { λ l. record { port = l.port; peer = l.peer } };
+
+    ghost invariant = { λ l. (1 ≤ l.port) × (l.port ≤ 12) };
+
+    ghost inverse = { λ v. record { port = v.port; peer = v.peer } };
+}
+
+impl PortLink {
+    /// The link from this port to this other end.
+    pub fn new(port: u8, peer: End) -> Self
+        requires least { 1 ≤ port }
+        requires most { port ≤ 12 }
+        ensures { result ≡ record { port = port; peer = peer } }
+    {
+        PortLink { port, peer }
+    }
+
+    /// The own port, 1 to 12.
+    pub fn port(&self) -> u8
+        ensures port { result ≡ self.now.port }
+        ensures least { 1 ≤ self.now.port }
+        ensures most { self.now.port ≤ 12 }
+    {
+        self.port
+    }
+
+    /// The other end.
+    pub fn peer(&self) -> End
+        ensures { result ≡ self.now.peer }
+    {
+        self.peer
+    }
+}
+
+/// The links of a life by rising port, at most twelve, which contracts see as a list.
+#[derive(Debug, Drop)]
+pub struct Links {
+    items: [PortLink; 12],
+    len: usize,
+}
+
+impl Model for Links {
+    ghost use Rattle.std.specs.Prelude.{List, take, ◌≤◌};
+    ghost use Rattle.an_base.specs.Values.{PeerAt};
+    ghost use Rattle.an_base.specs.Order.{PortsRise};
+
+    ghost Value = { List PeerAt };
+
+    ghost view = { λ l. take l.len l.items };
+
+    ghost invariant = { λ l. (l.len ≤ 12) × PortsRise (take l.len l.items) };
+}
+
+impl Links {
+    ghost use Rattle.std.specs.Prelude.{◌≤◌};
+    ghost use Rattle.an_base.specs.Order.{PortsRise};
+
+    /// No links.
+    pub fn new() -> Self
+        ensures { result ≡ [] }
+    {
+        let unused = PortLink::new(1, End::new(Life::new(0, 1), 1));
+        Links {
+            items: [unused; MOST_LINKS],
+            len: 0,
+        }
+    }
+
+    /// How many links there are, 0 to 12.
+    pub fn len(&self) -> usize
+        ensures { result ≡ length self.now }
+    {
+        self.as_slice().len()
+    }
+
+    /// Whether there are no links.
+    pub fn is_empty(&self) -> bool
+        ensures { result ≡ (length self.now == 0) }
+    {
+        self.as_slice().is_empty()
+    }
+
+    /// The links by rising port.
+    pub fn as_slice(&self) -> &[PortLink]
+        ensures all { result.now ≡ self.now }
+        ensures most { length self.now ≤ 12 }
+        ensures rising { PortsRise self.now }
+    {
+        &self.items[..self.len]
+    }
+
+    /// The same links, without taking memory.
+    pub fn copy(&self) -> Self
+        ensures { result ≡ self.now }
+    {
+        Links {
+            items: self.items,
+            len: self.len,
+        }
+    }
+
+    /// Adds a link at the end. Its port is above those of the links before it.
+    pub fn push(&mut self, link: PortLink)
+        requires room { length self.old < 12 }
+        requires rising { All (λ l. l.port < link.port) self.old }
+        ensures { self.new ≡ self.old ++ link ∷ [] }
+    {
+        self.items[self.len] = link;
+        self.len += 1;
+    }
+}
+
+#[cfg(test)]
+mod tests {
+    use super::*;
+
+    #[test]
+    fn links_stand_by_rising_port(rt: HostRuntime) {
+        let peer = End::new(Life::new(2, 1), 5);
+        let mut links = Links::new();
+        assert!(rt; links.is_empty());
+        links.push(PortLink::new(1, peer));
+        links.push(PortLink::new(12, peer));
+        assert_eq!(rt; links.len(), 2);
+        let last = &links.as_slice()[1];
+        assert_eq!(rt; last.port(), 12);
+        assert_eq!(rt; last.peer(), peer);
+        assert!(rt; links.as_slice()[0] < links.as_slice()[1]);
+    }
+}

@@ -1,0 +1,75 @@
+ghost use Rattle.std.specs.Prelude.{◌≡◌, ◌≢◌, ◌≤◌, length, All, AllPairs, IfOk};
+
+use crate::memory::OutOfMemory;
+use std::alloc::Global;
+use std::marker::Model;
+
+/// The numbers of the entries of a topology, in the order of the entries: 1 to 126 of them, each 1
+/// to 126, all different. Contracts see them as a list.
+#[derive(Debug, Drop)]
+pub struct Numbers {
+    items: Vec<u8>,
+}
+
+impl Model for Numbers {
+    ghost use Rattle.std.specs.Prelude.{List, ℕ};
+    ghost use Rattle.an_base.specs.Numbers.{AreNumbers};
+
+    ghost Value = { List ℕ };
+
+    ghost view = { λ n. n.items.items };
+
+    ghost invariant = { λ n. AreNumbers n.items.items };
+}
+
+impl Numbers {
+    ghost use Rattle.an_base.specs.Numbers.{AreNumbers};
+
+    /// The numbers of a vector, without taking memory.
+    pub fn new(items: Vec<u8>) -> Self
+        requires { AreNumbers items.items }
+        ensures { result ≡ items.items }
+    {
+        Numbers { items }
+    }
+
+    /// How many numbers there are, 1 to 126.
+    pub fn len(&self) -> usize
+        ensures { result ≡ length self.now }
+    {
+        self.items.len()
+    }
+
+    /// The numbers in the order of the entries.
+    pub fn as_slice(&self) -> &[u8]
+        ensures all { result.now ≡ self.now }
+        ensures numbers { AreNumbers self.now }
+    {
+        &self.items
+    }
+
+    /// The same numbers.
+    pub fn copy(&self, alloc: Global) -> Result<Self, OutOfMemory>
+        ensures { IfOk result (λ copy. copy ≡ self.now) }
+    {
+        Ok(Numbers {
+            items: Vec::from_slice(alloc, self.as_slice())?,
+        })
+    }
+}
+
+#[cfg(test)]
+mod tests {
+    use super::*;
+    use std::test::Fail;
+
+    #[test]
+    fn a_copy_has_the_same_numbers(rt: HostRuntime) -> Result<(), Fail> {
+        let mut items = Vec::new(rt.alloc());
+        items.push(126)?;
+        let numbers = Numbers::new(items).copy(rt.alloc())?;
+        assert_eq!(rt; numbers.as_slice(), [126].as_slice());
+        assert_eq!(rt; numbers.len(), 1);
+        Ok(())
+    }
+}

@@ -1,0 +1,46 @@
+//! The program: the calls that answer its words, and `main`, which makes one of them over the
+//! standard streams.
+//!
+//! It stands on all other crates. Its contract is the top call's: what each status means, what the
+//! source then has left, and what each sink gained.
+#![tactic(auto)]
+
+mod expect;
+mod status;
+mod top;
+
+use an_base::memory::OutOfMemory;
+use an_base::text::Word;
+use outside::standard::{StdSink, StdSource};
+use status::{Status, finish};
+use std::alloc::Global;
+use std::env;
+use std::io::ErrorKind;
+use std::process::ExitCode;
+use std::rt::Env;
+
+// The words after the program's name. Where they are no text they are taken for no words.
+fn words<R: Env + AllocGlobal>(rt: &R) -> Result<Vec<Word>, OutOfMemory> {
+    let mut words = Vec::new(rt.alloc());
+    let mut args = match env::args(rt) {
+        Ok(args) => args,
+        Err(error) if error.kind() == ErrorKind::OutOfMemory => return Err(OutOfMemory),
+        Err(_error) => return Ok(words),
+    };
+    let _program = args.next();
+    for arg in args {
+        words.push(Word::of(rt.alloc(), arg.as_bytes())?)?;
+    }
+    Ok(words)
+}
+
+fn main(rt: HostRuntime) -> ExitCode {
+    let mut source = StdSource::new(rt.stdin());
+    let mut out = StdSink::new(rt.stdout());
+    let mut err = StdSink::new(rt.stderr());
+    let code = match words(&rt) {
+        Ok(words) => top::autonet(&rt, rt.alloc(), &words, &mut source, &mut out, &mut err),
+        Err(OutOfMemory) => finish(&mut err, Status::OutOfMemory),
+    };
+    ExitCode::from(code)
+}

@@ -1,0 +1,197 @@
+ghost use Rattle.std.specs.Prelude.{◌≡◌, ◌≢◌, ◌≤◌, ◌↔◌, [], ◌∷◌, codes, IsTrue};
+ghost use Rattle.autonet.specs.Answer.{seen, streams, IsExpectAnswer, IsUsageAnswer};
+
+use crate::expect::{INPUT_LIMIT, autonet_expect};
+use crate::status::{Status, finish};
+use an_base::text::Word;
+use outside::sink::Sink;
+use outside::source::Source;
+use std::alloc::Global;
+use std::sync::Wait;
+use std::thread::Threads;
+
+// Whether the words are the one word expect.
+fn is_expect(words: &[Word]) -> bool
+    ensures { IsTrue result ↔ (words.now ≡ codes "expect" ∷ []) }
+{
+    match words {
+        [word] => word.as_bytes() == b"expect".as_slice(),
+        _ => false,
+    }
+}
+
+/// Answers the words after the program's name. The answer is the number of a status, whose line
+/// goes to err. Words that are no command leave the source and out alone.
+pub fn autonet<R: Threads + Wait + Sync, S: Source, O: Sink, E: Sink>(
+    _rt: &R,
+    alloc: Global,
+    words: &[Word],
+    source: &mut S,
+    out: &mut O,
+    err: &mut E,
+) -> u8
+    ensures expect { words.now ≡ codes "expect" ∷ [] → IsExpectAnswer INPUT_LIMIT
+        (streams (seen (S.left source.old) (S.faults source.old)) (seen (O.written out.old) (O.faults out.old)) (seen (E.written err.old) (E.faults err.old)))
+        (streams (seen (S.left source.new) (S.faults source.new)) (seen (O.written out.new) (O.faults out.new)) (seen (E.written err.new) (E.faults err.new))) result }
+    ensures usage { words.now ≢ codes "expect" ∷ [] → IsUsageAnswer
+        (streams (seen (S.left source.old) (S.faults source.old)) (seen (O.written out.old) (O.faults out.old)) (seen (E.written err.old) (E.faults err.old)))
+        (streams (seen (S.left source.new) (S.faults source.new)) (seen (O.written out.new) (O.faults out.new)) (seen (E.written err.new) (E.faults err.new))) result }
+{
+    if is_expect(words) {
+        autonet_expect(alloc, source, out, err)
+    } else {
+        finish(err, Status::Usage)
+    }
+}
+
+#[cfg(test)]
+mod tests {
+    use super::*;
+    use outside::all::read_all;
+    use outside::memory::{MemorySink, MemorySource};
+    use std::test::Fail;
+
+    const TWO: &[u8] =
+        b"autonet 1\nswitch A 000000000001\nswitch B 000000000002\nlink A 1 B 1\nend\n";
+
+    const TWO_TREES: &[u8] =
+        b"component A members 2\nmember A level 0\nmember B level 1 parent A port 1\nend\n";
+
+    const USAGE: &[u8] = b"usage: autonet expect, run, replay, check or gen SEED N\n";
+
+    // The streams of a call: the input, how much one read gives, and the calls that fail.
+    #[derive(Drop)]
+    struct Streams {
+        source: MemorySource,
+        out: MemorySink,
+        err: MemorySink,
+    }
+
+    impl Streams {
+        fn new(alloc: Global, input: &[u8], cut: usize) -> Result<Streams, Fail>
+            requires { 1 ≤ cut }
+        {
+            Ok(Streams {
+                source: MemorySource::new(input.to_vec(alloc)?, Vec::new(alloc), cut),
+                out: MemorySink::new(alloc, 10_000, Vec::new(alloc))?,
+                err: MemorySink::new(alloc, 10_000, Vec::new(alloc))?,
+            })
+        }
+    }
+
+    // The status of a call with these words.
+    fn answer<R: Threads + Wait + Sync>(
+        rt: &R,
+        alloc: Global,
+        words: &[&[u8]],
+        streams: &mut Streams,
+    ) -> Result<u8, Fail> {
+        let mut list = Vec::new(alloc);
+        for word in words {
+            list.push(Word::of(alloc, word)?)?;
+        }
+        Ok(autonet(
+            rt,
+            alloc,
+            &list,
+            &mut streams.source,
+            &mut streams.out,
+            &mut streams.err,
+        ))
+    }
+
+    #[test]
+    fn two_linked_switches_have_one_tree(rt: HostRuntime) -> Result<(), Fail> {
+        for cut in [1, 7, 1000] {
+            let mut streams = Streams::new(rt.alloc(), TWO, cut)?;
+            assert_eq!(rt; answer(&rt, rt.alloc(), &[b"expect"], &mut streams)?, 0);
+            assert_eq!(rt; streams.out.bytes(), TWO_TREES);
+            assert_eq!(rt; streams.err.bytes(), b"".as_slice());
+        }
+        Ok(())
+    }
+
+    #[test]
+    fn the_empty_network_has_no_component(rt: HostRuntime) -> Result<(), Fail> {
+        let mut streams = Streams::new(rt.alloc(), b"autonet 1\nend\n", 100)?;
+        assert_eq!(rt; answer(&rt, rt.alloc(), &[b"expect"], &mut streams)?, 0);
+        assert_eq!(rt; streams.out.bytes(), b"end\n".as_slice());
+        Ok(())
+    }
+
+    #[test]
+    fn other_words_leave_the_source_and_out_alone(rt: HostRuntime) -> Result<(), Fail> {
+        for words in [
+            [].as_slice(),
+            [b"run".as_slice()].as_slice(),
+            [b"expect".as_slice(), b"now".as_slice()].as_slice(),
+            [b"Expect".as_slice()].as_slice(),
+            [b"".as_slice()].as_slice(),
+        ] {
+            let mut streams = Streams::new(rt.alloc(), TWO, 100)?;
+            assert_eq!(rt; answer(&rt, rt.alloc(), words, &mut streams)?, 2);
+            assert_eq!(rt; streams.out.bytes(), b"".as_slice());
+            assert_eq!(rt; streams.err.bytes(), USAGE);
+            let left = read_all(rt.alloc(), &mut streams.source, 1000)?;
+            assert_eq!(rt; left.as_slice(), TWO);
+        }
+        Ok(())
+    }
+
+    #[test]
+    fn what_is_no_script_is_refused_and_nothing_is_printed(rt: HostRuntime) -> Result<(), Fail> {
+        for input in [
+            &TWO[..TWO.len() - 1],
+            b"".as_slice(),
+            b"autonet 2\nend\n".as_slice(),
+        ] {
+            let mut streams = Streams::new(rt.alloc(), input, 100)?;
+            assert_eq!(rt; answer(&rt, rt.alloc(), &[b"expect"], &mut streams)?, 3);
+            assert_eq!(rt; streams.out.bytes(), b"".as_slice());
+            assert_eq!(rt;
+                streams.err.bytes(),
+                b"autonet: script not plain\n".as_slice()
+            );
+        }
+        Ok(())
+    }
+
+    #[test]
+    fn a_read_that_fails_at_any_place_is_told(rt: HostRuntime) -> Result<(), Fail> {
+        for failing in 1..9u32 {
+            let mut streams = Streams::new(rt.alloc(), TWO, 10)?;
+            let failing = [failing].to_vec(rt.alloc())?;
+            streams.source = MemorySource::new(TWO.to_vec(rt.alloc())?, failing, 10);
+            assert_eq!(rt; answer(&rt, rt.alloc(), &[b"expect"], &mut streams)?, 4);
+            assert_eq!(rt; streams.out.bytes(), b"".as_slice());
+            assert_eq!(rt; streams.err.bytes(), b"autonet: read fault\n".as_slice());
+        }
+        Ok(())
+    }
+
+    #[test]
+    fn a_write_that_fails_at_any_place_is_told(rt: HostRuntime) -> Result<(), Fail> {
+        for room in [0, 1, 30, 75] {
+            let mut streams = Streams::new(rt.alloc(), TWO, 100)?;
+            streams.out = MemorySink::new(rt.alloc(), room, Vec::new(rt.alloc()))?;
+            assert_eq!(rt; answer(&rt, rt.alloc(), &[b"expect"], &mut streams)?, 5);
+            assert_eq!(rt;
+                streams.out.bytes(),
+                TWO_TREES.get(..room).unwrap_or(TWO_TREES)
+            );
+            assert_eq!(rt; streams.err.bytes(), b"autonet: write fault\n".as_slice());
+        }
+        Ok(())
+    }
+
+    #[test]
+    fn a_line_that_err_does_not_take_is_a_write_fault(rt: HostRuntime) -> Result<(), Fail> {
+        for room in [0, 5] {
+            let mut streams = Streams::new(rt.alloc(), TWO, 100)?;
+            streams.err = MemorySink::new(rt.alloc(), room, Vec::new(rt.alloc()))?;
+            assert_eq!(rt; answer(&rt, rt.alloc(), &[b"run"], &mut streams)?, 5);
+            assert_eq!(rt; streams.err.bytes(), USAGE.get(..room).unwrap_or(USAGE));
+        }
+        Ok(())
+    }
+}

@@ -1,0 +1,128 @@
+-- The rule of the turn lock. Word 0 has the tickets drawn and word 1 the turns served, both modulo 2^64. The slot has the value.
+use Rattle.std.specs.Prelude.{◌≡◌, ℕ, ◌+◌, ◌-◌, ◌%◌, ◌^◌, ◌<◌, ◌≤◌, Bool, true, false, List, [], ◌∷◌, ◌++◌, ◌⊎◌, length, slice_index, Some}
+use mathlib.Core.Option.{some}
+use lib.ListN.{get_elem?}
+use Rattle.atomic_table.specs.Table.{State}
+use Rattle.fabric_turn.specs.declared.view.View.{View}
+use Rattle.fabric_turn.specs.declared.view.Ended.{Ended}
+use Rattle.fabric_turn.specs.declared.view.Stage.{Stage}
+use Rattle.fabric_turn.specs.declared.view.Stage.TheVariants.{Spent, Idle, Waits, Serves}
+use Rattle.fabric_turn.specs.History.{own_entries}
+
+-- the sum of f over a list
+abbrev pub total_by : {A : Type 0} → (A → ℕ) → List A → ℕ
+total_by f [] = 0
+total_by f (x ∷ xs) = f x + total_by f xs
+
+-- the seat was not joined into another
+abbrev pub is_live : Stage → Bool
+is_live Spent = false
+is_live Idle = true
+is_live (Waits t) = true
+is_live (Serves t) = true
+
+-- how many tickets a seat has
+abbrev pub tickets_at : Stage → ℕ
+tickets_at Spent = 0
+tickets_at Idle = 0
+tickets_at (Waits t) = 1
+tickets_at (Serves t) = 1
+
+-- n, and 0 where the seat was joined into another
+abbrev pub numbers_at : Stage → ℕ → ℕ
+numbers_at Spent n = 0
+numbers_at Idle n = n
+numbers_at (Waits t) n = n
+numbers_at (Serves t) n = n
+
+module _ {E D : Type 0} where
+  -- how many tickets the view has
+  abbrev pub tickets_of : View E D → ℕ
+  tickets_of v = tickets_at v.stage
+
+  -- how many numbers the view has: its own, those to give, and the ended
+  abbrev pub numbers_of : View E D → ℕ
+  numbers_of v = numbers_at v.stage (1 + (v.callers - v.next) + length v.ended)
+
+  -- what the first seat knows: it has number 0 and may give all others, and nothing has happened yet
+  abbrev pub first_view : ℕ → D → View E D
+  first_view callers start = record {
+    stage = Idle;
+    number = 0;
+    next = 1;
+    callers = callers;
+    start = Some start;
+    seen = [];
+    mine = [];
+    ended = [];
+    heard = [];
+  }
+
+  -- the number n is the view's own, one that it may give, or an ended one's
+  abbrev pub HasNumber : View E D → ℕ → Type 0
+  HasNumber v n = (n ≡ v.number) ⊎ (v.next ≤ n) ⊎ ((k : ℕ) × (x : Ended E) × (get_elem? v.ended k ≡ some x) × (x.number ≡ n))
+
+-- The roles of a caller's number: a seat's own, one that a seat may give, and ended
+abbrev pub acting : ℕ
+acting = 0
+
+abbrev pub spare : ℕ
+spare = 1
+
+abbrev pub over : ℕ
+over = 2
+
+module _ {E : Type 0} (drawn served : ℕ) (log : List E) (holder : ℕ → ℕ) (i : ℕ) (seen : List E) where
+  -- A ticket that view i has is one from the served up to the drawn, and no other view's. At the turn it is the one that is served, and all of the history was seen
+  abbrev pub HoldsTicket : Stage → Type 0
+  HoldsTicket Spent = Unit {0}
+  HoldsTicket Idle = Unit {0}
+  HoldsTicket (Waits t) = (served ≤ t) × (t < drawn) × (holder t ≡ i)
+  HoldsTicket (Serves t) = (t ≡ served) × (t < drawn) × (holder t ≡ i) × (seen ≡ log)
+
+module _ {S E D : Type 0} (history : S → List E) (start_of : S → D) (owner : E → ℕ) (callers : ℕ) (start : D) where
+  -- What is so of view i, where it is not spent. `log` is the history, and `place` says of each caller's number which view has it, and in what role
+  pub record IsSeated (log : List E) (place : ℕ → ℕ × ℕ) (i : ℕ) (v : View E D) : Type 0 where
+    pub begun : v.start ≡ Some start
+    pub bound : v.callers ≡ callers
+    pub below : v.number < callers
+    pub limit : v.next ≤ callers
+    -- its numbers are its alone
+    pub acts : place v.number ≡ (i, acting)
+    pub spares : (n : ℕ) → v.next ≤ n → n < callers → place n ≡ (i, spare)
+    pub ends : (k : ℕ) (x : Ended E) → get_elem? v.ended k ≡ some x → (place x.number ≡ (i, over)) × (own_entries owner log x.number ≡ x.mine)
+    -- all that its caller added it has seen
+    pub made : own_entries owner log v.number ≡ v.mine
+    pub saw : own_entries owner v.seen v.number ≡ v.mine
+    -- what it has seen, and what a seat had that was joined to it, are beginnings of the history
+    pub rest : List E
+    pub prefix : v.seen ++ rest ≡ log
+    pub heard_rest : List E
+    pub heard_prefix : v.heard ++ heard_rest ≡ log
+
+  pub record IsKept (s : State S (View E D)) : Type 0 where
+    -- tickets drawn and turns passed on, counted without bound, and the history
+    pub drawn : ℕ
+    pub served : ℕ
+    pub log : List E
+    -- which view has a ticket; which view has a caller's number, and in what role
+    pub holder : ℕ → ℕ
+    pub place : ℕ → ℕ × ℕ
+    pub two : length s.words ≡ 2
+    pub tickets : slice_index s.words 0 ≡ drawn % 2 ^ 64
+    pub serving : slice_index s.words 1 ≡ served % 2 ^ 64
+    pub few : callers < 2 ^ 32
+    -- each ticket that is not served yet is out with a view, and the views have all numbers
+    pub counted : total_by tickets_of s.views + served ≡ drawn
+    pub numbered : total_by numbers_of s.views ≡ callers
+    -- a number that was not given has no entry, and neither has one that is none
+    pub fresh : (n : ℕ) → (place n).1 ≡ spare → own_entries owner log n ≡ []
+    pub beyond : (n : ℕ) → callers ≤ n → own_entries owner log n ≡ []
+    pub seated : (i : ℕ) (v : View E D) → get_elem? s.views i ≡ some v → is_live v.stage ≡ true → IsSeated log place i v
+    pub ticketed : (i : ℕ) (v : View E D) → get_elem? s.views i ≡ some v → HoldsTicket drawn served log holder i v.seen v.stage
+    -- each number is some view's, and some view has seen all of the history
+    pub covers : (n : ℕ) → n < callers → (i : ℕ) × (v : View E D) × (get_elem? s.views i ≡ some v) × (is_live v.stage ≡ true) × HasNumber v n
+    pub latest : (i : ℕ) × (v : View E D) × (get_elem? s.views i ≡ some v) × (is_live v.stage ≡ true) × ((v.seen ≡ log) ⊎ (v.heard ≡ log))
+    -- the value is at home and stands for the history, or a view has the turn
+    pub slot : ((b : S) × (get_elem? s.homes 0 ≡ some (some b)) × (history b ≡ log) × (start_of b ≡ start))
+        ⊎ ((i : ℕ) × (v : View E D) × (t : ℕ) × (get_elem? s.views i ≡ some v) × (v.stage ≡ Serves t))

@@ -1,0 +1,267 @@
+ghost use Rattle.std.specs.Prelude.{◌≡◌, ℕ, ◌<◌, ◌≤◌, List, [], ◌∷◌, ◌++◌, IfOk};
+ghost use mathlib.Core.Option.{some};
+ghost use lib.ListN.{get_elem?};
+ghost use Rattle.fabric_turn.specs.Calls.{Called, GivesBack, HasOut, IsAtRest, IsFitFor, IsInTurn, TurnComes};
+ghost use Rattle.fabric_turn.specs.History.{AppendsAtMostOne, Extends, NoneOf, own_entries};
+ghost use Rattle.fabric_turn.specs.Rule.{first_view, HasNumber};
+ghost use Rattle.fabric_turn.specs.Seats.{HasAllNumbers, joined_view, new_view, remaining_view};
+
+use crate::order::{Compare, Draw, Fork, Look, Merge, Opening, Order, Pass, Views};
+use crate::seat::Seat;
+use crate::staged::Staged;
+use an_base::memory::OutOfMemory;
+use atomic_table::{Refused, Table};
+use std::alloc::Global;
+use std::hint::spin_loop;
+use std::snapshot::Snapshot;
+use std::sync::Wait;
+use std::sync::atomic::{AtomicU64, Ordering};
+use std::thread::yield_now;
+
+type Place<B> = atomic_table::Seat<B, Views<B>>;
+
+// The word that has the number of tickets drawn.
+const TICKETS: usize = 0;
+
+// The word that has the number of turns passed on, which is the ticket that is served.
+const SERVING: usize = 1;
+
+// How often a caller that is the next looks again at once.
+const SPINS: u32 = 256;
+
+// How often a caller looks again, after it gave way to other threads, before it sleeps.
+const YIELDS: u32 = 2048;
+
+/// A value behind a ticket lock. Callers share it by reference, and each call goes through a
+/// `Seat` of this turnstile.
+///
+/// Two words count the tickets drawn and the turns passed on, both modulo 2^64, and a slot has the
+/// value while no caller has it out.
+#[derive(Drop)]
+pub struct Turnstile<B: Staged> {
+    table: Table<B, Views<B>, Opening<B>, Order<B>, Global>,
+    // How many callers sleep or are about to. A caller counts itself before it looks whether the
+    // turn was passed on since, and who passes it on looks at the count afterwards.
+    sleepers: AtomicU64,
+    ghost sized: { (table.shared.table_id.words ≡ 2) × (table.shared.table_id.slots ≡ 1) },
+}
+
+impl<B: Staged> Turnstile<B> {
+    ghost use Rattle.fabric_turn.specs.Names.{turnstile_id};
+
+    /// A turnstile round `book`, and its first seat. The seat has the caller number 0, may give the
+    /// numbers 1 to `callers - 1`, and has seen an empty history. `callers` is at least 1, and
+    /// `book` stands for the empty history. Where memory runs out `book` is dropped.
+    pub fn new(alloc: Global, book: B, callers: u32) -> Result<(Turnstile<B>, Seat<B>), OutOfMemory>
+        requires callers { 0 < callers }
+        requires empty { B.history book ≡ [] }
+        ensures { IfOk result (λ t. t.1 ≡ (turnstile_id t.0, first_view callers (B.start book))) }
+    {
+        let mut slots = Vec::with_capacity(alloc, 1)?;
+        let about = Opening {
+            book: Snapshot::of(&book),
+            callers,
+        };
+        slots.push_reserved(book);
+        match Table::new(alloc, &[0, 0], slots, &about) {
+            Ok((table, place)) => {
+                let seat = Seat {
+                    place,
+                    number: 0,
+                    next: 1,
+                    callers,
+                };
+                let turnstile = Turnstile {
+                    table,
+                    sleepers: AtomicU64::new(0),
+                };
+                Ok((turnstile, seat))
+            }
+            Err(Refused { slots: _ }) => Err(OutOfMemory),
+        }
+    }
+
+    // Draws a ticket and waits until it is served. The value is then out with the seat.
+    fn wait_turn<R: Wait>(&self, rt: &R, place: &mut Place<B>)
+        requires turnstile { place.old.table_id ≡ self.now.table.shared.table_id }
+        requires rest { IsAtRest place.old.me }
+        ensures turnstile { place.new.table_id ≡ place.old.table_id }
+        ensures turn { TurnComes B.history B.start B.owner place.old.me.0 place.new.me }
+    {
+        let shared = &self.table.shared;
+        let ticket = shared.fetch_add::<Draw>(place, TICKETS, 1);
+        let mut looks = 0u32;
+        for _ in rt.forever() {
+            let serving = shared.load::<Look<B>>(place, SERVING);
+            if serving == ticket {
+                return;
+            }
+            self.back_off(rt, serving, ticket, looks);
+            looks = looks.saturating_add(1);
+        }
+        unreachable!()
+    }
+
+    // What a caller does after a look in vain, having made so many before: it looks again at once
+    // where its turn is the next, else it gives way to other threads, and after many looks it
+    // sleeps until a turn is passed on.
+    fn back_off<R: Wait>(&self, rt: &R, serving: u64, ticket: u64, looks: u32) {
+        if looks < SPINS && ticket.wrapping_sub(serving) == 1 {
+            spin_loop();
+        } else if looks < SPINS + YIELDS {
+            yield_now();
+        } else {
+            self.sleepers.fetch_add(1, Ordering::SeqCst);
+            let low_bits = (serving % (1 << 32)) as u32;
+            self.table.shared.park(rt, SERVING, low_bits);
+            self.sleepers.fetch_sub(1, Ordering::SeqCst);
+        }
+    }
+
+    // Runs one ask on the value, which is out with the seat.
+    fn act(&self, place: &mut Place<B>, number: u32, ask: B::Ask) -> B::Reply
+        requires turnstile { place.old.table_id ≡ self.now.table.shared.table_id }
+        requires held { (b : B) × HasOut b place.old.me × B.fit (B.start b) (B.history b) number ask }
+        ensures turnstile { place.new.table_id ≡ place.old.table_id }
+        ensures view { place.new.me.0 ≡ place.old.me.0 }
+        ensures held { (b : B) × (c : B) × HasOut b place.old.me × HasOut c place.new.me × (B.start c ≡ B.start b) × AppendsAtMostOne B.owner number (B.history b) (B.history c) × B.answers (B.start b) (B.history b) number ask result (B.history c) }
+    {
+        place.slot_mut(&self.table.shared, 0).act(number, ask)
+    }
+
+    // Gives the value back, passes the turn on, and wakes those who sleep.
+    fn pass_turn(&self, place: &mut Place<B>)
+        requires turnstile { place.old.table_id ≡ self.now.table.shared.table_id }
+        requires turn { IsInTurn B.history B.start B.owner place.old.me }
+        ensures turnstile { place.new.table_id ≡ place.old.table_id }
+        ensures done { GivesBack B.history B.owner place.old.me place.new.me }
+    {
+        let shared = &self.table.shared;
+        shared.fetch_add::<Pass<B>>(place, SERVING, 1);
+        if self.sleepers.load(Ordering::SeqCst) > 0 {
+            shared.wake_all(SERVING);
+        }
+    }
+
+    /// Waits for the caller's turn, runs one ask on the value in it, and passes the turn on. The
+    /// seat is one of this turnstile, and the ask is fit for what the seat has seen.
+    ///
+    /// Afterwards the seat has seen more: what it had seen before, then entries of other callers,
+    /// and then the call's own entry where it appended one. The reply is that of the value as it
+    /// stood just before that entry. The seat's `mine` gains the entry and is all that the history
+    /// so far has of this caller; the other parts of the seat stay as they were.
+    ///
+    /// It may wait for ever: nothing is promised of when the turn comes.
+    pub fn call<R: Wait>(&self, rt: &R, seat: &mut Seat<B>, ask: B::Ask) -> B::Reply
+        requires turnstile { seat.old.0 ≡ turnstile_id self.now }
+        requires fit { IsFitFor B.fit seat.old.1 ask }
+        ensures turnstile { seat.new.0 ≡ seat.old.0 }
+        ensures called { Called B.owner B.answers seat.old.1 ask result seat.new.1 }
+    {
+        self.wait_turn(rt, &mut seat.place);
+        let reply = self.act(&mut seat.place, seat.number, ask);
+        self.pass_turn(&mut seat.place);
+        reply
+    }
+
+    /// Makes a new caller. The first seat goes on as it was, with one number less to give. The
+    /// second has the lowest of the numbers that the given seat could give, has seen what that one
+    /// has, has no entries of its own and gives no numbers. The given seat is one of this turnstile,
+    /// and has a number to give.
+    pub fn split(&self, seat: Seat<B>) -> (Seat<B>, Seat<B>)
+        requires turnstile { seat.0 ≡ turnstile_id self.now }
+        requires more { seat.1.next < seat.1.callers }
+        ensures first { result.0 ≡ (seat.0, remaining_view seat.1) }
+        ensures second { result.1 ≡ (seat.0, new_view seat.1) }
+        ensures no_entry { NoneOf B.owner seat.1.next seat.1.seen }
+    {
+        let Seat {
+            mut place,
+            number,
+            next,
+            callers,
+        } = seat;
+        let shared = &self.table.shared;
+        let mut other = shared.split_seat::<Fork>(&mut place);
+        shared.load::<Compare<B>>(&mut other, TICKETS);
+        let first = Seat {
+            place,
+            number,
+            next: next + 1,
+            callers,
+        };
+        let second = Seat {
+            place: other,
+            number: next,
+            next: callers,
+            callers,
+        };
+        (first, second)
+    }
+
+    /// Ends the caller of `other`, a seat of this turnstile as `seat` is. The first seat goes on,
+    /// with the numbers that it had and those that it could give. It has seen the longer of the two
+    /// histories, which goes on from both. The other's number is ended with its entries, as are
+    /// those that the other had ended and, with no entries, those that it had not given.
+    pub fn join(&self, seat: Seat<B>, other: Seat<B>) -> Seat<B>
+        requires turnstile { seat.0 ≡ turnstile_id self.now }
+        requires other_turnstile { other.0 ≡ turnstile_id self.now }
+        ensures seat { result ≡ (seat.0, joined_view seat.1 other.1) }
+        ensures first { Extends seat.1.seen result.1.seen }
+        ensures second { Extends other.1.seen result.1.seen }
+        ensures mine { own_entries B.owner result.1.seen seat.1.number ≡ seat.1.mine }
+    {
+        let Seat {
+            mut place,
+            number,
+            next,
+            callers,
+        } = seat;
+        let Seat {
+            place: ending,
+            number: _,
+            next: _,
+            callers: _,
+        } = other;
+        let shared = &self.table.shared;
+        shared.join_seat::<Merge>(&mut place, ending);
+        shared.load::<Compare<B>>(&mut place, TICKETS);
+        Seat {
+            place,
+            number,
+            next,
+            callers,
+        }
+    }
+
+    /// Gives the value back with the whole history, which is what the seat has seen. The seat is
+    /// one of this turnstile and has every caller number, as its own, as one that it could give, or
+    /// as one that a join ended: so all other seats were joined to it.
+    ///
+    /// The history has exactly the entries of all callers: the seat's own are its `mine`, those of
+    /// each ended caller are what the seat has of that caller, and no other number has an entry.
+    pub fn close(self, seat: Seat<B>) -> B
+        requires turnstile { seat.0 ≡ turnstile_id self }
+        requires all { HasAllNumbers seat.1 }
+        ensures whole { B.history result ≡ seat.1.seen }
+        ensures start { seat.1.start ≡ Some (B.start result) }
+
+        // Of each number below `callers` the history has what the seat has of it.
+        ensures mine { own_entries B.owner seat.1.seen seat.1.number ≡ seat.1.mine }
+        ensures ended { (k : ℕ) (x : _) → get_elem? seat.1.ended k ≡ some x → own_entries B.owner seat.1.seen x.number ≡ x.mine }
+        ensures spare { (n : ℕ) → seat.1.next ≤ n → own_entries B.owner seat.1.seen n ≡ [] }
+        ensures covers { (n : ℕ) → n < seat.1.callers → HasNumber seat.1 n }
+    {
+        let Seat {
+            place,
+            number: _,
+            next: _,
+            callers: _,
+        } = seat;
+        let Turnstile { table, sleepers: _ } = self;
+        let mut closed = table.close_with(place);
+        let book = closed.take(0);
+        closed.free();
+        book
+    }
+}

@@ -1,0 +1,14 @@
+pub mod ListLemmas
+pub mod FarLemmas
+pub mod HostLemmas
+pub mod TableLemmas
+pub mod LevelLemmas
+pub mod ParentLemmas
+pub mod PlaceLemmas
+pub mod LinkLemmas
+pub mod NextLemmas
+pub mod CollectLemmas
+pub mod WalkLemmas
+pub mod ForestLemmas
+pub mod OneFar
+pub mod OneForest

@@ -1,0 +1,9 @@
+pub mod Wires
+pub mod Entry
+pub mod Forest
+pub mod Table
+pub mod Levels
+pub mod Parents
+pub mod Next
+pub mod Collected
+pub mod Forested

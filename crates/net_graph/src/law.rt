@@ -1,0 +1,23 @@
+ghost use Rattle.std.specs.Prelude.{◌≡◌, ◌↔◌, ℕ, List, Some, Any};
+ghost use Rattle.an_base.specs.Values.{EntryOf};
+ghost use Rattle.net_graph.specs.declared.wiring.Far.{Far};
+ghost use Rattle.net_graph.specs.Wires.{Wires, IsWired, IsAtFarSide, far_at, far_of, Joins};
+ghost use Rattle.net_graph.specs.Forest.{IsForest};
+
+/// A port leads to another exactly where a link joins the two.
+pub fn far_ends()
+    ensures { (w : Wires) (s p t q : ℕ) → IsWired w
+        → ((far_of w.links s p ≡ Some (t, q)) ↔ Any (λ l. Joins l s p t q) w.links) }
+{}
+
+/// A port has one far side at most, and it is the one that `Wiring::far` answers.
+pub fn one_far_side()
+    ensures { (w : Wires) (s p : ℕ) (f : Far) → IsWired w
+        → IsAtFarSide w s p f → far_at w s p ≡ Some f }
+{}
+
+/// A wiring has one forest.
+pub fn one_forest()
+    ensures { (w : Wires) (f g : List (List EntryOf)) → IsWired w
+        → IsForest w f → IsForest w g → f ≡ g }
+{}

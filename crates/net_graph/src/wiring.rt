@@ -1,0 +1,295 @@
+ghost use Rattle.std.specs.Prelude.{◌≡◌, ◌≢◌, ◌<◌, ◌≤◌, ◌^◌, ◌↔◌, [], ◌∷◌, ◌++◌, length, Any, Contains, IfSome, MatchOption, IsTrue, OnOk, OnErr};
+ghost use Rattle.net_graph.specs.Wires.{a_end, b_end, far_at, far_of, had_of, host_end, IsAtFarSide, IsFar, IsHost, IsLink, IsSwitch, IsWired, IsWithin, network, uid_of, uids, used_ports};
+ghost use Rattle.net_graph.specs.Table.{cell_at, Puts};
+
+use an_base::life::Life;
+use an_base::memory::OutOfMemory;
+use std::alloc::Global;
+use std::marker::Model;
+
+/// The most switches of a network.
+pub const MOST_SWITCHES: usize = 126;
+
+/// The most hosts of a network.
+pub const MOST_HOSTS: usize = 1000;
+
+/// A switch of a network.
+#[derive(Clone, Copy, Debug, PartialEq, Eq)]
+pub struct SwitchAt {
+    /// Its identifier, below 2^48.
+    pub uid: u64,
+    /// The number that it had last, 1 to 126.
+    pub had: u8,
+}
+
+/// A link of two switch ports.
+#[derive(Clone, Copy, Debug, PartialEq, Eq)]
+pub struct LinkAt {
+    /// The switch at one end, by its place.
+    pub a: u8,
+    /// The port at that end, 1 to 12.
+    pub a_port: u8,
+    /// The switch at the other end, by its place; it may be the same switch.
+    pub b: u8,
+    /// The port at the other end, 1 to 12.
+    pub b_port: u8,
+}
+
+/// A host of a network.
+#[derive(Clone, Copy, Debug, PartialEq, Eq)]
+pub struct HostOn {
+    /// Its identifier, below 2^48.
+    pub uid: u64,
+    /// The switch where it is, by its place.
+    pub s: u8,
+    /// The port of that switch, 1 to 12.
+    pub port: u8,
+}
+
+/// What is at the far side of a switch's port.
+#[derive(Clone, Copy, Debug, PartialEq, Eq)]
+pub enum Far {
+    /// A port of a switch, which may be the same switch.
+    Switch {
+        /// The switch, by its place.
+        s: u8,
+        /// Its port, 1 to 12.
+        port: u8,
+    },
+    /// A host.
+    HostAt {
+        /// The host, by its place.
+        host: u16,
+    },
+}
+
+// Whether a switch has this identifier.
+fn is_switch(switches: &[SwitchAt], uid: u64) -> bool
+    ensures { IsTrue result ↔ Any (λ s. s.uid ≡ uid) switches.now }
+{
+    switches.iter().any(|s| s.uid == uid)
+}
+
+// Whether a host has this identifier.
+fn is_host(hosts: &[HostOn], uid: u64) -> bool
+    ensures { IsTrue result ↔ Any (λ h. h.uid ≡ uid) hosts.now }
+{
+    hosts.iter().any(|h| h.uid == uid)
+}
+
+// What is at the far side of each port of a switch; nothing is at port 0.
+#[derive(Clone, Copy, Debug)]
+struct PortRow {
+    cells: [Option<Far>; 13],
+}
+
+// What the table has at a port.
+fn cell(rows: &[PortRow], s: u8, port: u8) -> Option<Far>
+    ensures { result ≡ cell_at rows.now s port }
+{
+    let row = rows.get(usize::from(s))?;
+    row.cells.get(usize::from(port)).copied().flatten()
+}
+
+// Puts what is at the far side of a port into the table.
+fn put(rows: &mut Vec<PortRow>, s: u8, port: u8, far: Far)
+    requires s { s < length rows.old.items }
+    requires port { port < 13 }
+    ensures { Puts rows.old.items rows.new.items s port far }
+{
+    rows[usize::from(s)].cells[usize::from(port)] = Some(far);
+}
+
+/// Switches, the links between their ports, and the hosts on their ports. Identifiers are all
+/// different, and no port of a switch is used twice.
+#[derive(Debug, Drop)]
+pub struct Wiring {
+    switches: Vec<SwitchAt>,
+    links: Vec<LinkAt>,
+    hosts: Vec<HostOn>,
+    rows: Vec<PortRow>,
+}
+
+impl Model for Wiring {
+    ghost use Rattle.net_graph.specs.Wires.{Wires};
+    ghost use Rattle.net_graph.specs.Table.{IsKept};
+
+    ghost Value = { Wires };
+
+    ghost view = { λ w. record { switches = w.switches.items; links = w.links.items; hosts = w.hosts.items } };
+
+    ghost invariant = { λ w. IsKept (record { switches = w.switches.items; links = w.links.items; hosts = w.hosts.items }) w.rows.items };
+}
+
+impl Wiring {
+    /// No switches, no links, no hosts.
+    pub fn new(alloc: Global) -> Self
+        ensures { result ≡ record { switches = []; links = []; hosts = [] } }
+    {
+        Wiring {
+            switches: Vec::new(alloc),
+            links: Vec::new(alloc),
+            hosts: Vec::new(alloc),
+            rows: Vec::new(alloc),
+        }
+    }
+
+    /// The switches by place, at most 126.
+    pub fn switches(&self) -> &[SwitchAt]
+        ensures all { result.now ≡ self.now.switches }
+        ensures wired { IsWired self.now }
+    {
+        &self.switches
+    }
+
+    /// The links in the order in which they were added.
+    pub fn links(&self) -> &[LinkAt]
+        ensures all { result.now ≡ self.now.links }
+        ensures wired { IsWired self.now }
+    {
+        &self.links
+    }
+
+    /// The hosts by place, at most 1,000.
+    pub fn hosts(&self) -> &[HostOn]
+        ensures all { result.now ≡ self.now.hosts }
+        ensures wired { IsWired self.now }
+    {
+        &self.hosts
+    }
+
+    /// How many switches there are, 0 to 126.
+    pub fn count(&self) -> u8
+        ensures count { result ≡ length self.now.switches }
+        ensures wired { IsWired self.now }
+    {
+        self.switches().len() as u8
+    }
+
+    /// The identifier of a switch, below 2^48.
+    pub fn uid(&self, s: u8) -> u64
+        requires { s < length self.now.switches }
+        ensures uid { result ≡ uid_of self.now.switches s }
+        ensures most { result < 2 ^ 48 }
+    {
+        self.switches()[usize::from(s)].uid
+    }
+
+    /// The number that a switch had last, 1 to 126.
+    pub fn had(&self, s: u8) -> u8
+        requires { s < length self.now.switches }
+        ensures had { result ≡ had_of self.now s }
+        ensures least { 1 ≤ result }
+        ensures most { result ≤ 126 }
+    {
+        self.switches()[usize::from(s)].had
+    }
+
+    /// The life of a switch, in its first boot.
+    pub fn life(&self, s: u8) -> Life
+        requires { s < length self.now.switches }
+        ensures { result ≡ (network self.now).life s }
+    {
+        Life::new(self.uid(s), 1)
+    }
+
+    /// Whether a switch or a host has this identifier.
+    pub fn has_uid(&self, uid: u64) -> bool
+        ensures { IsTrue result ↔ Contains (uids self.now) uid }
+    {
+        is_switch(&self.switches, uid) || is_host(&self.hosts, uid)
+    }
+
+    /// Whether a link or a host is on this port of this switch. It answers for all values.
+    pub fn is_used(&self, s: u8, port: u8) -> bool
+        ensures { IsTrue result ↔ Contains (used_ports self.now) (s, port) }
+    {
+        self.far(s, port).is_some()
+    }
+
+    /// What is at the far side of this port of this switch, if a link or a host is on it. It
+    /// answers for all values, in constant time.
+    pub fn far(&self, s: u8, port: u8) -> Option<Far>
+        ensures far { result ≡ far_at self.now s port }
+        ensures meaning { MatchOption result
+            (¬ Contains (used_ports self.now) (s, port))
+            (IsAtFarSide self.now s port) }
+        ensures range { IfSome result (IsWithin self.now s port) }
+        ensures wired { IsWired self.now }
+    {
+        cell(&self.rows, s, port)
+    }
+
+    // The other end of the link at this port, if there is one.
+    pub(crate) fn link_end(&self, s: u8, port: u8) -> Option<(u8, u8)>
+        ensures far { result ≡ far_of self.now.links s port }
+        ensures range { IfSome result (IsFar (length self.now.switches) s port) }
+    {
+        match self.far(s, port) {
+            Some(Far::Switch { s, port }) => Some((s, port)),
+            _ => None,
+        }
+    }
+
+    /// Adds a switch without links and hosts, at the next place. Where no memory is found nothing is
+    /// added.
+    pub fn add_switch(&mut self, switch: SwitchAt) -> Result<(), OutOfMemory>
+        requires room { length self.old.switches < 126 }
+        requires switch { IsSwitch switch }
+        requires new { ¬ Contains (uids self.old) switch.uid }
+        ensures ok { OnOk result (self.new ≡ record self.old { switches = self.old.switches ++ switch ∷ [] }) }
+        ensures err { OnErr result (self.new ≡ self.old) }
+    {
+        self.rows.push(PortRow { cells: [None; 13] })?;
+        if let Err(_error) = self.switches.push(switch) {
+            self.rows.pop();
+            return Err(OutOfMemory);
+        }
+        Ok(())
+    }
+
+    /// Adds a link between two different ports that are not used. Where no memory is found nothing
+    /// is added.
+    pub fn add_link(&mut self, link: LinkAt) -> Result<(), OutOfMemory>
+        requires link { IsLink (length self.old.switches) link }
+        requires a_free { ¬ Contains (used_ports self.old) (link.a, link.a_port) }
+        requires b_free { ¬ Contains (used_ports self.old) (link.b, link.b_port) }
+        requires apart { a_end link ≢ b_end link }
+        ensures ok { OnOk result (self.new ≡ record self.old { links = self.old.links ++ link ∷ [] }) }
+        ensures err { OnErr result (self.new ≡ self.old) }
+    {
+        self.links.push(link)?;
+        let at_a = Far::Switch {
+            s: link.a,
+            port: link.a_port,
+        };
+        let at_b = Far::Switch {
+            s: link.b,
+            port: link.b_port,
+        };
+        put(&mut self.rows, link.a, link.a_port, at_b);
+        put(&mut self.rows, link.b, link.b_port, at_a);
+        Ok(())
+    }
+
+    /// Adds a host on a port that is not used, at the next place. Where no memory is found nothing is
+    /// added.
+    pub fn add_host(&mut self, host: HostOn) -> Result<(), OutOfMemory>
+        requires room { length self.old.hosts < 1000 }
+        requires host { IsHost (length self.old.switches) host }
+        requires new { ¬ Contains (uids self.old) host.uid }
+        requires free { ¬ Contains (used_ports self.old) (host.s, host.port) }
+        ensures ok { OnOk result (self.new ≡ record self.old { hosts = self.old.hosts ++ host ∷ [] }) }
+        ensures err { OnErr result (self.new ≡ self.old) }
+    {
+        let place = self.hosts.len() as u16;
+        self.hosts.push(host)?;
+        put(
+            &mut self.rows,
+            host.s,
+            host.port,
+            Far::HostAt { host: place },
+        );
+        Ok(())
+    }
+}

@@ -1,0 +1,5 @@
+use Rattle.net_script.proofs.ReadLemmas.{one_text}
+use Rattle.net_script.proofs.law.one_script.Goals as goal
+
+pub returns : goal.returns
+returns c = one_text

@@ -1,0 +1,55 @@
+ghost use Rattle.std.specs.Prelude.{◌≡◌, ◌==◌, ◌++◌, position, OnOk};
+ghost use Rattle.std.specs.Fmt.{decimal};
+ghost use Rattle.report.specs.Names.{switch_name, life_text};
+
+use an_base::life::Life;
+use an_base::text::Word;
+use net_graph::wiring::SwitchAt;
+use net_script::script::Script;
+use std::alloc::{AllocError, Global};
+
+// Appends a number in decimal.
+pub(crate) fn push_number(alloc: Global, text: &mut Vec<u8>, n: u32) -> Result<(), AllocError>
+    ensures { OnOk result (text.new.items ≡ text.old.items ++ decimal n) }
+{
+    let number = format!(in alloc; "{n}")?;
+    text.extend_from_slice(number.as_bytes())
+}
+
+// The place of the switch with this identifier.
+fn place_of(switches: &[SwitchAt], uid: u64) -> Option<usize>
+    ensures { result ≡ position (λ s. s.uid == uid) switches.now }
+{
+    switches.iter().position(|switch| switch.uid == uid)
+}
+
+// The name of the switch with this identifier.
+fn name_of<'a>(names: &'a [Word], switches: &[SwitchAt], uid: u64) -> &'a [u8]
+    ensures { result.now ≡ switch_name names.now switches.now uid }
+{
+    let Some(s) = place_of(switches, uid) else {
+        return &[];
+    };
+    if s >= names.len() {
+        return &[];
+    }
+    names[s].as_bytes()
+}
+
+// Appends a life: the name of its switch, and a boot above 1.
+pub(crate) fn push_life(
+    alloc: Global,
+    text: &mut Vec<u8>,
+    script: &Script,
+    life: Life,
+) -> Result<(), AllocError>
+    ensures { OnOk result (text.new.items ≡ text.old.items ++ life_text script.now life) }
+{
+    let switches = script.wiring().switches();
+    text.extend_from_slice(name_of(script.switch_names(), switches, life.uid))?;
+    if life.boot != 1 {
+        text.extend_from_slice(b".")?;
+        push_number(alloc, text, life.boot)?;
+    }
+    Ok(())
+}

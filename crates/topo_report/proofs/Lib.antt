@@ -1,0 +1,10 @@
+pub mod LifeLaws
+pub mod Members
+pub mod PutLemmas
+pub mod LeastLemmas
+pub mod KeptLemmas
+pub mod DistinctLemmas
+pub mod OtherLemmas
+pub mod OnlyLemmas
+pub mod MergeLemmas
+pub mod ReportLaws

@@ -1,0 +1,43 @@
+ghost use Rattle.std.specs.Prelude.{◌≡◌, ◌++◌, List, Contains};
+ghost use Rattle.an_base.specs.Values.{LifeId, EntryOf};
+ghost use Rattle.topo_report.specs.Report.{report_of, IsReport, AreLives, Covers, HaveSameMembers};
+
+/// The report of entries is their report: its lives rise, it has the least entry of each life, and
+/// only where it keeps 125 other lives a greater one has no place.
+pub fn report_is_report()
+    ensures { (me : LifeId) (entries : List EntryOf) → IsReport me entries (report_of me entries) }
+{}
+
+/// No other list is the report of the entries.
+pub fn one_report()
+    ensures { (me : LifeId) (entries report : List EntryOf) → IsReport me entries report
+        → report ≡ report_of me entries }
+{}
+
+/// Among at most 126 lives, the life itself being one, no life is left out.
+pub fn report_is_complete()
+    ensures { (me : LifeId) (entries : List EntryOf) (lives : List LifeId) → AreLives me entries lives
+        → (f : EntryOf) → Contains entries f → Covers (report_of me entries) f }
+{}
+
+/// Merging one after another is merging all at once, whatever was cut between.
+pub fn merging_in_turn_is_merging_at_once()
+    ensures { (me : LifeId) (xs ys : List EntryOf)
+        → report_of me (report_of me xs ++ ys) ≡ report_of me (xs ++ ys) }
+{}
+
+/// Only what was merged counts, and neither its order nor how often.
+pub fn members_alone_count()
+    ensures { (me : LifeId) (xs ys : List EntryOf) → HaveSameMembers xs ys
+        → report_of me xs ≡ report_of me ys }
+{}
+
+/// Either order of merging gives the same report.
+pub fn merging_is_commutative()
+    ensures { (me : LifeId) (xs ys : List EntryOf) → report_of me (xs ++ ys) ≡ report_of me (ys ++ xs) }
+{}
+
+/// The report of a report is the same report.
+pub fn report_is_idempotent()
+    ensures { (me : LifeId) (xs : List EntryOf) → report_of me (report_of me xs) ≡ report_of me xs }
+{}

@@ -1,0 +1,8 @@
+ghost use Rattle.std.specs.Prelude.{List, ◌∷◌};
+ghost use Rattle.an_base.specs.Values.{Place};
+ghost use Rattle.tree_position.specs.Position.{least, IsLeast};
+
+/// The least of a place and a list of places is one of them, and none of them is less.
+pub fn least_is_least()
+    ensures { (p : Place) (qs : List Place) → IsLeast (least p qs) (p ∷ qs) }
+{}

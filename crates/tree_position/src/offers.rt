@@ -1,0 +1,146 @@
+ghost use Rattle.std.specs.Prelude.{◌≡◌, ◌≤◌, length, None, replicate, option_to_list};
+ghost use Rattle.tree_position.specs.Position.{position_of, noted, candidate, least};
+
+use an_base::life::Life;
+use an_base::links::{Links, PortLink};
+use an_base::position::Position;
+use std::marker::Model;
+
+/// The deepest level of a tree; an offer of this level gives no position.
+pub const MOST_LEVEL: u8 = 125;
+
+/// What a neighbour offers: its root, and its level, 0 to 125.
+#[derive(Clone, Copy, Debug, PartialEq, Eq)]
+pub struct Offer {
+    /// The neighbour's root.
+    pub root: Life,
+    /// The neighbour's level, 0 to 125.
+    pub level: u8,
+}
+
+impl Model for Offer {
+    ghost use Rattle.std.specs.Prelude.{◌≤◌};
+    ghost use Rattle.tree_position.specs.Position.{OfferOf};
+
+    ghost Value = { OfferOf };
+
+    ghost view = { λ o. record { root = o.root; level = o.level } };
+
+    ghost invariant = { λ o. o.level ≤ 125 };
+
+    ghost inverse = { λ v. record { root = v.root; level = v.level } };
+}
+
+impl Offer {
+    /// The offer of this root and level.
+    pub fn new(root: Life, level: u8) -> Self
+        requires { level ≤ 125 }
+        ensures { result ≡ record { root = root; level = level } }
+    {
+        Offer { root, level }
+    }
+}
+
+/// The last offer on each link of a life. It takes no memory. Contracts see the life, its links by
+/// rising port, and for each link the last offer, if there was one.
+#[derive(Debug, Drop)]
+pub struct Offers {
+    me: Life,
+    links: Links,
+    offers: [Option<Offer>; 13],
+}
+
+impl Model for Offers {
+    ghost use Rattle.std.specs.Prelude.{None, map, slice_index_or};
+    ghost use Rattle.tree_position.specs.Position.{OffersOf};
+
+    ghost Value = { OffersOf };
+
+    ghost view = { λ o. record { me = o.me; links = o.links; offered = map (λ l. slice_index_or o.offers l.port None) o.links } };
+}
+
+// The position that an offer on a link gives, if it gives one.
+fn position_below(link: &PortLink, offer: Option<Offer>) -> Option<Position>
+    ensures { option_to_list result ≡ candidate link.now offer }
+{
+    let offer = offer?;
+    if offer.level >= MOST_LEVEL {
+        return None;
+    }
+    let parent = link.peer().life();
+    Some(Position::new(offer.root, offer.level + 1, parent, link.port()))
+}
+
+// The lesser of a position and one that there may be.
+fn lesser_of(best: Position, found: Option<Position>) -> Position
+    ensures { result ≡ least best (option_to_list found) }
+{
+    match found {
+        Some(position) if position < best => position,
+        _ => best,
+    }
+}
+
+impl Offers {
+    /// The links of a life, without an offer on any.
+    pub fn new(me: Life, links: &Links) -> Self
+        ensures { result ≡ record { me = me; links = links.now; offered = replicate (length links.now) None } }
+    {
+        Offers {
+            me,
+            links: links.copy(),
+            offers: [None; 13],
+        }
+    }
+
+    /// Takes the root and level, 0 to 125, that were last offered on a port, at most 12. Other ports
+    /// keep theirs.
+    pub fn note(&mut self, port: u8, root: Life, level: u8)
+        requires level { level ≤ 125 }
+        requires port { port ≤ 12 }
+        ensures { self.new ≡ record self.old { offered = noted self.old.links self.old.offered port (record { root = root; level = level }) } }
+    {
+        self.offers[usize::from(port)] = Some(Offer::new(root, level));
+    }
+
+    /// The least of the life's own position as a root and of what the offers give.
+    pub fn best(&self) -> Position
+        ensures { result ≡ position_of self.now.me self.now.links self.now.offered }
+    {
+        let mut best = Position::new(self.me, 0, self.me, 0);
+        'links: for link in self.links.as_slice() {
+            let offer = self.offers[usize::from(link.port())];
+            best = lesser_of(best, position_below(link, offer));
+        }
+        best
+    }
+}
+
+#[cfg(test)]
+mod tests {
+    use super::*;
+    use an_base::life::End;
+
+    #[test]
+    fn the_least_offer_gives_the_position(rt: HostRuntime) {
+        let me = Life::new(9, 1);
+        let mut links = Links::new();
+        links.push(PortLink::new(2, End::new(Life::new(5, 1), 1)));
+        links.push(PortLink::new(7, End::new(Life::new(4, 1), 1)));
+        let mut offers = Offers::new(me, &links);
+        assert_eq!(rt; offers.best(), Position::new(me, 0, me, 0));
+        offers.note(2, Life::new(1, 1), 3);
+        offers.note(7, Life::new(1, 1), 3);
+        assert_eq!(rt;
+            offers.best(),
+            Position::new(Life::new(1, 1), 4, Life::new(4, 1), 7)
+        );
+        offers.note(7, Life::new(1, 1), 125);
+        assert_eq!(rt;
+            offers.best(),
+            Position::new(Life::new(1, 1), 4, Life::new(5, 1), 2)
+        );
+        offers.note(2, Life::new(10, 1), 0);
+        assert_eq!(rt; offers.best(), Position::new(me, 0, me, 0));
+    }
+}
