@@ -2,3 +2,6 @@ pub mod Values
 pub mod Order
 pub mod Numbers
 pub mod Tree
+pub mod Rows
+pub mod Ports
+pub mod Frames

@@ -1,6 +1,6 @@
 //! What all layers speak of: lives, ends of links, positions in a spanning tree, entries of a
-//! topology, the bodies that switches exchange, words and bytes, each within its range, and their
-//! orders.
+//! topology, the bodies that switches exchange and the frames that carry them, the states of ports,
+//! rows of tables, the events of a network, words and bytes, each within its range, and their orders.
 //!
 //! It stands on std alone. Its contract: contracts see each type as a number, a record or a list;
 //! the types keep the ranges; the orders are total; and a node has one place in a spanning tree.
@@ -8,10 +8,14 @@
 
 pub mod body;
 pub mod entry;
+pub mod event;
+pub mod frame;
 pub mod law;
 pub mod life;
 pub mod links;
 pub mod memory;
 pub mod numbers;
+pub mod port;
 pub mod position;
+pub mod row;
 pub mod text;

@@ -1,0 +1,11 @@
+use Rattle.std.specs.Prelude.{ℕ}
+use Rattle.an_base.specs.Values.{EndId}
+use Rattle.an_base.specs.declared.body.Body.{Body}
+
+-- a body on its way: the epoch and the ends of its session, and its number there
+pub record CarryOf : Type 0 where
+  pub epoch : ℕ
+  pub from : EndId
+  pub to : EndId
+  pub k : ℕ
+  pub body : Body

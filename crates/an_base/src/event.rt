@@ -1,0 +1,191 @@
+ghost use Rattle.std.specs.Prelude.{◌≡◌, ◌==◌, ◌∷◌, ◌++◌, [], length, OnOk, OnErr};
+
+use crate::memory::OutOfMemory;
+use std::alloc::Global;
+use std::marker::Model;
+
+/// One event of a network. A switch `s` and a host are named by their places in the script, from 0;
+/// a port is one of a switch, 1 to 12.
+#[derive(Clone, Copy, Debug, PartialEq, Eq)]
+pub enum Event {
+    /// The clock of the network goes on by one.
+    Tick,
+    /// A switch takes its clock in hand, with the samples of its ports.
+    Clock {
+        /// The switch.
+        s: u8,
+    },
+    /// A switch takes a frame in hand from the wire that comes in at a port.
+    Take {
+        /// The switch.
+        s: u8,
+        /// Its port.
+        port: u8,
+    },
+    /// A switch handles what it has in hand.
+    Handle {
+        /// The switch.
+        s: u8,
+    },
+    /// A switch loads the table of the topology with which it finished.
+    Load {
+        /// The switch.
+        s: u8,
+    },
+    /// The link at a port goes down.
+    Fail {
+        /// The switch.
+        s: u8,
+        /// Its port.
+        port: u8,
+    },
+    /// The link at a port comes up.
+    Repair {
+        /// The switch.
+        s: u8,
+        /// Its port.
+        port: u8,
+    },
+    /// The next frames put on the wire out of a port are to be lost.
+    Lose {
+        /// The switch.
+        s: u8,
+        /// Its port.
+        port: u8,
+        /// How many frames.
+        n: u32,
+    },
+    /// The next takes from the wire out of a port are to leave a copy at its end.
+    Again {
+        /// The switch.
+        s: u8,
+        /// Its port.
+        port: u8,
+        /// How many takes.
+        n: u32,
+    },
+    /// The next takes from the wire out of a port that find two frames are to take the second.
+    Swap {
+        /// The switch.
+        s: u8,
+        /// Its port.
+        port: u8,
+        /// How many takes.
+        n: u32,
+    },
+    /// Bytes that are no frame are put on the wire out of a port.
+    Noise {
+        /// The switch.
+        s: u8,
+        /// Its port.
+        port: u8,
+        /// How many bytes.
+        n: u32,
+    },
+    /// A host sends a packet to a host.
+    Send {
+        /// The host that sends.
+        host: u16,
+        /// The host to which it sends.
+        to: u16,
+    },
+    /// A packet makes one hop.
+    Move {
+        /// The packet's number, from 1.
+        packet: u32,
+    },
+    /// A switch is switched off and on, and begins its next life.
+    Restart {
+        /// The switch.
+        s: u8,
+    },
+}
+
+/// The events of a run in their order, which contracts see as a list.
+#[derive(Debug, Drop)]
+pub struct Journal {
+    events: Vec<Event>,
+}
+
+impl Model for Journal {
+    ghost use Rattle.std.specs.Prelude.{List};
+    ghost use Rattle.an_base.specs.declared.event.Event.{Event};
+
+    ghost Value = { List Event };
+
+    ghost view = { λ j. j.events.items };
+}
+
+impl Journal {
+    /// No events, without taking memory. The allocator is kept for the events that come.
+    pub fn new(alloc: Global) -> Self
+        ensures { result ≡ [] }
+    {
+        Journal {
+            events: Vec::new(alloc),
+        }
+    }
+
+    /// The events of a vector, without taking memory.
+    pub fn of(events: Vec<Event>) -> Self
+        ensures { result ≡ events.items }
+    {
+        Journal { events }
+    }
+
+    /// How many events there are.
+    pub fn len(&self) -> usize
+        ensures { result ≡ length self.now }
+    {
+        self.events.len()
+    }
+
+    /// Whether there are no events.
+    pub fn is_empty(&self) -> bool
+        ensures { result ≡ (length self.now == 0) }
+    {
+        self.events.is_empty()
+    }
+
+    /// The events in their order.
+    pub fn as_slice(&self) -> &[Event]
+        ensures { result.now ≡ self.now }
+    {
+        &self.events
+    }
+
+    /// The events as a vector, without taking memory.
+    pub fn into_vec(self) -> Vec<Event>
+        ensures { result.items ≡ self }
+    {
+        self.events
+    }
+
+    /// Adds an event at the end. After want of memory the events are as they were.
+    pub fn push(&mut self, event: Event) -> Result<(), OutOfMemory>
+        ensures ok { OnOk result (self.new ≡ self.old ++ event ∷ []) }
+        ensures err { OnErr result (self.new ≡ self.old) }
+    {
+        self.events.push(event)?;
+        Ok(())
+    }
+}
+
+#[cfg(test)]
+mod tests {
+    use super::*;
+    use std::test::Fail;
+
+    #[test]
+    fn a_journal_keeps_its_events_in_order(rt: HostRuntime) -> Result<(), Fail> {
+        let mut journal = Journal::new(rt.alloc());
+        assert!(rt; journal.is_empty());
+        journal.push(Event::Clock { s: 3 })?;
+        journal.push(Event::Handle { s: 3 })?;
+        assert_eq!(rt; journal.len(), 2);
+        assert!(rt; journal.as_slice()[0] == Event::Clock { s: 3 });
+        let journal = Journal::of(journal.into_vec());
+        assert!(rt; journal.as_slice()[1] == Event::Handle { s: 3 });
+        Ok(())
+    }
+}

@@ -1,0 +1,112 @@
+ghost use Rattle.std.specs.Prelude.{◌≡◌, ◌≤◌};
+
+use crate::body::Body;
+use crate::life::End;
+use std::marker::Model;
+
+/// A body on its way, with the session to which it belongs and its number there.
+#[derive(Debug, Drop)]
+pub struct CarryFrame {
+    /// The epoch of the session.
+    pub epoch: u64,
+    /// The end that sent it.
+    pub from: End,
+    /// The end that is to accept it.
+    pub to: End,
+    /// The number of the body in its direction of the session, from 1.
+    pub k: u32,
+    /// The body.
+    pub body: Body,
+}
+
+impl Model for CarryFrame {
+    ghost use Rattle.std.specs.Prelude.{◌≤◌};
+    ghost use Rattle.an_base.specs.Frames.{CarryOf};
+
+    ghost Value = { CarryOf };
+
+    ghost view = { λ f. record { epoch = f.epoch; from = f.from; to = f.to; k = f.k; body = f.body } };
+
+    ghost invariant = { λ f. 1 ≤ f.k };
+}
+
+impl CarryFrame {
+    /// The frame of these five parts.
+    pub fn new(epoch: u64, from: End, to: End, k: u32, body: Body) -> Self
+        requires { 1 ≤ k }
+        ensures { result ≡ record { epoch = epoch; from = from; to = to; k = k; body = body } }
+    {
+        CarryFrame {
+            epoch,
+            from,
+            to,
+            k,
+            body,
+        }
+    }
+
+    /// The number of the body in its direction of the session, from 1.
+    pub fn k(&self) -> u32
+        ensures k { result ≡ self.now.k }
+        ensures least { 1 ≤ self.now.k }
+    {
+        self.k
+    }
+
+    /// The body, without taking memory.
+    pub fn into_body(self) -> Body
+        ensures { result ≡ self.body }
+    {
+        self.body
+    }
+}
+
+/// What goes over a wire between two switches.
+#[derive(Debug, Drop)]
+pub enum Frame {
+    /// A body of a session.
+    Carry(CarryFrame),
+    /// All bodies of a session up to a number were accepted.
+    Ack {
+        /// The epoch of the session.
+        epoch: u64,
+        /// The end that accepted them.
+        from: End,
+        /// The end that sent them.
+        to: End,
+        /// The number of the last body that was accepted; 0 for none.
+        n: u32,
+    },
+    /// Who is at the other end?
+    Probe {
+        /// The end that asks.
+        from: End,
+        /// A number by which the reply is known.
+        nonce: u64,
+    },
+    /// Who is at this end.
+    Reply {
+        /// The end that replies.
+        from: End,
+        /// The end that asked.
+        to: End,
+        /// The number of the probe.
+        nonce: u64,
+    },
+}
+
+#[cfg(test)]
+mod tests {
+    use super::*;
+    use crate::body::AnswerBody;
+    use crate::life::Life;
+
+    #[test]
+    fn a_frame_carries_its_body(rt: HostRuntime) {
+        let from = End::new(Life::new(1, 1), 1);
+        let to = End::new(Life::new(2, 1), 12);
+        let frame = CarryFrame::new(9, from, to, 4, Body::Answer(AnswerBody::new(3, true)));
+        assert_eq!(rt; frame.k(), 4);
+        assert!(rt; matches!(frame.into_body(), Body::Answer(_)));
+    }
+}

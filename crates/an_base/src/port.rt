@@ -1,0 +1,187 @@
+ghost use Rattle.std.specs.Prelude.{◌≡◌, ◌-◌, ◌≤◌, Some, None, length, slice_get, slice_set};
+ghost use Rattle.std.specs.Prelude.{replicate};
+ghost use Rattle.an_base.specs.declared.port.PortState.TheVariants.{Dead};
+
+use crate::life::{End, Life};
+use std::marker::Model;
+
+/// How many external ports a switch has.
+pub const PORTS: usize = 12;
+
+/// What a switch takes the other end of a port to be.
+#[derive(Clone, Copy, Debug, PartialEq, Eq)]
+pub enum PortState {
+    /// There is no link, or it has failed.
+    Dead,
+    /// The link came up again, and what is at its other end is not yet asked.
+    Checking,
+    /// A host.
+    Host,
+    /// A switch that has not yet said who it is.
+    Who,
+    /// This switch itself.
+    Loop,
+    /// Another switch, which is known.
+    Good,
+}
+
+/// What the hardware says of a port at a clock.
+#[derive(Clone, Copy, Debug, PartialEq, Eq)]
+pub enum Sample {
+    /// There is no link, or it is down.
+    Down,
+    /// A host is at the other end.
+    Host,
+    /// A switch is at the other end.
+    Switch,
+}
+
+/// The state of a port, with the other end where it is known.
+#[derive(Clone, Copy, Debug, PartialEq, Eq)]
+pub struct PortView {
+    /// The state.
+    pub state: PortState,
+    /// The other end, where it is known.
+    pub peer: Option<End>,
+}
+
+impl Model for PortView {
+    ghost use Rattle.an_base.specs.Ports.{PortViewOf};
+
+    ghost Value = { PortViewOf };
+
+    ghost view = { λ p. record { state = p.state; peer = p.peer } };
+
+    ghost inverse = { λ v. record { state = v.state; peer = v.peer } };
+}
+
+/// The twelve ports of a switch from port 1, which contracts see as a list.
+#[derive(Debug, Drop)]
+pub struct Ports {
+    views: [PortView; 12],
+}
+
+impl Model for Ports {
+    ghost use Rattle.std.specs.Prelude.{List};
+    ghost use Rattle.an_base.specs.Ports.{PortViewOf};
+
+    ghost Value = { List PortViewOf };
+
+    ghost view = { λ p. p.views };
+}
+
+impl Ports {
+    /// Twelve dead ports.
+    pub fn new() -> Self
+        ensures { result ≡ replicate 12 (record { state = Dead; peer = None }) }
+    {
+        let unseen = PortView {
+            state: PortState::Dead,
+            peer: None,
+        };
+        Ports {
+            views: [unseen; PORTS],
+        }
+    }
+
+    /// The twelve ports from port 1.
+    pub fn as_slice(&self) -> &[PortView]
+        ensures all { result.now ≡ self.now }
+        ensures twelve { length self.now ≡ 12 }
+    {
+        &self.views
+    }
+
+    /// A port, 1 to 12.
+    pub fn get(&self, port: u8) -> PortView
+        requires least { 1 ≤ port }
+        requires most { port ≤ 12 }
+        ensures { Some result ≡ slice_get self.now (port - 1) }
+    {
+        self.views[usize::from(port - 1)]
+    }
+
+    /// Sets a port, 1 to 12, and leaves the others as they were.
+    pub fn set(&mut self, port: u8, view: PortView)
+        requires least { 1 ≤ port }
+        requires most { port ≤ 12 }
+        ensures { self.new ≡ slice_set self.old (port - 1) view }
+    {
+        self.views[usize::from(port - 1)] = view;
+    }
+
+    /// The same ports, without taking memory.
+    pub fn copy(&self) -> Self
+        ensures { result ≡ self.now }
+    {
+        Ports { views: self.views }
+    }
+}
+
+/// What a switch shows of itself: who it is, the epoch that it is in, its ports, whether it is to
+/// load a table, and whether a body that it sent is waiting or not yet acknowledged.
+#[derive(Debug, Drop)]
+pub struct Note {
+    /// The switch's present life.
+    pub life: Life,
+    /// The epoch that it is in.
+    pub epoch: u64,
+    /// Its ports.
+    pub ports: Ports,
+    /// Whether it has finished an epoch and not yet loaded the table.
+    pub load_due: bool,
+    /// Whether some body is waiting to be sent, or sent and not acknowledged.
+    pub unacked: bool,
+}
+
+impl Model for Note {
+    ghost use Rattle.an_base.specs.Ports.{NoteOf};
+
+    ghost Value = { NoteOf };
+
+    ghost view = { λ n. record { life = n.life; epoch = n.epoch; ports = n.ports; load_due = n.load_due; unacked = n.unacked } };
+}
+
+impl Note {
+    /// The same note, without taking memory.
+    pub fn copy(&self) -> Self
+        ensures { result ≡ self.now }
+    {
+        Note {
+            life: self.life,
+            epoch: self.epoch,
+            ports: self.ports.copy(),
+            load_due: self.load_due,
+            unacked: self.unacked,
+        }
+    }
+}
+
+#[cfg(test)]
+mod tests {
+    use super::*;
+
+    #[test]
+    fn a_note_shows_the_ports_that_were_set(rt: HostRuntime) {
+        let life = Life::new(2, 1);
+        let mut ports = Ports::new();
+        let unseen = ports.get(12);
+        assert!(rt; unseen.state == PortState::Dead);
+        assert!(rt; unseen.peer == None);
+        let good = PortView {
+            state: PortState::Good,
+            peer: Some(End::new(life, 3)),
+        };
+        ports.set(12, good);
+        let note = Note {
+            life,
+            epoch: 7,
+            ports,
+            load_due: false,
+            unacked: true,
+        };
+        let copy = note.copy();
+        assert!(rt; copy.ports.get(12) == good);
+        assert!(rt; copy.unacked);
+    }
+}
