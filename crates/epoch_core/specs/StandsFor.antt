@@ -1,0 +1,39 @@
+use Rattle.std.specs.Prelude.{◌≡◌, ℕ, ◌+◌, ◌≤◌, List, ◌∷◌, ◌++◌, map, Option, Bool}
+use Rattle.an_base.specs.Values.{Place, TopoOf}
+use Rattle.tree_position.specs.Position.{OffersOf}
+use Rattle.epoch_core.specs.declared.ports.Ports.{Ports}
+use Rattle.epoch_core.specs.Log.{CardOf, OnPort, Log}
+use Rattle.epoch_core.specs.Epoch.{offer_on, position, version, is_stable, finish, adds}
+use Rattle.epoch_core.specs.Heard.{HasHeard}
+
+-- what is kept of the bodies that a life accepted in an epoch
+pub record CoreOf : Type 0 where
+  pub card : CardOf
+  pub epoch : ℕ
+  pub offers : OffersOf
+  pub ports : Ports
+  pub position : Place
+  pub version : ℕ
+  pub is_stable : Bool
+  pub finish : Option TopoOf
+
+-- the last offer on each link
+abbrev pub offers_of : CardOf → Log → OffersOf
+offers_of c log = record { me = c.me; links = c.links; offered = map (offer_on log) c.links }
+
+-- what is kept is what the log gives
+pub record StandsFor (core : CoreOf) (log : Log) : Type 0 where
+  pub offers : core.offers ≡ offers_of core.card log
+  pub ports : HasHeard core.ports log
+  pub position : core.position ≡ position core.card log
+  pub version : core.version ≡ version core.card log
+  pub stable : core.is_stable ≡ is_stable core.card log
+  pub finish : core.finish ≡ finish core.card log
+
+-- whatever the old core stood for, the new one stands for that with one more item, and what goes out gained what the item adds
+pub record Accepts (old new : CoreOf) (x : OnPort) (before after : List OnPort) : Type 0 where
+  pub card : new.card ≡ old.card
+  pub epoch : new.epoch ≡ old.epoch
+  pub version : new.version ≤ old.version + 1
+  pub stands : (log : Log) → StandsFor old log → StandsFor new (x ∷ log)
+  pub sends : (log : Log) → StandsFor old log → after ≡ before ++ adds old.card (x ∷ log)

@@ -1,0 +1,496 @@
+ghost use Rattle.std.specs.Prelude.{◌≡◌, ◌≤◌, ℕ, [], ◌∷◌, ◌++◌, map, OnOk, IfOk, None, Some, option_copied};
+ghost use Rattle.std.specs.List.{list_any, flat_map};
+ghost use Rattle.std.specs.Ordering.{is_eq};
+ghost use Rattle.an_base.specs.Order.{life_cmp};
+ghost use Rattle.an_base.specs.declared.body.Body.TheVariants.{Pos, Answer, Stable, Topo};
+ghost use Rattle.tree_position.specs.Position.{self_root};
+ghost use Rattle.topo_report.specs.Report.{report_of};
+ghost use Rattle.epoch_core.specs.Log.{Log};
+ghost use Rattle.epoch_core.specs.Epoch.{position, version, is_stable, is_same, finish, positions_of, reported_on, claiming_among, passed_on, adds};
+ghost use Rattle.epoch_core.specs.Heard.{HasHeard};
+ghost use Rattle.epoch_core.specs.StandsFor.{StandsFor, Accepts};
+ghost use Rattle.epoch_core.specs.Steps.{Settles, FinishesAsRoot, repositioned, told_by, entry_of};
+
+use crate::card::Card;
+use crate::ports::Ports;
+use crate::sends::Sends;
+use an_base::body::{AnswerBody, Body, PosBody, TopoBody};
+use an_base::entry::Entries;
+use an_base::life::Life;
+use an_base::links::Links;
+use an_base::memory::OutOfMemory;
+use an_base::position::Position;
+use std::alloc::Global;
+use std::marker::Model;
+use switch_numbering::numbering::number;
+use tree_position::offers::Offers;
+
+/// The greatest version at which one more body may come. A version rises by at most one with each
+/// body, so fewer than 2^30 bodies never go beyond it.
+pub const MOST_VERSION: u32 = 1_073_741_824;
+
+/// One epoch at one life. It keeps one offer for each link, what it last heard on each port and
+/// what follows from these; the list of the bodies that it accepted stands in contracts alone.
+#[derive(Debug, Drop)]
+pub struct Core {
+    alloc: Global,
+    card: Card,
+    epoch: u64,
+    offers: Offers,
+    ports: Ports,
+    position: Position,
+    version: u32,
+    is_stable: bool,
+    finish: Option<TopoBody>,
+}
+
+impl Model for Core {
+    ghost use Rattle.std.specs.Prelude.{◌≤◌};
+    ghost use Rattle.epoch_core.specs.StandsFor.{CoreOf};
+
+    ghost Value = { CoreOf };
+
+    ghost view = { λ c. record { card = c.card; epoch = c.epoch; offers = c.offers; ports = c.ports; position = c.position; version = c.version; is_stable = c.is_stable; finish = c.finish } };
+
+    ghost invariant = { λ c. 1 ≤ c.version };
+}
+
+// Whether one of the entries is of this life.
+fn is_among(me: Life, entries: &Entries) -> bool
+    ensures { result ≡ list_any (λ e. is_eq (life_cmp e.life me)) entries.now }
+{
+    'entries: for entry in entries.as_slice() {
+        if entry.life == me {
+            return true;
+        }
+    }
+    false
+}
+
+// Tells a position of this version on each link, rising.
+fn tell_position(
+    version: u32,
+    position: &Position,
+    links: &Links,
+    sends: &mut Sends,
+) -> Result<(), OutOfMemory>
+    requires { 1 ≤ version }
+    ensures { OnOk result (sends.new ≡ sends.old ++ positions_of version position.now links.now) }
+{
+    'links: for link in links.as_slice() {
+        let to_parent = link.port() == position.port();
+        let told = PosBody::new(version, position.root(), position.level(), to_parent);
+        sends.push(link.port(), Body::Pos(told))?;
+    }
+    Ok(())
+}
+
+impl Core {
+    /// A life joins an epoch with the number that it proposes for itself, 1 to 126, and its links. It
+    /// is its own root, which it tells on each link, rising. A life without links finishes at once.
+    /// The allocator is kept for what comes later. After want of memory the sends are only good to be
+    /// dropped.
+    pub fn join(
+        alloc: Global,
+        me: Life,
+        epoch: u64,
+        proposed: u8,
+        links: &Links,
+        sends: &mut Sends,
+    ) -> Result<Core, OutOfMemory>
+        requires least { 1 ≤ proposed }
+        requires most { proposed ≤ 126 }
+        ensures card { IfOk result (λ core. core.card ≡ record { me = me; proposed = proposed; links = links.now }) }
+        ensures epoch { IfOk result (λ core. core.epoch ≡ epoch) }
+        ensures version { IfOk result (λ core. core.version ≡ 1) }
+        ensures stands { IfOk result (λ core. StandsFor core []) }
+        ensures sends { OnOk result (sends.new ≡ sends.old ++ adds (record { me = me; proposed = proposed; links = links.now }) []) }
+    {
+        let position = Position::new(me, 0, me, 0);
+        tell_position(1, &position, links, sends)?;
+        let is_alone = links.is_empty();
+        let mut core = Core {
+            alloc,
+            card: Card::new(me, proposed, links),
+            epoch,
+            offers: Offers::new(me, links),
+            ports: Ports::new(),
+            position,
+            version: 1,
+            is_stable: is_alone,
+            finish: None,
+        };
+        if is_alone {
+            core.finish_as_root(sends)?;
+        }
+        Ok(core)
+    }
+
+    /// Accepts a body on a port, 0 to 12, and sends what it calls for: the position on each link,
+    /// where it changed; then an answer, where the body is a position; then the report to the parent,
+    /// where the life is stable, was not before and is no root; then the topology to the links that
+    /// claim, where the life has finished now. After want of memory the core is only good to be
+    /// dropped.
+    pub fn accept(&mut self, port: u8, body: Body, sends: &mut Sends) -> Result<(), OutOfMemory>
+        requires port { port ≤ 12 }
+        requires room { self.old.version ≤ MOST_VERSION }
+        ensures { OnOk result (Accepts self.old self.new (record { port = port; body = body }) sends.old sends.new) }
+    {
+        match body {
+            Body::Pos(told) => self.accept_position(port, told, sends),
+            Body::Answer(answer) => self.accept_answer(port, answer, sends),
+            Body::Stable { entries } => self.accept_report(port, entries, sends),
+            Body::Topo(topo) => self.accept_topo(topo, sends),
+        }
+    }
+
+    /// The position in the spanning tree.
+    pub fn position(&self) -> &Position
+        ensures { (log : Log) → StandsFor self.now log → result.now ≡ position self.now.card log }
+    {
+        &self.position
+    }
+
+    /// The version of the position, from 1.
+    pub fn version(&self) -> u32
+        ensures version { result ≡ self.now.version }
+        ensures least { 1 ≤ self.now.version }
+        ensures stands { (log : Log) → StandsFor self.now log → result ≡ version self.now.card log }
+    {
+        self.version
+    }
+
+    /// Whether each link has answered the present version, and each link that claims has reported
+    /// since its last position.
+    pub fn stable(&self) -> bool
+        ensures { (log : Log) → StandsFor self.now log → result ≡ is_stable self.now.card log }
+    {
+        self.is_stable
+    }
+
+    /// The topology with which the life has finished, none exactly where it has not.
+    pub fn finish(&self) -> Option<&TopoBody>
+        ensures { (log : Log) → StandsFor self.now log → option_copied result ≡ finish self.now.card log }
+    {
+        self.finish.as_ref()
+    }
+
+    /// The epoch.
+    pub fn epoch(&self) -> u64
+        ensures { result ≡ self.now.epoch }
+    {
+        self.epoch
+    }
+
+    /// Notes the offer of a position, follows it, and answers it.
+    fn accept_position(
+        &mut self,
+        port: u8,
+        told: PosBody,
+        sends: &mut Sends,
+    ) -> Result<(), OutOfMemory>
+        requires port { port ≤ 12 }
+        requires room { self.old.version ≤ MOST_VERSION }
+        ensures { OnOk result (Accepts self.old self.new (record { port = port; body = Pos told }) sends.old sends.new) }
+    {
+        self.offers.note(port, told.root(), told.level());
+        self.ports.note_position(port, told);
+        self.reposition(sends)?;
+        let to_parent = port == self.position.port();
+        let answer = AnswerBody::new(told.version(), to_parent);
+        sends.push(port, Body::Answer(answer))?;
+        self.settle(sends)
+    }
+
+    /// Notes an answer.
+    fn accept_answer(
+        &mut self,
+        port: u8,
+        answer: AnswerBody,
+        sends: &mut Sends,
+    ) -> Result<(), OutOfMemory>
+        requires { port ≤ 12 }
+        ensures { OnOk result (Accepts self.old self.new (record { port = port; body = Answer answer }) sends.old sends.new) }
+    {
+        self.ports.note_answer(port, answer);
+        self.settle(sends)
+    }
+
+    /// Notes a report.
+    fn accept_report(
+        &mut self,
+        port: u8,
+        entries: Entries,
+        sends: &mut Sends,
+    ) -> Result<(), OutOfMemory>
+        requires { port ≤ 12 }
+        ensures { OnOk result (Accepts self.old self.new (record { port = port; body = Stable entries }) sends.old sends.new) }
+    {
+        self.ports.note_report(port, entries);
+        self.settle(sends)
+    }
+
+    /// Finishes with the first topology that names the life, and passes over any other.
+    fn accept_topo(&mut self, topo: TopoBody, sends: &mut Sends) -> Result<(), OutOfMemory>
+        ensures { OnOk result ((port : ℕ) → Accepts self.old self.new (record { port = port; body = Topo topo }) sends.old sends.new) }
+    {
+        if self.finish.is_some() {
+            return Ok(());
+        }
+        if !is_among(self.card.me(), topo.entries()) {
+            return Ok(());
+        }
+        self.finish_with(topo, sends)
+    }
+
+    /// Takes the position that the offers give, and tells it where it changed.
+    fn reposition(&mut self, sends: &mut Sends) -> Result<(), OutOfMemory>
+        requires { self.old.version ≤ MOST_VERSION }
+        ensures core { OnOk result (self.new ≡ repositioned self.old) }
+        ensures sends { OnOk result (sends.new ≡ sends.old ++ told_by self.old) }
+    {
+        let before = self.position;
+        self.position = self.offers.best();
+        if self.position == before {
+            return Ok(());
+        }
+        self.version += 1;
+        tell_position(self.version, &self.position, self.card.links(), sends)
+    }
+
+    /// Sees whether the life is stable, and does what comes of it.
+    fn settle(&mut self, sends: &mut Sends) -> Result<(), OutOfMemory>
+        ensures { OnOk result (Settles self.old self.new sends.old sends.new) }
+    {
+        let was_stable = self.is_stable;
+        self.is_stable = self.ports.are_settled(self.card.links(), self.version);
+        if !self.is_stable {
+            return Ok(());
+        }
+        if self.is_root() {
+            return self.finish_as_root(sends);
+        }
+        if was_stable {
+            return Ok(());
+        }
+        self.report_up(sends)
+    }
+
+    /// Whether the life is its own root.
+    fn is_root(&self) -> bool
+        ensures { result ≡ is_same self.now.position (self_root self.now.card.me) }
+    {
+        let me = self.card.me();
+        self.position == Position::new(me, 0, me, 0)
+    }
+
+    /// The entries of the report.
+    fn report(&self) -> Result<Entries, OutOfMemory>
+        ensures { (log : Log) → HasHeard self.now.ports log → IfOk result (λ entries. entries ≡ report_of self.now.card.me (entry_of self.now ∷ flat_map (reported_on log) (claiming_among self.now.card.links log))) }
+    {
+        let own = self.card.entry(self.position);
+        let report = self.ports.report(self.alloc, own, self.card.links())?;
+        Ok(report.into_entries())
+    }
+
+    /// Sends the report to the parent.
+    fn report_up(&self, sends: &mut Sends) -> Result<(), OutOfMemory>
+        ensures { (log : Log) → HasHeard self.now.ports log → OnOk result (sends.new ≡ sends.old ++ record { port = self.now.position.port; body = Stable (report_of self.now.card.me (entry_of self.now ∷ flat_map (reported_on log) (claiming_among self.now.card.links log))) } ∷ []) }
+    {
+        let entries = self.report()?;
+        sends.push(self.position.port(), Body::Stable { entries })
+    }
+
+    /// Finishes with the report and its numbering, if the life has not finished.
+    fn finish_as_root(&mut self, sends: &mut Sends) -> Result<(), OutOfMemory>
+        ensures { OnOk result (FinishesAsRoot self.old self.new sends.old sends.new) }
+    {
+        if self.finish.is_some() {
+            return Ok(());
+        }
+        let entries = self.report()?;
+        let numbers = number(self.alloc, &entries)?;
+        self.finish_with(TopoBody::new(entries, numbers), sends)
+    }
+
+    /// Finishes with a topology, and passes it on to the links that claim.
+    fn finish_with(&mut self, topo: TopoBody, sends: &mut Sends) -> Result<(), OutOfMemory>
+        ensures core { OnOk result (self.new ≡ record self.old { finish = Some topo }) }
+        ensures sends { (log : Log) → HasHeard self.old.ports log → OnOk result (sends.new ≡ sends.old ++ map (passed_on topo) (claiming_among self.old.card.links log)) }
+    {
+        self.ports
+            .pass_down(self.alloc, &topo, self.card.links(), sends)?;
+        self.finish = Some(topo);
+        Ok(())
+    }
+}
+
+#[cfg(test)]
+mod tests {
+    use super::*;
+    use crate::sends::Outgoing;
+    use an_base::entry::Entry;
+    use an_base::life::End;
+    use an_base::links::PortLink;
+    use an_base::numbers::Numbers;
+    use std::test::Fail;
+
+    // The life of a switch by its place, from 0.
+    fn life(place: u8) -> Life {
+        Life::new(u64::from(place) + 1, 1)
+    }
+
+    // Accepts one body at a core.
+    fn deliver(alloc: Global, core: &mut Core, port: u8, body: Body) -> Result<Sends, Fail> {
+        let mut sends = Sends::new(alloc);
+        if port > 12 || core.version() > MOST_VERSION {
+            return Err(Fail::from("out of range"));
+        }
+        core.accept(port, body, &mut sends)?;
+        Ok(sends)
+    }
+
+    // What a body says, in short: its kind, then version or how many entries, level, and flag.
+    fn said(send: &Outgoing) -> (u8, usize, u8, bool) {
+        match &send.body {
+            Body::Pos(told) => (
+                b'P',
+                told.version() as usize,
+                told.level(),
+                told.to_parent(),
+            ),
+            Body::Answer(answer) => (b'A', answer.version() as usize, 0, answer.to_parent()),
+            Body::Stable { entries } => (b'S', entries.len(), 0, false),
+            Body::Topo(topo) => (b'T', topo.entries().len(), 0, false),
+        }
+    }
+
+    // The body at a place among those sent.
+    fn copied(alloc: Global, sends: &Sends, i: usize) -> Result<Body, Fail> {
+        match sends.as_slice().get(i) {
+            Some(send) => Ok(send.body.copy(alloc)?),
+            None => Err(Fail::from("no such body")),
+        }
+    }
+
+    // What was sent, with what is sent now behind it.
+    fn more(mut sent: Sends, now: Sends) -> Result<Sends, Fail> {
+        'now: for send in now.into_vec() {
+            sent.push(send.port, send.body)?;
+        }
+        Ok(sent)
+    }
+
+    // Accepts a body of the other, and adds what it sends then.
+    fn turn(
+        alloc: Global,
+        core: &mut Core,
+        from: &Sends,
+        i: usize,
+        sent: Sends,
+    ) -> Result<Sends, Fail> {
+        let body = copied(alloc, from, i)?;
+        let now = deliver(alloc, core, 1, body)?;
+        more(sent, now)
+    }
+
+    // Whether the bodies say this, one after the other.
+    fn says(sent: Sends, wanted: &[(u8, usize, u8, bool)]) -> bool {
+        let sent = sent.into_vec();
+        if sent.len() != wanted.len() {
+            return false;
+        }
+        'sent: for (send, want) in sent.iter().zip(wanted) {
+            if said(send) != *want {
+                return false;
+            }
+        }
+        true
+    }
+
+    #[test]
+    fn two_switches_exchange_these_bodies(rt: HostRuntime) -> Result<(), Fail> {
+        let alloc = rt.alloc();
+        let mut to_a = Links::new();
+        to_a.push(PortLink::new(1, End::new(life(0), 1)));
+        let mut to_b = Links::new();
+        to_b.push(PortLink::new(1, End::new(life(1), 1)));
+        let mut from_a = Sends::new(alloc);
+        let mut from_b = Sends::new(alloc);
+        let mut a = Core::join(alloc, life(0), 1, 1, &to_b, &mut from_a)?;
+        let mut b = Core::join(alloc, life(1), 1, 1, &to_a, &mut from_b)?;
+        // Who accepts, and which of the other's bodies.
+        let turns = [
+            (b'B', 0),
+            (b'A', 0),
+            (b'A', 1),
+            (b'A', 2),
+            (b'B', 1),
+            (b'B', 2),
+            (b'A', 3),
+            (b'B', 3),
+        ];
+        for (who, i) in turns {
+            if who == b'B' {
+                from_b = turn(alloc, &mut b, &from_a, i, from_b)?;
+            } else {
+                from_a = turn(alloc, &mut a, &from_b, i, from_a)?;
+            }
+        }
+        let wanted_a = [
+            (b'P', 1, 0, false),
+            (b'A', 1, 0, false),
+            (b'A', 2, 0, false),
+            (b'T', 2, 0, false),
+        ];
+        let wanted_b = [
+            (b'P', 1, 0, false),
+            (b'P', 2, 1, true),
+            (b'A', 1, 0, true),
+            (b'S', 1, 0, false),
+        ];
+        assert!(rt; says(from_a, &wanted_a));
+        assert!(rt; says(from_b, &wanted_b));
+        assert!(rt; a.finish().is_some() && b.finish().is_some());
+        assert_eq!(rt; *b.position(), Position::new(life(0), 1, life(0), 1));
+        Ok(())
+    }
+
+    #[test]
+    fn a_topology_that_does_not_name_the_life_is_passed_over(rt: HostRuntime) -> Result<(), Fail> {
+        let alloc = rt.alloc();
+        let mut links = Links::new();
+        links.push(PortLink::new(1, End::new(life(1), 1)));
+        let mut sends = Sends::new(alloc);
+        let mut core = Core::join(alloc, life(0), 1, 1, &links, &mut sends)?;
+        let entry = Entry {
+            life: life(1),
+            position: Position::new(life(1), 0, life(1), 0),
+            proposed: 1,
+            links: Links::new(),
+        };
+        let entries = Entries::of(alloc, entry)?;
+        let numbers: Numbers = number(alloc, &entries)?;
+        if entries.len() != numbers.len() {
+            return Err(Fail::from("lengths"));
+        }
+        let body = Body::Topo(TopoBody::new(entries, numbers));
+        let sent = deliver(alloc, &mut core, 1, body)?;
+        assert!(rt; sent.as_slice().is_empty());
+        assert!(rt; core.finish().is_none());
+        Ok(())
+    }
+
+    #[test]
+    fn a_life_without_links_finishes_as_it_joins(rt: HostRuntime) -> Result<(), Fail> {
+        let mut sends = Sends::new(rt.alloc());
+        let core = Core::join(rt.alloc(), life(4), 1, 9, &Links::new(), &mut sends)?;
+        assert!(rt; sends.as_slice().is_empty());
+        assert!(rt; core.stable());
+        match core.finish() {
+            Some(topo) => assert_eq!(rt; topo.numbers().as_slice(), [9].as_slice()),
+            None => assert!(rt; false),
+        }
+        Ok(())
+    }
+}

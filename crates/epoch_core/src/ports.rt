@@ -1,0 +1,171 @@
+ghost use Rattle.std.specs.Prelude.{◌≡◌, ◌≤◌, ◌&&◌, ◌||◌, not, [], ◌∷◌, ◌++◌, map, OnOk, IfOk, option_copied};
+ghost use Rattle.std.specs.List.{list_all, flat_map};
+ghost use Rattle.an_base.specs.declared.body.Body.TheVariants.{Pos, Answer, Stable, Topo};
+ghost use Rattle.topo_report.specs.Report.{report_of};
+ghost use Rattle.epoch_core.specs.Log.{Log, on_port, last_report};
+ghost use Rattle.epoch_core.specs.Epoch.{names, is_settled, claiming_among, reported_on, passed_on};
+ghost use Rattle.epoch_core.specs.Heard.{HasHeard, heard_of};
+
+use crate::sends::Sends;
+use an_base::body::{AnswerBody, Body, PosBody, TopoBody};
+use an_base::entry::{Entries, Entry};
+use an_base::links::Links;
+use an_base::memory::OutOfMemory;
+use std::alloc::Global;
+use topo_report::report::Report;
+
+/// What is kept of the bodies accepted on one port, but for the last report.
+#[derive(Clone, Copy, Debug)]
+pub struct Heard {
+    /// The version that the last answer names.
+    pub answered: Option<u32>,
+    /// Whether the last position or answer says that the link is the sender's link to its parent.
+    pub is_claimed: bool,
+    /// Whether a report came after the last position.
+    pub is_fresh: bool,
+}
+
+impl Heard {
+    /// Whether the last answer names the version, and a link that claims has reported since its last
+    /// position.
+    pub fn is_settled(self, version: u32) -> bool
+        ensures { result ≡ (names self.answered version && (not self.is_claimed || self.is_fresh)) }
+    {
+        match self.answered {
+            Some(answered) => answered == version && (!self.is_claimed || self.is_fresh),
+            None => false,
+        }
+    }
+}
+
+// A port on which nothing came.
+const NOTHING: Heard = Heard {
+    answered: None,
+    is_claimed: false,
+    is_fresh: false,
+};
+
+/// What is kept of the bodies accepted on each port, 0 to 12.
+#[derive(Debug, Drop)]
+pub struct Ports {
+    /// What is kept on each port, but for the last report.
+    pub heard: [Heard; 13],
+    /// The last report on each port.
+    pub reports: [Option<Entries>; 13],
+}
+
+impl Ports {
+    /// Nothing came on any port.
+    pub fn new() -> Self
+        ensures { HasHeard result [] }
+    {
+        Ports {
+            heard: [NOTHING; 13],
+            reports: [
+                None, None, None, None, None, None, None, None, None, None, None, None, None,
+            ],
+        }
+    }
+
+    /// A position came on a port, 0 to 12.
+    pub fn note_position(&mut self, port: u8, told: PosBody)
+        requires { port ≤ 12 }
+        ensures { (log : Log) → HasHeard self.old log → HasHeard self.new (record { port = port; body = Pos told } ∷ log) }
+    {
+        let i = usize::from(port);
+        self.heard[i] = Heard {
+            answered: self.heard[i].answered,
+            is_claimed: told.to_parent(),
+            is_fresh: false,
+        };
+    }
+
+    /// An answer came on a port, 0 to 12.
+    pub fn note_answer(&mut self, port: u8, answer: AnswerBody)
+        requires { port ≤ 12 }
+        ensures { (log : Log) → HasHeard self.old log → HasHeard self.new (record { port = port; body = Answer answer } ∷ log) }
+    {
+        let i = usize::from(port);
+        self.heard[i] = Heard {
+            answered: Some(answer.version()),
+            is_claimed: answer.to_parent(),
+            is_fresh: self.heard[i].is_fresh,
+        };
+    }
+
+    /// A report came on a port, 0 to 12.
+    pub fn note_report(&mut self, port: u8, entries: Entries)
+        requires { port ≤ 12 }
+        ensures { (log : Log) → HasHeard self.old log → HasHeard self.new (record { port = port; body = Stable entries } ∷ log) }
+    {
+        let i = usize::from(port);
+        self.heard[i] = Heard {
+            answered: self.heard[i].answered,
+            is_claimed: self.heard[i].is_claimed,
+            is_fresh: true,
+        };
+        self.reports[i] = Some(entries);
+    }
+
+    /// What was heard on a port, 0 to 12.
+    fn heard_on(&self, port: u8) -> Heard
+        requires { port ≤ 12 }
+        ensures { (log : Log) → HasHeard self.now log → result ≡ heard_of (on_port port log) }
+    {
+        self.heard[usize::from(port)]
+    }
+
+    /// The last report on a port, 0 to 12.
+    fn report_on(&self, port: u8) -> Option<&Entries>
+        requires { port ≤ 12 }
+        ensures { (log : Log) → HasHeard self.now log → option_copied result ≡ last_report (on_port port log) }
+    {
+        self.reports[usize::from(port)].as_ref()
+    }
+
+    /// Whether the last answer on each of the links names the version, and each of them that claims
+    /// has reported since its last position.
+    pub fn are_settled(&self, links: &Links, version: u32) -> bool
+        ensures { (log : Log) → HasHeard self.now log → result ≡ list_all (is_settled version log) links.now }
+    {
+        'links: for link in links.as_slice() {
+            if !self.heard_on(link.port()).is_settled(version) {
+                return false;
+            }
+        }
+        true
+    }
+
+    /// The report of a life that has this entry, with the last reports of the links that claim.
+    pub fn report(&self, alloc: Global, own: Entry, links: &Links) -> Result<Report, OutOfMemory>
+        ensures { (log : Log) → HasHeard self.now log → IfOk result (λ report. report ≡ record { me = own.life; entries = report_of own.life (own ∷ flat_map (reported_on log) (claiming_among links.now log)) }) }
+    {
+        let mut report = Report::of(alloc, own)?;
+        'links: for link in links.as_slice() {
+            if self.heard_on(link.port()).is_claimed {
+                if let Some(entries) = self.report_on(link.port()) {
+                    report.merge(entries)?;
+                }
+            }
+        }
+        Ok(report)
+    }
+
+    /// Sends a topology on the links that claim, rising.
+    pub fn pass_down(
+        &self,
+        alloc: Global,
+        topo: &TopoBody,
+        links: &Links,
+        sends: &mut Sends,
+    ) -> Result<(), OutOfMemory>
+        ensures { (log : Log) → HasHeard self.now log → OnOk result (sends.new ≡ sends.old ++ map (passed_on topo.now) (claiming_among links.now log)) }
+    {
+        'links: for link in links.as_slice() {
+            if self.heard_on(link.port()).is_claimed {
+                sends.push(link.port(), Body::Topo(topo.copy(alloc)?))?;
+            }
+        }
+        Ok(())
+    }
+}
