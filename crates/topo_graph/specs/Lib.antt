@@ -1,0 +1,3 @@
+pub mod Topology
+pub mod Table
+pub mod Stands

@@ -1,0 +1,363 @@
+ghost use Rattle.std.specs.Prelude.{◌≡◌, ◌↔◌, ◌<◌, ◌≤◌, length, ℕ, Any, IsTrue, IsSome, IfOk, IfSome, MatchOption};
+ghost use Rattle.an_base.specs.Values.{EndId};
+ghost use Rattle.an_base.specs.Order.{LivesRise, PortsRise};
+ghost use Rattle.topo_graph.specs.Topology.{AreWithin, entry_at, far_of, is_to, IsLink, joined, level_at, life_at, place_of};
+ghost use Rattle.topo_graph.specs.Table.{AreRows, cell_at, HasLinks, LinksAreWithin};
+ghost use Rattle.std.specs.List.{list_any};
+
+use an_base::entry::{Entries, Entry};
+use an_base::life::{End, Life};
+use an_base::links::PortLink;
+use an_base::memory::OutOfMemory;
+use an_base::position::Position;
+use std::alloc::Global;
+use std::marker::Model;
+
+// The far place and port of each port; nothing is at port 0.
+#[derive(Clone, Copy, Debug)]
+struct PortRow {
+    cells: [Option<(u8, u8)>; 13],
+}
+
+// What the table has at a port.
+fn cell(rows: &[PortRow], x: u8, port: u8) -> Option<(u8, u8)>
+    ensures { result ≡ cell_at rows.now x port }
+{
+    let row = rows.get(usize::from(x))?;
+    row.cells.get(usize::from(port)).copied().flatten()
+}
+
+// The place of the entry of a life.
+fn place(entries: &[Entry], life: Life) -> Option<u8>
+    requires rising { LivesRise entries.now }
+    requires most { length entries.now ≤ 126 }
+    ensures { result ≡ place_of entries.now life }
+{
+    match entries.binary_search_by(|e| e.life.cmp(&life)) {
+        Ok(x) => Some(x as u8),
+        Err(_) => None,
+    }
+}
+
+// Whether one of the links has this port and this other end.
+fn names(links: &[PortLink], port: u8, end: End) -> bool
+    ensures { result ≡ list_any (is_to port end) links.now }
+{
+    links.iter().any(|l| l.port == port && l.peer.life == end.life && l.peer.port == end.port)
+}
+
+// The far place and port of a link that the entry at x names, where the far entry names it too.
+fn far_end(entries: &[Entry], x: u8, link: &PortLink) -> Option<(u8, u8)>
+    requires rising { LivesRise entries.now }
+    requires most { length entries.now ≤ 126 }
+    requires within { x < length entries.now }
+    ensures far { result ≡ joined entries.now x link.now }
+    ensures range { IfSome result (AreWithin entries.now x link.now.port) }
+{
+    let peer = link.peer();
+    let y = place(entries, peer.life())?;
+    if y == x {
+        return None;
+    }
+    let near = &entries[usize::from(x)];
+    let far = &entries[usize::from(y)];
+    let end = End::new(near.life, link.port());
+    if !names(far.links.as_slice(), peer.port(), end) {
+        return None;
+    }
+    Some((y, peer.port()))
+}
+
+// What is at the far side of each port of the entry at x.
+fn row_of(entries: &[Entry], x: u8) -> PortRow
+    requires rising { LivesRise entries.now }
+    requires most { length entries.now ≤ 126 }
+    requires within { x < length entries.now }
+    ensures links { HasLinks entries.now x (entry_at entries.now x).links result.cells }
+    ensures range { LinksAreWithin entries.now x result.cells }
+    ensures ports { PortsRise (entry_at entries.now x).links }
+{
+    let mut cells = [None; 13];
+    let entry = &entries[usize::from(x)];
+    'links: for link in entry.links.as_slice() {
+        cells[usize::from(link.port())] = far_end(entries, x, link);
+    }
+    PortRow { cells }
+}
+
+// What is at the far side of each port of each entry.
+fn rows_of(alloc: Global, entries: &[Entry]) -> Result<Vec<PortRow>, OutOfMemory>
+    requires rising { LivesRise entries.now }
+    requires most { length entries.now ≤ 126 }
+    ensures { IfOk result (λ rows. AreRows entries.now rows.items (length entries.now)) }
+{
+    let count = entries.len() as u8;
+    let mut rows = Vec::with_capacity(alloc, entries.len())?;
+    'rows: for x in 0..count {
+        rows.push(row_of(entries, x))?;
+    }
+    Ok(rows)
+}
+
+/// The entries of a topology and the links that both ends name. Contracts see it as the list of
+/// the entries. Inside, an entry is known by its place in that list.
+#[derive(Debug, Drop)]
+pub struct Graph {
+    entries: Entries,
+    rows: Vec<PortRow>,
+}
+
+impl Model for Graph {
+    ghost use Rattle.std.specs.Prelude.{List};
+    ghost use Rattle.an_base.specs.Values.{EntryOf};
+    ghost use Rattle.topo_graph.specs.Table.{IsKept};
+
+    ghost Value = { List EntryOf };
+
+    ghost view = { λ g. g.entries };
+
+    ghost invariant = { λ g. IsKept g.entries g.rows.items };
+}
+
+impl Graph {
+    ghost use Rattle.topo_graph.specs.Topology.{IsGraph, IsTree};
+    ghost use Rattle.topo_graph.specs.Stands.{IsAfter, IsNextBelow, IsParent, Stands};
+
+    /// The graph of the entries: its links are those that are named at both ends and join two lives.
+    pub fn of(alloc: Global, entries: &Entries) -> Result<Graph, OutOfMemory>
+        ensures { IfOk result (λ graph. graph ≡ entries.now) }
+    {
+        let rows = rows_of(alloc, entries.as_slice())?;
+        let entries = entries.copy(alloc)?;
+        Ok(Graph { entries, rows })
+    }
+
+    /// The entries of which the graph was made.
+    pub fn entries(&self) -> &Entries
+        ensures all { result.now ≡ self.now }
+        ensures graph { IsGraph self.now }
+    {
+        &self.entries
+    }
+
+    /// How many entries there are, 1 to 126.
+    pub fn count(&self) -> u8
+        ensures count { result ≡ length self.now }
+        ensures graph { IsGraph self.now }
+    {
+        self.entries.len() as u8
+    }
+
+    /// The place of the entry of a life, if it has one.
+    pub fn place(&self, life: Life) -> Option<u8>
+        ensures place { result ≡ place_of self.now life }
+        ensures found { IsSome result ↔ Any (λ e. e.life ≡ life) self.now }
+        ensures graph { IsGraph self.now }
+    {
+        place(self.entries().as_slice(), life)
+    }
+
+    /// The life of the entry at a place.
+    pub fn life(&self, x: u8) -> Life
+        requires { x < length self.now }
+        ensures { result ≡ life_at self.now x }
+    {
+        let entry = &self.entries.as_slice()[usize::from(x)];
+        entry.life
+    }
+
+    /// Where the entry at a place states that it stands.
+    pub fn position(&self, x: u8) -> Position
+        requires { x < length self.now }
+        ensures { result ≡ (entry_at self.now x).position }
+    {
+        let entry = &self.entries.as_slice()[usize::from(x)];
+        entry.position
+    }
+
+    /// The level that the entry at a place states, 0 to 125.
+    pub fn level(&self, x: u8) -> u8
+        requires { x < length self.now }
+        ensures level { result ≡ level_at self.now x }
+        ensures most { result ≤ 125 }
+    {
+        let entry = &self.entries.as_slice()[usize::from(x)];
+        entry.position.level()
+    }
+
+    /// The place and the port at the far side of a port of the entry at a place, if the graph has a
+    /// link there. It answers for all values, in constant time.
+    pub fn far_place(&self, x: u8, port: u8) -> Option<(u8, u8)>
+        ensures far { result ≡ far_of self.now x port }
+        ensures graph { IsGraph self.now }
+    {
+        cell(&self.rows, x, port)
+    }
+
+    /// The other end of the link at this port of this life, None exactly where the graph has no link
+    /// there.
+    pub fn far(&self, life: Life, port: u8) -> Option<End>
+        ensures { MatchOption result
+            ((b : EndId) → ¬ IsLink self.now (record { life = life; port = port }) b)
+            (IsLink self.now (record { life = life; port = port })) }
+    {
+        let x = self.place(life)?;
+        let (y, q) = self.far_place(x, port)?;
+        Some(End::new(self.life(y), q))
+    }
+
+    // Whether what a port leads to comes after the parent.
+    fn is_after(&self, x: u8, parent: u8, place: &Position, port: u8) -> bool
+        ensures { IsTrue result ↔ IsAfter self.now x parent place.now port }
+    {
+        let Some((y, _)) = self.far_place(x, port) else {
+            return true;
+        };
+        let next = self.level(y) + 1;
+        if next == place.level {
+            return parent < y || (parent == y && place.port <= port);
+        }
+        place.level < next
+    }
+
+    // The parent of the entry at x, where it is at the port of its position, one level nearer.
+    fn parent_of(&self, x: u8, place: &Position) -> Option<u8>
+        ensures parent { MatchOption result
+            ((y : ℕ) → ¬ IsParent self.now x y place.now)
+            (λ y. IsParent self.now x y place.now) }
+        ensures graph { IsGraph self.now }
+    {
+        let (y, _) = self.far_place(x, place.port)?;
+        if self.level(y) + 1 != place.level || self.life(y) != place.parent {
+            return None;
+        }
+        Some(y)
+    }
+
+    // Whether the entry at x, which is not the first, stands where its neighbours put it.
+    fn is_next_below(&self, x: u8, place: &Position) -> bool
+        ensures { IsTrue result ↔ ((y : ℕ) × IsNextBelow self.now x y place.now) }
+    {
+        let Some(parent) = self.parent_of(x, place) else {
+            return false;
+        };
+        'ports: for port in 1..13u8 {
+            if !self.is_after(x, parent, place, port) {
+                return false;
+            }
+        }
+        true
+    }
+
+    // Whether the entry at x stands where its neighbours put it.
+    fn stands(&self, x: u8, place: &Position) -> bool
+        ensures { IsTrue result ↔ Stands self.now x place.now }
+    {
+        let _count = self.count();
+        let root = self.life(0);
+        if place.root != root {
+            return false;
+        }
+        if x > 0 {
+            return self.is_next_below(x, place);
+        }
+        place.level == 0 && place.parent == root && place.port == 0
+    }
+
+    /// Whether the entries are one component of the links, each with its place in the tree of
+    /// shortest walks to the least life.
+    pub fn tree_ok(&self) -> bool
+        ensures { IsTrue result ↔ IsTree self.now }
+    {
+        let count = self.count();
+        'entries: for x in 0..count {
+            if !self.stands(x, &self.position(x)) {
+                return false;
+            }
+        }
+        true
+    }
+}
+
+#[cfg(test)]
+mod tests {
+    use super::*;
+    use an_base::links::Links;
+    use std::test::Fail;
+
+    // The life of this identifier, in its first boot.
+    fn life_of(uid: u64) -> Life
+        requires { uid < 100 }
+        ensures { result ≡ record { uid = uid; boot = 1 } }
+    {
+        Life::new(uid, 1)
+    }
+
+    // A link from a port to a port of this life.
+    fn link(port: u8, uid: u64, far: u8) -> PortLink
+        requires uid { uid < 100 }
+        requires least { 1 ≤ port }
+        requires most { port ≤ 12 }
+        requires far_least { 1 ≤ far }
+        requires far_most { far ≤ 12 }
+        ensures { result.port ≡ port }
+    {
+        PortLink::new(port, End::new(life_of(uid), far))
+    }
+
+    // The entry of this life, in the tree of life 1.
+    fn entry(uid: u64, level: u8, parent: u64, port: u8, links: Links) -> Entry
+        requires uid { uid < 100 }
+        requires level { level ≤ 125 }
+        requires parent { parent < 100 }
+        requires port { port ≤ 12 }
+        ensures { result.life ≡ record { uid = uid; boot = 1 } }
+    {
+        Entry {
+            life: life_of(uid),
+            position: Position::new(life_of(1), level, life_of(parent), port),
+            proposed: 1,
+            links,
+        }
+    }
+
+    // Lives 1 and 2 with two links between them, a link of life 1 to itself and one that life 2
+    // alone names; life 2 states this level and port.
+    fn pair(rt: &HostRuntime, level: u8, port: u8) -> Result<Graph, Fail>
+        requires level { level ≤ 125 }
+        requires port { port ≤ 12 }
+    {
+        let mut links = Links::new();
+        links.push(link(1, 2, 2));
+        links.push(link(2, 2, 1));
+        links.push(link(4, 1, 5));
+        links.push(link(5, 1, 4));
+        let mut far_links = Links::new();
+        far_links.push(link(1, 1, 2));
+        far_links.push(link(2, 1, 1));
+        far_links.push(link(3, 1, 3));
+        let mut entries = Entries::of(rt.alloc(), entry(1, 0, 1, 0, links))?;
+        entries.push(entry(2, level, 1, port, far_links))?;
+        Ok(Graph::of(rt.alloc(), &entries)?)
+    }
+
+    #[test]
+    fn links_are_named_at_both_ends_and_join_two_lives(rt: HostRuntime) -> Result<(), Fail> {
+        let graph = pair(&rt, 1, 1)?;
+        assert_eq!(rt; graph.entries().len(), 2);
+        assert_eq!(rt; graph.far(life_of(1), 1), Some(End::new(life_of(2), 2)));
+        assert_eq!(rt; graph.far(life_of(2), 1), Some(End::new(life_of(1), 2)));
+        assert_eq!(rt; graph.far(life_of(1), 4), None);
+        assert_eq!(rt; graph.far(life_of(2), 3), None);
+        assert_eq!(rt; graph.far(life_of(3), 1), None);
+        Ok(())
+    }
+
+    #[test]
+    fn a_tree_has_the_least_parent_port_and_level(rt: HostRuntime) -> Result<(), Fail> {
+        assert!(rt; pair(&rt, 1, 1)?.tree_ok());
+        assert!(rt; !pair(&rt, 1, 2)?.tree_ok());
+        assert!(rt; !pair(&rt, 2, 1)?.tree_ok());
+        Ok(())
+    }
+}

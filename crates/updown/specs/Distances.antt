@@ -1,0 +1,28 @@
+use Rattle.std.specs.Prelude.{ℕ, List, Option, position}
+use Rattle.std.specs.Option.{option_and_then}
+use Rattle.std.specs.Ordering.{is_eq}
+use Rattle.an_base.specs.Values.{LifeId, EntryOf}
+use Rattle.an_base.specs.Order.{life_cmp}
+use Rattle.updown.specs.Routes.{HasLegalFrom, HasDownFrom, IsLeast}
+use Rattle.updown.specs.Lengths.{LengthsOf, length_at}
+
+-- lives, and for the place of each the lengths to one of them
+pub record DistancesOf : Type 0 where
+  pub lives : List LifeId
+  pub lengths : LengthsOf
+
+-- the place of a life
+abbrev pub place_in : List LifeId → LifeId → Option ℕ
+place_in lives life = position (λ l. is_eq (life_cmp l life)) lives
+
+-- its lengths, none where it is not among the lives
+abbrev pub up_of : DistancesOf → LifeId → Option ℕ
+up_of d life = option_and_then (length_at d.lengths.up) (place_in d.lives life)
+
+abbrev pub down_of : DistancesOf → LifeId → Option ℕ
+down_of d life = option_and_then (length_at d.lengths.down) (place_in d.lives life)
+
+-- they are the least lengths of routes to this life
+pub record AreDistances (es : List EntryOf) (to : LifeId) (d : DistancesOf) : Type 0 where
+  pub up : (life : LifeId) → IsLeast (HasLegalFrom es life to) (up_of d life)
+  pub down : (life : LifeId) → IsLeast (HasDownFrom es life to) (down_of d life)

@@ -1,0 +1,4 @@
+pub mod Routes
+pub mod Lengths
+pub mod Order
+pub mod Distances

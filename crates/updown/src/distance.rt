@@ -1,0 +1,62 @@
+ghost use Rattle.std.specs.Prelude.{◌≡◌, ◌≤◌, length};
+ghost use Rattle.updown.specs.Distances.{down_of, place_in, up_of};
+
+use crate::length::Lengths;
+use an_base::life::Life;
+use std::marker::Model;
+
+/// How far it is from each life of a graph to one of them, by legal routes and by routes with
+/// downward links alone.
+#[derive(Debug, Drop)]
+pub struct Distances {
+    lives: Vec<Life>,
+    lengths: Lengths,
+}
+
+impl Model for Distances {
+    ghost use Rattle.std.specs.Prelude.{length, ◌≤◌};
+    ghost use Rattle.updown.specs.Distances.{DistancesOf};
+
+    ghost Value = { DistancesOf };
+
+    ghost view = { λ d. record { lives = d.lives.items; lengths = d.lengths } };
+
+    ghost invariant = { λ d. length d.lives.items ≤ 126 };
+}
+
+impl Distances {
+    // The distances of these lives, at most 126.
+    pub(crate) fn new(lives: Vec<Life>, lengths: Lengths) -> Self
+        requires { length lives.items ≤ 126 }
+        ensures { result ≡ record { lives = lives.items; lengths = lengths } }
+    {
+        Distances { lives, lengths }
+    }
+
+    // The place of a life.
+    fn place(&self, life: Life) -> Option<u8>
+        ensures { result ≡ place_in self.now.lives life }
+    {
+        'lives: for i in 0..self.lives.len() {
+            if self.lives[i] == life {
+                return Some(i as u8);
+            }
+        }
+        None
+    }
+
+    /// The least length of a legal route from a life, None exactly where there is none.
+    pub fn up(&self, life: Life) -> Option<u8>
+        ensures { result ≡ up_of self.now life }
+    {
+        self.lengths.up(self.place(life)?)
+    }
+
+    /// The least length of a route from a life with downward links alone, None exactly where there
+    /// is none.
+    pub fn down(&self, life: Life) -> Option<u8>
+        ensures { result ≡ down_of self.now life }
+    {
+        self.lengths.down(self.place(life)?)
+    }
+}

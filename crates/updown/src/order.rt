@@ -1,0 +1,65 @@
+ghost use Rattle.std.specs.Prelude.{◌≡◌, length, IfOk};
+ghost use Rattle.topo_graph.specs.Topology.{IsGraph};
+ghost use Rattle.updown.specs.Order.{AreHeights, IsDescent};
+
+use an_base::memory::OutOfMemory;
+use std::alloc::Global;
+use std::marker::Model;
+use topo_graph::graph::Graph;
+
+/// How high the entry at a place stands: by level, then by place, the lesser the higher.
+#[derive(Clone, Copy, Debug, PartialEq, Eq, PartialOrd, Ord)]
+pub struct Height {
+    /// The level that the entry states.
+    pub level: u8,
+    /// The place of the entry.
+    pub place: u8,
+}
+
+// The heights of all places.
+fn heights_of(alloc: Global, graph: &Graph) -> Result<Vec<Height>, OutOfMemory>
+    ensures heights { IfOk result (λ heights. AreHeights graph.now (length graph.now) heights.items) }
+    ensures graph { IfOk result (λ _. IsGraph graph.now) }
+{
+    let count = graph.count();
+    let mut heights = Vec::with_capacity(alloc, usize::from(count))?;
+    'places: for place in 0..count {
+        let level = graph.level(place);
+        heights.push(Height { level, place })?;
+    }
+    Ok(heights)
+}
+
+/// The places of a graph from the highest to the lowest, so that each upward link leads to an
+/// earlier one and each downward link to a later one.
+#[derive(Debug, Drop)]
+pub struct Descent {
+    heights: Vec<Height>,
+}
+
+impl Model for Descent {
+    ghost use Rattle.std.specs.Prelude.{List};
+    ghost use Rattle.updown.specs.declared.order.Height.{Height};
+
+    ghost Value = { List Height };
+
+    ghost view = { λ d. d.heights.items };
+}
+
+impl Descent {
+    /// The places of a graph.
+    pub fn of(alloc: Global, graph: &Graph) -> Result<Descent, OutOfMemory>
+        ensures { IfOk result (λ descent. IsDescent graph.now descent) }
+    {
+        let mut heights = heights_of(alloc, graph)?;
+        heights.sort_unstable();
+        Ok(Descent { heights })
+    }
+
+    /// The heights from the highest to the lowest.
+    pub fn as_slice(&self) -> &[Height]
+        ensures { result.now ≡ self.now }
+    {
+        &self.heights
+    }
+}
