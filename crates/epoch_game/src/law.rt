@@ -1,0 +1,109 @@
+ghost use Rattle.std.specs.Prelude.{◌≡◌, ◌≤◌, ℕ, List, Some, true, length, Contains};
+ghost use Rattle.an_base.specs.Values.{LifeId, EntryOf, TopoOf};
+ghost use Rattle.epoch_core.specs.Epoch.{finish};
+ghost use Rattle.epoch_game.specs.Slice.{Node, Slice, nobody, Run};
+ghost use Rattle.epoch_game.specs.Streams.{HasStreams, HasGrown};
+ghost use Rattle.epoch_game.specs.Improving.{OnlyImproves};
+ghost use Rattle.epoch_game.specs.Leaving.{WasStableRoot, NobodyLeaves};
+ghost use Rattle.epoch_game.specs.Content.{ReportsAreTrue};
+ghost use Rattle.epoch_game.specs.Detection.{Reached, IsDetected, FinishedUnder};
+ghost use Rattle.epoch_game.specs.Game.{Game, slice, begins, Play, HasFinished, IsDetectedIn};
+
+/// In every run of an epoch each life that has joined has a card of its own, and what it has accepted
+/// on a port was sent there by the far end, each naming the other. What was accepted up to a moment
+/// shows the far end as it was at some moment: its version and position, whether the link is the one
+/// to its parent, the report of a stable moment of that version, the last position that it answered,
+/// and the topology with which it finished. The last answer names the version that has its number.
+pub fn streams_show_their_senders()
+    ensures { (lives : List LifeId) (s : Slice) → Run lives nobody s → HasStreams lives s }
+{}
+
+/// From then on a life that has joined keeps its card, and its list only grows.
+pub fn lists_only_grow()
+    ensures { (lives : List LifeId) (s t : Slice) (x : LifeId) (n : Node)
+        → Run lives s t → s x ≡ Some n → HasGrown t x n }
+{}
+
+/// In every run of at most 126 lives the position of a life only gets less, is never above what an
+/// offer on a link gives, of whatever level, and is never taken again once left; and at each root at
+/// least as many lives had their places as the level says.
+pub fn positions_only_improve()
+    ensures { (lives : List LifeId) (s : Slice)
+        → length lives ≤ 126 → Run lives nobody s → OnlyImproves s }
+{}
+
+/// In every run of at most 126 lives a life that is stable stays so while its version stays. Where
+/// some life has left a root, some one of those that left it was never stable in its last version with
+/// it. So nobody leaves a life that was once stable with itself as root, and whoever ever had it as
+/// root is stable.
+pub fn nobody_leaves_a_stable_root()
+    ensures { (lives : List LifeId) (s : Slice)
+        → length lives ≤ 126 → Run lives nobody s → NobodyLeaves s }
+{}
+
+/// In every run of at most 126 lives the report of a stable life has its own entry, and otherwise
+/// entries that lives had under its root. In its present version it has the present entry of each life
+/// whose present positions lead to it.
+pub fn reports_are_true()
+    ensures { (lives : List LifeId) (s : Slice)
+        → length lives ≤ 126 → Run lives nobody s → ReportsAreTrue s }
+{}
+
+/// In every run of at most 126 lives, once a life is stable with itself as root: each life that is
+/// reached from it over links has joined, with each of its links named at both ends; it has its place
+/// in the spanning tree, is stable, and neither ever changes again; the root's report has the entry
+/// of each of them and no other; and each topology that reaches one of them is that report with its
+/// numbering.
+pub fn a_stable_root_detects_the_end()
+    ensures { (lives : List LifeId) (s : Slice) (r : LifeId)
+        → length lives ≤ 126 → Run lives nobody s → WasStableRoot s r → IsDetected lives s r }
+{}
+
+/// In every run of at most 126 lives, whoever has finished holds the report and numbering of a life
+/// that was stable with itself as root, and is reached from it.
+pub fn a_finish_comes_from_a_stable_root()
+    ensures { (lives : List LifeId) (s : Slice) (x : LifeId) (n : Node) (t : TopoOf)
+        → length lives ≤ 126 → Run lives nobody s
+        → s x ≡ Some n → finish n.card n.log ≡ Some t → FinishedUnder s x t }
+{}
+
+/// In every run of at most 126 lives no life is reached from two lives that were stable as their own
+/// roots.
+pub fn stable_roots_share_no_life()
+    ensures { (lives : List LifeId) (s : Slice) (r q x : LifeId)
+        → length lives ≤ 126 → Run lives nobody s → WasStableRoot s r → WasStableRoot s q
+        → Reached s r x → Reached s q x → r ≡ q }
+{}
+
+/// In every run of at most 126 lives two lives that have finished under one root hold one topology.
+pub fn one_root_gives_one_topology()
+    ensures { (lives : List LifeId) (s : Slice) (x y : LifeId) (n m : Node) (t u : TopoOf) (e f : EntryOf)
+        → length lives ≤ 126 → Run lives nobody s
+        → s x ≡ Some n → finish n.card n.log ≡ Some t → Contains t.entries e
+        → s y ≡ Some m → finish m.card m.log ≡ Some u → Contains u.entries f
+        → e.position.root ≡ f.position.root → t ≡ u }
+{}
+
+/// What the game of all epochs does is a run of each epoch, for lives that have left it too. So the
+/// laws of an epoch hold in each epoch of every state of the game, and from each such state on.
+pub fn each_epoch_is_a_run()
+    ensures reached { (lives : List LifeId) (first : LifeId → ℕ) (g : Game) (e : ℕ)
+        → Play lives (begins first) g → Run lives nobody (slice e g) }
+    ensures later { (lives : List LifeId) (first : LifeId → ℕ) (g h : Game) (e : ℕ)
+        → Play lives (begins first) g → Play lives g h → Run lives (slice e g) (slice e h) }
+{}
+
+/// In every state of the game of at most 126 lives, and in each epoch: once a life is stable with
+/// itself as root, the end of the epoch is detected, and nothing that the game still does changes the
+/// version or the position of a life that is reached from it there.
+pub fn termination_is_detected()
+    ensures { (lives : List LifeId) (first : LifeId → ℕ) (g : Game) (e : ℕ) (r : LifeId)
+        → length lives ≤ 126 → Play lives (begins first) g → WasStableRoot (slice e g) r
+        → IsDetectedIn lives g e r }
+{}
+
+/// In every state of the game, who has loaded in an epoch has finished there.
+pub fn who_has_loaded_has_finished()
+    ensures { (lives : List LifeId) (first : LifeId → ℕ) (g : Game) (x : LifeId) (e : ℕ)
+        → Play lives (begins first) g → g.loaded x e ≡ true → HasFinished g x e }
+{}
