@@ -158,7 +158,7 @@ level_root lives s r d = ap (λ (a : Place). a.level) (at_own lives s r d)
 next_linked : (lives : List LifeId) (s : Slice) (r x : LifeId) (d : Rooted lives s r) → Member lives s r x d → (p : ℕ) (z : LifeId) → (k : IsNextTo s x p z) → Linked s x p z k.port
 next_linked lives s r x d m p z k = linked_back lives s r x d m p z k.port (subst (λ (a : Node). Names a.card p z k.port) (sym (node_is s x k.node k.joined)) k.named)
 
-level_next : (lives : List LifeId) (s : Slice) (r x : LifeId) (d : Rooted lives s r) (p : ℕ) (z : LifeId) (q : ℕ) → Linked s x p z q → Member lives s r x d → Member lives s r z d → (place s x).level ≤ (place s z).level + 1
+pub level_next : (lives : List LifeId) (s : Slice) (r x : LifeId) (d : Rooted lives s r) (p : ℕ) (z : LifeId) (q : ℕ) → Linked s x p z q → Member lives s r x d → Member lives s r z d → (place s x).level ≤ (place s z).level + 1
 level_next lives s r x d p z q l m mz = level_at_most (place s x) (given (place s z) (plain z p)) (at_most_next lives s r x d p z q l mz) (m.root ∙ sym mz.root)
 
 pub walk_level : (lives : List LifeId) (s : Slice) (r : LifeId) (d : Rooted lives s r) (n : ℕ) (x : LifeId) → Reached s r x → WalkTo s n x r → (place s x).level ≤ n
@@ -221,7 +221,7 @@ nat_at_most a b le = grind (arith, nat_tests)
 life_same : (a b : LifeId) → a ≡ b → life_cmp a b ≡ Equal
 life_same a b e = subst (λ (c : LifeId). life_cmp a c ≡ Equal) e (tied_itself life_total a)
 
-parent_least : (p q : Place) → p.root ≡ q.root → p.level ≡ q.level → IsAtMost p q → LifeAtMost p.parent q.parent × (p.parent ≡ q.parent → p.port ≤ q.port)
+pub parent_least : (p q : Place) → p.root ≡ q.root → p.level ≡ q.level → IsAtMost p q → LifeAtMost p.parent q.parent × (p.parent ≡ q.parent → p.port ≤ q.port)
 parent_least p q root level le =
     let rest = rest_le (life_cmp p.root q.root) (nat_cmp p.level q.level) (life_cmp p.parent q.parent) (nat_cmp p.port q.port) (life_same p.root q.root root) (nat_same p.level q.level level) le in (
       first_of (life_cmp p.parent q.parent) (nat_cmp p.port q.port) rest,

@@ -449,6 +449,7 @@ is_detected lives s r few run was = record {
   joined = λ x h. is_joined x h;
   least = λ x h. root_least lives s r x d h;
   settled = λ x n h sx. subst (IsSettled lives s r x) (node_is s x n sx) (is_settled lives s r x d h);
+  members = λ t x later. (λ h. reached_before lives s t r x d later h, λ h. reached_later lives s t r x later h);
   entries = λ n h sr e st f. (
     λ i. report_only lives s r d h (own_log n sr h e) (own_stable n sr h st) f (subst (λ (a : Node). In f (report a.card h)) (sym (node_is s r n sr)) (in_from f (report n.card h) i)),
     λ g. contains_from f (report n.card h) (has_entry n h sr e st f g),

@@ -117,6 +117,7 @@ is_detected_in lives first g e r few play was =
     let d = is_detected lives (slice e g) r few (play_run lives first g e play) was in
     record {
       detected = d;
+      members = λ h x more. d.members (slice e h) x (later_run lives first g h e play more);
       version = λ x n m h hx sx more tx. (d.settled x n hx sx).version (slice e h) m (later_run lives first g h e play more) tx;
       position = λ x n m h hx sx more tx. (d.settled x n hx sx).stays (slice e h) m (later_run lives first g h e play more) tx;
     }

@@ -17,4 +17,5 @@ mod MemberLemmas
 mod ContentLemmas
 mod DetectLemmas
 mod FinishLemmas
+mod TopologyLemmas
 mod GameLemmas

@@ -80,6 +80,8 @@ pub record IsDetected (lives : List LifeId) (s : Slice) (r : LifeId) : Type 0 wh
   pub least : (x : LifeId) → Reached s r x → IsTrue (is_le (life_cmp r x))
   -- each has its place in the tree, is stable, and neither place nor version ever changes again
   pub settled : (x : LifeId) (n : Node) → Reached s r x → s x ≡ Some n → IsSettled lives s r x n
+  -- the same lives are reached ever after
+  pub members : (t : Slice) (x : LifeId) → Run lives s t → (Reached t r x) ↔ (Reached s r x)
   -- the report of r, whenever it was stable, has the entry of each of them and no other, by rising life
   pub entries : (n : Node) (h : Log) → s r ≡ Some n → Earlier h n.log → is_stable n.card h ≡ true → (e : EntryOf)
       → (Contains (report n.card h) e) ↔ (IsMemberEntry s r e)

@@ -1,4 +1,4 @@
-use Rattle.std.specs.Prelude.{◌≡◌, ◌≢◌, ◌==◌, ◌+◌, ◌<◌, ◌⊎◌, ℕ, List, [], ◌∷◌, Option, Some, None, Bool, true, false, if◌then◌else◌, Contains}
+use Rattle.std.specs.Prelude.{◌≡◌, ◌≢◌, ◌==◌, ◌+◌, ◌<◌, ◌⊎◌, ◌↔◌, ℕ, List, [], ◌∷◌, Option, Some, None, Bool, true, false, if◌then◌else◌, Contains}
 use Rattle.std.specs.Ordering.{is_eq}
 use Rattle.an_base.specs.Values.{LifeId, TopoOf}
 use Rattle.an_base.specs.Order.{life_cmp}
@@ -88,7 +88,9 @@ pub record HasFinished (g : Game) (x : LifeId) (e : ℕ) : Type 0 where
 -- do:
 pub record IsDetectedIn (lives : List LifeId) (g : Game) (e : ℕ) (r : LifeId) : Type 0 where
   pub detected : IsDetected lives (slice e g) r
-  -- each life that is reached from r keeps its version and its position in that epoch
+  -- the same lives are reached from r in that epoch ever after
+  pub members : (h : Game) (x : LifeId) → Play lives g h → (Reached (slice e h) r x) ↔ (Reached (slice e g) r x)
+  -- and each keeps its version and its position there
   pub version : (x : LifeId) (n m : Node) (h : Game) → Reached (slice e g) r x → g.nodes x e ≡ Some n → Play lives g h
       → h.nodes x e ≡ Some m → version m.card m.log ≡ version n.card n.log
   pub position : (x : LifeId) (n m : Node) (h : Game) → Reached (slice e g) r x → g.nodes x e ≡ Some n → Play lives g h

@@ -37,12 +37,13 @@ link_at p (k ∷ ks) = if k.port == p then Some k.peer else link_at p ks
 abbrev pub Names : CardOf → ℕ → LifeId → ℕ → Type 0
 Names c p z q = link_at p c.links ≡ Some (record { life = z; port = q })
 
--- what x may join with: its links by rising port, from 1, and none to itself. The ends that they name need not exist, nor
+-- what x may join with: its links by rising port, 1 to 12, and none to itself. The ends that they name need not exist, nor
 -- name x.
 pub record IsCardOf (x : LifeId) (c : CardOf) : Type 0 where
   pub me : c.me ≡ x
   pub ports : PortsRise c.links
   pub least : All (λ k. 1 ≤ k.port) c.links
+  pub most : All (λ k. k.port ≤ 12) c.links
   pub others : All (λ k. k.peer.life ≢ x) c.links
 
 -- The lives and moves of an epoch: one of the lives joins with a card of its own, or accepts on port p the next body of what

@@ -1,5 +1,6 @@
 ghost use Rattle.std.specs.Prelude.{◌≡◌, ◌≤◌, ℕ, List, Some, true, length, Contains};
 ghost use Rattle.an_base.specs.Values.{LifeId, EntryOf, TopoOf};
+ghost use Rattle.topo_graph.specs.Topology.{IsGraph, IsTree};
 ghost use Rattle.epoch_core.specs.Epoch.{finish};
 ghost use Rattle.epoch_game.specs.Slice.{Node, Slice, nobody, Run};
 ghost use Rattle.epoch_game.specs.Streams.{HasStreams, HasGrown};
@@ -53,7 +54,7 @@ pub fn reports_are_true()
 /// reached from it over links has joined, with each of its links named at both ends; it has its place
 /// in the spanning tree, is stable, and neither ever changes again; the root's report has the entry
 /// of each of them and no other; and each topology that reaches one of them is that report with its
-/// numbering.
+/// numbering. No other life is ever reached from it.
 pub fn a_stable_root_detects_the_end()
     ensures { (lives : List LifeId) (s : Slice) (r : LifeId)
         → length lives ≤ 126 → Run lives nobody s → WasStableRoot s r → IsDetected lives s r }
@@ -84,6 +85,15 @@ pub fn one_root_gives_one_topology()
         → e.position.root ≡ f.position.root → t ≡ u }
 {}
 
+/// In every run of at most 126 lives the topology with which a life has finished is a graph, and each
+/// of its entries has its place in the tree of shortest walks to the least life. So its lives are one
+/// component of its links.
+pub fn a_finish_is_a_tree()
+    ensures { (lives : List LifeId) (s : Slice) (x : LifeId) (n : Node) (t : TopoOf)
+        → length lives ≤ 126 → Run lives nobody s
+        → s x ≡ Some n → finish n.card n.log ≡ Some t → IsGraph t.entries × IsTree t.entries }
+{}
+
 /// What the game of all epochs does is a run of each epoch, for lives that have left it too. So the
 /// laws of an epoch hold in each epoch of every state of the game, and from each such state on.
 pub fn each_epoch_is_a_run()
@@ -94,8 +104,8 @@ pub fn each_epoch_is_a_run()
 {}
 
 /// In every state of the game of at most 126 lives, and in each epoch: once a life is stable with
-/// itself as root, the end of the epoch is detected, and nothing that the game still does changes the
-/// version or the position of a life that is reached from it there.
+/// itself as root, the end of the epoch is detected, and nothing that the game still does changes which
+/// lives are reached from it there, nor the version or the position of one of them.
 pub fn termination_is_detected()
     ensures { (lives : List LifeId) (first : LifeId → ℕ) (g : Game) (e : ℕ) (r : LifeId)
         → length lives ≤ 126 → Play lives (begins first) g → WasStableRoot (slice e g) r
