@@ -1,0 +1,12 @@
+use an_base::life::End;
+
+/// What is known of the switch at the far end of a link.
+#[derive(Clone, Copy, Debug, PartialEq, Eq)]
+pub enum Conn {
+    /// It is not known who is there.
+    Who,
+    /// It is this switch itself, at this end.
+    Loop(End),
+    /// It is another switch, at this end.
+    Good(End),
+}

@@ -1,0 +1,45 @@
+use Rattle.std.specs.Prelude.{◌≡◌, ◌==◌, ◌-◌, ◌≤◌, ℕ, List, [], ◌∷◌, slice_get, Option, Some, if◌then◌else◌}
+use Rattle.an_base.specs.Values.{EndId}
+use Rattle.an_base.specs.declared.port.Sample.{Sample}
+use Rattle.an_base.specs.declared.port.Sample.TheVariants as sample
+use Rattle.port_monitor.specs.declared.port.Phase.{Phase}
+use Rattle.port_monitor.specs.declared.port.Phase.TheVariants.{Dead, Checking, Host, Switch}
+use Rattle.port_monitor.specs.declared.port.Port.{Port}
+use Rattle.port_monitor.specs.declared.monitor.Monitor.{Monitor}
+use Rattle.port_monitor.specs.Ports.{unsampled, sampled, replied_to}
+
+-- what happens at a port: a clock with a sample, or a reply
+pub data Happening : Type 0 where
+  Sampled : (sample : Sample) → Happening
+  Replied : (from : EndId) → (nonce : ℕ) → Happening
+
+-- what happened at a port, the newest first
+abbrev pub History : Type 0
+History = List Happening
+
+-- the port at this own end after all of it
+abbrev pub port_after : EndId → History → Port
+port_after me [] = unsampled me
+port_after me (Sampled s ∷ history) = sampled s (port_after me history)
+port_after me (Replied from nonce ∷ history) = replied_to from nonce (port_after me history)
+
+-- the histories of the ports, with one more happening at one of them
+abbrev pub with_happening : ℕ → Happening → (ℕ → History) → ℕ → History
+with_happening port x histories q = if q == port then x ∷ histories q else histories q
+
+-- the ports 1 to 12 are those of these histories
+pub record IsAfter (m : Monitor) (histories : ℕ → History) : Type 0 where
+  pub ports : (port : ℕ) → 1 ≤ port → port ≤ 12 → slice_get m.ports (port - 1) ≡ Some (port_after (record { life = m.life; port = port }) (histories port))
+
+-- Who answered the probes since the far end was last asked anew, the last first
+abbrev pub answered_by : Sample → Phase → Option EndId → List (Option EndId) → List (Option EndId)
+answered_by sample.Down phase answer answers = []
+answered_by s Dead answer answers = []
+answered_by s Checking answer answers = []
+answered_by s Host answer answers = []
+answered_by s Switch answer answers = answer ∷ answers
+
+abbrev pub answers : EndId → History → List (Option EndId)
+answers me [] = []
+answers me (Sampled s ∷ history) = answered_by s (port_after me history).phase (port_after me history).far.answer (answers me history)
+answers me (Replied from nonce ∷ history) = answers me history

@@ -1,0 +1,15 @@
+ghost use Rattle.std.specs.Prelude.{◌≡◌, ◌∷◌, None, Some, replicate, take};
+ghost use Rattle.an_base.specs.Values.{EndId};
+ghost use Rattle.an_base.specs.declared.port.Sample.{Sample};
+ghost use Rattle.skeptic.specs.Skeptics.{hold};
+ghost use Rattle.port_monitor.specs.Ports.{peer_of};
+ghost use Rattle.port_monitor.specs.Histories.{History, Sampled, answers, port_after};
+
+/// An end becomes the peer of a port only at a clock at which as many probes in a row as the skeptic
+/// of the far end asks for, the last one among them, were answered by that end.
+pub fn a_peer_answered_in_a_row()
+    ensures { (me q : EndId) (history : History) (sample : Sample)
+        → peer_of (port_after me history) ≡ None
+        → peer_of (port_after me (Sampled sample ∷ history)) ≡ Some q
+        → take (hold (port_after me history).far.skeptic) (answers me (Sampled sample ∷ history)) ≡ replicate (hold (port_after me history).far.skeptic) (Some q) }
+{}

@@ -1,0 +1,207 @@
+ghost use Rattle.std.specs.Prelude.{◌≡◌, ◌-◌, ◌<◌, ◌≤◌, ◌^◌, ℕ, [], ◌∷◌, ◌++◌, Some, slice_get, length, All};
+ghost use Rattle.port_monitor.specs.Ports.{link_to, links_from, peer_of, probe_of, reply_to, state_of};
+ghost use Rattle.port_monitor.specs.Histories.{History, IsAfter, Replied, Sampled, port_after, with_happening};
+
+use crate::port::Port;
+use an_base::frame::Frame;
+use an_base::life::{End, Life};
+use an_base::links::{Links, PortLink};
+use an_base::port::{PortState, Sample};
+
+/// The twelve ports of a switch. A port is one of 1 to 12.
+#[derive(Debug, Drop)]
+pub struct Monitor {
+    life: Life,
+    ports: [Port; 12],
+}
+
+// A port of this life, at the start.
+fn unsampled(life: Life, port: u8) -> Port
+    requires least { 1 ≤ port }
+    requires most { port ≤ 12 }
+    ensures { result ≡ port_after (record { life = life; port = port }) [] }
+{
+    Port::new(End::new(life, port))
+}
+
+impl Monitor {
+    /// The ports of a switch in this life, at the start: all are dead.
+    pub fn new(life: Life) -> Self
+        ensures life { result.life ≡ life }
+        ensures after { IsAfter result (λ port. []) }
+    {
+        Monitor {
+            life,
+            ports: [
+                unsampled(life, 1),
+                unsampled(life, 2),
+                unsampled(life, 3),
+                unsampled(life, 4),
+                unsampled(life, 5),
+                unsampled(life, 6),
+                unsampled(life, 7),
+                unsampled(life, 8),
+                unsampled(life, 9),
+                unsampled(life, 10),
+                unsampled(life, 11),
+                unsampled(life, 12),
+            ],
+        }
+    }
+
+    /// One clock at a port, with its sample, and the number of the probe that goes out. Fewer than
+    /// 2^32 went out before.
+    pub fn sample(&mut self, port: u8, sample: Sample) -> Option<u64>
+        requires least { 1 ≤ port }
+        requires most { port ≤ 12 }
+        requires few { (p : Port) → slice_get self.old.ports (port - 1) ≡ Some p → p.far.nonce < 2 ^ 32 }
+        ensures life { self.new.life ≡ self.old.life }
+        ensures after { (histories : ℕ → History) → IsAfter self.old histories → IsAfter self.new (with_happening port (Sampled sample) histories) }
+        ensures probe { (histories : ℕ → History) → IsAfter self.old histories → result ≡ probe_of (port_after (record { life = self.old.life; port = port }) (Sampled sample ∷ histories port)) }
+    {
+        self.ports[usize::from(port - 1)].sample(sample)
+    }
+
+    /// A probe came to a port from this end: the reply, none exactly where the port is dead, checking or
+    /// a host's. Nothing changes.
+    pub fn on_probe(&self, port: u8, from: End, nonce: u64) -> Option<Frame>
+        requires least { 1 ≤ port }
+        requires most { port ≤ 12 }
+        ensures { (histories : ℕ → History) → IsAfter self.now histories → result ≡ reply_to (record { life = self.now.life; port = port }) from nonce (port_after (record { life = self.now.life; port = port }) (histories port)) }
+    {
+        if self.ports[usize::from(port - 1)].speaks() {
+            let me = End::new(self.life, port);
+            Some(Frame::Reply {
+                from: me,
+                to: from,
+                nonce,
+            })
+        } else {
+            None
+        }
+    }
+
+    /// A reply to a probe of a port came from this end. It counts where it is the first to the last
+    /// probe.
+    pub fn on_reply(&mut self, port: u8, from: End, nonce: u64)
+        requires least { 1 ≤ port }
+        requires most { port ≤ 12 }
+        ensures life { self.new.life ≡ self.old.life }
+        ensures after { (histories : ℕ → History) → IsAfter self.old histories → IsAfter self.new (with_happening port (Replied from nonce) histories) }
+    {
+        self.ports[usize::from(port - 1)].on_reply(from, nonce);
+    }
+
+    /// How many probes of a port went out.
+    pub fn probes(&self, port: u8) -> u64
+        requires least { 1 ≤ port }
+        requires most { port ≤ 12 }
+        ensures { (p : Port) → slice_get self.now.ports (port - 1) ≡ Some p → result ≡ p.far.nonce }
+    {
+        self.ports[usize::from(port - 1)].far.nonce()
+    }
+
+    /// The state of a port.
+    pub fn state(&self, port: u8) -> PortState
+        requires least { 1 ≤ port }
+        requires most { port ≤ 12 }
+        ensures { (histories : ℕ → History) → IsAfter self.now histories → result ≡ state_of (port_after (record { life = self.now.life; port = port }) (histories port)) }
+    {
+        self.ports[usize::from(port - 1)].state()
+    }
+
+    /// The end at the other side of a port, none exactly where the state is neither that of a loop nor
+    /// that of a good link.
+    pub fn peer(&self, port: u8) -> Option<End>
+        requires least { 1 ≤ port }
+        requires most { port ≤ 12 }
+        ensures { (histories : ℕ → History) → IsAfter self.now histories → result ≡ peer_of (port_after (record { life = self.now.life; port = port }) (histories port)) }
+    {
+        self.ports[usize::from(port - 1)].peer()
+    }
+
+    /// The good links, by rising port.
+    pub fn good_links(&self) -> Links
+        ensures { result ≡ links_from 1 self.now.ports }
+    {
+        links_of(&self.ports)
+    }
+}
+
+// The links at the good ports, of which the first is port 1.
+fn links_of(ports: &[Port]) -> Links
+    requires { length ports.now ≤ 12 }
+    ensures { result ≡ links_from 1 ports.now }
+{
+    let mut links = Links::new();
+    'ports: for i in 0..ports.len() {
+        push_link(&mut links, i as u8 + 1, ports[i].good_peer());
+    }
+    links
+}
+
+// Adds the link at a port, where it has a peer.
+fn push_link(links: &mut Links, port: u8, peer: Option<End>)
+    requires least { 1 ≤ port }
+    requires most { port ≤ 12 }
+    requires room { length links.old < port }
+    requires rising { All (λ l. l.port < port) links.old }
+    ensures { links.new ≡ links.old ++ link_to port peer }
+{
+    if let Some(peer) = peer {
+        links.push(PortLink::new(port, peer));
+    }
+}
+
+#[cfg(test)]
+mod tests {
+    use super::*;
+
+    // One clock at port 1, and the state after it.
+    fn sampled(monitor: &mut Monitor, sample: Sample) -> Option<PortState> {
+        if monitor.probes(1) >= 1000 {
+            return None;
+        }
+        monitor.sample(1, sample);
+        Some(monitor.state(1))
+    }
+
+    #[test]
+    fn a_host_port_that_fails_is_held_back_and_forgiven_after_64_samples(rt: HostRuntime) {
+        let mut monitor = Monitor::new(Life::new(1, 1));
+        for state in [PortState::Checking, PortState::Host] {
+            assert!(rt; sampled(&mut monitor, Sample::Host) == Some(state));
+        }
+        for _ in 0..2 {
+            assert!(rt; sampled(&mut monitor, Sample::Down) == Some(PortState::Dead));
+            assert!(rt; sampled(&mut monitor, Sample::Host) == Some(PortState::Dead));
+            assert!(rt; sampled(&mut monitor, Sample::Host) == Some(PortState::Checking));
+            for _ in 0..65 {
+                assert!(rt; sampled(&mut monitor, Sample::Host) == Some(PortState::Host));
+            }
+        }
+    }
+
+    #[test]
+    fn a_switch_that_answers_is_a_good_link(rt: HostRuntime) {
+        let peer = End::new(Life::new(2, 1), 7);
+        let mut monitor = Monitor::new(Life::new(1, 1));
+        assert!(rt; monitor.on_probe(1, peer, 9).is_none());
+        assert!(rt; sampled(&mut monitor, Sample::Switch) == Some(PortState::Checking));
+        assert!(rt; sampled(&mut monitor, Sample::Switch) == Some(PortState::Who));
+        monitor.on_reply(1, peer, 1);
+        assert!(rt; sampled(&mut monitor, Sample::Switch) == Some(PortState::Good));
+        assert!(rt; monitor.peer(1) == Some(peer));
+        assert!(rt;
+            matches!(
+                monitor.on_probe(1, peer, 9),
+                Some(Frame::Reply {
+                    from: _,
+                    to: _,
+                    nonce: 9
+                })
+            )
+        );
+        assert_eq!(rt; monitor.good_links().len(), 1);
+    }
+}
