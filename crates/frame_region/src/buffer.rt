@@ -1,0 +1,76 @@
+ghost use Rattle.std.specs.Prelude.{◌≡◌, ◌+◌, ◌≤◌, ◌++◌, [], length, IfOk};
+
+use an_base::memory::OutOfMemory;
+use std::alloc::Global;
+use std::marker::Model;
+
+/// The most bytes of a frame.
+pub const MOST_FRAME: usize = 22_591;
+
+/// The bytes of one frame, at most 22,591, in memory that is taken once.
+#[derive(Debug, Drop)]
+pub struct FrameBuf {
+    bytes: Vec<u8>,
+}
+
+impl Model for FrameBuf {
+    ghost use Rattle.std.specs.Prelude.{List, ℕ, ◌≤◌, length, vec_capacity};
+
+    ghost Value = { List ℕ };
+
+    ghost view = { λ b. b.bytes.items };
+
+    ghost invariant = { λ b. (length b.bytes.items ≤ 22591) × (22591 ≤ vec_capacity b.bytes) };
+}
+
+impl FrameBuf {
+    /// No bytes, and memory for the most that a frame has.
+    pub fn new(alloc: Global) -> Result<Self, OutOfMemory>
+        ensures { IfOk result (λ b. b ≡ []) }
+    {
+        Ok(FrameBuf {
+            bytes: Vec::with_capacity(alloc, MOST_FRAME)?,
+        })
+    }
+
+    /// The bytes.
+    pub fn bytes(&self) -> &[u8]
+        ensures all { result.now ≡ self.now }
+        ensures most { length self.now ≤ 22591 }
+    {
+        &self.bytes
+    }
+
+    /// Gives up the bytes, and keeps the memory.
+    pub fn clear(&mut self)
+        ensures { self.new ≡ [] }
+    {
+        self.bytes.clear();
+    }
+
+    /// Adds bytes at the end, without taking memory.
+    pub fn add(&mut self, bytes: &[u8])
+        requires { length self.old + length bytes.now ≤ 22591 }
+        ensures { self.new ≡ self.old ++ bytes.now }
+    {
+        let _added = self.bytes.extend_from_slice(bytes);
+    }
+}
+
+#[cfg(test)]
+mod tests {
+    use super::*;
+    use std::test::Fail;
+
+    #[test]
+    fn a_buffer_shows_what_was_added_since_it_was_cleared(rt: HostRuntime) -> Result<(), Fail> {
+        let mut buffer = FrameBuf::new(rt.alloc())?;
+        assert!(rt; buffer.bytes().is_empty());
+        buffer.add(&[1, 2]);
+        buffer.clear();
+        buffer.add(&[3]);
+        buffer.add(&[4, 5]);
+        assert_eq!(rt; buffer.bytes(), [3, 4, 5].as_slice());
+        Ok(())
+    }
+}
