@@ -25,7 +25,8 @@ fn lesser(a: Option<u8>, b: Option<u8>) -> Option<u8>
 // What is left to go behind the far end of a port: by any legal route behind an upward link,
 // downward alone behind a downward one.
 fn behind(graph: &Graph, up: &[Option<u8>], down: &[Option<u8>], x: u8, port: u8) -> Option<u8>
-    ensures { result ≡ behind_of graph.now up.now down.now x port }
+    ensures behind { result ≡ behind_of graph.now up.now down.now x port }
+    ensures graph { IsGraph graph.now }
 {
     let (y, _) = graph.far_place(x, port)?;
     let lengths = if is_up_end(graph, y, x) { up } else { down };
@@ -162,7 +163,8 @@ impl Lengths {
     /// What is left to go behind the far end of a port, if there is a route: by any legal route
     /// behind an upward link, downward alone behind a downward one.
     pub fn behind(&self, graph: &Graph, x: u8, port: u8) -> Option<u8>
-        ensures { result ≡ behind_of graph.now self.now.up self.now.down x port }
+        ensures behind { result ≡ behind_of graph.now self.now.up self.now.down x port }
+        ensures graph { IsGraph graph.now }
     {
         behind(graph, &self.up, &self.down, x, port)
     }

@@ -6,7 +6,7 @@ use Rattle.updown.proofs.length.least_behind.Goals as goal
 
 pub ports-preserved : goal.ports-preserved
 ports-preserved c =
-    rw c.lesser-best.ensures (least_port (behind_of c.args.graph.now c.args.up.now c.args.down.now c.args.x) c.ports.port c.ports.best c.behind.result c.ports.invariant c.behind.ensures)
+    rw c.lesser-best.ensures (least_port (behind_of c.args.graph.now c.args.up.now c.args.down.now c.args.x) c.ports.port c.ports.best c.behind.result c.ports.invariant c.behind.ensures.behind)
 
 pub returns : goal.returns
 returns c =

@@ -1,0 +1,10 @@
+pub mod ListLemmas
+pub mod ExitLemmas
+pub mod RoutingLemmas
+pub mod TableLemmas
+pub mod SearchLemmas
+pub mod WayLaws
+pub mod TreeRoutes
+pub mod CycleLaws
+pub mod ShortestLaws
+pub mod TableLaws

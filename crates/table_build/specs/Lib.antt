@@ -1,0 +1,4 @@
+pub mod Exits
+pub mod Routing
+pub mod Tables
+pub mod Laws

@@ -1,0 +1,31 @@
+use Rattle.std.specs.Prelude.{◌≡◌, ℕ, ◌<◌, List, [], length, Option, Some, None, slice_index, slice_index_or}
+use Rattle.an_base.specs.Values.{EntryOf}
+use Rattle.updown.specs.Lengths.{LengthsOf, AreLengths}
+
+-- the place that has a number
+abbrev pub place_at : List (Option ℕ) → ℕ → Option ℕ
+place_at places n = slice_index_or places n None
+
+-- for each number the place that has it, of the places below end
+pub record ArePlaces (numbers : List ℕ) (end : ℕ) (places : List (Option ℕ)) : Type 0 where
+  pub count : length places ≡ 127
+  pub each : (n y : ℕ) → place_at places n ≡ Some y → (y < end) × (slice_index numbers y ≡ n)
+  pub whole : (y : ℕ) → y < end → place_at places (slice_index numbers y) ≡ Some y
+
+-- the lengths to a place
+abbrev pub lengths_at : List LengthsOf → ℕ → LengthsOf
+lengths_at lengths y = slice_index_or lengths y (record { up = []; down = [] })
+
+-- what the tables of all members share: the place of each number, and for each place the lengths of the routes to it
+pub record RoutingOf : Type 0 where
+  pub places : List (Option ℕ)
+  pub lengths : List LengthsOf
+
+-- the lengths of the routes to the first places
+pub record AreLengthsTo (es : List EntryOf) (end : ℕ) (lengths : List LengthsOf) : Type 0 where
+  pub count : length lengths ≡ end
+  pub each : (y : ℕ) → y < end → AreLengths es y (lengths_at lengths y)
+
+pub record IsRouting (es : List EntryOf) (numbers : List ℕ) (r : RoutingOf) : Type 0 where
+  pub places : ArePlaces numbers (length es) r.places
+  pub lengths : AreLengthsTo es (length es) r.lengths

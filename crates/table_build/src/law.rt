@@ -1,0 +1,78 @@
+ghost use Rattle.std.specs.Prelude.{◌≡◌, ◌≢◌, ◌+◌, ◌<◌, ℕ, suc, List, [], Bool, true, false, Some, length, slice_index};
+ghost use Rattle.an_base.specs.Values.{EntryOf};
+ghost use Rattle.an_base.specs.Numbers.{AreNumbers};
+ghost use Rattle.topo_graph.specs.Topology.{far_of, IsGraph, IsTree};
+ghost use Rattle.updown.specs.Routes.{HasLegal};
+ghost use Rattle.table_build.specs.Exits.{AreExits, Begins, IsEntry, LeadsTo, may_go_up};
+ghost use Rattle.table_build.specs.Laws.{ChannelWalk, Follows, IsShortest};
+ghost use Rattle.table_build.specs.Tables.{exits_of, IsTable, TableOf};
+
+/// Where the positions are the tree of the links, a legal route joins every two members.
+pub fn members_are_joined()
+    ensures { (es : List EntryOf) (x y : ℕ) → IsGraph es → IsTree es → x < length es → y < length es
+        → (n : ℕ) × HasLegal es x y n }
+{}
+
+/// Where a way leads to another member, its shortest one begins at an exit.
+pub fn a_shortest_way_has_an_exit()
+    ensures { (es : List EntryOf) (any up : Bool) (x y n : ℕ) → x ≢ y → IsShortest es up x y n
+        → (p : ℕ) × Begins es any up x y p }
+{}
+
+/// Each exit of a shortest way is one link nearer to the target.
+pub fn exits_are_nearer()
+    ensures { (es : List EntryOf) (up : Bool) (x y p z q n : ℕ) → IsGraph es → Begins es false up x y p
+        → far_of es x p ≡ Some (z, q) → IsShortest es up x y n
+        → (m : ℕ) × (n ≡ m + 1) × IsShortest es (may_go_up es z q) z y m }
+{}
+
+/// What came down goes down alone.
+pub fn down_stays_down()
+    ensures { (es : List EntryOf) (any : Bool) (x y p z q : ℕ) → IsGraph es → Begins es any false x y p
+        → far_of es x p ≡ Some (z, q) → may_go_up es z q ≡ false }
+{}
+
+/// To follow exits is to go a way: from entry 0 a legal route.
+pub fn following_is_a_way()
+    ensures { (es : List EntryOf) (any : Bool) (y x entry z out : ℕ) (ps : List ℕ) → IsGraph es
+        → Follows es any y x entry ps z out → LeadsTo es (may_go_up es x entry) x ps z }
+{}
+
+/// To follow the exits of shortest ways comes nearer to the target with each link.
+pub fn following_comes_nearer()
+    ensures { (es : List EntryOf) (y x entry z out n : ℕ) (ps : List ℕ) → IsGraph es
+        → Follows es false y x entry ps z out → IsShortest es (may_go_up es x entry) x y n
+        → (m : ℕ) × (n ≡ length ps + m) × IsShortest es (may_go_up es z out) z y m }
+{}
+
+/// No channel leads back to itself, over whatever members and numbers, whether packets take any
+/// legal route or shortest ones alone.
+pub fn no_channel_cycle()
+    ensures { (es : List EntryOf) (any : Bool) (n : ℕ) (a : ℕ × ℕ) → IsGraph es
+        → ¬ ChannelWalk es any (suc n) a a }
+{}
+
+/// So a shortest legal route joins every two members, and each member has exits to each other one
+/// for what starts there.
+pub fn members_have_exits()
+    ensures shortest { (es : List EntryOf) (x y : ℕ) → IsGraph es → IsTree es → x < length es → y < length es
+        → (n : ℕ) × IsShortest es true x y n }
+    ensures exits { (es : List EntryOf) (any : Bool) (x y : ℕ) → IsGraph es → IsTree es
+        → x < length es → y < length es → x ≢ y → (p : ℕ) × Begins es any true x y p }
+{}
+
+/// A table has the ports that begin a way, at each entry for the number of each other member.
+pub fn exits_begin_ways()
+    ensures { (es : List EntryOf) (numbers : List ℕ) (any : Bool) (x entry y : ℕ) (t : TableOf) → AreNumbers numbers
+        → length numbers ≡ length es → IsTable es numbers any x t → IsEntry es x entry → y < length es → y ≢ x
+        → AreExits es any (may_go_up es x entry) x y (exits_of t entry (slice_index numbers y)) }
+{}
+
+/// A table has no exits at what is no entry, nor for what is no other member's number.
+pub fn other_exits_are_none()
+    ensures entry { (es : List EntryOf) (numbers : List ℕ) (any : Bool) (x entry n : ℕ) (t : TableOf)
+        → IsTable es numbers any x t → ¬ IsEntry es x entry → exits_of t entry n ≡ [] }
+    ensures number { (es : List EntryOf) (numbers : List ℕ) (any : Bool) (x entry n : ℕ) (t : TableOf)
+        → IsTable es numbers any x t
+        → ((y : ℕ) → y < length es → y ≢ x → n ≢ slice_index numbers y) → exits_of t entry n ≡ [] }
+{}

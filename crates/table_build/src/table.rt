@@ -1,0 +1,307 @@
+ghost use Rattle.std.specs.Prelude.{◌≡◌, ◌<◌, ◌≤◌, ◌++◌, Any, length, map, IfOk, OnOk};
+ghost use Rattle.table_build.specs.Routing.{IsRouting};
+ghost use Rattle.table_build.specs.Tables.{AreRowsBelow, AreWays, exits_of, IsTable, IsTableOf, row_of};
+
+use crate::exit::{is_entry, may_go_up};
+use crate::routing::Routing;
+use crate::way::{Way, ways_of};
+use an_base::life::Life;
+use an_base::memory::OutOfMemory;
+use an_base::numbers::Numbers;
+use an_base::row::Row;
+use std::alloc::Global;
+use std::marker::Model;
+use topo_graph::graph::Graph;
+
+// Adds the rows of an entry, one towards each other member.
+fn push_rows(
+    rows: &mut Vec<Row>,
+    at: u8,
+    entry: u8,
+    up: bool,
+    ways: &[Way],
+) -> Result<(), OutOfMemory>
+    ensures { OnOk result (rows.new.items ≡ rows.old.items ++ map (row_of at entry up) ways.now) }
+{
+    'ways: for way in ways {
+        let exits = if up { way.up.copy() } else { way.down.copy() };
+        rows.push(Row {
+            at,
+            entry,
+            to: way.number,
+            exits,
+        })?;
+    }
+    Ok(())
+}
+
+// The rows of all entries.
+fn rows_of(
+    alloc: Global,
+    graph: &Graph,
+    numbers: &Numbers,
+    x: u8,
+    any: bool,
+    ways: &[Way],
+) -> Result<Vec<Row>, OutOfMemory>
+    requires count { length numbers.now ≡ length graph.now }
+    requires within { x < length graph.now }
+    requires ways { AreWays graph.now numbers.now any x 127 ways.now }
+    ensures { IfOk result (λ rows. AreRowsBelow graph.now numbers.now any x 13 rows.items) }
+{
+    let at = numbers.as_slice()[usize::from(x)];
+    let mut rows = Vec::with_capacity(alloc, ways.len())?;
+    'entries: for entry in 0..13u8 {
+        if is_entry(graph, x, entry) {
+            push_rows(&mut rows, at, entry, may_go_up(graph, x, entry), ways)?;
+        }
+    }
+    Ok(rows)
+}
+
+/// The routing table of one member of a topology: its rows by rising entry, then by rising number.
+#[derive(Debug, Drop)]
+pub struct Table {
+    number: u8,
+    rows: Vec<Row>,
+}
+
+impl Model for Table {
+    ghost use Rattle.std.specs.Prelude.{AllPairs};
+    ghost use Rattle.table_build.specs.Tables.{IsBefore, TableOf};
+
+    ghost Value = { TableOf };
+
+    ghost view = { λ t. record { number = t.number; rows = t.rows.items } };
+
+    ghost invariant = { λ t. AllPairs IsBefore t.rows.items };
+}
+
+impl Table {
+    /// The table of a member of the graph, with one number for each entry of the graph: a row for
+    /// each entry, 0 and the ports with a link, and each number of another member, with the ports
+    /// that begin a shortest legal route there, or where `any` holds a legal route of any length.
+    pub fn build(
+        alloc: Global,
+        graph: &Graph,
+        numbers: &Numbers,
+        me: Life,
+        any: bool,
+    ) -> Result<Table, OutOfMemory>
+        requires member { Any (λ e. e.life ≡ me) graph.now }
+        requires count { length numbers.now ≡ length graph.now }
+        ensures { IfOk result (IsTableOf graph.now numbers.now any me) }
+    {
+        let x = graph.place(me).unwrap();
+        let routing = Routing::of(alloc, graph, numbers)?;
+        Table::of(alloc, graph, numbers, &routing, x, any)
+    }
+
+    /// The table of the member at a place, from what the tables of all members share.
+    pub fn of(
+        alloc: Global,
+        graph: &Graph,
+        numbers: &Numbers,
+        routing: &Routing,
+        x: u8,
+        any: bool,
+    ) -> Result<Table, OutOfMemory>
+        requires routing { IsRouting graph.now numbers.now routing.now }
+        requires count { length numbers.now ≡ length graph.now }
+        requires within { x < length graph.now }
+        ensures { IfOk result (IsTable graph.now numbers.now any x) }
+    {
+        let ways = ways_of(alloc, graph, numbers, routing, x, any)?;
+        let rows = rows_of(alloc, graph, numbers, x, any, &ways)?;
+        let number = numbers.as_slice()[usize::from(x)];
+        Ok(Table { number, rows })
+    }
+
+    /// The number of the member whose table it is.
+    pub fn number(&self) -> u8
+        ensures { result ≡ self.now.number }
+    {
+        self.number
+    }
+
+    /// The exits for what comes in at an entry and goes to a number, rising. There are none where
+    /// the table has no such row.
+    pub fn exits(&self, entry: u8, number: u8) -> &[u8]
+        ensures { result.now ≡ exits_of self.now entry number }
+    {
+        let found = self
+            .rows
+            .binary_search_by(|r| r.entry.cmp(&entry).then(r.to.cmp(&number)));
+        match found {
+            Ok(i) => {
+                let row = &self.rows[i];
+                row.exits.as_slice()
+            }
+            Err(_) => &[],
+        }
+    }
+
+    /// The rows by rising entry, then by rising number.
+    pub fn as_slice(&self) -> &[Row]
+        ensures { result.now ≡ self.now.rows }
+    {
+        &self.rows
+    }
+
+    /// The rows by rising entry, then by rising number, in a vector of their own.
+    pub fn rows(&self, alloc: Global) -> Result<Vec<Row>, OutOfMemory>
+        ensures { IfOk result (λ rows. rows.items ≡ self.now.rows) }
+    {
+        let mut rows = Vec::with_capacity(alloc, self.rows.len())?;
+        'rows: for row in self.as_slice() {
+            rows.push(Row {
+                at: row.at,
+                entry: row.entry,
+                to: row.to,
+                exits: row.exits.copy(),
+            })?;
+        }
+        Ok(rows)
+    }
+}
+
+#[cfg(test)]
+mod tests {
+    use super::*;
+    use an_base::entry::{Entries, Entry};
+    use an_base::life::End;
+    use an_base::links::{Links, PortLink};
+    use an_base::position::Position;
+    use std::test::Fail;
+
+    // The life of this identifier, in its first boot.
+    fn life_of(uid: u64) -> Life
+        requires { uid ≤ 99 }
+        ensures { result ≡ record { uid = uid; boot = 1 } }
+    {
+        Life::new(uid, 1)
+    }
+
+    // A link from a port to a port of this life.
+    fn link(port: u8, uid: u64, far: u8) -> PortLink
+        requires uid { uid ≤ 99 }
+        requires least { 1 ≤ port }
+        requires most { port ≤ 12 }
+        requires far_least { 1 ≤ far }
+        requires far_most { far ≤ 12 }
+        ensures { result.port ≡ port }
+    {
+        PortLink::new(port, End::new(life_of(uid), far))
+    }
+
+    // The entry of this life at this level, with links at its ports 1 and 2.
+    fn entry(uid: u64, level: u8, one: PortLink, two: PortLink) -> Entry
+        requires uid { uid ≤ 99 }
+        requires level { level ≤ 125 }
+        requires one { one.port ≡ 1 }
+        requires two { two.port ≡ 2 }
+        ensures { result.life ≡ record { uid = uid; boot = 1 } }
+    {
+        let mut links = Links::new();
+        links.push(one);
+        links.push(two);
+        let life = life_of(uid);
+        Entry {
+            life,
+            position: Position::new(life_of(1), level, life, 1),
+            proposed: 1,
+            links,
+        }
+    }
+
+    // The exits of a member of a ring of lives 1, 2, 4 and 3, numbered so, of which 4 is at level 2.
+    fn exits_in_ring(
+        rt: &HostRuntime,
+        uid: u64,
+        any: bool,
+        entry_port: u8,
+        to: u8,
+    ) -> Result<Vec<u8>, Fail>
+        requires { uid ≤ 99 }
+    {
+        let mut entries = Entries::of(rt.alloc(), entry(1, 0, link(1, 2, 1), link(2, 3, 1)))?;
+        entries.push(entry(2, 1, link(1, 1, 1), link(2, 4, 1)))?;
+        entries.push(entry(3, 1, link(1, 1, 2), link(2, 4, 2)))?;
+        entries.push(entry(4, 2, link(1, 2, 2), link(2, 3, 2)))?;
+        let graph = Graph::of(rt.alloc(), &entries)?;
+        let numbers = numbers_of(rt)?;
+        let me = life_of(uid);
+        let Some(_place) = graph.place(me) else {
+            return Err("no member".into());
+        };
+        if numbers.len() != graph.entries().len() {
+            return Err("numbers".into());
+        }
+        let table = Table::build(rt.alloc(), &graph, &numbers, me, any)?;
+        Ok(Vec::from_slice(rt.alloc(), table.exits(entry_port, to))?)
+    }
+
+    // The numbers 1 to 4.
+    fn numbers_of(rt: &HostRuntime) -> Result<Numbers, Fail> {
+        let mut items = Vec::new(rt.alloc());
+        items.push(1)?;
+        items.push(2)?;
+        items.push(3)?;
+        items.push(4)?;
+        Ok(Numbers::new(items))
+    }
+
+    #[test]
+    fn exits_begin_shortest_legal_routes(rt: HostRuntime) -> Result<(), Fail> {
+        assert_eq!(rt;
+            exits_in_ring(&rt, 1, false, 0, 4)?.as_slice(),
+            [1, 2].as_slice()
+        );
+        assert_eq!(rt;
+            exits_in_ring(&rt, 2, false, 0, 3)?.as_slice(),
+            [1].as_slice()
+        );
+        assert_eq!(rt;
+            exits_in_ring(&rt, 2, false, 2, 3)?.as_slice(),
+            [1].as_slice()
+        );
+        assert_eq!(rt;
+            exits_in_ring(&rt, 2, false, 1, 3)?.as_slice(),
+            [].as_slice()
+        );
+        assert_eq!(rt;
+            exits_in_ring(&rt, 4, false, 0, 1)?.as_slice(),
+            [1, 2].as_slice()
+        );
+        assert_eq!(rt;
+            exits_in_ring(&rt, 2, false, 3, 4)?.as_slice(),
+            [].as_slice()
+        );
+        assert_eq!(rt;
+            exits_in_ring(&rt, 2, false, 0, 2)?.as_slice(),
+            [].as_slice()
+        );
+        Ok(())
+    }
+
+    #[test]
+    fn any_legal_route_will_do(rt: HostRuntime) -> Result<(), Fail> {
+        assert_eq!(rt;
+            exits_in_ring(&rt, 1, true, 0, 2)?.as_slice(),
+            [1].as_slice()
+        );
+        assert_eq!(rt;
+            exits_in_ring(&rt, 2, true, 0, 4)?.as_slice(),
+            [1, 2].as_slice()
+        );
+        assert_eq!(rt;
+            exits_in_ring(&rt, 4, true, 0, 3)?.as_slice(),
+            [1, 2].as_slice()
+        );
+        assert_eq!(rt;
+            exits_in_ring(&rt, 2, true, 1, 4)?.as_slice(),
+            [2].as_slice()
+        );
+        Ok(())
+    }
+}

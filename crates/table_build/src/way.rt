@@ -1,0 +1,87 @@
+ghost use Rattle.std.specs.Prelude.{◌≡◌, ◌≢◌, ◌<◌, ℕ, length, slice_index, IfOk, MatchOption};
+ghost use Rattle.topo_graph.specs.Topology.{IsGraph};
+ghost use Rattle.table_build.specs.Routing.{IsRouting};
+ghost use Rattle.table_build.specs.Tables.{AreWays, IsWay};
+
+use crate::exit::{Leg, exits};
+use crate::routing::Routing;
+use an_base::memory::OutOfMemory;
+use an_base::numbers::Numbers;
+use an_base::row::Exits;
+use std::alloc::Global;
+use topo_graph::graph::Graph;
+
+/// The exits towards another member: of what may go on upward, and of what may not.
+#[derive(Debug, Drop)]
+pub struct Way {
+    /// The number of the other member.
+    pub number: u8,
+    /// Its place.
+    pub place: u8,
+    /// The exits of what may go on upward.
+    pub up: Exits,
+    /// The exits of what may not.
+    pub down: Exits,
+}
+
+// The exits towards the member that has a number, if another one has it.
+fn way_to(
+    graph: &Graph,
+    numbers: &Numbers,
+    routing: &Routing,
+    x: u8,
+    any: bool,
+    number: u8,
+) -> Option<Way>
+    requires routing { IsRouting graph.now numbers.now routing.now }
+    requires within { x < length graph.now }
+    ensures { MatchOption result
+        ((y : ℕ) → y < length graph.now → y ≢ x → slice_index numbers.now y ≢ number)
+        (λ w. (w.number ≡ number) × IsWay graph.now numbers.now any x w) }
+{
+    let _count = graph.count();
+    let place = routing.place(number)?;
+    if place == x {
+        return None;
+    }
+    let lengths = routing.lengths(place);
+    let leg = Leg {
+        x,
+        to: place,
+        up: true,
+        any,
+    };
+    let up = exits(graph, lengths, leg);
+    let down = exits(graph, lengths, Leg { up: false, ..leg });
+    Some(Way {
+        number,
+        place,
+        up,
+        down,
+    })
+}
+
+/// The exits towards all other members, by rising number.
+pub fn ways_of(
+    alloc: Global,
+    graph: &Graph,
+    numbers: &Numbers,
+    routing: &Routing,
+    x: u8,
+    any: bool,
+) -> Result<Vec<Way>, OutOfMemory>
+    requires routing { IsRouting graph.now numbers.now routing.now }
+    requires count { length numbers.now ≡ length graph.now }
+    requires within { x < length graph.now }
+    ensures ways { IfOk result (λ ways. AreWays graph.now numbers.now any x 127 ways.items) }
+    ensures graph { IfOk result (λ _. IsGraph graph.now) }
+{
+    let count = usize::from(graph.count()).min(numbers.as_slice().len());
+    let mut ways = Vec::with_capacity(alloc, count)?;
+    'numbers: for number in 0..127u8 {
+        if let Some(way) = way_to(graph, numbers, routing, x, any, number) {
+            ways.push(way)?;
+        }
+    }
+    Ok(ways)
+}
