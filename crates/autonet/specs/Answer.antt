@@ -1,6 +1,9 @@
-use Rattle.std.specs.Prelude.{◌≡◌, ◌≢◌, ◌⊎◌, ℕ, ◌<◌, ◌≤◌, List, [], length, take, IfSome}
+use Rattle.std.specs.Prelude.{◌≡◌, ◌≢◌, ◌⊎◌, ℕ, ◌+◌, ◌<◌, ◌≤◌, ◌==◌, List, [], length, take, count_by, IfSome}
 use Rattle.outside.specs.Told.{Told, with_back, Rose}
-use Rattle.net_script.specs.Scripts.{ScriptOf, IsTextOf}
+use Rattle.net_script.specs.declared.cause.ScriptCause.{ScriptCause}
+use Rattle.net_script.specs.declared.cause.ScriptCause.TheVariants.{TooMany}
+use Rattle.net_script.specs.Scripts.{ScriptOf}
+use Rattle.net_script.specs.Texts.{IsText, IsFault}
 use Rattle.report.specs.Expect.{IsExpectOf}
 use Rattle.autonet.specs.declared.status.Status.{Status}
 use Rattle.autonet.specs.declared.status.Status.TheVariants.{Ok, Usage, ScriptRefused, ReadFault, WriteFault, OutOfMemory}
@@ -40,26 +43,41 @@ IsTold err err' status answer =
     ((answer ≡ code_of status) × Gains err err' (line_of status))
     ⊎ ((status ≢ Ok) × (answer ≡ code_of WriteFault) × Rose err.faults err'.faults × GainsFront err err' (line_of status))
 
+-- the status was told, or in place of that of a refused script, that no memory was found for its line
+abbrev pub IsToldOrWant : Seen → Seen → Status → ℕ → Type 0
+IsToldOrWant err err' (ScriptRefused line cause) answer = IsTold err err' (ScriptRefused line cause) answer ⊎ IsTold err err' OutOfMemory answer
+IsToldOrWant err err' status answer = IsTold err err' status answer
+
 -- the bytes are within the limit and the text of a script, of which this text is expected
 pub record IsExpectedOf (limit : ℕ) (text bytes : List ℕ) : Type 0 where
   pub within : length bytes ≤ limit
   pub script : ScriptOf
-  pub is_text : IsTextOf bytes script
+  pub is_text : IsText bytes script
   pub expected : IsExpectOf script text
 
 -- the source was read to its end, and what it told is the text of a script of which this text is expected
 abbrev pub IsExpected : ℕ → Seen → Seen → List ℕ → Type 0
 IsExpected limit source source' text = IfSome source.told (IsExpectedOf limit text) × IsAtEnd source'
 
--- what the source told is over the limit; or it was read to its end, and is the text of no script
-abbrev pub IsNoScript : ℕ → Seen → List ℕ → Type 0
-IsNoScript limit source' bytes = (limit < length bytes) ⊎ (((s : ScriptOf) → IsTextOf bytes s → ⊥) × IsAtEnd source')
+-- The bytes are more than the limit, and the line is that of the first byte too many. Or they are read to their end, and this is their first fault
+pub record IsOverLimit (limit : ℕ) (bytes : List ℕ) (line : ℕ) (cause : ScriptCause) : Type 0 where
+  pub over : limit < length bytes
+  pub line_is : line ≡ 1 + count_by (λ c. c == 10) (take limit bytes)
+  pub cause_is : cause ≡ TooMany
+
+abbrev pub IsNoScript : ℕ → Seen → ℕ → ScriptCause → List ℕ → Type 0
+IsNoScript limit source' line cause bytes = IsOverLimit limit bytes line cause ⊎ ((length bytes ≤ limit) × IsFault bytes line cause × IsAtEnd source')
+
+-- of the line and cause of a refused script
+abbrev pub IfRefused : Status → (ℕ → ScriptCause → Type 0) → Type 0
+IfRefused (ScriptRefused line cause) P = P line cause
+IfRefused status P = ⊥
 
 -- why there is no text to be written
 abbrev pub IsStop : ℕ → Seen → Seen → Status → Type 0
 IsStop limit source source' Ok = ⊥
 IsStop limit source source' Usage = ⊥
-IsStop limit source source' ScriptRefused = IfSome source.told (IsNoScript limit source')
+IsStop limit source source' (ScriptRefused line cause) = IfSome source.told (IsNoScript limit source' line cause)
 IsStop limit source source' ReadFault = Rose source.faults source'.faults
 IsStop limit source source' WriteFault = ⊥
 IsStop limit source source' OutOfMemory = Unit {0}

@@ -1,4 +1,6 @@
-use Rattle.std.specs.Prelude.{ℕ, List, [], codes}
+use Rattle.std.specs.Prelude.{ℕ, List, [], ◌++◌, codes}
+use Rattle.std.specs.Fmt.{decimal}
+use Rattle.net_script.specs.Causes.{cause_text}
 use Rattle.autonet.specs.declared.status.Status.{Status}
 use Rattle.autonet.specs.declared.status.Status.TheVariants.{Ok, Usage, ScriptRefused, ReadFault, WriteFault, OutOfMemory}
 
@@ -6,7 +8,7 @@ use Rattle.autonet.specs.declared.status.Status.TheVariants.{Ok, Usage, ScriptRe
 abbrev pub code_of : Status → ℕ
 code_of Ok = 0
 code_of Usage = 2
-code_of ScriptRefused = 3
+code_of (ScriptRefused line cause) = 3
 code_of ReadFault = 4
 code_of WriteFault = 5
 code_of OutOfMemory = 9
@@ -15,7 +17,7 @@ code_of OutOfMemory = 9
 abbrev pub line_of : Status → List ℕ
 line_of Ok = []
 line_of Usage = codes "usage: autonet expect, run, replay, check or gen SEED N\n"
-line_of ScriptRefused = codes "autonet: script not plain\n"
+line_of (ScriptRefused line cause) = codes "autonet: script line " ++ decimal line ++ codes ": " ++ cause_text cause ++ codes "\n"
 line_of ReadFault = codes "autonet: read fault\n"
 line_of WriteFault = codes "autonet: write fault\n"
 line_of OutOfMemory = codes "autonet: out of memory\n"

@@ -1,7 +1,10 @@
-ghost use Rattle.std.specs.Prelude.{IfOk, IfErr};
-ghost use Rattle.autonet.specs.Answer.{seen, streams, IsExpectAnswer, IsExpectCause, IsStop, IsExpected};
+ghost use Rattle.std.specs.Prelude.{◌<◌, length, IfOk, IfErr};
+ghost use Rattle.autonet.specs.Answer.{seen, streams, IsExpectAnswer, IsExpectCause, IsStop, IsExpected, IsOverLimit, IfRefused};
 
 use crate::status::{Status, finish};
+use an_base::text::Bytes;
+use net_script::cause::ScriptCause;
+use net_script::line::line_of;
 use net_script::reader::{ReadRefusal, read};
 use outside::all::{ReadStop, read_all, write_all};
 use outside::sink::Sink;
@@ -12,6 +15,18 @@ use std::alloc::Global;
 /// The most bytes of input.
 pub const INPUT_LIMIT: usize = 268435456;
 
+// The status for bytes over the limit: the line is that of the first byte too many.
+fn over_limit(bytes: &Bytes) -> Status
+    requires { INPUT_LIMIT < length bytes.now }
+    ensures { IfRefused result (IsOverLimit INPUT_LIMIT bytes.now) }
+{
+    let line = line_of(bytes.as_slice(), INPUT_LIMIT);
+    Status::ScriptRefused {
+        line: line as u32,
+        cause: ScriptCause::TooMany,
+    }
+}
+
 // The text for the script that the source gives, or why there is none.
 fn expected<S: Source>(alloc: Global, source: &mut S) -> Result<Vec<u8>, Status>
     ensures found { IfOk result (λ text. IsExpected INPUT_LIMIT (seen (S.left source.old) (S.faults source.old)) (seen (S.left source.new) (S.faults source.new)) text.items) }
@@ -20,12 +35,14 @@ fn expected<S: Source>(alloc: Global, source: &mut S) -> Result<Vec<u8>, Status>
     let bytes = match read_all(alloc, source, INPUT_LIMIT) {
         Ok(bytes) => bytes,
         Err(ReadStop::Fault) => return Err(Status::ReadFault),
-        Err(ReadStop::Over(_bytes)) => return Err(Status::ScriptRefused),
+        Err(ReadStop::Over(bytes)) => return Err(over_limit(&bytes)),
         Err(ReadStop::OutOfMemory) => return Err(Status::OutOfMemory),
     };
     let script = match read(alloc, &bytes) {
         Ok(script) => script,
-        Err(ReadRefusal::NotPlain) => return Err(Status::ScriptRefused),
+        Err(ReadRefusal::Fault { line, cause }) => {
+            return Err(Status::ScriptRefused { line, cause });
+        }
         Err(ReadRefusal::OutOfMemory) => return Err(Status::OutOfMemory),
     };
     match expect(alloc, &script) {
@@ -50,8 +67,8 @@ fn answer<S: Source, O: Sink>(alloc: Global, source: &mut S, out: &mut O) -> Sta
     }
 }
 
-/// Answers `expect`: reads a plain script from the source, and writes the spanning trees of its
-/// network to out. The answer is the number of a status, whose line goes to err.
+/// Answers `expect`: reads a script from the source, and writes what is expected of its
+/// network to out: trees, numbers and routing tables. The answer is the number of a status, whose line goes to err.
 pub fn autonet_expect<S: Source, O: Sink, E: Sink>(
     alloc: Global,
     source: &mut S,
@@ -63,5 +80,5 @@ pub fn autonet_expect<S: Source, O: Sink, E: Sink>(
         (streams (seen (S.left source.new) (S.faults source.new)) (seen (O.written out.new) (O.faults out.new)) (seen (E.written err.new) (E.faults err.new))) result }
 {
     let status = answer(alloc, source, out);
-    finish(err, status)
+    finish(alloc, err, status)
 }

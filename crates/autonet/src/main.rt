@@ -40,7 +40,7 @@ fn main(rt: HostRuntime) -> ExitCode {
     let mut err = StdSink::new(rt.stderr());
     let code = match words(&rt) {
         Ok(words) => top::autonet(&rt, rt.alloc(), &words, &mut source, &mut out, &mut err),
-        Err(OutOfMemory) => finish(&mut err, Status::OutOfMemory),
+        Err(OutOfMemory) => finish(rt.alloc(), &mut err, Status::OutOfMemory),
     };
     ExitCode::from(code)
 }

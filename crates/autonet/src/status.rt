@@ -1,9 +1,13 @@
-ghost use Rattle.std.specs.Prelude.{◌≡◌};
+ghost use Rattle.std.specs.Prelude.{◌≡◌, ◌++◌, IfOk, OnOk};
+ghost use Rattle.std.specs.Fmt.{decimal};
+ghost use Rattle.autonet.specs.declared.status.Status.TheVariants.{ScriptRefused};
 ghost use Rattle.autonet.specs.Status.{code_of, line_of};
-ghost use Rattle.autonet.specs.Answer.{IsTold, seen};
+ghost use Rattle.autonet.specs.Answer.{IsTold, IsToldOrWant, seen};
 
+use net_script::cause::ScriptCause;
 use outside::all::write_all;
 use outside::sink::Sink;
+use std::alloc::{AllocError, Global};
 
 /// How a call ended.
 #[derive(Clone, Copy, Debug, PartialEq, Eq)]
@@ -12,8 +16,13 @@ pub enum Status {
     Ok,
     /// The words are no command that is built.
     Usage,
-    /// The input is no plain script, or has more bytes than the limit.
-    ScriptRefused,
+    /// The input is no script, or has more bytes than the limit.
+    ScriptRefused {
+        /// The first faulty line, from 1.
+        line: u32,
+        /// The first cause in that line.
+        cause: ScriptCause,
+    },
     /// The source failed.
     ReadFault,
     /// A sink failed.
@@ -30,38 +39,69 @@ impl Status {
         match self {
             Status::Ok => 0,
             Status::Usage => 2,
-            Status::ScriptRefused => 3,
+            Status::ScriptRefused { line: _, cause: _ } => 3,
             Status::ReadFault => 4,
             Status::WriteFault => 5,
             Status::OutOfMemory => 9,
         }
     }
-
-    /// The line that is written to err.
-    pub fn line(self) -> &'static [u8]
-        ensures { result.now ≡ line_of self }
-    {
-        match self {
-            Status::Ok => b"",
-            Status::Usage => b"usage: autonet expect, run, replay, check or gen SEED N\n",
-            Status::ScriptRefused => b"autonet: script not plain\n",
-            Status::ReadFault => b"autonet: read fault\n",
-            Status::WriteFault => b"autonet: write fault\n",
-            Status::OutOfMemory => b"autonet: out of memory\n",
-        }
-    }
 }
 
-/// Writes the line of a status to err, and answers the status' number, or that of a write fault
-/// where err did not take the whole line.
-pub fn finish<E: Sink>(err: &mut E, status: Status) -> u8
+// The line for the fault of a script.
+fn refusal(alloc: Global, line: u32, cause: ScriptCause) -> Result<Vec<u8>, AllocError>
+    ensures { IfOk result (λ text. text.items ≡ line_of (ScriptRefused line cause)) }
+{
+    let mut text = Vec::new(alloc);
+    text.extend_from_slice(b"autonet: script line ")?;
+    push_number(alloc, &mut text, line)?;
+    text.extend_from_slice(b": ")?;
+    text.extend_from_slice(cause.text().as_bytes())?;
+    text.extend_from_slice(b"\n")?;
+    Ok(text)
+}
+
+// Appends a number in decimal.
+fn push_number(alloc: Global, text: &mut Vec<u8>, n: u32) -> Result<(), AllocError>
+    ensures { OnOk result (text.new.items ≡ text.old.items ++ decimal n) }
+{
+    let number = format!(in alloc; "{n}")?;
+    text.extend_from_slice(number.as_bytes())
+}
+
+// Writes the line of a status to err, and answers the status' number, or that of a write fault where
+// err did not take the whole line.
+fn tell<E: Sink>(err: &mut E, status: Status, line: &[u8]) -> u8
+    requires { line.now ≡ line_of status }
     ensures { IsTold (seen (E.written err.old) (E.faults err.old)) (seen (E.written err.new) (E.faults err.new)) status result }
 {
     if status == Status::Ok {
         return status.code();
     }
-    match write_all(err, status.line()) {
+    match write_all(err, line) {
         Ok(()) => status.code(),
         Err(_fault) => Status::WriteFault.code(),
+    }
+}
+
+/// Writes the line of a status to err, and answers the status' number, or that of a write fault
+/// where err did not take the whole line. Where no memory is found for the line of a refused script,
+/// that is told in its place.
+pub fn finish<E: Sink>(alloc: Global, err: &mut E, status: Status) -> u8
+    ensures { IsToldOrWant (seen (E.written err.old) (E.faults err.old)) (seen (E.written err.new) (E.faults err.new)) status result }
+{
+    match status {
+        Status::Ok => tell(err, status, b""),
+        Status::Usage => tell(
+            err,
+            status,
+            b"usage: autonet expect, run, replay, check or gen SEED N\n",
+        ),
+        Status::ScriptRefused { line, cause } => match refusal(alloc, line, cause) {
+            Ok(text) => tell(err, status, &text),
+            Err(_memory) => tell(err, Status::OutOfMemory, b"autonet: out of memory\n"),
+        },
+        Status::ReadFault => tell(err, status, b"autonet: read fault\n"),
+        Status::WriteFault => tell(err, status, b"autonet: write fault\n"),
+        Status::OutOfMemory => tell(err, status, b"autonet: out of memory\n"),
     }
 }

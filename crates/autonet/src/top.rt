@@ -40,7 +40,7 @@ pub fn autonet<R: Threads + Wait + Sync, S: Source, O: Sink, E: Sink>(
     if is_expect(words) {
         autonet_expect(alloc, source, out, err)
     } else {
-        finish(err, Status::Usage)
+        finish(alloc, err, Status::Usage)
     }
 }
 
@@ -54,8 +54,8 @@ mod tests {
     const TWO: &[u8] =
         b"autonet 1\nswitch A 000000000001\nswitch B 000000000002\nlink A 1 B 1\nend\n";
 
-    const TWO_TREES: &[u8] =
-        b"component A members 2\nmember A level 0\nmember B level 1 parent A port 1\nend\n";
+    const TWO_EXPECTED: &[u8] =
+        b"component A members 2\nmember A level 0\nmember B level 1 parent A port 1\nnumber A 1\nnumber B 2\nrow A 0 2:1\nrow A 1 2:1\nrow B 0 1:1\nrow B 1 1:-\nend\n";
 
     const USAGE: &[u8] = b"usage: autonet expect, run, replay, check or gen SEED N\n";
 
@@ -101,11 +101,11 @@ mod tests {
     }
 
     #[test]
-    fn two_linked_switches_have_one_tree(rt: HostRuntime) -> Result<(), Fail> {
+    fn two_linked_switches_have_one_tree_and_two_tables(rt: HostRuntime) -> Result<(), Fail> {
         for cut in [1, 7, 1000] {
             let mut streams = Streams::new(rt.alloc(), TWO, cut)?;
             assert_eq!(rt; answer(&rt, rt.alloc(), &[b"expect"], &mut streams)?, 0);
-            assert_eq!(rt; streams.out.bytes(), TWO_TREES);
+            assert_eq!(rt; streams.out.bytes(), TWO_EXPECTED);
             assert_eq!(rt; streams.err.bytes(), b"".as_slice());
         }
         Ok(())
@@ -140,18 +140,24 @@ mod tests {
 
     #[test]
     fn what_is_no_script_is_refused_and_nothing_is_printed(rt: HostRuntime) -> Result<(), Fail> {
-        for input in [
-            &TWO[..TWO.len() - 1],
-            b"".as_slice(),
-            b"autonet 2\nend\n".as_slice(),
+        for (input, line) in [
+            (
+                b"autonet 1\nswitch A 000000000001\n".as_slice(),
+                b"autonet: script line 3: no end\n".as_slice(),
+            ),
+            (
+                b"".as_slice(),
+                b"autonet: script line 1: no end\n".as_slice(),
+            ),
+            (
+                b"autonet 2\nend\n".as_slice(),
+                b"autonet: script line 1: bad header\n".as_slice(),
+            ),
         ] {
             let mut streams = Streams::new(rt.alloc(), input, 100)?;
             assert_eq!(rt; answer(&rt, rt.alloc(), &[b"expect"], &mut streams)?, 3);
             assert_eq!(rt; streams.out.bytes(), b"".as_slice());
-            assert_eq!(rt;
-                streams.err.bytes(),
-                b"autonet: script not plain\n".as_slice()
-            );
+            assert_eq!(rt; streams.err.bytes(), line);
         }
         Ok(())
     }
@@ -171,13 +177,13 @@ mod tests {
 
     #[test]
     fn a_write_that_fails_at_any_place_is_told(rt: HostRuntime) -> Result<(), Fail> {
-        for room in [0, 1, 30, 75] {
+        for room in [0, 1, 30, 140] {
             let mut streams = Streams::new(rt.alloc(), TWO, 100)?;
             streams.out = MemorySink::new(rt.alloc(), room, Vec::new(rt.alloc()))?;
             assert_eq!(rt; answer(&rt, rt.alloc(), &[b"expect"], &mut streams)?, 5);
             assert_eq!(rt;
                 streams.out.bytes(),
-                TWO_TREES.get(..room).unwrap_or(TWO_TREES)
+                TWO_EXPECTED.get(..room).unwrap_or(TWO_EXPECTED)
             );
             assert_eq!(rt; streams.err.bytes(), b"autonet: write fault\n".as_slice());
         }

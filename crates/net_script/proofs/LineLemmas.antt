@@ -1,89 +1,85 @@
-use Rattle.std.proofs.Common.{◌≡◌, ◌≢◌, ◌∙◌, sym, ap, refl, ℕ, ◌+◌, ◌*◌, ◌<◌, ◌≤◌, List, [], ◌∷◌, ◌++◌, append_assoc, arith, length, length-append, length-take, get_or, take, min, false, eqb, All}
-use Rattle.std.specs.List.{join_with_byte}
-use Rattle.std.proofs.lemmas.List.{get_or_at, get_or-take}
-use Rattle.std.proofs.lemmas.List.Elements.{All-head, All-tail, All-nil, All-cons, All-append, All-weaker}
-use Rattle.std.proofs.lemmas.List.Splits.{slice_split_none, slice_split_at, join_with_byte-slice_split}
-use Rattle.std.proofs.lemmas.Bool.Decides.{Decides-eqb, nat_tests}
-use Rattle.std.proofs.lemmas.Grind.{flat_map-append}
-use Rattle.net_script.specs.Lines.{line_text, lines_text, words_of, IsFirstLine}
-use Rattle.net_script.proofs.WordLemmas.{IsWord}
+use Rattle.std.proofs.Common.{◌≡◌, ◌∙◌, sym, ap, refl, ℕ, ◌+◌, ◌-◌, ◌<◌, ◌≤◌, List, [], ◌∷◌, ◌++◌, arith, length, length-take, get_or, take, drop, drop-cons, add-one, Some, None, Bool, false, eqb, ltb, All, cond}
+use Rattle.std.specs.List.{slice_split, position, before_first, position_or_len}
+use Rattle.std.specs.Str.Lines.{lines_of_parts, strip_carriage_return}
+use Rattle.std.proofs.lemmas.List.{nil_from_length, get_or-take, take_all, take_rest, drop_all, take-append-drop}
+use Rattle.std.proofs.lemmas.List.Elements.{All-from_get_or}
+use Rattle.std.proofs.lemmas.List.Quantifiers.{position-Some}
+use Rattle.std.proofs.lemmas.List.Splits.{slice_split_none, slice_split_at, length-slice_split}
+use Rattle.std.proofs.lemmas.List.Sums.{fails_before_first}
+use Rattle.std.proofs.lemmas.Bool.Decides.{nat_tests, Decides-eqb}
+use Rattle.net_script.specs.Lines.{lines_of}
 
--- a text of one more line in front
-pub lines_text-cons : (row : List (List ℕ)) (rows : List (List (List ℕ))) → lines_text (row ∷ rows) ≡ line_text row ++ lines_text rows
-unfolding lines_text
-lines_text-cons row rows = refl
+-- a line feed
+abbrev pub is_feed : ℕ → Bool
+is_feed c = eqb c 10
 
--- a text of two parts
-pub lines_text-append : (rows more : List (List (List ℕ))) → lines_text (rows ++ more) ≡ lines_text rows ++ lines_text more
-unfolding lines_text
-lines_text-append rows more = flat_map-append line_text rows more
+-- there is a part after the last line feed
+pub parts_some : (xs : List ℕ) → 0 < length (slice_split is_feed xs)
+parts_some xs = omega (arith, length-slice_split is_feed xs)
 
--- no lines have no bytes
-pub lines_text-nil : lines_text [] ≡ []
-unfolding lines_text
-lines_text-nil = refl
+-- the first line of parts of which there are two or more
+pub first_of_parts : (x : List ℕ) (parts : List (List ℕ)) → 0 < length parts → lines_of_parts (x ∷ parts) ≡ strip_carriage_return x ∷ lines_of_parts parts
+first_of_parts x [] some = absurd (omega arith)
+first_of_parts x (y ∷ more) some = refl
 
--- the words of a line are what it is the text of
-pub line_text-words_of : (line : List ℕ) → line_text (words_of line) ≡ line ++ 10 ∷ []
-line_text-words_of line = ap (λ (bytes : List ℕ). bytes ++ 10 ∷ []) (join_with_byte-slice_split 32 line)
+-- a place that a test tells
+past_place : (k n len : ℕ) → cond (ltb n len) (Some n) None ≡ None → k < len → k < n
+past_place k n len e low = grind (arith, nat_tests)
 
--- no byte of a word is a space
-word_free : (word : List ℕ) → IsWord word → All (λ c. eqb c 32 ≡ false) word
-word_free word is = All-weaker (λ c. 32 < c) (λ c. eqb c 32 ≡ false) (λ c above. grind (arith, nat_tests)) word is.bytes
+-- where no element passes there is no place
+pub position_none : {X : Type 0} (p : X → Bool) (xs : List X) (d : X) → position p xs ≡ None → (k : ℕ) → k < length xs → p (get_or xs k d) ≡ false
+position_none p xs d none k within = fails_before_first p xs k d (past_place k (position_or_len p xs) (length xs) none within)
 
--- what was joined by spaces is cut into the same words
-pub words_of-join : (word : List ℕ) (more : List (List ℕ)) → All IsWord (word ∷ more) → words_of (join_with_byte 32 (word ∷ more)) ≡ word ∷ more
-words_of-join word [] are = slice_split_none (λ c. eqb c 32) word (word_free word (All-head IsWord word [] are))
-words_of-join word (next ∷ more) are =
-    slice_split_at (λ c. eqb c 32) word 32 (join_with_byte 32 (next ∷ more)) (word_free word (All-head IsWord word (next ∷ more) are)) ((Decides-eqb 32 32).1 refl)
-    ∙ ap (λ (words : List (List ℕ)). word ∷ words) (words_of-join next more (All-tail IsWord word (next ∷ more) are))
+-- the first line, where a line feed ends it
+pub line_at_feed : (bytes : List ℕ) (i : ℕ) → position is_feed bytes ≡ Some i → lines_of bytes ≡ strip_carriage_return (take i bytes) ∷ lines_of (drop (i + 1) bytes)
+unfolding lines_of
+line_at_feed bytes i at =
+    let here = position-Some is_feed bytes i 0 at in
+    let within : i < length bytes = here.0 in
+    let feed : get_or bytes i 0 ≡ 10 = (Decides-eqb (get_or bytes i 0) 10).0 here.1 in
+    let rest : drop i bytes ≡ 10 ∷ drop (i + 1) bytes = rw (add-one, drop-cons bytes i 0 within, feed) refl in
+    let parts : bytes ≡ take i bytes ++ 10 ∷ drop (i + 1) bytes = sym (take-append-drop i bytes) ∙ ap (λ (xs : List ℕ). take i bytes ++ xs) rest in
+    let free : All (λ c. is_feed c ≡ false) (take i bytes) = All-from_get_or (λ c. is_feed c ≡ false) (take i bytes) 0 (λ k low. let below : k < i = omega (arith, length-take i bytes) in ap is_feed (get_or-take i bytes k 0 below) ∙ here.2 k below) in
+    ap (λ (xs : List ℕ). lines_of_parts (slice_split is_feed xs)) parts
+    ∙ ap lines_of_parts (slice_split_at is_feed (take i bytes) 10 (drop (i + 1) bytes) free refl)
+    ∙ first_of_parts (take i bytes) (slice_split is_feed (drop (i + 1) bytes)) (parts_some (drop (i + 1) bytes))
 
--- no byte of a word is a line feed
-word_feedless : (word : List ℕ) → IsWord word → All (λ c. c ≢ 10) word
-word_feedless word is = All-weaker (λ c. 32 < c) (λ c. c ≢ 10) (λ c above same. omega arith) word is.bytes
+-- where some bytes have no line feed they are the one line
+only_line : (x : List ℕ) → 0 < length x → lines_of_parts (x ∷ []) ≡ x ∷ []
+only_line x some = grind (arith, nat_tests)
 
--- nor is one of a line of words
-join_feedless : (words : List (List ℕ)) → All IsWord words → All (λ c. c ≢ 10) (join_with_byte 32 words)
-join_feedless [] are = All-nil (λ c. c ≢ 10)
-join_feedless (word ∷ []) are = word_feedless word (All-head IsWord word [] are)
-join_feedless (word ∷ next ∷ more) are =
-    All-append (λ c. c ≢ 10) word (32 ∷ join_with_byte 32 (next ∷ more)) (word_feedless word (All-head IsWord word (next ∷ more) are))
-    (All-cons (λ c. c ≢ 10) 32 (join_with_byte 32 (next ∷ more)) (λ same. omega arith) (join_feedless (next ∷ more) (All-tail IsWord word (next ∷ more) are)))
+pub line_without_feed : (bytes after : List ℕ) → position is_feed bytes ≡ None → 0 < length bytes → after ≡ [] → lines_of bytes ≡ bytes ∷ lines_of after
+unfolding lines_of
+line_without_feed bytes after none some past =
+    ap lines_of_parts (slice_split_none is_feed bytes (All-from_get_or (λ c. is_feed c ≡ false) bytes 0 (position_none is_feed bytes 0 none)))
+    ∙ only_line bytes some
+    ∙ rw past refl
 
--- a line of words is not long
-join_short : (words : List (List ℕ)) → All IsWord words → length (join_with_byte 32 words) ≤ 17 * length words
-join_short [] are = omega arith
-join_short (word ∷ []) are = omega (arith, (All-head IsWord word [] are).most)
-join_short (word ∷ next ∷ more) are =
-    omega (arith, (All-head IsWord word (next ∷ more) are).most, length-append word (32 ∷ join_with_byte 32 (next ∷ more)), join_short (next ∷ more) (All-tail IsWord word (next ∷ more) are))
+-- without bytes there are no lines
+pub no_lines : (bytes : List ℕ) → length bytes ≡ 0 → lines_of bytes ≡ []
+unfolding lines_of
+no_lines bytes none = rw (nil_from_length bytes none) refl
 
--- a line of at most five words stands first
-pub first_line_of : (row : List (List ℕ)) (rest : List ℕ) → All IsWord row → length row ≤ 5 → IsFirstLine (line_text row ++ rest) (join_with_byte 32 row) rest
-first_line_of row rest are few = record {
-  parts = append_assoc (join_with_byte 32 row) (10 ∷ []) rest;
-  no_feed = join_feedless row are;
-  most = omega (arith, join_short row are);
-}
+-- nothing stands after the last byte
+pub nothing_after : (bytes : List ℕ) → take (length bytes - length bytes) (drop (length bytes) bytes) ≡ []
+nothing_after bytes = take_rest bytes (length bytes) ∙ drop_all (length bytes) bytes (omega arith)
 
--- bytes are cut at the first line feed in one way
-cut_once : (xs ys us vs : List ℕ) → All (λ c. c ≢ 10) xs → All (λ c. c ≢ 10) us → xs ++ 10 ∷ ys ≡ us ++ 10 ∷ vs → (xs ≡ us) × (ys ≡ vs)
-cut_once [] ys [] vs free other same = (refl, cc)
-cut_once [] ys (u ∷ us) vs free other same = absurd (All-head (λ c. c ≢ 10) u us other (cc))
-cut_once (x ∷ xs) ys [] vs free other same = absurd (All-head (λ c. c ≢ 10) x xs free (cc))
-cut_once (x ∷ xs) ys (u ∷ us) vs free other same =
-    let heads : x ≡ u = cc in
-    let tails : xs ++ 10 ∷ ys ≡ us ++ 10 ∷ vs = cc in
-    let cut = cut_once xs ys us vs (All-tail (λ c. c ≢ 10) x xs free) (All-tail (λ c. c ≢ 10) u us other) tails in
-    (let front = cut.0 in (cc), cut.1)
+-- what stands before the first element that passes
+place_is : (n len i : ℕ) → cond (ltb n len) (Some n) None ≡ Some i → n ≡ i
+place_is n len i e = grind (arith, nat_tests)
 
--- there is one first line
-pub first_line_once : (bytes line after line' after' : List ℕ) → IsFirstLine bytes line after → IsFirstLine bytes line' after' → (line ≡ line') × (after ≡ after')
-first_line_once bytes line after line' after' is other = cut_once line after line' after' is.no_feed other.no_feed (sym is.parts ∙ other.parts)
+place_past : (n len : ℕ) → cond (ltb n len) (Some n) None ≡ None → len ≤ n
+place_past n len e = grind (arith, nat_tests)
 
--- without a line feed among the first 201 bytes there is no first line
-pub no_line : (bytes : List ℕ) (most : ℕ) → most ≡ min (length bytes) 201 → All (λ c. c ≢ 10) (take most bytes) → (line after : List ℕ) → ¬ IsFirstLine bytes line after
-no_line bytes most is free line after first =
-    let len : length bytes ≡ length line + (1 + length after) = omega (arith, ap length first.parts, length-append line (10 ∷ after)) in
-    let low : length line < most = omega (arith, first.most) in
-    let feed : get_or bytes (length line) 0 ≡ 10 = ap (λ (bs : List ℕ). get_or bs (length line) 0) first.parts ∙ get_or_at line 10 after 0 (length line) refl in
-    free (length line) 0 (omega (arith, length-take most bytes)) (get_or-take most bytes (length line) 0 low ∙ feed)
+pub before_some : (p : ℕ → Bool) (xs : List ℕ) (i : ℕ) → position p xs ≡ Some i → take i xs ≡ before_first p xs
+before_some p xs i at = ap (λ (n : ℕ). take n xs) (sym (place_is (position_or_len p xs) (length xs) i at))
+
+pub before_none : (p : ℕ → Bool) (xs : List ℕ) → position p xs ≡ None → xs ≡ before_first p xs
+before_none p xs none = sym (take_all (position_or_len p xs) xs (place_past (position_or_len p xs) (length xs) none))
+
+-- the first line and what stands after it, as slices
+pub first_at_feed : (bytes line : List ℕ) (i : ℕ) → position is_feed bytes ≡ Some i → line ≡ strip_carriage_return (take i bytes) → lines_of bytes ≡ line ∷ lines_of (take (length bytes - (i + 1)) (drop (i + 1) bytes))
+first_at_feed bytes line i at is = rw (take_rest bytes (i + 1), is) (line_at_feed bytes i at)
+
+pub first_is_all : (bytes : List ℕ) → position is_feed bytes ≡ None → 0 < length bytes → lines_of bytes ≡ bytes ∷ lines_of (take (length bytes - length bytes) (drop (length bytes) bytes))
+first_is_all bytes none some = line_without_feed bytes (take (length bytes - length bytes) (drop (length bytes) bytes)) none some (nothing_after bytes)

@@ -1,76 +1,63 @@
-use Rattle.std.proofs.Common.{◌≡◌, ◌⊎◌, ◌∙◌, inl, inr, sym, ap, refl, subst, ℕ, zero, suc, ◌+◌, ◌-◌, ◌/◌, ◌%◌, ◌<◌, ◌≤◌, List, [], ◌∷◌, arith, length, All, true, codes}
+use Rattle.std.proofs.Common.{rules, ◌≡◌, ◌∙◌, ap, refl, ℕ, ◌+◌, ◌-◌, ◌*◌, ◌^◌, ◌<◌, ◌≤◌, List, arith, length, get_or, take, lit<, pow-suc, add-one, true}
 use Rattle.std.specs.List.{list_all}
-use Rattle.std.specs.Prelude.{nat_lt}
-use Rattle.std.specs.Char.{IsAsciiAlphanumeric}
-use Rattle.std.specs.Fmt.{decimal}
-use Rattle.std.proofs.lemmas.Fmt.{decimal_digit}
-use Rattle.std.proofs.lemmas.Bool.{cases_lt}
+use Rattle.std.specs.Char.{digit_value, is_digit, is_ascii_digit}
+use Rattle.std.specs.Str.Parse.{digits_value}
+use Rattle.std.proofs.lemmas.List.Folds.{list_all_more}
 use Rattle.std.proofs.lemmas.Bool.Decides.{nat_tests}
-use Rattle.std.proofs.lemmas.List.Elements.{All-nil, All-cons, All-push, All-weaker}
-use Rattle.net_script.specs.Words.{IsName, hex_text, hex_glyph}
-use Rattle.net_script.proofs.PortLemmas.{decimal_teen}
-use Rattle.net_script.proofs.HexLemmas.{length-hex_text}
+use Rattle.std.proofs.lemmas.Int.Digits.{digits_value_more}
+use Rattle.std.proofs.lemmas.Str.Parse.{IsNumeralModel, numerals_by_value, digit_at, digits_value-take-le}
+use Rattle.std.proofs.Math.Nat.{pow-le-pow_right}
+use Rattle.net_script.specs.Words.{number_value}
 
--- a word that may stand in a line: at most 16 bytes, all above the space
-pub record IsWord (word : List ℕ) : Type 0 where
-  pub bytes : All (λ c. 32 < c) word
-  pub most : length word ≤ 16
+-- digits, and what they say
+pub own : IsNumeralModel (λ ds. list_all is_ascii_digit ds ≡ true) (digits_value 10)
+own = numerals_by_value (λ ds. list_all is_ascii_digit ds ≡ true) (search rules)
 
--- a name is a word
-pub name_is_word : (word : List ℕ) → IsName word → IsWord word
-name_is_word word is = record { bytes = All-weaker (λ c. IsAsciiAlphanumeric c ⊎ (c ≡ 95)) (λ c. 32 < c) (λ c one. grind arith) word is.bytes; most = is.most }
+-- a digit of a number
+pub digit_here : (w : List ℕ) (i : ℕ) → list_all is_ascii_digit w ≡ true → i < length w → (48 ≤ get_or w i 0) × (get_or w i 0 ≤ 57)
+digit_here w i all within = let h = digit_at w i (own.to w all) within in (omega arith, omega arith)
 
--- a glyph stands above the space
-glyph_above : (d : ℕ) → 32 < hex_glyph d
-glyph_above d = grind (arith, nat_tests)
+-- what such a digit says
+pub digit_says : (c : ℕ) → 48 ≤ c → c ≤ 57 → digit_value c ≡ c - 48
+digit_says c least most = grind (arith, nat_tests)
 
--- all digits stand above the space
-hex_above : (k n : ℕ) → All (λ c. 32 < c) (hex_text k n)
-unfolding hex_text
-hex_above zero n = All-nil (λ c. 32 < c)
-hex_above (suc k) n = All-push (λ c. 32 < c) (hex_text k (n / 16)) (hex_glyph (n % 16)) (hex_above k (n / 16)) (glyph_above (n % 16))
+-- what the digits say with one more
+pub number_more : (w : List ℕ) (i : ℕ) → list_all is_ascii_digit w ≡ true → i < length w → digits_value 10 (take (i + 1) w) ≡ digits_value 10 (take i w) * 10 + (get_or w i 0 - 48)
+number_more w i all within =
+    let d = digit_here w i all within in
+    digits_value_more 10 w i within ∙ ap (λ (x : ℕ). digits_value 10 (take i w) * 10 + x) (digit_says (get_or w i 0) d.0 d.1)
 
--- an identifier is a word
-pub uid_is_word : (n : ℕ) → IsWord (hex_text 12 n)
-uid_is_word n = record { bytes = hex_above 12 n; most = omega (arith, length-hex_text 12 n) }
+-- what the digits in front say is no more than what all say
+pub number_front : (w : List ℕ) (i : ℕ) → digits_value 10 (take i w) ≤ digits_value 10 w
+number_front w i = digits_value-take-le 10 w i (omega arith)
 
--- one byte above the space is a word
-one_is_word : (c : ℕ) → 32 < c → IsWord (c ∷ [])
-one_is_word c above = record { bytes = All-cons (λ b. 32 < b) c [] above (All-nil (λ b. 32 < b)); most = omega arith }
+-- the digits of identifiers, with one more
+pub uid_more : (w : List ℕ) (i : ℕ) → i < length w → digits_value 16 (take (i + 1) w) ≡ digits_value 16 (take i w) * 16 + digit_value (get_or w i 0)
+uid_more w i within = digits_value_more 16 w i within
 
--- two bytes above the space are one
-two_are_word : (c d : ℕ) → 32 < c → 32 < d → IsWord (c ∷ d ∷ [])
-two_are_word c d first second = record { bytes = All-cons (λ b. 32 < b) c (d ∷ []) first (one_is_word d second).bytes; most = omega arith }
+-- n keeps below 2 ^ 48
+pub uid_next : (n d i : ℕ) → n < 16 ^ i → d < 16 → n * 16 + d < 16 ^ (i + 1)
+uid_next n d i below low = let p : 16 ^ (i + 1) ≡ 16 ^ i * 16 = rw (add-one, pow-suc) refl in omega arith
 
--- a port is a word
-pub port_is_word : (p : ℕ) → p ≤ 12 → IsWord (decimal p)
-port_is_word p most = elim (cases_lt p 10) [
-  | inl low ↦ subst IsWord (sym (decimal_digit p low)) (one_is_word (48 + p) (omega arith))
-  | inr high ↦ (let ten : (p - 10) + 10 ≡ p = omega arith in
-      subst IsWord (sym (decimal_teen (p - 10) (omega arith)) ∙ ap decimal ten) (two_are_word 49 (48 + (p - 10)) (omega arith) (omega arith)))
-]
+-- a number past 64 bits
+pub number_over : (w : List ℕ) (i n : ℕ) → list_all is_ascii_digit w ≡ true → i < length w → n ≡ digits_value 10 (take i w) → 2 ^ 64 ≤ n * 10 + (get_or w i 0 - 48) → 2 ^ 64 ≤ number_value w
+unfolding number_value
+number_over w i n all within so_far high =
+    let h = number_front w (i + 1) in
+    let next = number_more w i all within in
+    omega arith
 
--- bytes that pass the test are above the space
-above_from_test : (word : List ℕ) → list_all (nat_lt 32) word ≡ true → All (λ c. 32 < c) word
-above_from_test [] all = All-nil (λ c. 32 < c)
-above_from_test (c ∷ word) all = All-cons (λ b. 32 < b) c word (grind (arith, nat_tests)) (above_from_test word (grind (arith, nat_tests)))
+-- what the digits say so far, with one more
+pub number_step : (w : List ℕ) (i n m : ℕ) → list_all is_ascii_digit w ≡ true → i < length w → n ≡ digits_value 10 (take i w) → m ≡ n * 10 + (get_or w i 0 - 48) → m ≡ digits_value 10 (take (i + 1) w)
+number_step w i n m all within so_far next = let more = number_more w i all within in omega arith
 
--- `switch` is a word
-pub switch_is_word : IsWord (codes "switch")
-switch_is_word = record { bytes = above_from_test (codes "switch") refl; most = omega arith }
+-- the digits of an identifier, with one more
+pub uid_digits : (w : List ℕ) (i : ℕ) → i < length w → list_all (λ c. is_digit c 16) (take i w) ≡ true → is_digit (get_or w i 0) 16 ≡ true → list_all (λ c. is_digit c 16) (take (i + 1) w) ≡ true
+uid_digits w i within so_far here = list_all_more (λ c. is_digit c 16) w i 0 within ∙ rw (so_far, here) refl
 
--- `link` is a word
-pub link_is_word : IsWord (codes "link")
-link_is_word = record { bytes = above_from_test (codes "link") refl; most = omega arith }
+pub uid_says : (w : List ℕ) (i n d : ℕ) → i < length w → n ≡ digits_value 16 (take i w) → d ≡ digit_value (get_or w i 0) → n * 16 + d ≡ digits_value 16 (take (i + 1) w)
+uid_says w i n d within so_far here = let more = uid_more w i within in omega arith
 
--- `end` is a word
-pub end_is_word : IsWord (codes "end")
-end_is_word = record { bytes = above_from_test (codes "end") refl; most = omega arith }
-
--- `autonet` is a word
-pub autonet_is_word : IsWord (codes "autonet")
-autonet_is_word = record { bytes = above_from_test (codes "autonet") refl; most = omega arith }
-
--- `1` is a word
-pub version_is_word : IsWord (codes "1")
-version_is_word = record { bytes = above_from_test (codes "1") refl; most = omega arith }
+-- an identifier keeps below 2 ^ 48
+pub uid_fits : (i n : ℕ) → i ≤ 12 → n < 16 ^ i → n < 2 ^ 48
+uid_fits i n few below = let p : 16 ^ i ≤ 16 ^ 12 = pow-le-pow_right {n = 16} (lit< tt) few in omega arith

@@ -1,4 +1,13 @@
 pub mod Words
 pub mod Lines
+pub mod Causes
+pub mod Settings
+pub mod Commands
+pub mod Names
 pub mod Scripts
+pub mod Forms
+pub mod Drafts
+pub mod Rules
+pub mod Texts
 pub mod Steps
+pub mod Canonical

@@ -1,20 +1,36 @@
-use Rattle.std.specs.Prelude.{◌≡◌, ◌≢◌, ◌==◌, ℕ, ◌≤◌, List, [], ◌∷◌, ◌++◌, length, All}
-use Rattle.std.specs.List.{flat_map, join_with_byte, slice_split}
+use Rattle.std.specs.Prelude.{◌==◌, ◌&&◌, ◌||◌, not, ℕ, Bool, List, [], ◌∷◌, ◌++◌, length, nat_le, filter}
+use Rattle.std.specs.List.{flat_map, join_with_byte, slice_split, before_first}
+use Rattle.std.specs.Str.Lines.{lines}
 
--- a line: its words, joined by one space each, and a line feed
+-- the lines of a text: each ends with a line feed (10), before which one carriage return (13) is
+-- dropped; bytes after the last line feed are a line
+unfoldable pub lines_of : List ℕ → List (List ℕ)
+lines_of bytes = lines bytes
+
+-- a byte that may stand in a line: a tab (9), or 32 to 126
+abbrev pub is_line_byte : ℕ → Bool
+is_line_byte c = (c == 9) || (nat_le 32 c && nat_le c 126)
+
+-- a space (32) or a tab (9)
+abbrev pub is_blank : ℕ → Bool
+is_blank c = (c == 32) || (c == 9)
+
+-- what stands before the first `#` (35)
+abbrev pub without_comment : List ℕ → List ℕ
+without_comment line = before_first (λ c. c == 35) line
+
+-- the parts of a line between its blanks that are not empty
+abbrev pub parts_of : List ℕ → List (List ℕ)
+parts_of line = filter (λ w. not (length w == 0)) (slice_split is_blank line)
+
+-- the words of a line: the parts between its blanks, up to a `#`, that are not empty
+unfoldable pub words_of : List ℕ → List (List ℕ)
+words_of line = parts_of (without_comment line)
+
+-- a line of words: they are joined by one space each, and a line feed follows
 abbrev pub line_text : List (List ℕ) → List ℕ
 line_text words = join_with_byte 32 words ++ 10 ∷ []
 
--- lines, one after another
-unfoldable pub lines_text : List (List (List ℕ)) → List ℕ
+-- lines of words, one after another
+abbrev pub lines_text : List (List (List ℕ)) → List ℕ
 lines_text = flat_map line_text
-
--- the parts of a line between its spaces
-abbrev pub words_of : List ℕ → List (List ℕ)
-words_of line = slice_split (λ c. c == 32) line
-
--- the first line of the bytes, of at most 200 bytes without its line feed, and the bytes after that
-pub record IsFirstLine (bytes line after : List ℕ) : Type 0 where
-  pub parts : bytes ≡ line ++ 10 ∷ after
-  pub no_feed : All (λ c. c ≢ 10) line
-  pub most : length line ≤ 200

@@ -1,42 +1,44 @@
-use Rattle.std.specs.Prelude.{◌≡◌, ◌≢◌, ◌⊎◌, ℕ, ◌<◌, List, [], length, Some, slice_get, Contains}
-use Rattle.net_graph.specs.declared.wiring.SwitchAt.{SwitchAt}
-use Rattle.net_graph.specs.declared.wiring.LinkAt.{LinkAt}
-use Rattle.net_graph.specs.Wires.{Wires, uids, used_ports, a_end, b_end}
-use Rattle.net_script.specs.Words.{SpellsPort}
-use Rattle.net_script.specs.Scripts.{ScriptOf, with_switch, with_link, switch_line, link_line}
+use Rattle.std.specs.Prelude.{◌≡◌, ℕ, List, Option, Some, None, Result, Ok, Err, ⊤}
+use Rattle.net_script.specs.declared.cause.ScriptCause.{ScriptCause}
+use Rattle.net_script.specs.declared.form.Stop.{Stop}
+use Rattle.net_script.specs.declared.form.Stop.TheVariants.{Fault, OutOfMemory}
+use Rattle.net_script.specs.declared.reader.ReadRefusal.{ReadRefusal}
+use Rattle.net_script.specs.declared.reader.ReadRefusal.TheVariants as refusal
+use Rattle.net_script.specs.declared.draft.Draft.{Draft}
+use Rattle.net_script.specs.Forms.{Form}
+use Rattle.net_script.specs.Rules.{cause_of, with_form}
+use Rattle.net_script.specs.Texts.{IsFault}
 
--- two words name port p of the switch at place x
-pub record NamesPort (names : List (List ℕ)) (name port : List ℕ) (x p : ℕ) : Type 0 where
-  pub place : slice_get names x ≡ Some name
-  pub number : SpellsPort port p
+-- a field has this value where nothing is wrong with it, and else is refused by the cause
+abbrev pub IsField : {T : Type 0} → Result T ScriptCause → Option ScriptCause → T → Type 0
+IsField (Ok found) cause value = (cause ≡ None) × (found ≡ value)
+IsField (Err c) cause value = cause ≡ Some c
 
--- these are the words of the line by which t has one more switch than s, which has no links yet
-pub record AddsSwitch (s t : ScriptOf) (words : List (List ℕ)) : Type 0 where
-  pub name : List ℕ
-  pub switch : SwitchAt
-  pub line : words ≡ switch_line (name, switch)
-  pub before_links : s.wires.links ≡ []
-  pub then : t ≡ with_switch s name switch
+-- nothing is wrong, and else it is refused by the cause
+abbrev pub IsTest : {T : Type 0} → Result T ScriptCause → Option ScriptCause → Type 0
+IsTest (Ok found) cause = cause ≡ None
+IsTest (Err c) cause = cause ≡ Some c
 
--- these are the words of the line by which t has one more link than s
-pub record AddsLink (s t : ScriptOf) (words : List (List ℕ)) : Type 0 where
-  pub link : LinkAt
-  pub line : words ≡ link_line s.switch_names link
-  pub then : t ≡ with_link s link
+-- a step is good, or is stopped by a cause for which it is faulty, or by want of memory
+abbrev pub IsStep : {T : Type 0} → Result T Stop → Type 0 → (ScriptCause → Type 0) → Type 0
+IsStep (Ok done) good faulty = good
+IsStep (Err (Fault c)) good faulty = faulty c
+IsStep (Err OutOfMemory) good faulty = ⊤
 
--- these are the words of the line by which t has one switch or link more than s
-abbrev pub Adds : ScriptOf → ScriptOf → List (List ℕ) → Type 0
-Adds s t words = AddsSwitch s t words ⊎ AddsLink s t words
+-- nothing is wrong with a line of this form after d, and e is d with what it adds
+abbrev pub ReadsForm : Draft → Form → Draft → Type 0
+ReadsForm d form e = (cause_of d form ≡ None) × (e ≡ with_form d form)
 
--- s may get one more switch of this name and identifier
-pub record HasRoomFor (s : ScriptOf) (name : List ℕ) (uid : ℕ) : Type 0 where
-  pub room : length s.wires.switches < 126
-  pub before_links : s.wires.links ≡ []
-  pub uid_new : ¬ Contains (uids s.wires) uid
-  pub name_new : ¬ Contains s.switch_names name
+-- this is wrong with a line of this form after d
+abbrev pub IsWrong : Draft → Form → ScriptCause → Type 0
+IsWrong d form c = cause_of d form ≡ Some c
 
--- the ports of the link are two, and neither is used
-pub record IsFree (w : Wires) (l : LinkAt) : Type 0 where
-  pub apart : a_end l ≢ b_end l
-  pub a_free : ¬ Contains (used_ports w) (a_end l)
-  pub b_free : ¬ Contains (used_ports w) (b_end l)
+-- the refusal says the first fault of the bytes, or that no memory was found
+abbrev pub IsRefusal : List ℕ → ReadRefusal → Type 0
+IsRefusal bytes (refusal.Fault line c) = IsFault bytes line c
+IsRefusal bytes refusal.OutOfMemory = ⊤
+
+-- the refusal of a text that was stopped at this line
+abbrev pub refusal_at : ℕ → Stop → ReadRefusal
+refusal_at line (Fault c) = refusal.Fault line c
+refusal_at line OutOfMemory = refusal.OutOfMemory

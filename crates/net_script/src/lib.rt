@@ -1,11 +1,21 @@
-//! Plain scripts: the text that says which switches a network has and how their ports are linked.
+//! Scripts: the text that says which switches a network has, how their ports are linked, which hosts
+//! are on them, within which limits it runs, and what happens to it when.
 //!
-//! It stands on `an_base` and `net_graph`. Its contract: `read` answers a script exactly where the
-//! bytes are the text of one, and no bytes are the text of two scripts.
+//! It stands on `an_base` and `net_graph`. Its contract: `reader::read` answers a script exactly where
+//! the bytes are the text of one, and else the first faulty line with its first cause;
+//! `printer::print` gives a text of a script; no bytes are the text of two scripts.
 #![tactic(auto)]
 
+pub mod cause;
+pub mod command;
+mod draft;
+mod field;
+mod form;
 pub mod law;
-mod line;
+pub mod line;
+mod names;
+pub mod printer;
 pub mod reader;
 pub mod script;
-mod word;
+pub mod setting;
+pub mod word;

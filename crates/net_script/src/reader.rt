@@ -1,306 +1,296 @@
-//! The reader of plain scripts.
+//! The reader of scripts.
 
-ghost use Rattle.std.specs.Prelude.{◌≡◌, ◌↔◌, ℕ, map, IsTrue, IfOk, IfSome, IfNone, IsErrOf, OnOk};
-ghost use Rattle.net_script.specs.declared.reader.ReadRefusal.TheVariants.{OutOfMemory};
-ghost use Rattle.net_script.specs.Scripts.{ScriptOf, IsPlain, IsTextOf, switch_words, link_words};
-ghost use Rattle.net_script.specs.Lines.{words_of};
-ghost use Rattle.net_script.specs.Steps.{AddsSwitch, AddsLink, Adds, NamesPort, HasRoomFor, IsFree};
+ghost use Rattle.std.specs.Prelude.{◌≡◌, ◌<◌, ◌-◌, ◌^◌, [], ◌∷◌, length, map, IfOk, IfErr};
+ghost use Rattle.net_script.specs.declared.draft.Part.TheVariants.{Header};
+ghost use Rattle.net_script.specs.Texts.{IsText, Adds, IsFaulty, AddsWords, IsFaultyWords};
+ghost use Rattle.net_script.specs.Steps.{IsStep, IsRefusal, refusal_at};
 
-use crate::line::{first_line, words};
+use crate::cause::ScriptCause;
+use crate::draft::{Draft, Part};
+use crate::form::{Stop, read_form};
+use crate::line::{MOST_LINE, are_line_bytes, first_line, words};
 use crate::script::Script;
-use crate::word::{is_name, port_of, uid_of};
+use crate::word::is;
 use an_base::memory::OutOfMemory;
-use an_base::text::Word;
-use net_graph::wiring::{LinkAt, MOST_SWITCHES, Wiring};
 use std::alloc::Global;
 
 /// Why bytes were not read.
 #[derive(Clone, Copy, Debug, PartialEq, Eq)]
 pub enum ReadRefusal {
-    /// The bytes are the text of no plain script.
-    NotPlain,
+    /// The bytes are the text of no script.
+    Fault {
+        /// The first faulty line, from 1.
+        line: u32,
+        /// The first cause in that line.
+        cause: ScriptCause,
+    },
     /// No memory was found. It says nothing about the bytes.
     OutOfMemory,
 }
 
-impl From<OutOfMemory> for ReadRefusal {
-    ghost from_gives = { λ _ e. e ≡ OutOfMemory };
-
-    fn from(_error: OutOfMemory) -> ReadRefusal {
-        ReadRefusal::OutOfMemory
+impl Stop {
+    // The refusal of a text that was stopped at this line.
+    fn at(self, line: u32) -> ReadRefusal
+        ensures { result ≡ refusal_at line self }
+    {
+        match self {
+            Stop::Fault(cause) => ReadRefusal::Fault { line, cause },
+            Stop::OutOfMemory => ReadRefusal::OutOfMemory,
+        }
     }
 }
 
-/// The plain script that the bytes are the text of. The time is linear in the bytes, and no more
-/// memory is taken than the script and the words of one line need.
+/// The script that the bytes are the text of. The time is linear in the bytes but for the look-ups of
+/// names and identifiers, and no more memory is taken than the script and the words of one line need.
+/// `OutOfMemory` says nothing of the bytes.
 pub fn read(alloc: Global, bytes: &[u8]) -> Result<Script, ReadRefusal>
-    ensures text { IfOk result (IsTextOf bytes.now) }
-    ensures not_plain { IsErrOf result ReadRefusal.NotPlain →
-        (s : ScriptOf) → ¬ IsTextOf bytes.now s }
+    requires few { length bytes.now < 2 ^ 32 - 1 }
+    ensures text { IfOk result (IsText bytes.now) }
+    ensures fault { IfErr result (IsRefusal bytes.now) }
 {
-    let Some((header, mut rest)) = first_line(bytes) else {
-        return Err(ReadRefusal::NotPlain);
-    };
-    if header != b"autonet 1".as_slice() {
-        return Err(ReadRefusal::NotPlain);
-    }
-    let mut script = Script::new(alloc);
-    'lines: while let Some((line, after)) = first_line(rest) {
-        if line == b"end".as_slice() {
-            return if after.is_empty() {
-                Ok(script)
-            } else {
-                Err(ReadRefusal::NotPlain)
-            };
+    let mut draft = Draft::new(alloc);
+    let mut rest = bytes;
+    let mut line = 1u32;
+    'lines: while let Some((first, after)) = first_line(rest) {
+        if let Err(stop) = read_line(&mut draft, alloc, first) {
+            return Err(stop.at(line));
         }
-        read_line(&mut script, alloc, line)?;
+        line += 1;
         rest = after;
     }
-    Err(ReadRefusal::NotPlain)
+    if draft.part != Part::After {
+        return Err(ReadRefusal::Fault {
+            line,
+            cause: ScriptCause::NoEnd,
+        });
+    }
+    Ok(draft.script)
 }
 
-/// Adds what a line between the first and the last says.
-fn read_line(script: &mut Script, alloc: Global, line: &[u8]) -> Result<(), ReadRefusal>
-    ensures ok { OnOk result (Adds script.old script.new (words_of line.now)) }
-    ensures plain { OnOk result (IsPlain script.new) }
-    ensures not_plain { IsErrOf result ReadRefusal.NotPlain → (t : ScriptOf) → IsPlain t →
-        ¬ Adds script.old t (words_of line.now) }
+// Adds what a line says.
+fn read_line(draft: &mut Draft, alloc: Global, line: &[u8]) -> Result<(), Stop>
+    ensures { IsStep result (Adds draft.old line.now draft.new) (IsFaulty draft.old line.now) }
 {
+    if line.len() > MOST_LINE {
+        return Err(Stop::Fault(ScriptCause::LineTooLong));
+    }
+    if !are_line_bytes(line) {
+        return Err(Stop::Fault(ScriptCause::NotAscii));
+    }
     let words = words(alloc, line)?;
-    read_words(script, alloc, &words)
+    if words.is_empty() {
+        return Ok(());
+    }
+    read_words(draft, alloc, &words)
 }
 
-/// Adds what the words of such a line say.
-fn read_words(script: &mut Script, alloc: Global, words: &[&[u8]]) -> Result<(), ReadRefusal>
-    ensures ok { OnOk result (Adds script.old script.new (map (λ w. w.now) words.now)) }
-    ensures plain { OnOk result (IsPlain script.new) }
-    ensures not_plain { IsErrOf result ReadRefusal.NotPlain → (t : ScriptOf) → IsPlain t →
-        ¬ Adds script.old t (map (λ w. w.now) words.now) }
+// Adds what the words of a line say, of which there are some.
+fn read_words(draft: &mut Draft, alloc: Global, words: &[&[u8]]) -> Result<(), Stop>
+    ensures { IsStep result
+        (AddsWords draft.old.part draft.old (map (λ w. w.now) words.now) draft.new)
+        (IsFaultyWords draft.old.part draft.old (map (λ w. w.now) words.now)) }
+{
+    match draft.part {
+        Part::Header => read_header(draft, words),
+        Part::Items => read_form(draft, alloc, words),
+        Part::After => Err(Stop::Fault(ScriptCause::AfterEnd)),
+    }
+}
+
+fn read_header(draft: &mut Draft, words: &[&[u8]]) -> Result<(), Stop>
+    ensures { IsStep result
+        (AddsWords Header draft.old (map (λ w. w.now) words.now) draft.new)
+        (IsFaultyWords Header draft.old (map (λ w. w.now) words.now)) }
 {
     match words {
-        [form, name, uid] if *form == b"switch".as_slice() => read_switch(script, alloc, name, uid),
-        [form, a, a_port, b, b_port] if *form == b"link".as_slice() => {
-            read_link(script, a, a_port, b, b_port)
-        }
-        _ => Err(ReadRefusal::NotPlain),
+        [a, b] => read_first(draft, a, b),
+        _ => Err(Stop::Fault(ScriptCause::BadHeader)),
     }
 }
 
-/// Adds a switch by the words of its name and its identifier.
-fn read_switch(
-    script: &mut Script,
-    alloc: Global,
-    name: &[u8],
-    uid: &[u8],
-) -> Result<(), ReadRefusal>
-    ensures ok { OnOk result (AddsSwitch script.old script.new (switch_words name.now uid.now)) }
-    ensures plain { OnOk result (IsPlain script.new) }
-    ensures not_plain { IsErrOf result ReadRefusal.NotPlain → (t : ScriptOf) → IsPlain t →
-        ¬ AddsSwitch script.old t (switch_words name.now uid.now) }
+// Begins a text by the words of its first line.
+fn read_first(draft: &mut Draft, a: &[u8], b: &[u8]) -> Result<(), Stop>
+    ensures { IsStep result
+        (AddsWords Header draft.old (a.now ∷ b.now ∷ []) draft.new)
+        (IsFaultyWords Header draft.old (a.now ∷ b.now ∷ [])) }
 {
-    let Some(uid) = uid_of(uid) else {
-        return Err(ReadRefusal::NotPlain);
-    };
-    if !is_name(name) {
-        return Err(ReadRefusal::NotPlain);
+    if is(a, "autonet") && is(b, "1") {
+        draft.part = Part::Items;
+        return Ok(());
     }
-    if !has_room_for(script, name, uid) {
-        return Err(ReadRefusal::NotPlain);
-    }
-    let name = Word::of(alloc, name)?;
-    script.add_switch(name, uid)?;
-    Ok(())
-}
-
-/// Whether one more switch of this name and identifier may be added: there are fewer than 126, no
-/// links yet, and no switch has this name or this identifier.
-fn has_room_for(script: &Script, name: &[u8], uid: u64) -> bool
-    ensures { IsTrue result ↔ HasRoomFor script.now name.now uid }
-{
-    let wiring = script.wiring();
-    wiring.switches().len() < MOST_SWITCHES
-        && wiring.links().is_empty()
-        && !wiring.has_uid(uid)
-        && !script.has_name(name)
-}
-
-/// Adds a link by the words of its two ports.
-fn read_link(
-    script: &mut Script,
-    a: &[u8],
-    a_port: &[u8],
-    b: &[u8],
-    b_port: &[u8],
-) -> Result<(), ReadRefusal>
-    ensures ok { OnOk result
-        (AddsLink script.old script.new (link_words a.now a_port.now b.now b_port.now)) }
-    ensures plain { OnOk result (IsPlain script.new) }
-    ensures not_plain { IsErrOf result ReadRefusal.NotPlain → (t : ScriptOf) → IsPlain t →
-        ¬ AddsLink script.old t (link_words a.now a_port.now b.now b_port.now) }
-{
-    let Some((a, a_port)) = port_at(script, a, a_port) else {
-        return Err(ReadRefusal::NotPlain);
-    };
-    let Some((b, b_port)) = port_at(script, b, b_port) else {
-        return Err(ReadRefusal::NotPlain);
-    };
-    let link = LinkAt {
-        a,
-        a_port,
-        b,
-        b_port,
-    };
-    if !is_free(script.wiring(), link) {
-        return Err(ReadRefusal::NotPlain);
-    }
-    script.add_link(link)?;
-    Ok(())
-}
-
-/// The switch and the port of it that two words name.
-fn port_at(script: &Script, name: &[u8], port: &[u8]) -> Option<(u8, u8)>
-    ensures some { IfSome result
-        (λ r. NamesPort script.now.switch_names name.now port.now r.0 r.1) }
-    ensures none { IfNone result
-        ((s p : ℕ) → ¬ NamesPort script.now.switch_names name.now port.now s p) }
-{
-    let s = script.place_of(name)?;
-    let port = port_of(port)?;
-    Some((s, port))
-}
-
-/// Whether the ports of a link are two, and neither is used.
-fn is_free(wiring: &Wiring, link: LinkAt) -> bool
-    ensures { IsTrue result ↔ IsFree wiring.now link }
-{
-    (link.a, link.a_port) != (link.b, link.b_port)
-        && !wiring.is_used(link.a, link.a_port)
-        && !wiring.is_used(link.b, link.b_port)
+    Err(Stop::Fault(ScriptCause::BadHeader))
 }
 
 #[cfg(test)]
 mod tests {
     use super::*;
-    use net_graph::wiring::SwitchAt;
+    use crate::command::Command;
+    use an_base::event::Event;
+    use net_graph::wiring::{HostOn, LinkAt, SwitchAt};
     use std::test::Fail;
 
-    fn read_plain(rt: &HostRuntime, bytes: &[u8]) -> Result<Script, Fail> {
-        Ok(read(rt.alloc(), bytes).map_err(|_error| "refused")?)
+    // Reads bytes of which there are few.
+    fn read_few(rt: &HostRuntime, bytes: &[u8]) -> Result<Script, ReadRefusal> {
+        if bytes.len() > 100_000 {
+            return Err(ReadRefusal::OutOfMemory);
+        }
+        read(rt.alloc(), bytes)
     }
 
-    fn is_not_plain(rt: &HostRuntime, bytes: &[u8]) -> bool {
-        matches!(read(rt.alloc(), bytes), Err(ReadRefusal::NotPlain))
+    fn is_fault(rt: &HostRuntime, bytes: &[u8], number: u32, why: ScriptCause) -> bool {
+        match read_few(rt, bytes) {
+            Err(ReadRefusal::Fault { line, cause }) => line == number && cause == why,
+            _ => false,
+        }
     }
 
     #[test]
-    fn two_linked_switches_are_read(rt: HostRuntime) -> Result<(), Fail> {
-        let bytes: &[u8] =
-            b"autonet 1\nswitch A 000000000001\nswitch B 000000000002\nlink A 1 B 1\nend\n";
-        let script = read_plain(&rt, bytes)?;
+    fn all_forms_are_read(rt: HostRuntime) -> Result<(), Fail> {
+        let bytes: &[u8] = b"\n# all forms\r\nautonet 1\r\n\tswitch A 00000000000A # root\r\n\
+            limit ticks 7\nlimit events 8\nlimit blocks 9\nepoch 18446744073709551615\n\
+            pace 3\nroutes any\nswitch B 0000000000fF had 126\nlink A 1 B 12\n\
+            host H 000000000001 A 2\nat 0 fail A 1\nat 0 repair A 2\nat 1 lose B 12 5\n\
+            at 1 again A 1 6\nat 2 swap A 1 7\nat 3 noise A 1 64\nat 4 send H H\n\
+            at 1000000 restart B\nend # here\n\n#";
+        let script = read_few(&rt, bytes).map_err(|_error| "refused")?;
         let names = script.switch_names();
         assert_eq!(rt; names.len(), 2);
-        assert_eq!(rt; names[0].as_bytes(), b"A".as_slice());
         assert_eq!(rt; names[1].as_bytes(), b"B".as_slice());
-        let switches = [SwitchAt { uid: 1, had: 1 }, SwitchAt { uid: 2, had: 1 }];
+        let names = script.names_of_hosts();
+        assert_eq!(rt; names.len(), 1);
+        assert_eq!(rt; names[0].as_bytes(), b"H".as_slice());
+        let switches = [
+            SwitchAt { uid: 10, had: 1 },
+            SwitchAt { uid: 255, had: 126 },
+        ];
         assert_eq!(rt; script.wiring().switches(), switches.as_slice());
         let links = [LinkAt {
             a: 0,
             a_port: 1,
             b: 1,
-            b_port: 1,
+            b_port: 12,
         }];
         assert_eq!(rt; script.wiring().links(), links.as_slice());
+        let hosts = [HostOn {
+            uid: 1,
+            s: 0,
+            port: 2,
+        }];
+        assert_eq!(rt; script.wiring().hosts(), hosts.as_slice());
+        assert_eq!(rt; script.epoch(), u64::MAX);
+        assert!(rt; script.pace() == Some(3));
+        let limits = script.limits();
+        assert_eq!(rt; limits.ticks, 7);
+        assert_eq!(rt; limits.events, 8);
+        assert_eq!(rt; limits.blocks, 9);
+        assert!(rt; script.any_routes());
+        assert_eq!(rt; script.commands().len(), 8);
+        let last = Command {
+            time: 1_000_000,
+            event: Event::Restart { s: 1 },
+        };
+        assert!(rt; script.commands()[7] == last);
+        assert_eq!(rt; script.lives(), 3);
         Ok(())
     }
 
     #[test]
-    fn a_network_may_be_empty(rt: HostRuntime) -> Result<(), Fail> {
-        let script = read_plain(&rt, b"autonet 1\nend\n")?;
-        assert!(rt; script.switch_names().is_empty());
-        Ok(())
-    }
-
-    #[test]
-    fn names_identifiers_and_ports_have_their_ranges(rt: HostRuntime) -> Result<(), Fail> {
-        let bytes: &[u8] = b"autonet 1\nswitch Sixteen_bytes_16 fedcba987654\n\
-              switch z 000000000000\nlink z 12 Sixteen_bytes_16 10\nlink z 9 z 11\nend\n";
-        let script = read_plain(&rt, bytes)?;
-        let switches = [
-            SwitchAt {
-                uid: 0xfedc_ba98_7654,
-                had: 1,
-            },
-            SwitchAt { uid: 0, had: 1 },
+    fn each_cause_has_its_line(rt: HostRuntime) {
+        let faults: [(&[u8], u32, ScriptCause); 23] = [
+            (b"autonet 1\n\x7f\nend\n", 2, ScriptCause::NotAscii),
+            (b"autonet 1\r\r\nend\n", 1, ScriptCause::NotAscii),
+            (b"#\nautonet 2\n", 2, ScriptCause::BadHeader),
+            (b"autonet 1 1\nend\n", 1, ScriptCause::BadHeader),
+            (b"autonet 1\nautonet 1\nend", 2, ScriptCause::UnknownWord),
+            (b"autonet 1\nepoch 01\nend", 2, ScriptCause::BadNumber),
+            (b"autonet 1\nlimit events 1\nend", 2, ScriptCause::BadNumber),
+            (
+                b"autonet 1\nswitch A 00000000000g\n",
+                2,
+                ScriptCause::BadNumber,
+            ),
+            (b"autonet 1\nswitch 1 1\nend", 2, ScriptCause::BadName),
+            (b"autonet 1\npace 1\npace 2\nend", 3, ScriptCause::NameTwice),
+            (
+                b"autonet 1\nswitch A 000000000000\nhost A 0 A 1\n",
+                3,
+                ScriptCause::NameTwice,
+            ),
+            (
+                b"autonet 1\nswitch A 000000000000\nswitch B 000000000000\n",
+                3,
+                ScriptCause::UidTwice,
+            ),
+            (b"autonet 1\nlink A 1 B 1\n", 2, ScriptCause::NoSuchName),
+            (
+                b"autonet 1\nswitch A 000000000000\nlink A 99999999999999999999 A 2\n",
+                3,
+                ScriptCause::PortRange,
+            ),
+            (
+                b"autonet 1\nswitch A 000000000000\nlink A 1 A 1\n",
+                3,
+                ScriptCause::PortUsed,
+            ),
+            (
+                b"autonet 1\nswitch A 000000000000\nlink A 1 A 2\nlink A 3 A 2\n",
+                4,
+                ScriptCause::PortUsed,
+            ),
+            (
+                b"autonet 1\nswitch A 000000000000\nlink A 1 A 2\nat 2 fail A 1\nat 1 fail A 1\n",
+                5,
+                ScriptCause::TimesFall,
+            ),
+            (
+                b"autonet 1\nswitch A 000000000000\nhost H 000000000001 A 1\nat 0 lose A 1 1\n",
+                4,
+                ScriptCause::NoLink,
+            ),
+            (
+                b"autonet 1\nswitch A 000000000000\nat 0 fail A 1\n",
+                3,
+                ScriptCause::NoLink,
+            ),
+            (b"", 1, ScriptCause::NoEnd),
+            (b"autonet 1\n", 2, ScriptCause::NoEnd),
+            (b"autonet 1\nend\nend\n", 3, ScriptCause::AfterEnd),
+            (b"autonet 1\n\nend\n#\n\x00", 5, ScriptCause::NotAscii),
         ];
-        assert_eq!(rt; script.wiring().switches(), switches.as_slice());
-        let links = [
-            LinkAt {
-                a: 1,
-                a_port: 12,
-                b: 0,
-                b_port: 10,
-            },
-            LinkAt {
-                a: 1,
-                a_port: 9,
-                b: 1,
-                b_port: 11,
-            },
-        ];
-        assert_eq!(rt; script.wiring().links(), links.as_slice());
-        Ok(())
-    }
-
-    #[test]
-    fn other_texts_are_refused(rt: HostRuntime) {
-        let others: [&[u8]; 29] = [
-            b"",
-            b"\n",
-            b"autonet 1\n",
-            b"autonet 1\nend",
-            b"autonet 2\nend\n",
-            b"autonet 1 \nend\n",
-            b"autonet 1\nend\n\n",
-            b"autonet 1\nend\nend\n",
-            b"autonet 1\n\nend\n",
-            b"autonet 1\r\nend\r\n",
-            b"autonet 1\nend\n# a comment\n",
-            b"autonet 1\n# a comment\nend\n",
-            b"autonet 1\nswitch A 000000000001\nend",
-            b"autonet 1\nswitch A 000000000001 \nend\n",
-            b"autonet 1\nswitch  A 000000000001\nend\n",
-            b"autonet 1\nswitch\tA 000000000001\nend\n",
-            b"autonet 1\nswitch A 00000000000A\nend\n",
-            b"autonet 1\nswitch A 00000000001\nend\n",
-            b"autonet 1\nswitch 1A 000000000001\nend\n",
-            b"autonet 1\nswitch Seventeen_bytes17 000000000001\nend\n",
-            b"autonet 1\nswitch A 000000000001\nswitch A 000000000002\nend\n",
-            b"autonet 1\nswitch A 000000000001\nswitch B 000000000001\nend\n",
-            b"autonet 1\nswitch A 000000000001\nlink A 0 A 2\nend\n",
-            b"autonet 1\nswitch A 000000000001\nlink A 13 A 2\nend\n",
-            b"autonet 1\nswitch A 000000000001\nlink A 01 A 2\nend\n",
-            b"autonet 1\nswitch A 000000000001\nlink A 1 A 1\nend\n",
-            b"autonet 1\nswitch A 000000000001\nlink A 1 A 2\nlink A 2 A 3\nend\n",
-            b"autonet 1\nswitch A 000000000001\nlink A 1 B 2\nend\n",
-            b"autonet 1\nswitch A 000000000001\nlink A 1 A 2\nswitch B 000000000002\nend\n",
-        ];
-        for (i, bytes) in others.iter().enumerate() {
-            assert!(rt; is_not_plain(&rt, bytes), "at {i}");
+        for (i, (bytes, line, cause)) in faults.iter().enumerate() {
+            assert!(rt; is_fault(&rt, bytes, *line, *cause), "at {i}");
         }
     }
 
     #[test]
-    fn there_are_at_most_126_switches(rt: HostRuntime) -> Result<(), Fail> {
+    fn a_line_has_at_most_200_bytes(rt: HostRuntime) -> Result<(), Fail> {
+        let mut bytes = Vec::from_slice(rt.alloc(), b"autonet 1\nend\n#")?;
+        for _ in 0..199 {
+            bytes.push(b'x')?;
+        }
+        let mut more = Vec::from_slice(rt.alloc(), &bytes)?;
+        bytes.extend_from_slice(b"\r\n")?;
+        more.extend_from_slice(b"x\n")?;
+        assert!(rt; read_few(&rt, &bytes).is_ok());
+        assert!(rt; is_fault(&rt, &more, 3, ScriptCause::LineTooLong));
+        Ok(())
+    }
+
+    #[test]
+    fn there_are_at_most_126_lives(rt: HostRuntime) -> Result<(), Fail> {
         let mut bytes = Vec::from_slice(rt.alloc(), b"autonet 1\n")?;
         for i in 0u8..126 {
             let line = format!(in rt.alloc(); "switch S{i} {i:012x}\n")?;
             bytes.extend_from_slice(line.as_bytes())?;
         }
-        let mut more = Vec::from_slice(rt.alloc(), &bytes)?;
-        bytes.extend_from_slice(b"end\n")?;
-        more.extend_from_slice(b"switch T 00000000007e\nend\n")?;
-        assert!(rt; read(rt.alloc(), &bytes).is_ok());
-        assert!(rt; is_not_plain(&rt, &more));
+        let mut switch = Vec::from_slice(rt.alloc(), &bytes)?;
+        let mut restart = Vec::from_slice(rt.alloc(), &bytes)?;
+        bytes.extend_from_slice(b"end")?;
+        switch.extend_from_slice(b"switch T 00000000007e\nend\n")?;
+        restart.extend_from_slice(b"at 0 restart S1\nend\n")?;
+        assert!(rt; read_few(&rt, &bytes).is_ok());
+        assert!(rt; is_fault(&rt, &switch, 128, ScriptCause::TooMany));
+        assert!(rt; is_fault(&rt, &restart, 128, ScriptCause::TooMany));
         Ok(())
     }
 }

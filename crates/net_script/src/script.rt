@@ -1,52 +1,78 @@
-//! What a network is made of.
+//! What a network is made of, and what happens to it.
 
-ghost use Rattle.std.specs.Prelude.{◌≡◌, ◌↔◌, ◌<◌, ◌^◌, length, slice_get, Some, Contains, IsTrue, IfSome, IfNone, OnOk, OnErr};
-ghost use Rattle.net_graph.specs.Wires.{IsLink};
-ghost use Rattle.net_script.specs.Words.{IsName};
-ghost use Rattle.net_script.specs.Scripts.{IsPlain, empty_script, with_switch, with_link};
-ghost use Rattle.net_script.specs.Steps.{HasRoomFor, IsFree};
+ghost use Rattle.std.specs.Prelude.{◌≡◌, ◌<◌, ◌≤◌, ◌^◌, true, length, OnOk, OnErr, IfSome};
+ghost use Rattle.net_script.specs.Settings.{least_of, most_of};
+ghost use Rattle.net_script.specs.Scripts.{IsScript, CanAddSwitch, CanAddLink, CanAddHost, CanAddCommand, empty_script, restarts_of, lives_of, with_switch, with_link, with_host, with_command, with_setting};
+ghost use Rattle.net_script.specs.Names.{place_of};
 
+use crate::command::{Command, is_restart};
+use crate::names::place_of;
+use crate::setting::{Limits, Setting};
 use an_base::memory::OutOfMemory;
 use an_base::text::Word;
-use net_graph::wiring::{LinkAt, SwitchAt, Wiring};
+use net_graph::wiring::{HostOn, LinkAt, SwitchAt, Wiring};
 use std::alloc::Global;
 use std::marker::Model;
 
-/// A plain script: switches with their names, and the links between their ports. There are no
-/// hosts, and each switch had number 1 last.
+/// The most lives of switches: one for each switch, and one for each restart.
+pub const MOST_LIVES: usize = 126;
+
+/// The most commands.
+pub const MOST_COMMANDS: usize = 10_000;
+
+/// The latest time of a command.
+pub const MOST_TIME: u64 = 1_000_000;
+
+/// A script: switches and hosts with their names, the links between their ports, commands in the
+/// order of their times, and settings.
 #[derive(Debug, Drop)]
 pub struct Script {
     wiring: Wiring,
     switch_names: Vec<Word>,
+    names_of_hosts: Vec<Word>,
+    commands: Vec<Command>,
+    epoch: u64,
+    pace: Option<u32>,
+    limits: Limits,
+    any_routes: bool,
 }
 
 impl Model for Script {
-    ghost use Rattle.net_script.specs.Scripts.{ScriptOf, IsPlain};
+    ghost use Rattle.net_script.specs.Scripts.{ScriptOf, IsScript};
 
     ghost Value = { ScriptOf };
 
-    ghost view = { λ s. record { wires = s.wiring; switch_names = s.switch_names.items } };
+    ghost view = { λ s. record { wires = s.wiring; switch_names = s.switch_names.items; names_of_hosts = s.names_of_hosts.items; commands = s.commands.items; epoch = s.epoch; pace = s.pace; limits = s.limits; any_routes = s.any_routes } };
 
-    ghost invariant = { λ s. IsPlain
-        (record { wires = s.wiring; switch_names = s.switch_names.items }) };
+    ghost invariant = { λ s. IsScript
+        (record { wires = s.wiring; switch_names = s.switch_names.items; names_of_hosts = s.names_of_hosts.items; commands = s.commands.items; epoch = s.epoch; pace = s.pace; limits = s.limits; any_routes = s.any_routes }) };
 }
 
 impl Script {
-    /// The script without switches.
-    pub(crate) fn new(alloc: Global) -> Self
-        ensures empty { result ≡ empty_script }
-        ensures plain { IsPlain result }
+    /// The script without switches, hosts and commands, in which each setting is the default.
+    pub fn new(alloc: Global) -> Self
+        ensures { result ≡ empty_script }
     {
         Script {
             wiring: Wiring::new(alloc),
             switch_names: Vec::new(alloc),
+            names_of_hosts: Vec::new(alloc),
+            commands: Vec::new(alloc),
+            epoch: 0,
+            pace: None,
+            limits: Limits {
+                ticks: 4_096,
+                events: 2_000_000,
+                blocks: 65_536,
+            },
+            any_routes: false,
         }
     }
 
-    /// The switches, and the links between their ports.
+    /// The switches, the links between their ports, and the hosts.
     pub fn wiring(&self) -> &Wiring
         ensures wires { result.now ≡ self.now.wires }
-        ensures plain { IsPlain self.now }
+        ensures kept { IsScript self.now }
     {
         &self.wiring
     }
@@ -54,56 +80,156 @@ impl Script {
     /// The names of the switches, by the switch's place in the wiring.
     pub fn switch_names(&self) -> &[Word]
         ensures names { result.now ≡ self.now.switch_names }
-        ensures plain { IsPlain self.now }
+        ensures kept { IsScript self.now }
     {
         &self.switch_names
     }
 
-    /// The place of the switch that has this name.
-    pub(crate) fn place_of(&self, name: &[u8]) -> Option<u8>
-        ensures some { IfSome result (λ s. slice_get self.now.switch_names s ≡ Some name.now) }
-        ensures none { IfNone result (¬ Contains self.now.switch_names name.now) }
+    /// The names of the hosts, by the host's place in the wiring.
+    pub fn names_of_hosts(&self) -> &[Word]
+        ensures names { result.now ≡ self.now.names_of_hosts }
+        ensures kept { IsScript self.now }
     {
-        'names: for (s, known) in self.switch_names().iter().enumerate() {
-            if known.as_bytes() == name {
-                return Some(s as u8);
-            }
-        }
-        None
+        &self.names_of_hosts
     }
 
-    /// Whether a switch has this name.
-    pub(crate) fn has_name(&self, name: &[u8]) -> bool
-        ensures { IsTrue result ↔ Contains self.now.switch_names name.now }
+    /// The place of the switch that has this name.
+    pub fn place_of_switch(&self, name: &[u8]) -> Option<u8>
+        ensures place { result ≡ place_of self.now.switch_names name.now }
+        ensures range { IfSome result (λ s. s < length self.now.wires.switches) }
+        ensures kept { IsScript self.now }
     {
-        self.place_of(name).is_some()
+        let place = place_of(&self.switch_names, name)?;
+        Some(place as u8)
+    }
+
+    /// The place of the host that has this name.
+    pub fn place_of_host(&self, name: &[u8]) -> Option<u16>
+        ensures place { result ≡ place_of self.now.names_of_hosts name.now }
+        ensures range { IfSome result (λ h. h < length self.now.wires.hosts) }
+        ensures kept { IsScript self.now }
+    {
+        let place = place_of(&self.names_of_hosts, name)?;
+        Some(place as u16)
+    }
+
+    /// The commands, in the order of their times.
+    pub fn commands(&self) -> &[Command]
+        ensures all { result.now ≡ self.now.commands }
+        ensures kept { IsScript self.now }
+    {
+        &self.commands
+    }
+
+    /// The epoch at power-on, 0 where the text gives none.
+    pub fn epoch(&self) -> u64
+        ensures { result ≡ self.now.epoch }
+    {
+        self.epoch
+    }
+
+    /// The number of events after which a tick may come, 1 to 1,000,000, if the text gives one.
+    pub fn pace(&self) -> Option<u32>
+        ensures pace { result ≡ self.now.pace }
+        ensures kept { IsScript self.now }
+    {
+        self.pace
+    }
+
+    /// The limits of a run.
+    pub fn limits(&self) -> Limits
+        ensures limits { result ≡ self.now.limits }
+        ensures kept { IsScript self.now }
+    {
+        self.limits
+    }
+
+    /// Whether packets may take all legal routes, and not the least ones alone.
+    pub fn any_routes(&self) -> bool
+        ensures { result ≡ self.now.any_routes }
+    {
+        self.any_routes
+    }
+
+    /// How many lives its switches have: one each, and one for each restart, 0 to 126.
+    pub fn lives(&self) -> usize
+        ensures lives { result ≡ lives_of self.now }
+        ensures most { result ≤ 126 }
+    {
+        self.wiring().switches().len() + restarts(&self.commands)
     }
 
     /// Adds a switch at the next place. Where no memory is found nothing is added.
-    pub(crate) fn add_switch(&mut self, name: Word, uid: u64) -> Result<(), OutOfMemory>
-        requires name { IsName name }
-        requires uid { uid < 2 ^ 48 }
-        requires room { HasRoomFor self.old name uid }
-        ensures ok { OnOk result
-            (self.new ≡ with_switch self.old name (record { uid = uid; had = 1 })) }
+    pub fn add_switch(&mut self, name: Word, switch: SwitchAt) -> Result<(), OutOfMemory>
+        requires can { CanAddSwitch self.old name switch }
+        ensures ok { OnOk result (self.new ≡ with_switch self.old name switch) }
         ensures err { OnErr result (self.new ≡ self.old) }
-        ensures plain { IsPlain self.new }
     {
         self.switch_names.reserve(1)?;
-        self.wiring.add_switch(SwitchAt { uid, had: 1 })?;
+        self.wiring.add_switch(switch)?;
         self.switch_names.push(name)?;
         Ok(())
     }
 
     /// Adds a link between two ports that are not used. Where no memory is found nothing is added.
-    pub(crate) fn add_link(&mut self, link: LinkAt) -> Result<(), OutOfMemory>
-        requires link { IsLink (length self.old.wires.switches) link }
-        requires free { IsFree self.old.wires link }
+    pub fn add_link(&mut self, link: LinkAt) -> Result<(), OutOfMemory>
+        requires can { CanAddLink self.old link }
         ensures ok { OnOk result (self.new ≡ with_link self.old link) }
         ensures err { OnErr result (self.new ≡ self.old) }
-        ensures plain { IsPlain self.new }
     {
         self.wiring.add_link(link)?;
         Ok(())
     }
+
+    /// Adds a host at the next place. Where no memory is found nothing is added.
+    pub fn add_host(&mut self, name: Word, host: HostOn) -> Result<(), OutOfMemory>
+        requires can { CanAddHost self.old name host }
+        ensures ok { OnOk result (self.new ≡ with_host self.old name host) }
+        ensures err { OnErr result (self.new ≡ self.old) }
+    {
+        self.names_of_hosts.reserve(1)?;
+        self.wiring.add_host(host)?;
+        self.names_of_hosts.push(name)?;
+        Ok(())
+    }
+
+    /// Adds a command after the others. Where no memory is found nothing is added.
+    pub fn add_command(&mut self, command: Command) -> Result<(), OutOfMemory>
+        requires can { CanAddCommand self.old command }
+        ensures ok { OnOk result (self.new ≡ with_command self.old command) }
+        ensures err { OnErr result (self.new ≡ self.old) }
+    {
+        self.commands.push(command)?;
+        Ok(())
+    }
+
+    /// Sets a setting that is a number.
+    pub fn set(&mut self, setting: Setting, number: u64)
+        requires least { least_of setting ≤ number }
+        requires most { number ≤ most_of setting }
+        ensures { self.new ≡ with_setting self.old setting number }
+    {
+        match setting {
+            Setting::Ticks => self.limits.ticks = number as u32,
+            Setting::Events => self.limits.events = number as u32,
+            Setting::Blocks => self.limits.blocks = number as u32,
+            Setting::Epoch => self.epoch = number,
+            Setting::Pace => self.pace = Some(number as u32),
+        }
+    }
+
+    /// Lets packets take all legal routes.
+    pub fn set_any_routes(&mut self)
+        ensures { self.new ≡ record self.old { any_routes = true } }
+    {
+        self.any_routes = true;
+    }
+}
+
+// How many commands are restarts.
+#[tactic(auto, unfolding(crate::specs::Scripts::restarts_of))]
+fn restarts(commands: &[Command]) -> usize
+    ensures { result ≡ restarts_of commands.now }
+{
+    commands.iter().filter(|c| is_restart(c.event)).count()
 }

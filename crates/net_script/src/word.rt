@@ -1,12 +1,21 @@
-//! The words of which lines are made: names, identifiers and ports.
+//! The words of which lines are made: names, numbers and identifiers.
 
-ghost use Rattle.std.specs.Prelude.{◌≡◌, ◌<◌, ◌^◌, ◌↔◌, ◌⊎◌, ℕ, All, IsTrue, IfSome, IfNone};
-ghost use Rattle.std.specs.Char.{IsAsciiAlphanumeric};
-ghost use Rattle.net_script.specs.Words.{IsName, SpellsPort, SpellsUid, hex_glyph};
+ghost use Rattle.std.specs.Prelude.{◌≡◌, ◌+◌, ◌-◌, ◌*◌, ◌<◌, ◌≤◌, ◌^◌, true, false, IfSome, MatchOption};
+ghost use Rattle.std.specs.List.{list_all};
+ghost use Rattle.std.specs.Str.{bytes_eq};
+ghost use Rattle.std.specs.Char.{is_ascii_digit, is_digit, digit_value};
+ghost use Rattle.net_script.specs.Words.{is_name, is_name_byte, is_number, is_uid, number_value, uid_value};
 
-/// Whether a word is a name.
+/// Whether a word is this one.
+pub fn is(word: &[u8], text: &str) -> bool
+    ensures { result ≡ bytes_eq word.now text.now }
+{
+    word == text.as_bytes()
+}
+
+/// Whether a word is a name: 1 to 16 bytes, the first a letter, the others letters, digits and `_`.
 pub fn is_name(word: &[u8]) -> bool
-    ensures { IsTrue result ↔ IsName word.now }
+    ensures { result ≡ is_name word.now }
 {
     let Some(first) = word.first() else {
         return false;
@@ -14,36 +23,64 @@ pub fn is_name(word: &[u8]) -> bool
     first.is_ascii_alphabetic() && word.len() <= 16 && are_name_bytes(word)
 }
 
-/// Whether the bytes are letters, digits and underscores.
 fn are_name_bytes(bytes: &[u8]) -> bool
-    ensures { IsTrue result ↔ All (λ c. IsAsciiAlphanumeric c ⊎ (c ≡ 95)) bytes.now }
+    ensures { result ≡ list_all is_name_byte bytes.now }
 {
     bytes.iter().all(|c| is_name_byte(*c))
 }
 
 fn is_name_byte(c: u8) -> bool
-    ensures { IsTrue result ↔ (IsAsciiAlphanumeric c ⊎ (c ≡ 95)) }
+    ensures { result ≡ is_name_byte c }
 {
     c.is_ascii_alphanumeric() || c == b'_'
 }
 
-/// The port, 1 to 12, that a word spells.
-#[tactic(auto, using(crate::proofs::PortLemmas::no_port))]
-pub fn port_of(word: &[u8]) -> Option<u8>
-    ensures some { IfSome result (SpellsPort word.now) }
-    ensures none { IfNone result ((p : ℕ) → ¬ SpellsPort word.now p) }
+/// Whether a word is a number: digits, of which only a lone `0` begins with 0.
+pub fn is_number(word: &[u8]) -> bool
+    ensures { result ≡ is_number word.now }
 {
-    match word {
-        [digit @ b'1'..=b'9'] => Some(*digit - b'0'),
-        [b'1', digit @ b'0'..=b'2'] => Some(*digit - b'0' + 10),
-        _ => None,
-    }
+    let Some(first) = word.first() else {
+        return false;
+    };
+    (*first != b'0' || word.len() == 1) && are_digits(word)
 }
 
-/// The identifier, below 2^48, that a word spells: twelve hexadecimal digits in lower case.
+fn are_digits(bytes: &[u8]) -> bool
+    ensures { result ≡ list_all is_ascii_digit bytes.now }
+{
+    bytes.iter().all(|c| c.is_ascii_digit())
+}
+
+/// What a number says, where that is below 2^64.
+#[tactic(auto, unfolding(crate::specs::Words::number_value))]
+pub fn number_of(word: &[u8]) -> Option<u64>
+    requires digits { list_all is_ascii_digit word.now ≡ true }
+    ensures { MatchOption result (2 ^ 64 ≤ number_value word.now)
+        (λ n. n ≡ number_value word.now) }
+{
+    let mut number = 0u64;
+    'digits: for c in word {
+        number = with_digit(number, *c)?;
+    }
+    Some(number)
+}
+
+// What the digits of a number say with one more, where that is below 2^64.
+fn with_digit(number: u64, digit: u8) -> Option<u64>
+    requires least { 48 ≤ digit }
+    requires most { digit ≤ 57 }
+    ensures { MatchOption result (2 ^ 64 ≤ number * 10 + (digit - 48))
+        (λ n. n ≡ number * 10 + (digit - 48)) }
+{
+    number.checked_mul(10)?.checked_add(u64::from(digit - b'0'))
+}
+
+/// What a word says as an identifier, twelve hexadecimal digits in either case.
+#[tactic(auto, unfolding(crate::specs::Words::uid_value))]
 pub fn uid_of(word: &[u8]) -> Option<u64>
-    ensures some { IfSome result (SpellsUid word.now) }
-    ensures none { IfNone result ((n : ℕ) → ¬ SpellsUid word.now n) }
+    ensures uid { MatchOption result (is_uid word.now ≡ false)
+        (λ uid. (is_uid word.now ≡ true) × (uid ≡ uid_value word.now)) }
+    ensures most { IfSome result (λ uid. uid < 2 ^ 48) }
 {
     if word.len() != 12 {
         return None;
@@ -56,11 +93,13 @@ pub fn uid_of(word: &[u8]) -> Option<u64>
 }
 
 fn hex_digit(c: u8) -> Option<u8>
-    ensures some { IfSome result (λ d. (d < 16) × (hex_glyph d ≡ c)) }
-    ensures none { IfNone result ((d : ℕ) → d < 16 → ¬ (hex_glyph d ≡ c)) }
+    ensures digit { MatchOption result (is_digit c 16 ≡ false)
+        (λ d. (is_digit c 16 ≡ true) × (d ≡ digit_value c)) }
+    ensures low { IfSome result (λ d. d < 16) }
 {
     match c {
         b'0'..=b'9' => Some(c - b'0'),
+        b'A'..=b'F' => Some(c - b'A' + 10),
         b'a'..=b'f' => Some(c - b'a' + 10),
         _ => None,
     }

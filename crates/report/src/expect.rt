@@ -1,13 +1,24 @@
-ghost use Rattle.std.specs.Prelude.{◌≡◌, ◌++◌, IfOk, OnOk};
-ghost use Rattle.report.specs.Expect.{parent_words, member_line, component_lines, trees_text, IsExpectOf};
+ghost use Rattle.std.specs.Prelude.{◌≡◌, ◌≤◌, ◌++◌, List, All, length, map, IfOk, OnOk};
+ghost use Rattle.std.specs.List.{flat_map, zip};
+ghost use Rattle.switch_numbering.specs.Numbering.{numbering};
+ghost use Rattle.table_build.specs.Tables.{TableOf};
+ghost use Rattle.report.specs.Expect.{AreTables, component_line, component_lines, expect_text, IsExpectOf, member_line, number_line, parent_words, Part};
+ghost use Rattle.report.specs.Rows.{tables_lines};
 
+use crate::decimals::Decimals;
 use crate::piece::{push_life, push_number};
+use crate::row::push_row_lines;
 use an_base::entry::{Entries, Entry};
 use an_base::memory::OutOfMemory;
+use an_base::numbers::Numbers;
 use an_base::position::Position;
 use net_graph::forest::trees;
 use net_script::script::Script;
 use std::alloc::{AllocError, Global};
+use switch_numbering::numbering::number;
+use table_build::routing::Routing;
+use table_build::table::Table;
+use topo_graph::graph::Graph;
 
 // Appends the parent of a position and the port to it, which the root does not have.
 #[tactic(auto, unfolding(crate::specs::Expect::parent_words))]
@@ -46,48 +57,166 @@ fn push_member(
     text.extend_from_slice(b"\n")
 }
 
-// Appends the lines of a component.
-#[tactic(auto, unfolding(crate::specs::Expect::component_lines))]
-fn push_component(
+// Appends the lines of the members, and those of their numbers.
+fn push_members(
     alloc: Global,
     text: &mut Vec<u8>,
     script: &Script,
-    component: &Entries,
+    entries: &[Entry],
+    numbers: &[u8],
 ) -> Result<(), AllocError>
-    ensures { OnOk result (text.new.items ≡ text.old.items ++ component_lines script.now component.now) }
+    requires { length numbers.now ≡ length entries.now }
+    ensures { OnOk result (text.new.items ≡ text.old.items
+        ++ flat_map (member_line script.now) entries.now
+        ++ flat_map (number_line script.now) (zip entries.now numbers.now)) }
 {
-    let entries = component.as_slice();
+    'members: for entry in entries {
+        push_member(alloc, text, script, entry)?;
+    }
+    'numbers: for (i, entry) in entries.iter().enumerate() {
+        push_numbered(alloc, text, script, entry, numbers[i])?;
+    }
+    Ok(())
+}
+
+// Appends the number of a member.
+#[tactic(auto, unfolding(crate::specs::Expect::number_line))]
+fn push_numbered(
+    alloc: Global,
+    text: &mut Vec<u8>,
+    script: &Script,
+    entry: &Entry,
+    number: u8,
+) -> Result<(), AllocError>
+    ensures { OnOk result (text.new.items ≡ text.old.items ++ number_line script.now (entry.now, number)) }
+{
+    text.extend_from_slice(b"number ")?;
+    push_life(alloc, text, script, entry.life)?;
+    text.extend_from_slice(b" ")?;
+    push_number(alloc, text, u32::from(number))?;
+    text.extend_from_slice(b"\n")
+}
+
+// Appends the lines of the tables of the members.
+fn push_tables(
+    alloc: Global,
+    text: &mut Vec<u8>,
+    script: &Script,
+    decimals: &Decimals,
+    component: &Entries,
+    numbers: &Numbers,
+    any: bool,
+) -> Result<(), OutOfMemory>
+    requires { numbers.now ≡ numbering component.now }
+    ensures { OnOk result ((ts : List TableOf)
+        × AreTables component.now any (length component.now) ts
+        × (text.new.items ≡ text.old.items ++ tables_lines script.now component.now 0 ts)) }
+{
+    let graph = Graph::of(alloc, component)?;
+    let routing = Routing::of(alloc, &graph, numbers)?;
+    let count = graph.count();
+    'members: for x in 0..count {
+        let table = Table::of(alloc, &graph, numbers, &routing, x, any)?;
+        push_row_lines(alloc, text, script, decimals, &graph, x, table.as_slice())?;
+    }
+    Ok(())
+}
+
+// Appends the line of a component.
+#[tactic(auto, unfolding(crate::specs::Expect::component_line), using(std::proofs::lemmas::List::get_or_default))]
+fn push_head(
+    alloc: Global,
+    text: &mut Vec<u8>,
+    script: &Script,
+    entries: &[Entry],
+) -> Result<(), AllocError>
+    requires some { 1 ≤ length entries.now }
+    requires most { length entries.now ≤ 126 }
+    ensures { OnOk result (text.new.items ≡ text.old.items ++ component_line script.now entries.now) }
+{
     text.extend_from_slice(b"component ")?;
     let first = &entries[0];
     push_life(alloc, text, script, first.position.root)?;
     text.extend_from_slice(b" members ")?;
     push_number(alloc, text, entries.len() as u32)?;
-    text.extend_from_slice(b"\n")?;
-    'members: for entry in entries {
-        push_member(alloc, text, script, entry)?;
-    }
-    Ok(())
+    text.extend_from_slice(b"\n")
 }
 
-// The text of the trees.
-#[tactic(auto, unfolding(crate::specs::Expect::trees_text))]
-fn text_of(alloc: Global, script: &Script, forest: &[Entries]) -> Result<Vec<u8>, AllocError>
-    ensures { IfOk result (λ text. text.items ≡ trees_text script.now forest.now) }
+// Appends the lines of a component.
+fn push_component(
+    alloc: Global,
+    text: &mut Vec<u8>,
+    script: &Script,
+    decimals: &Decimals,
+    component: &Entries,
+    any: bool,
+) -> Result<(), OutOfMemory>
+    ensures { OnOk result ((ts : List TableOf)
+        × AreTables component.now any (length component.now) ts
+        × (text.new.items ≡ text.old.items ++ component_lines script.now component.now ts)) }
 {
+    let entries = component.as_slice();
+    let numbers = number(alloc, component)?;
+    push_head(alloc, text, script, entries)?;
+    push_members(alloc, text, script, entries, numbers.as_slice())?;
+    push_tables(alloc, text, script, decimals, component, &numbers, any)
+}
+
+// The text of the components.
+#[tactic(auto, unfolding(crate::specs::Expect::expect_text))]
+fn text_of(
+    alloc: Global,
+    script: &Script,
+    forest: &[Entries],
+    any: bool,
+) -> Result<Vec<u8>, OutOfMemory>
+    ensures { IfOk result (λ text. (parts : List Part)
+        × (map (λ p. p.entries) parts ≡ forest.now)
+        × All (λ p. AreTables p.entries any (length p.entries) p.tables) parts
+        × (text.items ≡ expect_text script.now parts)) }
+{
+    let decimals = Decimals::new(alloc)?;
     let mut text = Vec::new(alloc);
     'components: for component in forest {
-        push_component(alloc, &mut text, script, component)?;
+        push_component(alloc, &mut text, script, &decimals, component, any)?;
     }
     text.extend_from_slice(b"end\n")?;
     Ok(text)
 }
 
 /// What is expected of the script's network with all links up: for each component, by rising root,
-/// its root and how many members it has, and for each member by rising life its level and, below the
-/// root, its parent and its port to it; last `end`. Each line ends in a line feed.
+/// its root and how many members it has; for each member by rising life its level and, below the
+/// root, its parent and its port to it; the number of each member; for each member and each entry,
+/// 0 and the ports with a link, the row with the exits to each other member by rising number; last
+/// `end`. Each line ends in a line feed.
 pub fn expect(alloc: Global, script: &Script) -> Result<Vec<u8>, OutOfMemory>
     ensures { IfOk result (λ text. IsExpectOf script.now text.items) }
 {
     let forest = trees(alloc, script.wiring())?;
-    Ok(text_of(alloc, script, &forest)?)
+    text_of(alloc, script, &forest, script.any_routes())
+}
+
+#[cfg(test)]
+mod tests {
+    use super::*;
+    use net_script::reader::read;
+    use std::test::Fail;
+
+    #[test]
+    fn a_triangle_has_its_tables(rt: HostRuntime) -> Result<(), Fail> {
+        let lines = b"autonet 1\nswitch A 000000000001\nswitch B 000000000002\n\
+switch C 000000000003\nlink A 1 B 1\nlink A 2 C 1\nlink B 2 C 2\nend\n";
+        let Ok(script) = read(rt.alloc(), lines) else {
+            return Err("no script".into());
+        };
+        let text = expect(rt.alloc(), &script)?;
+        let wanted = b"component A members 3\nmember A level 0\n\
+member B level 1 parent A port 1\nmember C level 1 parent A port 1\n\
+number A 1\nnumber B 2\nnumber C 3\n\
+row A 0 2:1 3:2\nrow A 1 2:1 3:2\nrow A 2 2:1 3:2\n\
+row B 0 1:1 3:2\nrow B 1 1:- 3:2\nrow B 2 1:1 3:2\n\
+row C 0 1:1 2:2\nrow C 1 1:- 2:-\nrow C 2 1:- 2:-\nend\n";
+        assert_eq!(rt; text.as_slice(), wanted.as_slice());
+        Ok(())
+    }
 }

@@ -1,8 +1,11 @@
 //! What is printed of a script.
 //!
-//! It stands on the wiring's trees and on scripts. Its contract: the text that is printed is a
-//! definition of its own, made from the trees of the script's wiring.
+//! It stands on the wiring's trees, on scripts and on routing tables. Its contract: the text that is
+//! printed is a definition of its own, made from the trees of the script's wiring, the numbers of
+//! their members and the tables of these.
 #![tactic(auto)]
 
+mod decimals;
 pub mod expect;
 mod piece;
+mod row;

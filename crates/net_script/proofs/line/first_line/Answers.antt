@@ -1,6 +1,13 @@
-use Rattle.std.proofs.Common.{arith}
-use Rattle.net_script.proofs.LineLemmas.{no_line}
+use Rattle.std.proofs.Common.{sym, arith}
+use Rattle.std.proofs.lemmas.Bool.Decides.{nat_tests}
+use Rattle.net_script.proofs.LineLemmas.{no_lines, first_at_feed, first_is_all}
 use Rattle.net_script.proofs.line.first_line.Goals as goal
 
-pub returns-in_err-end-clause-none : goal.returns-in_err-end-clause-none
-returns-in_err-end-clause-none c = rw c.from_residual.ensures (no_line c.args.bytes.now c.min-most.result (omega (arith, c.min-most.ensures)) c.in_err-end.ensures.none)
+pub returns-then-is_empty-clause-none : goal.returns-then-is_empty-clause-none
+returns-then-is_empty-clause-none c = no_lines c.args.bytes.now (grind (arith, nat_tests))
+
+pub returns-in-Some-clause-some : goal.returns-in-Some-clause-some
+returns-in-Some-clause-some c = first_at_feed c.args.bytes.now c.without_return.result.now c.in-Some.end (sym c.in-Some.ensures) c.without_return.ensures
+
+pub returns-in-None-clause-some : goal.returns-in-None-clause-some
+returns-in-None-clause-some c = first_is_all c.args.bytes.now (sym c.in-None.ensures) (grind (arith, nat_tests))

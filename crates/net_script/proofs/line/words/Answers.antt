@@ -1,8 +1,8 @@
-use Rattle.std.proofs.Common.{rules, eqb}
-use Rattle.std.proofs.lemmas.Result.{IfOk-at_ok}
-use Rattle.std.proofs.lemmas.Iterator.Consumers.{map_from_collect}
-use Rattle.std.proofs.lemmas.Iterator.Splits.{YieldsList-from_slice_split}
+use Rattle.std.proofs.Common.{◌∙◌, ap}
+use Rattle.std.proofs.lemmas.Result.{IfOk-weaker}
+use Rattle.net_script.specs.Lines.{words_of, parts_of}
 use Rattle.net_script.proofs.line.words.Goals as goal
 
 pub returns : goal.returns
-returns c = IfOk-at_ok _ c.in_ok-collect.was (map_from_collect c.collect.result c.collect.ensures.ran (YieldsList-from_slice_split _ (λ b. eqb b 32) c.args.line.now c.split.ensures.rest c.split.ensures.done c.split.ensures.closure (λ x b q called. search rules)))
+unfolding words_of
+returns c = IfOk-weaker c.parts.result _ _ (λ v is. is ∙ ap parts_of c.before_comment.ensures) c.parts.ensures

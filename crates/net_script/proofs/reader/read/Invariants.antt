@@ -1,10 +1,10 @@
-use Rattle.std.proofs.Common.{length}
-use Rattle.net_script.proofs.ReadLemmas.{IsBegun}
+use Rattle.std.proofs.Common.{length, ◌+◌, ◌≤◌}
+use Rattle.net_script.proofs.ReadLemmas.{IsRead}
 use Rattle.net_script.proofs.reader.read.Given as goal
 
--- the script so far begins the text, and the rest of the bytes is left
+-- the lines before the rest are good, and no more than the bytes before it
 abbrev pub invariant-lines : goal.invariant-lines
-invariant-lines l = IsBegun l.bytes l.script l.rest
+invariant-lines l = record { read : IsRead l.bytes l.rest l.draft l.line; few : l.line + length l.rest ≤ length l.bytes + 1 }
 
 abbrev pub decreases-lines : goal.decreases-lines
 decreases-lines l = length l.rest

@@ -1,0 +1,5 @@
+pub mod FieldLemmas
+pub mod LineLemmas
+pub mod ReadLemmas
+pub mod JournalLemmas
+pub mod FaultLemmas

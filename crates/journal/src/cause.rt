@@ -1,0 +1,51 @@
+//! Why a text is no journal, or no legal one.
+
+ghost use Rattle.std.specs.Prelude.{◌≡◌};
+ghost use Rattle.journal.specs.Causes.{cause_text};
+
+/// What is wrong with a line of a journal.
+#[derive(Clone, Copy, Debug, PartialEq, Eq)]
+pub enum JournalCause {
+    /// The first line is not `journal 1`.
+    BadHeader,
+    /// The line is none of an event, and not the last.
+    UnknownWord,
+    /// A word is no number of its range.
+    BadNumber,
+    /// No switch, or no host where one is wanted, has the name.
+    NoSuchName,
+    /// The event is not lawful in the state after those before it.
+    NotLawful,
+    /// No `end` came.
+    NoEnd,
+    /// The state after all events is no end.
+    Unfinished,
+}
+
+impl JournalCause {
+    /// The words for it in messages.
+    pub fn text(self) -> &'static str
+        ensures { result.now ≡ cause_text self }
+    {
+        match self {
+            JournalCause::BadHeader => "bad header",
+            JournalCause::UnknownWord => "unknown word",
+            JournalCause::BadNumber => "bad number",
+            JournalCause::NoSuchName => "no such name",
+            JournalCause::NotLawful => "not lawful",
+            JournalCause::NoEnd => "no end",
+            JournalCause::Unfinished => "unfinished",
+        }
+    }
+}
+
+#[cfg(test)]
+mod tests {
+    use super::*;
+
+    #[test]
+    fn a_cause_has_its_words(rt: HostRuntime) {
+        assert_eq!(rt; JournalCause::NotLawful.text(), "not lawful");
+        assert_eq!(rt; JournalCause::Unfinished.text(), "unfinished");
+    }
+}

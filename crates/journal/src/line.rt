@@ -1,0 +1,62 @@
+//! The lines of a journal, and the words of a line.
+
+ghost use Rattle.std.specs.Prelude.{◌≡◌, ◌≢◌, ◌==◌, ◌<◌, length, map, position, All, IfOk, IfSome, IfNone};
+ghost use Rattle.std.specs.List.{list_all};
+ghost use Rattle.journal.specs.Words.{words_of, is_line_byte, has_words};
+ghost use Rattle.journal.specs.Texts.{IsFirstLine};
+
+use an_base::memory::OutOfMemory;
+use std::alloc::Global;
+
+/// The most bytes of a line, without its line feed.
+pub const MOST_LINE: usize = 200;
+
+/// The first line of the bytes, without its line feed, and the bytes after that. There is none where
+/// there is no line feed.
+pub fn first_line(bytes: &[u8]) -> Option<(&[u8], &[u8])>
+    ensures some { IfSome result (λ r. IsFirstLine bytes.now r.0.now r.1.now) }
+    ensures less { IfSome result (λ r. length r.1.now < length bytes.now) }
+    ensures none { IfNone result (All (λ c. c ≢ 10) bytes.now) }
+{
+    let end = first_feed(bytes)?;
+    Some((&bytes[..end], &bytes[end + 1..]))
+}
+
+// Where the first line feed stands.
+fn first_feed(bytes: &[u8]) -> Option<usize>
+    ensures { result ≡ position (λ c. c == 10) bytes.now }
+{
+    bytes.iter().position(|c| *c == b'\n')
+}
+
+/// Whether each byte may stand in a line.
+pub fn are_line_bytes(line: &[u8]) -> bool
+    ensures { result ≡ list_all is_line_byte line.now }
+{
+    line.iter().all(|c| is_line_byte(*c))
+}
+
+fn is_line_byte(c: u8) -> bool
+    ensures { result ≡ is_line_byte c }
+{
+    (b' '..=b'~').contains(&c)
+}
+
+/// The parts of a line between its spaces, of which some may be empty.
+pub fn words(alloc: Global, line: &[u8]) -> Result<Vec<&[u8]>, OutOfMemory>
+    ensures { IfOk result (λ v. map (λ w. w.now) v.items ≡ words_of line.now) }
+{
+    Ok(line.split(|c| *c == b' ').collect(alloc)?)
+}
+
+/// Whether no word is empty.
+pub fn have_bytes(words: &[&[u8]]) -> bool
+    ensures { result ≡ has_words (map (λ w. w.now) words.now) }
+{
+    'words: for word in words {
+        if word.is_empty() {
+            return false;
+        }
+    }
+    true
+}

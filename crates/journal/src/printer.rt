@@ -1,0 +1,145 @@
+//! The printer of journals.
+
+ghost use Rattle.std.specs.Prelude.{◌≡◌, ◌<◌, ◌++◌, [], ◌∷◌, codes, length, map, All, OnOk, IfOk, slice_index_or};
+ghost use Rattle.std.specs.Fmt.{decimal};
+ghost use Rattle.net_script.specs.Lines.{line_text};
+ghost use Rattle.journal.specs.Events.{CanSpell, event_words, events_text, journal_text};
+
+use an_base::event::{Event, Journal};
+use an_base::memory::OutOfMemory;
+use an_base::text::Word;
+use net_script::printer::{decimal, push_line};
+use net_script::script::Script;
+use std::alloc::Global;
+
+/// The text of a journal: the first line, a line for each event, and the last line.
+pub fn print(alloc: Global, script: &Script, journal: &Journal) -> Result<Vec<u8>, OutOfMemory>
+    requires spelled { All (CanSpell script.now) journal.now }
+    ensures { IfOk result (λ text. text.items ≡ journal_text script.now journal.now) }
+{
+    let mut text = Vec::new(alloc);
+    push_line(&mut text, &[b"journal", b"1"])?;
+    push_events(alloc, &mut text, script, journal.as_slice())?;
+    push_line(&mut text, &[b"end"])?;
+    Ok(text)
+}
+
+fn push_events(
+    alloc: Global,
+    text: &mut Vec<u8>,
+    script: &Script,
+    events: &[Event],
+) -> Result<(), OutOfMemory>
+    requires spelled { All (CanSpell script.now) events.now }
+    ensures { OnOk result (text.new.items ≡ text.old.items ++ events_text script.now events.now) }
+{
+    'events: for event in events {
+        push_event(alloc, text, script, *event)?;
+    }
+    Ok(())
+}
+
+// Appends the line of an event.
+fn push_event(
+    alloc: Global,
+    text: &mut Vec<u8>,
+    script: &Script,
+    event: Event,
+) -> Result<(), OutOfMemory>
+    requires spelled { CanSpell script.now event }
+    ensures { OnOk result
+        (text.new.items ≡ text.old.items ++ line_text (event_words script.now event)) }
+{
+    let names = script.switch_names();
+    match event {
+        Event::Tick => push_line(text, &[b"tick"]),
+        Event::Clock { s } => push_switch(text, names, b"clock", s),
+        Event::Take { s, port } => push_port(alloc, text, names, b"take", s, port),
+        Event::Handle { s } => push_switch(text, names, b"handle", s),
+        Event::Load { s } => push_switch(text, names, b"load", s),
+        Event::Fail { s, port } => push_port(alloc, text, names, b"fail", s, port),
+        Event::Repair { s, port } => push_port(alloc, text, names, b"repair", s, port),
+        Event::Lose { s, port, n } => push_count(alloc, text, names, b"lose", s, port, n),
+        Event::Again { s, port, n } => push_count(alloc, text, names, b"again", s, port, n),
+        Event::Swap { s, port, n } => push_count(alloc, text, names, b"swap", s, port, n),
+        Event::Noise { s, port, n } => push_count(alloc, text, names, b"noise", s, port, n),
+        Event::Send { host, to } => push_send(text, script.names_of_hosts(), host, to),
+        Event::Move { packet } => push_move(alloc, text, packet),
+        Event::Restart { s } => push_switch(text, names, b"restart", s),
+    }
+}
+
+// Appends the line of an event of a switch.
+fn push_switch<'a>(
+    text: &mut Vec<u8>,
+    names: &'a [Word],
+    word: &'a [u8],
+    s: u8,
+) -> Result<(), OutOfMemory>
+    requires { s < length names.now }
+    ensures { OnOk result (text.new.items ≡ text.old.items
+        ++ line_text (word.now ∷ slice_index_or names.now s [] ∷ [])) }
+{
+    let name = names[usize::from(s)].as_bytes();
+    push_line(text, &[word, name])
+}
+
+// Appends the line of an event at a port.
+fn push_port<'a>(
+    alloc: Global,
+    text: &mut Vec<u8>,
+    names: &'a [Word],
+    word: &'a [u8],
+    s: u8,
+    port: u8,
+) -> Result<(), OutOfMemory>
+    requires { s < length names.now }
+    ensures { OnOk result (text.new.items ≡ text.old.items
+        ++ line_text (word.now ∷ slice_index_or names.now s [] ∷ decimal port ∷ [])) }
+{
+    let port = decimal(alloc, u64::from(port))?;
+    let name = names[usize::from(s)].as_bytes();
+    push_line(text, &[word, name, &port])
+}
+
+// Appends the line of an event at a port with a count.
+fn push_count<'a>(
+    alloc: Global,
+    text: &mut Vec<u8>,
+    names: &'a [Word],
+    word: &'a [u8],
+    s: u8,
+    port: u8,
+    n: u32,
+) -> Result<(), OutOfMemory>
+    requires { s < length names.now }
+    ensures { OnOk result (text.new.items ≡ text.old.items
+        ++ line_text (word.now ∷ slice_index_or names.now s [] ∷ decimal port ∷ decimal n ∷ [])) }
+{
+    let port = decimal(alloc, u64::from(port))?;
+    let count = decimal(alloc, u64::from(n))?;
+    let name = names[usize::from(s)].as_bytes();
+    push_line(text, &[word, name, &port, &count])
+}
+
+// Appends the line by which a host sends.
+fn push_send(text: &mut Vec<u8>, hosts: &[Word], host: u16, to: u16) -> Result<(), OutOfMemory>
+    requires host { host < length hosts.now }
+    requires to { to < length hosts.now }
+    ensures { OnOk result (text.new.items ≡ text.old.items
+        ++ line_text (codes "send" ∷ slice_index_or hosts.now host []
+        ∷ slice_index_or hosts.now to [] ∷ [])) }
+{
+    let host = hosts[usize::from(host)].as_bytes();
+    let to = hosts[usize::from(to)].as_bytes();
+    push_line(text, &[b"send", host, to])
+}
+
+// Appends the line of a packet's hop.
+fn push_move(alloc: Global, text: &mut Vec<u8>, packet: u32) -> Result<(), OutOfMemory>
+    ensures { OnOk result (text.new.items ≡ text.old.items
+        ++ line_text (codes "move" ∷ decimal packet ∷ [])) }
+{
+    let packet = decimal(alloc, u64::from(packet))?;
+    push_line(text, &[b"move", &packet])
+}

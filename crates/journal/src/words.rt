@@ -1,0 +1,221 @@
+//! The words of a line of a journal: which event they say, and what is wrong with them.
+
+ghost use Rattle.std.specs.Prelude.{◌≡◌, ◌≢◌, ◌<◌, ◌≤◌, [], ◌∷◌, map, IfSome, IfNone};
+ghost use Rattle.std.specs.Fmt.{decimal};
+ghost use Rattle.net_script.specs.declared.command.WireChange.{WireChange};
+ghost use Rattle.net_script.specs.Commands.{wire_word};
+ghost use Rattle.journal.specs.declared.kind.SwitchEvent.{SwitchEvent};
+ghost use Rattle.journal.specs.declared.kind.PortEvent.{PortEvent};
+ghost use Rattle.journal.specs.Lines.{Moves, OnSwitch, OnPort, OnWire, Sends, switch_word, port_word};
+ghost use Rattle.journal.specs.Events.{IsSwitch, IsHost, switch_name, host_name};
+ghost use Rattle.journal.specs.Rules.{name_cause, number_cause};
+ghost use Rattle.journal.specs.Steps.{IsField, ReadsForm, ReadsWords};
+
+use crate::cause::JournalCause;
+use crate::kind::{PortEvent, SwitchEvent};
+use an_base::event::Event;
+use net_script::command::WireChange;
+use net_script::script::Script;
+use net_script::word::{is, is_number, number_of};
+
+/// The event that words say.
+pub fn read_words(script: &Script, words: &[&[u8]]) -> Result<Event, JournalCause>
+    ensures { ReadsWords script.now (map (λ w. w.now) words.now) result }
+{
+    match words {
+        [a] => read_one(script, a),
+        [a, b] => read_two(script, a, b),
+        [a, b, c] => read_three(script, a, b, c),
+        [a, b, c, d] => read_four(script, a, b, c, d),
+        _ => Err(JournalCause::UnknownWord),
+    }
+}
+
+fn read_one(_script: &Script, a: &[u8]) -> Result<Event, JournalCause>
+    ensures { ReadsWords _script.now (a.now ∷ []) result }
+{
+    if is(a, "tick") {
+        return Ok(Event::Tick);
+    }
+    Err(JournalCause::UnknownWord)
+}
+
+fn read_two(script: &Script, a: &[u8], b: &[u8]) -> Result<Event, JournalCause>
+    ensures { ReadsWords script.now (a.now ∷ b.now ∷ []) result }
+{
+    if is(a, "move") {
+        return read_move(script, b);
+    }
+    match switch_event_of(a) {
+        Some(event) => read_on_switch(script, event, b),
+        None => Err(JournalCause::UnknownWord),
+    }
+}
+
+fn read_three(script: &Script, a: &[u8], b: &[u8], c: &[u8]) -> Result<Event, JournalCause>
+    ensures { ReadsWords script.now (a.now ∷ b.now ∷ c.now ∷ []) result }
+{
+    if is(a, "send") {
+        return read_send(script, b, c);
+    }
+    match port_event_of(a) {
+        Some(event) => read_on_port(script, event, b, c),
+        None => Err(JournalCause::UnknownWord),
+    }
+}
+
+fn read_four(script: &Script, a: &[u8], b: &[u8], c: &[u8], d: &[u8]) -> Result<Event, JournalCause>
+    ensures { ReadsWords script.now (a.now ∷ b.now ∷ c.now ∷ d.now ∷ []) result }
+{
+    match wire_change_of(a) {
+        Some(change) => read_on_wire(script, change, b, c, d),
+        None => Err(JournalCause::UnknownWord),
+    }
+}
+
+fn read_move(_script: &Script, packet: &[u8]) -> Result<Event, JournalCause>
+    ensures { ReadsForm _script.now (Moves packet.now) result }
+{
+    let packet = number_in(packet, 1, u64::from(u32::MAX))?;
+    let packet = packet as u32;
+    Ok(Event::Move { packet })
+}
+
+fn read_on_switch(script: &Script, event: SwitchEvent, name: &[u8]) -> Result<Event, JournalCause>
+    ensures { ReadsForm script.now (OnSwitch event name.now) result }
+{
+    let s = switch_at(script, name)?;
+    Ok(event.at(s))
+}
+
+fn read_on_port(
+    script: &Script,
+    event: PortEvent,
+    name: &[u8],
+    port: &[u8],
+) -> Result<Event, JournalCause>
+    ensures { ReadsForm script.now (OnPort event name.now port.now) result }
+{
+    let s = switch_at(script, name)?;
+    let port = number_in(port, 1, 12)?;
+    Ok(event.at(s, port as u8))
+}
+
+fn read_on_wire(
+    script: &Script,
+    change: WireChange,
+    name: &[u8],
+    port: &[u8],
+    n: &[u8],
+) -> Result<Event, JournalCause>
+    ensures { ReadsForm script.now (OnWire change name.now port.now n.now) result }
+{
+    let s = switch_at(script, name)?;
+    let port = number_in(port, 1, 12)?;
+    let n = number_in(n, 1, change.most())?;
+    Ok(change.event(s, port as u8, n as u32))
+}
+
+fn read_send(script: &Script, host: &[u8], to: &[u8]) -> Result<Event, JournalCause>
+    ensures { ReadsForm script.now (Sends host.now to.now) result }
+{
+    let host = host_at(script, host)?;
+    let to = host_at(script, to)?;
+    Ok(Event::Send { host, to })
+}
+
+fn switch_event_of(word: &[u8]) -> Option<SwitchEvent>
+    ensures some { IfSome result (λ k. word.now ≡ switch_word k) }
+    ensures none { IfNone result ((k : SwitchEvent) → word.now ≢ switch_word k) }
+{
+    if is(word, "clock") {
+        return Some(SwitchEvent::Clock);
+    }
+    if is(word, "handle") {
+        return Some(SwitchEvent::Handle);
+    }
+    if is(word, "load") {
+        return Some(SwitchEvent::Load);
+    }
+    if is(word, "restart") {
+        return Some(SwitchEvent::Restart);
+    }
+    None
+}
+
+fn port_event_of(word: &[u8]) -> Option<PortEvent>
+    ensures some { IfSome result (λ k. word.now ≡ port_word k) }
+    ensures none { IfNone result ((k : PortEvent) → word.now ≢ port_word k) }
+{
+    if is(word, "take") {
+        return Some(PortEvent::Take);
+    }
+    if is(word, "fail") {
+        return Some(PortEvent::Fail);
+    }
+    if is(word, "repair") {
+        return Some(PortEvent::Repair);
+    }
+    None
+}
+
+fn wire_change_of(word: &[u8]) -> Option<WireChange>
+    ensures some { IfSome result (λ k. word.now ≡ wire_word k) }
+    ensures none { IfNone result ((k : WireChange) → word.now ≢ wire_word k) }
+{
+    if is(word, "lose") {
+        return Some(WireChange::Lose);
+    }
+    if is(word, "again") {
+        return Some(WireChange::Again);
+    }
+    if is(word, "swap") {
+        return Some(WireChange::Swap);
+    }
+    if is(word, "noise") {
+        return Some(WireChange::Noise);
+    }
+    None
+}
+
+// The switch that a word names.
+fn switch_at(script: &Script, word: &[u8]) -> Result<u8, JournalCause>
+    ensures { IsField result (name_cause script.now.switch_names word.now)
+        (λ s. IsSwitch script.now s × (word.now ≡ switch_name script.now s)) }
+{
+    match script.place_of_switch(word) {
+        Some(s) => Ok(s),
+        None => Err(JournalCause::NoSuchName),
+    }
+}
+
+// The host that a word names.
+fn host_at(script: &Script, word: &[u8]) -> Result<u16, JournalCause>
+    ensures { IsField result (name_cause script.now.names_of_hosts word.now)
+        (λ h. IsHost script.now h × (word.now ≡ host_name script.now h)) }
+{
+    match script.place_of_host(word) {
+        Some(host) => Ok(host),
+        None => Err(JournalCause::NoSuchName),
+    }
+}
+
+// The number of a range that a word says.
+fn number_in(word: &[u8], least: u64, most: u64) -> Result<u64, JournalCause>
+    ensures { IsField result (number_cause least most word.now)
+        (λ n. (word.now ≡ decimal n) × (least ≤ n) × (n ≤ most)) }
+{
+    if !is_number(word) {
+        return Err(JournalCause::BadNumber);
+    }
+    let Some(number) = number_of(word) else {
+        return Err(JournalCause::BadNumber);
+    };
+    if number < least {
+        return Err(JournalCause::BadNumber);
+    }
+    if number > most {
+        return Err(JournalCause::BadNumber);
+    }
+    Ok(number)
+}

@@ -1,0 +1,33 @@
+use Rattle.std.specs.Prelude.{ℕ, Bool, List, [], ◌∷◌, Option, Some, None, codes, if◌then◌else◌}
+use Rattle.std.specs.Option.{option_or}
+use Rattle.net_script.specs.declared.cause.ScriptCause.{ScriptCause}
+use Rattle.net_script.specs.declared.cause.ScriptCause.TheVariants.{NotAscii, BadHeader, UnknownWord, BadNumber, BadName, NameTwice, UidTwice, NoSuchName, PortRange, PortUsed, TooMany, TimesFall, NoEnd, AfterEnd, LineTooLong, NoLink, TablesShort}
+
+-- the words for a cause
+abbrev pub cause_text : ScriptCause → List ℕ
+cause_text NotAscii = codes "not ascii"
+cause_text BadHeader = codes "bad header"
+cause_text UnknownWord = codes "unknown word"
+cause_text BadNumber = codes "bad number"
+cause_text BadName = codes "bad name"
+cause_text NameTwice = codes "name twice"
+cause_text UidTwice = codes "uid twice"
+cause_text NoSuchName = codes "no such name"
+cause_text PortRange = codes "port range"
+cause_text PortUsed = codes "port used"
+cause_text TooMany = codes "too many"
+cause_text TimesFall = codes "times fall"
+cause_text NoEnd = codes "no end"
+cause_text AfterEnd = codes "after end"
+cause_text LineTooLong = codes "line too long"
+cause_text NoLink = codes "no link"
+cause_text TablesShort = codes "tables short"
+
+-- the cause, where what is asked for does not hold
+abbrev pub unless : Bool → ScriptCause → Option ScriptCause
+unless holds cause = if holds then None else Some cause
+
+-- the first of some causes
+abbrev pub first_of : List (Option ScriptCause) → Option ScriptCause
+first_of [] = None
+first_of (c ∷ cs) = option_or c (first_of cs)

@@ -1,0 +1,229 @@
+//! The fields of lines: what a word says in its place, and what is wrong with it.
+
+ghost use Rattle.std.specs.Prelude.{◌≡◌, ◌≢◌, ◌<◌, ◌≤◌, ◌^◌, ◌↔◌, not, true, false, length, Contains, IsTrue, IfOk, OnOk};
+ghost use Rattle.std.specs.Option.{option_map};
+ghost use Rattle.net_graph.specs.Wires.{uids, used_ports, a_end, b_end};
+ghost use Rattle.net_script.specs.declared.cause.ScriptCause.TheVariants.{PortUsed, NoLink};
+ghost use Rattle.net_script.specs.Words.{number_value, uid_value};
+ghost use Rattle.net_script.specs.Causes.{unless};
+ghost use Rattle.net_script.specs.Commands.{is_used, is_linked, last_time};
+ghost use Rattle.net_script.specs.Scripts.{IsNewName, names_of, lives_of};
+ghost use Rattle.net_script.specs.Rules.{number_cause, port_cause, new_name_cause, new_uid_cause, known_cause, had_cause, time_cause, lives_cause, commands_cause, is_taken, is_free, place, had_of};
+ghost use Rattle.net_script.specs.Steps.{IsField, IsTest};
+
+use crate::cause::ScriptCause;
+use crate::script::{MOST_COMMANDS, MOST_LIVES, MOST_TIME, Script};
+use crate::word::{is_name, is_number, number_of, uid_of};
+use net_graph::wiring::{Far, LinkAt, Wiring};
+
+/// The number of a range that a word says.
+pub fn number_in(word: &[u8], least: u64, most: u64) -> Result<u64, ScriptCause>
+    ensures number { IsField result (number_cause least most word.now) (number_value word.now) }
+    ensures range { IfOk result (λ n. (least ≤ n) × (n ≤ most)) }
+{
+    if !is_number(word) {
+        return Err(ScriptCause::BadNumber);
+    }
+    match number_of(word) {
+        Some(number) if least <= number && number <= most => Ok(number),
+        _ => Err(ScriptCause::BadNumber),
+    }
+}
+
+/// The port that a word says.
+pub fn port_in(word: &[u8]) -> Result<u8, ScriptCause>
+    ensures port { IsField result (port_cause word.now) (number_value word.now) }
+    ensures range { IfOk result (λ p. (1 ≤ p) × (p ≤ 12)) }
+{
+    if !is_number(word) {
+        return Err(ScriptCause::BadNumber);
+    }
+    match number_of(word) {
+        Some(port) if 1 <= port && port <= 12 => Ok(port as u8),
+        _ => Err(ScriptCause::PortRange),
+    }
+}
+
+/// Refuses a word that is no name, or that a switch or a host has.
+pub fn new_name(script: &Script, word: &[u8]) -> Result<(), ScriptCause>
+    ensures test { IsTest result (new_name_cause script.now word.now) }
+    ensures is_new { OnOk result (IsNewName script.now word.now) }
+{
+    if !is_name(word) {
+        return Err(ScriptCause::BadName);
+    }
+    if is_taken(script, word) {
+        return Err(ScriptCause::NameTwice);
+    }
+    Ok(())
+}
+
+// Whether a switch or a host has this name.
+fn is_taken(script: &Script, name: &[u8]) -> bool
+    ensures { result ≡ is_taken script.now name.now }
+{
+    script.place_of_switch(name).is_some() || script.place_of_host(name).is_some()
+}
+
+/// The identifier that a word says and that no switch or host has.
+pub fn new_uid(script: &Script, word: &[u8]) -> Result<u64, ScriptCause>
+    ensures uid { IsField result (new_uid_cause script.now word.now) (uid_value word.now) }
+    ensures is_new { IfOk result (λ uid. (uid < 2 ^ 48) × ¬ Contains (uids script.now.wires) uid) }
+{
+    let Some(uid) = uid_of(word) else {
+        return Err(ScriptCause::BadNumber);
+    };
+    if script.wiring().has_uid(uid) {
+        return Err(ScriptCause::UidTwice);
+    }
+    Ok(uid)
+}
+
+/// The place of the switch that a word names.
+pub fn known_switch(script: &Script, word: &[u8]) -> Result<u8, ScriptCause>
+    ensures place { IsField result (known_cause script.now.switch_names word.now)
+        (place script.now.switch_names word.now) }
+    ensures range { IfOk result (λ s. s < length script.now.wires.switches) }
+{
+    if !is_name(word) {
+        return Err(ScriptCause::BadName);
+    }
+    match script.place_of_switch(word) {
+        Some(s) => Ok(s),
+        None => Err(ScriptCause::NoSuchName),
+    }
+}
+
+/// The place of the host that a word names.
+pub fn known_host(script: &Script, word: &[u8]) -> Result<u16, ScriptCause>
+    ensures place { IsField result (known_cause script.now.names_of_hosts word.now)
+        (place script.now.names_of_hosts word.now) }
+    ensures range { IfOk result (λ h. h < length script.now.wires.hosts) }
+{
+    if !is_name(word) {
+        return Err(ScriptCause::BadName);
+    }
+    match script.place_of_host(word) {
+        Some(host) => Ok(host),
+        None => Err(ScriptCause::NoSuchName),
+    }
+}
+
+/// The number that a switch had last, where there is a word for it.
+pub fn had_in(word: Option<&[u8]>) -> Result<u8, ScriptCause>
+    ensures had { IsField result (had_cause (option_map (λ w. w.now) word.entry))
+        (had_of (option_map (λ w. w.now) word.entry)) }
+    ensures range { IfOk result (λ n. (1 ≤ n) × (n ≤ 126)) }
+{
+    match word {
+        None => Ok(1),
+        Some(word) => {
+            let had = number_in(word, 1, 126)?;
+            Ok(had as u8)
+        }
+    }
+}
+
+/// The time that a word says for the next command.
+pub fn time_in(script: &Script, word: &[u8]) -> Result<u32, ScriptCause>
+    ensures time { IsField result (time_cause script.now word.now) (number_value word.now) }
+    ensures range { IfOk result (λ t. (last_time script.now.commands ≤ t) × (t ≤ 1000000)) }
+{
+    let time = number_in(word, 0, MOST_TIME)?;
+    if time < u64::from(last_time(script)) {
+        return Err(ScriptCause::TimesFall);
+    }
+    Ok(time as u32)
+}
+
+// The time of the last command.
+fn last_time(script: &Script) -> u32
+    ensures { result ≡ last_time script.now.commands }
+{
+    script.commands().last().map_or(0, |c| c.time)
+}
+
+/// Refuses one more life above the limit.
+pub fn room_for_life(script: &Script) -> Result<(), ScriptCause>
+    ensures test { IsTest result (lives_cause script.now) }
+    ensures room { OnOk result (lives_of script.now < 126) }
+{
+    if script.lives() < MOST_LIVES {
+        Ok(())
+    } else {
+        Err(ScriptCause::TooMany)
+    }
+}
+
+/// Refuses one more command above the limit.
+pub fn room_for_command(script: &Script) -> Result<(), ScriptCause>
+    ensures test { IsTest result (commands_cause script.now) }
+    ensures room { OnOk result (length script.now.commands < 10000) }
+{
+    if script.commands().len() < MOST_COMMANDS {
+        Ok(())
+    } else {
+        Err(ScriptCause::TooMany)
+    }
+}
+
+// Whether a port has a link or a host.
+fn is_used(wiring: &Wiring, s: u8, port: u8) -> bool
+    ensures used { result ≡ is_used wiring.now s port }
+    ensures ports { result ≡ false → ¬ Contains (used_ports wiring.now) (s, port) }
+{
+    wiring.far(s, port).is_some()
+}
+
+/// Refuses a link of which a port is used, or whose ports are one.
+pub fn free_link(wiring: &Wiring, link: LinkAt) -> Result<(), ScriptCause>
+    ensures test { IsTest result (unless (is_free wiring.now link) PortUsed) }
+    ensures apart { OnOk result (a_end link ≢ b_end link) }
+    ensures a_free { OnOk result (¬ Contains (used_ports wiring.now) (link.a, link.a_port)) }
+    ensures b_free { OnOk result (¬ Contains (used_ports wiring.now) (link.b, link.b_port)) }
+{
+    if is_used(wiring, link.a, link.a_port) {
+        return Err(ScriptCause::PortUsed);
+    }
+    if is_used(wiring, link.b, link.b_port) {
+        return Err(ScriptCause::PortUsed);
+    }
+    if link.a == link.b && link.a_port == link.b_port {
+        return Err(ScriptCause::PortUsed);
+    }
+    Ok(())
+}
+
+/// Refuses a port that is used.
+pub fn free_port(wiring: &Wiring, s: u8, port: u8) -> Result<(), ScriptCause>
+    ensures test { IsTest result (unless (not (is_used wiring.now s port)) PortUsed) }
+    ensures free { OnOk result (¬ Contains (used_ports wiring.now) (s, port)) }
+{
+    if is_used(wiring, s, port) {
+        return Err(ScriptCause::PortUsed);
+    }
+    Ok(())
+}
+
+/// Refuses a port without link and host.
+pub fn used_port(wiring: &Wiring, s: u8, port: u8) -> Result<(), ScriptCause>
+    ensures test { IsTest result (unless (is_used wiring.now s port) NoLink) }
+    ensures used { OnOk result (is_used wiring.now s port ≡ true) }
+{
+    if is_used(wiring, s, port) {
+        Ok(())
+    } else {
+        Err(ScriptCause::NoLink)
+    }
+}
+
+/// Refuses a port without link.
+pub fn linked_port(wiring: &Wiring, s: u8, port: u8) -> Result<(), ScriptCause>
+    ensures test { IsTest result (unless (is_linked wiring.now s port) NoLink) }
+    ensures linked { OnOk result (is_linked wiring.now s port ≡ true) }
+{
+    match wiring.far(s, port) {
+        Some(Far::Switch { .. }) => Ok(()),
+        _ => Err(ScriptCause::NoLink),
+    }
+}

@@ -1,0 +1,415 @@
+//! The printer of scripts.
+
+ghost use Rattle.std.specs.Prelude.{if◌then◌else◌, nat_lt, ◌≡◌, ◌<◌, ◌≤◌, ◌++◌, [], ◌∷◌, codes, length, map, OnOk, IfOk, slice_index_or};
+ghost use Rattle.std.specs.Fmt.{decimal};
+ghost use Rattle.std.specs.List.{flat_map, zip};
+ghost use Rattle.net_script.specs.Words.{hex_text, hex_glyph};
+ghost use Rattle.net_script.specs.Lines.{line_text, lines_text};
+ghost use Rattle.net_script.specs.Forms.{form_words};
+ghost use Rattle.net_script.specs.Scripts.{IsScript};
+ghost use Rattle.net_script.specs.Texts.{IsText};
+ghost use Rattle.net_script.specs.Commands.{IsCommand};
+ghost use Rattle.net_script.specs.Canonical.{canonical_text, setting_forms, setting_form, pace_form, routes_form, switch_form, link_form, host_form, command_form, event_form, forms_text};
+
+use crate::command::Command;
+use crate::script::Script;
+use crate::setting::Setting;
+use an_base::event::Event;
+use an_base::memory::OutOfMemory;
+use an_base::text::Word;
+use net_graph::wiring::{HostOn, LinkAt, SwitchAt};
+use std::alloc::Global;
+
+/// The canonical text of a script: the first line; the settings that differ from their defaults, in
+/// the order `limit ticks`, `limit events`, `limit blocks`, `epoch`, `pace`, `routes any`; the
+/// switches, the links, the hosts and the commands, each in their order; and the last line.
+pub fn print(alloc: Global, script: &Script) -> Result<Vec<u8>, OutOfMemory>
+    ensures canonical { IfOk result (λ text. text.items ≡ canonical_text script.now) }
+    ensures text { IfOk result (λ text. IsText text.items script.now) }
+{
+    let mut text = Vec::new(alloc);
+    push_line(&mut text, &[b"autonet", b"1"])?;
+    push_settings(alloc, &mut text, script)?;
+    push_switches(alloc, &mut text, script)?;
+    push_links(alloc, &mut text, script)?;
+    push_hosts(alloc, &mut text, script)?;
+    push_commands(alloc, &mut text, script)?;
+    push_line(&mut text, &[b"end"])?;
+    Ok(text)
+}
+
+/// Appends a line of words: they are joined by one space each, and a line feed follows. Where no memory
+/// is found some of it may have been appended.
+pub fn push_line(text: &mut Vec<u8>, words: &[&[u8]]) -> Result<(), OutOfMemory>
+    ensures { OnOk result
+        (text.new.items ≡ text.old.items ++ line_text (map (λ w. w.now) words.now)) }
+{
+    'words: for (i, word) in words.iter().enumerate() {
+        push_space(text, i)?;
+        text.extend_from_slice(word)?;
+    }
+    text.push(b'\n')?;
+    Ok(())
+}
+
+// Appends a space where words stand before this place.
+fn push_space(text: &mut Vec<u8>, place: usize) -> Result<(), OutOfMemory>
+    ensures { OnOk result (text.new.items ≡ text.old.items ++ (if nat_lt 0 place then 32 ∷ [] else [])) }
+{
+    if place > 0 {
+        text.push(b' ')?;
+    }
+    Ok(())
+}
+
+/// A number in decimal.
+pub fn decimal(alloc: Global, number: u64) -> Result<Vec<u8>, OutOfMemory>
+    ensures { IfOk result (λ text. text.items ≡ decimal number) }
+{
+    let text = format!(in alloc; "{number}")?;
+    Ok(text.into_bytes())
+}
+
+// An identifier in twelve hexadecimal digits.
+fn identifier(alloc: Global, uid: u64) -> Result<Vec<u8>, OutOfMemory>
+    ensures { IfOk result (λ text. text.items ≡ hex_text 12 uid) }
+{
+    let mut text = Vec::new(alloc);
+    push_hex(&mut text, 12, uid)?;
+    Ok(text)
+}
+
+// Appends the last so many hexadecimal digits of a number.
+fn push_hex(text: &mut Vec<u8>, digits: u8, number: u64) -> Result<(), OutOfMemory>
+    ensures { OnOk result (text.new.items ≡ text.old.items ++ hex_text digits number) }
+{
+    if digits > 0 {
+        push_hex(text, digits - 1, number / 16)?;
+        text.push(hex_glyph((number % 16) as u8))?;
+    }
+    Ok(())
+}
+
+fn hex_glyph(digit: u8) -> u8
+    requires { digit < 16 }
+    ensures { result ≡ hex_glyph digit }
+{
+    if digit < 10 {
+        b'0' + digit
+    } else {
+        b'a' + (digit - 10)
+    }
+}
+
+// Appends the settings that differ from their defaults.
+fn push_settings(alloc: Global, text: &mut Vec<u8>, script: &Script) -> Result<(), OutOfMemory>
+    ensures lines { OnOk result
+        (text.new.items ≡ text.old.items ++ forms_text (setting_forms script.now)) }
+    ensures kept { IsScript script.now }
+{
+    let limits = script.limits();
+    push_setting(alloc, text, Setting::Ticks, u64::from(limits.ticks), 4_096)?;
+    push_setting(
+        alloc,
+        text,
+        Setting::Events,
+        u64::from(limits.events),
+        2_000_000,
+    )?;
+    push_setting(
+        alloc,
+        text,
+        Setting::Blocks,
+        u64::from(limits.blocks),
+        65_536,
+    )?;
+    push_setting(alloc, text, Setting::Epoch, script.epoch(), 0)?;
+    push_pace(alloc, text, script.pace())?;
+    push_any_routes(text, script.any_routes())
+}
+
+fn push_setting(
+    alloc: Global,
+    text: &mut Vec<u8>,
+    setting: Setting,
+    number: u64,
+    default: u64,
+) -> Result<(), OutOfMemory>
+    ensures { OnOk result
+        (text.new.items ≡ text.old.items ++ forms_text (setting_form setting number default)) }
+{
+    if number == default {
+        return Ok(());
+    }
+    let number = decimal(alloc, number)?;
+    match setting {
+        Setting::Ticks => push_line(text, &[b"limit", b"ticks", &number]),
+        Setting::Events => push_line(text, &[b"limit", b"events", &number]),
+        Setting::Blocks => push_line(text, &[b"limit", b"blocks", &number]),
+        Setting::Epoch => push_line(text, &[b"epoch", &number]),
+        Setting::Pace => push_line(text, &[b"pace", &number]),
+    }
+}
+
+fn push_pace(alloc: Global, text: &mut Vec<u8>, pace: Option<u32>) -> Result<(), OutOfMemory>
+    ensures { OnOk result (text.new.items ≡ text.old.items ++ forms_text (pace_form pace)) }
+{
+    match pace {
+        None => Ok(()),
+        Some(pace) => {
+            let number = decimal(alloc, u64::from(pace))?;
+            push_line(text, &[b"pace", &number])
+        }
+    }
+}
+
+fn push_any_routes(text: &mut Vec<u8>, any_routes: bool) -> Result<(), OutOfMemory>
+    ensures { OnOk result (text.new.items ≡ text.old.items ++ forms_text (routes_form any_routes)) }
+{
+    if any_routes {
+        return push_line(text, &[b"routes", b"any"]);
+    }
+    Ok(())
+}
+
+fn push_switches(alloc: Global, text: &mut Vec<u8>, script: &Script) -> Result<(), OutOfMemory>
+    ensures { OnOk result (text.new.items ≡ text.old.items
+        ++ forms_text (map switch_form (zip script.now.switch_names script.now.wires.switches))) }
+{
+    let names = script.switch_names();
+    let switches = script.wiring().switches();
+    'switches: for (s, switch) in switches.iter().enumerate() {
+        push_switch(alloc, text, names[s].as_bytes(), *switch)?;
+    }
+    Ok(())
+}
+
+fn push_switch(
+    alloc: Global,
+    text: &mut Vec<u8>,
+    name: &[u8],
+    switch: SwitchAt,
+) -> Result<(), OutOfMemory>
+    ensures { OnOk result (text.new.items ≡ text.old.items
+        ++ line_text (form_words (switch_form (name.now, switch)))) }
+{
+    let uid = identifier(alloc, switch.uid)?;
+    if switch.had == 1 {
+        return push_line(text, &[b"switch", name, &uid]);
+    }
+    let had = decimal(alloc, u64::from(switch.had))?;
+    push_line(text, &[b"switch", name, &uid, b"had", &had])
+}
+
+fn push_links(alloc: Global, text: &mut Vec<u8>, script: &Script) -> Result<(), OutOfMemory>
+    ensures { OnOk result (text.new.items ≡ text.old.items
+        ++ forms_text (map (link_form script.now.switch_names) script.now.wires.links)) }
+{
+    let names = script.switch_names();
+    let links = script.wiring().links();
+    'links: for link in links {
+        push_link(alloc, text, names, *link)?;
+    }
+    Ok(())
+}
+
+fn push_link(
+    alloc: Global,
+    text: &mut Vec<u8>,
+    names: &[Word],
+    link: LinkAt,
+) -> Result<(), OutOfMemory>
+    requires a { link.a < length names.now }
+    requires b { link.b < length names.now }
+    ensures { OnOk result
+        (text.new.items ≡ text.old.items ++ line_text (form_words (link_form names.now link))) }
+{
+    let a_port = decimal(alloc, u64::from(link.a_port))?;
+    let b_port = decimal(alloc, u64::from(link.b_port))?;
+    let a = names[usize::from(link.a)].as_bytes();
+    let b = names[usize::from(link.b)].as_bytes();
+    push_line(text, &[b"link", a, &a_port, b, &b_port])
+}
+
+fn push_hosts(alloc: Global, text: &mut Vec<u8>, script: &Script) -> Result<(), OutOfMemory>
+    ensures { OnOk result (text.new.items ≡ text.old.items
+        ++ forms_text (map (host_form script.now.switch_names)
+        (zip script.now.names_of_hosts script.now.wires.hosts))) }
+{
+    let names = script.switch_names();
+    let names_of_hosts = script.names_of_hosts();
+    let hosts = script.wiring().hosts();
+    'hosts: for (h, host) in hosts.iter().enumerate() {
+        push_host(alloc, text, names, names_of_hosts[h].as_bytes(), *host)?;
+    }
+    Ok(())
+}
+
+fn push_host<'a>(
+    alloc: Global,
+    text: &mut Vec<u8>,
+    names: &'a [Word],
+    name: &'a [u8],
+    host: HostOn,
+) -> Result<(), OutOfMemory>
+    requires { host.s < length names.now }
+    ensures { OnOk result (text.new.items ≡ text.old.items
+        ++ line_text (form_words (host_form names.now (name.now, host)))) }
+{
+    let uid = identifier(alloc, host.uid)?;
+    let port = decimal(alloc, u64::from(host.port))?;
+    let switch = names[usize::from(host.s)].as_bytes();
+    push_line(text, &[b"host", name, &uid, switch, &port])
+}
+
+fn push_commands(alloc: Global, text: &mut Vec<u8>, script: &Script) -> Result<(), OutOfMemory>
+    ensures { OnOk result (text.new.items ≡ text.old.items
+        ++ forms_text (map (command_form script.now) script.now.commands)) }
+{
+    let commands = script.commands();
+    'commands: for command in commands {
+        push_command(alloc, text, script, *command)?;
+    }
+    Ok(())
+}
+
+fn push_command(
+    alloc: Global,
+    text: &mut Vec<u8>,
+    script: &Script,
+    command: Command,
+) -> Result<(), OutOfMemory>
+    requires { IsCommand script.now.wires command }
+    ensures { OnOk result (text.new.items ≡ text.old.items
+        ++ line_text (form_words (command_form script.now command))) }
+{
+    let time = decimal(alloc, u64::from(command.time))?;
+    let names = script.switch_names();
+    match command.event {
+        Event::Fail { s, port } => push_change(alloc, text, names, &time, b"fail", s, port),
+        Event::Repair { s, port } => push_change(alloc, text, names, &time, b"repair", s, port),
+        Event::Lose { s, port, n } => push_count(alloc, text, names, &time, b"lose", s, port, n),
+        Event::Again { s, port, n } => push_count(alloc, text, names, &time, b"again", s, port, n),
+        Event::Swap { s, port, n } => push_count(alloc, text, names, &time, b"swap", s, port, n),
+        Event::Noise { s, port, n } => push_count(alloc, text, names, &time, b"noise", s, port, n),
+        Event::Send { host, to } => push_send(text, script.names_of_hosts(), &time, host, to),
+        Event::Restart { s } => push_restart(text, names, &time, s),
+        _ => Ok(()),
+    }
+}
+
+// Appends the line of a command that changes a link.
+fn push_change<'a>(
+    alloc: Global,
+    text: &mut Vec<u8>,
+    names: &'a [Word],
+    time: &'a [u8],
+    word: &'a [u8],
+    s: u8,
+    port: u8,
+) -> Result<(), OutOfMemory>
+    requires { s < length names.now }
+    ensures { OnOk result (text.new.items ≡ text.old.items
+        ++ line_text (codes "at" ∷ time.now ∷ word.now ∷ slice_index_or names.now s []
+        ∷ decimal port ∷ [])) }
+{
+    let port = decimal(alloc, u64::from(port))?;
+    let name = names[usize::from(s)].as_bytes();
+    push_line(text, &[b"at", time, word, name, &port])
+}
+
+// Appends the line of a command that changes a wire.
+fn push_count<'a>(
+    alloc: Global,
+    text: &mut Vec<u8>,
+    names: &'a [Word],
+    time: &'a [u8],
+    word: &'a [u8],
+    s: u8,
+    port: u8,
+    n: u32,
+) -> Result<(), OutOfMemory>
+    requires { s < length names.now }
+    ensures { OnOk result (text.new.items ≡ text.old.items
+        ++ line_text (codes "at" ∷ time.now ∷ word.now ∷ slice_index_or names.now s []
+        ∷ decimal port ∷ decimal n ∷ [])) }
+{
+    let port = decimal(alloc, u64::from(port))?;
+    let count = decimal(alloc, u64::from(n))?;
+    let name = names[usize::from(s)].as_bytes();
+    push_line(text, &[b"at", time, word, name, &port, &count])
+}
+
+// Appends the line of a command by which a host sends.
+fn push_send<'a>(
+    text: &mut Vec<u8>,
+    hosts: &'a [Word],
+    time: &'a [u8],
+    host: u16,
+    to: u16,
+) -> Result<(), OutOfMemory>
+    requires host { host < length hosts.now }
+    requires to { to < length hosts.now }
+    ensures { OnOk result (text.new.items ≡ text.old.items
+        ++ line_text (codes "at" ∷ time.now ∷ codes "send" ∷ slice_index_or hosts.now host []
+        ∷ slice_index_or hosts.now to [] ∷ [])) }
+{
+    let host = hosts[usize::from(host)].as_bytes();
+    let to = hosts[usize::from(to)].as_bytes();
+    push_line(text, &[b"at", time, b"send", host, to])
+}
+
+// Appends the line of a command that restarts a switch.
+fn push_restart<'a>(
+    text: &mut Vec<u8>,
+    names: &'a [Word],
+    time: &'a [u8],
+    s: u8,
+) -> Result<(), OutOfMemory>
+    requires { s < length names.now }
+    ensures { OnOk result (text.new.items ≡ text.old.items
+        ++ line_text (codes "at" ∷ time.now ∷ codes "restart" ∷ slice_index_or names.now s []
+        ∷ [])) }
+{
+    let name = names[usize::from(s)].as_bytes();
+    push_line(text, &[b"at", time, b"restart", name])
+}
+
+#[cfg(test)]
+mod tests {
+    use super::*;
+    use crate::reader::read;
+    use std::test::Fail;
+
+    fn reprinted(rt: &HostRuntime, bytes: &[u8]) -> Result<Vec<u8>, Fail> {
+        if bytes.len() > 100_000 {
+            return Err("long")?;
+        }
+        let script = read(rt.alloc(), bytes).map_err(|_error| "refused")?;
+        Ok(print(rt.alloc(), &script).map_err(|_error| "memory")?)
+    }
+
+    #[test]
+    fn the_canonical_text_has_all_lines_in_order(rt: HostRuntime) -> Result<(), Fail> {
+        let bytes: &[u8] = b"autonet 1\nswitch A 00000000000A\nroutes any\nlimit ticks 4096\n\
+            pace 3\nhost H 000000000001 A 2\nat 0 restart A\nlink A 1 A 12\nepoch 5\n\
+            switch B FFFFFFFFFFFF had 2\nlimit blocks 1\nlimit events 2\nat 0 noise A 1 64\n\
+            at 7 send H H\nat 7 repair A 2\nend";
+        let wanted: &[u8] = b"autonet 1\nlimit events 2\nlimit blocks 1\nepoch 5\npace 3\n\
+            routes any\nswitch A 00000000000a\nswitch B ffffffffffff had 2\nlink A 1 A 12\n\
+            host H 000000000001 A 2\nat 0 restart A\nat 0 noise A 1 64\nat 7 send H H\n\
+            at 7 repair A 2\nend\n";
+        assert_eq!(rt; reprinted(&rt, bytes)?.as_slice(), wanted);
+        assert_eq!(rt; reprinted(&rt, wanted)?.as_slice(), wanted);
+        Ok(())
+    }
+
+    #[test]
+    fn the_shortest_text_has_two_lines(rt: HostRuntime) -> Result<(), Fail> {
+        assert_eq!(rt;
+            reprinted(&rt, b"autonet 1\nend")?.as_slice(),
+            b"autonet 1\nend\n".as_slice()
+        );
+        Ok(())
+    }
+}

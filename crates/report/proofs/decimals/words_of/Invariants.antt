@@ -1,0 +1,6 @@
+use Rattle.report.specs.Rows.{AreDecimals}
+use Rattle.report.proofs.decimals.words_of.Given as goal
+
+-- the numbers so far
+abbrev pub invariant-numbers : goal.invariant-numbers
+invariant-numbers l = AreDecimals l.n l.words.items

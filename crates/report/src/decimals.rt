@@ -1,0 +1,62 @@
+ghost use Rattle.std.specs.Prelude.{◌≡◌, ◌++◌, IfOk, OnOk};
+ghost use Rattle.std.specs.Fmt.{decimal};
+ghost use Rattle.report.specs.Rows.{AreDecimals};
+
+use an_base::text::Word;
+use std::alloc::{AllocError, Global};
+use std::marker::Model;
+
+// A number in decimal.
+fn word_of(alloc: Global, n: u16) -> Result<Word, AllocError>
+    ensures { IfOk result (λ word. word ≡ decimal n) }
+{
+    let number = format!(in alloc; "{n}")?;
+    Ok(Word::new(Vec::from_slice(alloc, number.as_bytes())?))
+}
+
+// The numbers below 256 in decimal.
+fn words_of(alloc: Global) -> Result<Vec<Word>, AllocError>
+    ensures { IfOk result (λ words. AreDecimals 256 words.items) }
+{
+    let mut words = Vec::with_capacity(alloc, 256)?;
+    'numbers: for n in 0..256u16 {
+        words.push(word_of(alloc, n)?)?;
+    }
+    Ok(words)
+}
+
+/// The numbers below 256 in decimal, made once, since a text has so many of them.
+#[derive(Debug, Drop)]
+pub struct Decimals {
+    words: Vec<Word>,
+}
+
+impl Model for Decimals {
+    ghost use Rattle.std.specs.Prelude.{List, ℕ};
+    ghost use Rattle.report.specs.Rows.{AreDecimals};
+
+    ghost Value = { List (List ℕ) };
+
+    ghost view = { λ d. d.words.items };
+
+    ghost invariant = { λ d. AreDecimals 256 d.words.items };
+}
+
+impl Decimals {
+    /// The numbers below 256.
+    pub fn new(alloc: Global) -> Result<Self, AllocError>
+        ensures { IfOk result (AreDecimals 256) }
+    {
+        Ok(Decimals {
+            words: words_of(alloc)?,
+        })
+    }
+
+    /// Appends a number.
+    pub fn push(&self, text: &mut Vec<u8>, n: u8) -> Result<(), AllocError>
+        ensures { OnOk result (text.new.items ≡ text.old.items ++ decimal n) }
+    {
+        let word = &self.words[usize::from(n)];
+        text.extend_from_slice(word.as_bytes())
+    }
+}

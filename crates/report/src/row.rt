@@ -1,0 +1,110 @@
+ghost use Rattle.std.specs.Prelude.{◌≡◌, ◌<◌, ◌++◌, length, OnOk};
+ghost use Rattle.std.specs.List.{flat_map};
+ghost use Rattle.report.specs.Rows.{exits_text, port_words, row_line, row_lines, row_word, rows_at};
+
+use crate::decimals::Decimals;
+use crate::piece::push_life;
+use an_base::life::Life;
+use an_base::row::Row;
+use net_script::script::Script;
+use std::alloc::{AllocError, Global};
+use table_build::exit::is_entry;
+use topo_graph::graph::Graph;
+
+// Appends ports, each behind a slash.
+fn push_ports(text: &mut Vec<u8>, decimals: &Decimals, ports: &[u8]) -> Result<(), AllocError>
+    ensures { OnOk result (text.new.items ≡ text.old.items ++ flat_map port_words ports.now) }
+{
+    'ports: for port in ports {
+        text.extend_from_slice(b"/")?;
+        decimals.push(text, *port)?;
+    }
+    Ok(())
+}
+
+// Appends exits, joined by a slash, or a dash where there are none.
+#[tactic(auto, unfolding(crate::specs::Rows::exits_text))]
+fn push_exits(text: &mut Vec<u8>, decimals: &Decimals, exits: &[u8]) -> Result<(), AllocError>
+    ensures { OnOk result (text.new.items ≡ text.old.items ++ exits_text exits.now) }
+{
+    match exits.split_first() {
+        None => text.extend_from_slice(b"-"),
+        Some((first, others)) => {
+            decimals.push(text, *first)?;
+            push_ports(text, decimals, others)
+        }
+    }
+}
+
+// Appends a row: the number of the target, and the exits.
+#[tactic(auto, unfolding(crate::specs::Rows::row_word))]
+fn push_row(text: &mut Vec<u8>, decimals: &Decimals, row: &Row) -> Result<(), AllocError>
+    ensures { OnOk result (text.new.items ≡ text.old.items ++ row_word row.now) }
+{
+    text.extend_from_slice(b" ")?;
+    decimals.push(text, row.to)?;
+    text.extend_from_slice(b":")?;
+    push_exits(text, decimals, row.exits.as_slice())
+}
+
+// Appends the rows of an entry.
+fn push_rows(
+    text: &mut Vec<u8>,
+    decimals: &Decimals,
+    rows: &[Row],
+    entry: u8,
+) -> Result<(), AllocError>
+    ensures { OnOk result (text.new.items ≡ text.old.items ++ flat_map row_word (rows_at rows.now entry)) }
+{
+    'rows: for row in rows {
+        if row.entry == entry {
+            push_row(text, decimals, row)?;
+        }
+    }
+    Ok(())
+}
+
+// Appends the line of an entry of a switch.
+#[tactic(auto, unfolding(crate::specs::Rows::row_line))]
+fn push_row_line(
+    alloc: Global,
+    text: &mut Vec<u8>,
+    script: &Script,
+    decimals: &Decimals,
+    life: Life,
+    rows: &[Row],
+    entry: u8,
+) -> Result<(), AllocError>
+    ensures { OnOk result (text.new.items ≡ text.old.items ++ row_line script.now life rows.now entry) }
+{
+    text.extend_from_slice(b"row ")?;
+    push_life(alloc, text, script, life)?;
+    text.extend_from_slice(b" ")?;
+    decimals.push(text, entry)?;
+    push_rows(text, decimals, rows, entry)?;
+    text.extend_from_slice(b"\n")
+}
+
+/// Appends the lines of the table of the member at a place: one for each entry, 0 and the ports with
+/// a link, with the number of each other member and the exits towards it.
+#[tactic(auto, unfolding(crate::specs::Rows::row_lines))]
+pub fn push_row_lines(
+    alloc: Global,
+    text: &mut Vec<u8>,
+    script: &Script,
+    decimals: &Decimals,
+    graph: &Graph,
+    x: u8,
+    rows: &[Row],
+) -> Result<(), AllocError>
+    requires { x < length graph.now }
+    ensures { OnOk result (text.new.items ≡ text.old.items ++ row_lines script.now graph.now x rows.now) }
+{
+    let life = graph.life(x);
+    'entries: for entry in 0..13u8 {
+        if is_entry(graph, x, entry) {
+            push_row_line(alloc, text, script, decimals, life, rows, entry)?;
+        }
+    }
+    Ok(())
+}
