@@ -1,0 +1,6 @@
+pub mod Readers
+pub mod Turns
+pub mod FrameReaders
+pub mod Decoding
+pub mod Lengths
+pub mod Loops

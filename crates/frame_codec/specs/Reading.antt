@@ -1,0 +1,236 @@
+-- Reading from left to right: what stands at the front of bytes, and the bytes after it.
+use Rattle.std.specs.Prelude.{◌≡◌, ◌==◌, ◌&&◌, ℕ, zero, suc, ◌+◌, List, [], ◌∷◌, ◌++◌, length, take, drop, Option, Some, None, Bool, true, not, nat_lt, if◌then◌else◌, ⊤}
+use Rattle.std.specs.List.{list_any}
+use Rattle.std.specs.Ordering.{is_lt}
+use Rattle.std.specs.declared.result.Result.{Result}
+use Rattle.std.specs.declared.result.Result.TheVariants.{Ok, Err}
+use Rattle.byteorder.specs.Endian.{big_number}
+use Rattle.an_base.specs.Values.{LifeId, EndId, Place, PeerAt, EntryOf, PosOf, AnswerOf, TopoOf}
+use Rattle.an_base.specs.Order.{life_cmp}
+use Rattle.an_base.specs.Frames.{CarryOf}
+use Rattle.an_base.specs.declared.body.Body.{Body}
+use Rattle.an_base.specs.declared.body.Body.TheVariants.{Pos, Answer, Stable, Topo}
+use Rattle.an_base.specs.declared.frame.Frame.{Frame}
+use Rattle.an_base.specs.declared.frame.Frame.TheVariants.{Carry, Ack, Probe, Reply}
+use Rattle.frame_codec.specs.declared.reading.DecodeRefusal.{DecodeRefusal}
+use Rattle.frame_codec.specs.declared.reading.DecodeRefusal.TheVariants.{NotAFrame, OutOfMemory}
+
+-- a value from the front of bytes, and the bytes after it
+abbrev pub At : Type 0 → Type 0
+At A = List ℕ → Option (A × List ℕ)
+
+infixl 10 ◌>>=◌
+abbrev pub ◌>>=◌ : {A B : Type 0} → Option A → (A → Option B) → Option B
+(Some x) >>= f = f x
+None >>= f = None
+
+-- one value after the other
+abbrev pub both : {A B : Type 0} → At A → At B → At (A × B)
+both a b bytes = do
+  x ← a bytes
+  y ← b x.1
+  Some ((x.0, y.0), y.1)
+
+-- what is made of a value
+abbrev pub made : {A B : Type 0} → (A → B) → At A → At B
+made f a bytes = do
+  x ← a bytes
+  Some (f x.0, x.1)
+
+-- a value that passes a test
+abbrev pub tested : {A : Type 0} → (A → Bool) → At A → At A
+tested t a bytes = do
+  x ← a bytes
+  if t x.0 then Some x else None
+
+-- So many values: each is read after what is to be known of the one before it, at first s.
+unfoldable pub list_at : {A S : Type 0} → (S → At A) → (A → S) → S → ℕ → At (List A)
+list_at one next s zero bytes = Some ([], bytes)
+list_at one next s (suc n) bytes = do
+  first ← one s bytes
+  others ← list_at one next (next first.0) n first.1
+  Some (first.0 ∷ others.0, others.1)
+
+-- what a call read from the bytes old, as view sees it, where it left the bytes new
+abbrev pub ReadsAs : {A B : Type 0} → (A → B) → At B → Result A DecodeRefusal → List ℕ → List ℕ → Type 0
+ReadsAs view at (Ok x) old new = at old ≡ Some (view x, new)
+ReadsAs view at (Err NotAFrame) old new = at old ≡ None
+ReadsAs view at (Err OutOfMemory) old new = ⊤
+
+abbrev pub Reads : {A : Type 0} → At A → Result A DecodeRefusal → List ℕ → List ℕ → Type 0
+Reads at result old new = ReadsAs (λ x. x) at result old new
+
+abbrev pub byte_at : At ℕ
+byte_at [] = None
+byte_at (b ∷ rest) = Some (b, rest)
+
+unfoldable pub number_at : ℕ → At ℕ
+number_at n bytes = if nat_lt (length bytes) n then None else Some (big_number n bytes, drop n bytes)
+
+-- a byte from least to most
+abbrev pub within_at : ℕ → ℕ → At ℕ
+within_at least most = tested (λ b. not (nat_lt b least) && not (nat_lt most b)) byte_at
+
+-- four bytes that are not 0
+abbrev pub counted_at : At ℕ
+counted_at = tested (λ n. not (nat_lt n 1)) (number_at 4)
+
+abbrev pub truth_at : At Bool
+truth_at = made (λ b. b == 1) (within_at 0 1)
+
+abbrev pub life_of : ℕ × ℕ → LifeId
+life_of p = record { uid = p.0; boot = p.1 }
+
+unfoldable pub life_at : At LifeId
+life_at = made life_of (both (number_at 6) counted_at)
+
+abbrev pub end_of : LifeId × ℕ → EndId
+end_of p = record { life = p.0; port = p.1 }
+
+unfoldable pub end_at : At EndId
+end_at = made end_of (both life_at (within_at 1 12))
+
+abbrev pub position_of : ((LifeId × ℕ) × LifeId) × ℕ → Place
+position_of p = record { root = p.0.0.0; level = p.0.0.1; parent = p.0.1; port = p.1 }
+
+unfoldable pub position_at : At Place
+position_at = made position_of (both (both (both life_at (within_at 0 125)) life_at) (within_at 0 12))
+
+abbrev pub link_of : ℕ × EndId → PeerAt
+link_of p = record { port = p.0; peer = p.1 }
+
+-- a link whose port is above this one
+unfoldable pub link_above_at : ℕ → At PeerAt
+link_above_at above = made link_of (both (within_at (above + 1) 12) end_at)
+
+-- so many links by rising port, all above this one
+abbrev pub links_from : ℕ → ℕ → At (List PeerAt)
+links_from = list_at link_above_at (λ k. k.port)
+
+unfoldable pub links_at : At (List PeerAt)
+links_at bytes = do
+  count ← within_at 0 12 bytes
+  links_from 0 count.0 count.1
+
+abbrev pub entry_of : ((LifeId × Place) × ℕ) × List PeerAt → EntryOf
+entry_of p = record { life = p.0.0.0; position = p.0.0.1; proposed = p.0.1; links = p.1 }
+
+unfoldable pub entry_at : At EntryOf
+entry_at = made entry_of (both (both (both life_at position_at) (within_at 1 126)) links_at)
+
+-- whether the life is above this one, where there is one
+abbrev pub is_above : Option LifeId → LifeId → Bool
+is_above None life = true
+is_above (Some above) life = is_lt (life_cmp above life)
+
+-- an entry whose life is above this one
+unfoldable pub entry_above_at : Option LifeId → At EntryOf
+entry_above_at above = tested (λ e. is_above above e.life) entry_at
+
+-- so many entries by rising life, all above this one
+abbrev pub entries_from : Option LifeId → ℕ → At (List EntryOf)
+entries_from = list_at entry_above_at (λ e. Some e.life)
+
+unfoldable pub entries_at : At (List EntryOf)
+entries_at bytes = do
+  count ← within_at 1 126 bytes
+  entries_from None count.0 count.1
+
+-- whether each number is 1 to 126 and differs from those before it
+abbrev pub is_new : List ℕ → ℕ → Bool
+is_new before n = not (nat_lt n 1) && not (nat_lt 126 n) && not (list_any (λ m. m == n) before)
+
+unfoldable pub are_new : List ℕ → List ℕ → Bool
+are_new before [] = true
+are_new before (n ∷ numbers) = is_new before n && are_new (before ++ n ∷ []) numbers
+
+abbrev pub are_numbers : List ℕ → Bool
+are_numbers numbers = are_new [] numbers
+
+-- so many bytes
+abbrev pub bytes_at : ℕ → At (List ℕ)
+bytes_at count bytes = if nat_lt (length bytes) count then None else Some (take count bytes, drop count bytes)
+
+unfoldable pub numbers_at : ℕ → At (List ℕ)
+numbers_at count = tested are_numbers (bytes_at count)
+
+abbrev pub pos_of : ((ℕ × LifeId) × ℕ) × Bool → PosOf
+pos_of p = record { version = p.0.0.0; root = p.0.0.1; level = p.0.1; to_parent = p.1 }
+
+unfoldable pub pos_at : At PosOf
+pos_at = made pos_of (both (both (both counted_at life_at) (within_at 0 125)) truth_at)
+
+abbrev pub answer_of : ℕ × Bool → AnswerOf
+answer_of p = record { version = p.0; to_parent = p.1 }
+
+unfoldable pub answer_at : At AnswerOf
+answer_at = made answer_of (both counted_at truth_at)
+
+abbrev pub topo_of : List EntryOf → List ℕ → TopoOf
+topo_of entries numbers = record { entries = entries; numbers = numbers }
+
+unfoldable pub topo_at : At TopoOf
+topo_at bytes = do
+  entries ← entries_at bytes
+  numbers ← numbers_at (length entries.0) entries.1
+  Some (topo_of entries.0 numbers.0, numbers.1)
+
+-- what a body of this kind holds
+abbrev pub body_of : ℕ → At Body
+body_of kind bytes =
+    if kind == 1 then made Pos pos_at bytes else
+    if kind == 2 then made Answer answer_at bytes else
+    if kind == 3 then made Stable entries_at bytes else
+    if kind == 4 then made Topo topo_at bytes else
+    None
+
+unfoldable pub body_at : At Body
+body_at bytes = byte_at bytes >>= λ kind. body_of kind.0 kind.1
+
+abbrev pub carry_of : (((ℕ × EndId) × EndId) × ℕ) × Body → CarryOf
+carry_of p = record { epoch = p.0.0.0.0; from = p.0.0.0.1; to = p.0.0.1; k = p.0.1; body = p.1 }
+
+unfoldable pub carry_at : At CarryOf
+carry_at = made carry_of (both (both (both (both (number_at 8) end_at) end_at) counted_at) body_at)
+
+abbrev pub ack_of : ((ℕ × EndId) × EndId) × ℕ → Frame
+ack_of p = Ack p.0.0.0 p.0.0.1 p.0.1 p.1
+
+unfoldable pub ack_at : At Frame
+ack_at = made ack_of (both (both (both (number_at 8) end_at) end_at) (number_at 4))
+
+abbrev pub probe_of : EndId × ℕ → Frame
+probe_of p = Probe p.0 p.1
+
+unfoldable pub probe_at : At Frame
+probe_at = made probe_of (both end_at (number_at 8))
+
+abbrev pub reply_of : (EndId × EndId) × ℕ → Frame
+reply_of p = Reply p.0.0 p.0.1 p.1
+
+unfoldable pub reply_at : At Frame
+reply_at = made reply_of (both (both end_at end_at) (number_at 8))
+
+-- what a frame of this kind holds
+abbrev pub frame_of_kind : ℕ → At Frame
+frame_of_kind kind bytes =
+    if kind == 1 then made Carry carry_at bytes else
+    if kind == 2 then ack_at bytes else
+    if kind == 3 then probe_at bytes else
+    if kind == 4 then reply_at bytes else
+    None
+
+unfoldable pub frame_at : At Frame
+frame_at bytes = byte_at bytes >>= λ kind. frame_of_kind kind.0 kind.1
+
+-- all of the bytes
+unfoldable pub frame_of : List ℕ → Option Frame
+frame_of bytes = do
+  f ← frame_at bytes
+  if length f.1 == 0 then Some f.0 else None
+
+-- what a call made of all of the bytes
+abbrev pub GivesFrame : List ℕ → Result Frame DecodeRefusal → Type 0
+GivesFrame bytes (Ok f) = frame_of bytes ≡ Some f
+GivesFrame bytes (Err NotAFrame) = frame_of bytes ≡ None
+GivesFrame bytes (Err OutOfMemory) = ⊤

@@ -1,0 +1,77 @@
+-- The one spelling of each frame. Numbers stand highest byte first.
+use Rattle.std.specs.Prelude.{ℕ, Bool, true, false, List, [], ◌∷◌, ◌++◌, length}
+use Rattle.std.specs.List.{flat_map}
+use Rattle.byteorder.specs.Endian.{big_bytes}
+use Rattle.an_base.specs.Values.{LifeId, EndId, Place, PeerAt, EntryOf, PosOf, AnswerOf, TopoOf}
+use Rattle.an_base.specs.Frames.{CarryOf}
+use Rattle.an_base.specs.declared.body.Body.{Body}
+use Rattle.an_base.specs.declared.body.Body.TheVariants.{Pos, Answer, Stable, Topo}
+use Rattle.an_base.specs.declared.frame.Frame.{Frame}
+use Rattle.an_base.specs.declared.frame.Frame.TheVariants.{Carry, Ack, Probe, Reply}
+
+-- the lowest n bytes of x, highest first
+unfoldable pub number_bytes : ℕ → ℕ → List ℕ
+number_bytes n x = big_bytes n x
+
+-- a life is 10 bytes: identifier 6, boot 4
+abbrev pub life_bytes : LifeId → List ℕ
+life_bytes l = number_bytes 6 l.uid ++ number_bytes 4 l.boot
+
+-- an end is a life and a port byte
+abbrev pub end_bytes : EndId → List ℕ
+end_bytes e = life_bytes e.life ++ e.port ∷ []
+
+-- a truth value is 01 or 00
+abbrev pub truth_bytes : Bool → List ℕ
+truth_bytes true = 1 ∷ []
+truth_bytes false = 0 ∷ []
+
+-- root 10, level 1, parent 10, parent port 1
+abbrev pub position_bytes : Place → List ℕ
+position_bytes p = life_bytes p.root ++ (p.level ∷ []) ++ life_bytes p.parent ++ p.port ∷ []
+
+-- port 1, peer life 10, peer port 1
+abbrev pub link_bytes : PeerAt → List ℕ
+link_bytes k = (k.port ∷ []) ++ end_bytes k.peer
+
+-- a count and that many links
+abbrev pub links_bytes : List PeerAt → List ℕ
+links_bytes links = length links ∷ flat_map link_bytes links
+
+-- life 10, position 22, proposed number 1, links
+abbrev pub entry_bytes : EntryOf → List ℕ
+entry_bytes e = life_bytes e.life ++ position_bytes e.position ++ (e.proposed ∷ []) ++ links_bytes e.links
+
+-- a count and that many entries
+abbrev pub entries_bytes : List EntryOf → List ℕ
+entries_bytes entries = length entries ∷ flat_map entry_bytes entries
+
+-- version 4, root 10, level 1, to_parent 1
+abbrev pub pos_bytes : PosOf → List ℕ
+pos_bytes b = number_bytes 4 b.version ++ life_bytes b.root ++ (b.level ∷ []) ++ truth_bytes b.to_parent
+
+-- version 4, to_parent 1
+abbrev pub answer_bytes : AnswerOf → List ℕ
+answer_bytes b = number_bytes 4 b.version ++ truth_bytes b.to_parent
+
+-- entries, and a byte for the number of each
+abbrev pub topo_bytes : TopoOf → List ℕ
+topo_bytes b = entries_bytes b.entries ++ b.numbers
+
+-- a kind byte, and what this kind holds
+abbrev pub body_bytes : Body → List ℕ
+body_bytes (Pos b) = 1 ∷ pos_bytes b
+body_bytes (Answer b) = 2 ∷ answer_bytes b
+body_bytes (Stable entries) = 3 ∷ entries_bytes entries
+body_bytes (Topo b) = 4 ∷ topo_bytes b
+
+-- epoch 8, from 11, to 11, k 4, body
+abbrev pub carry_bytes : CarryOf → List ℕ
+carry_bytes f = number_bytes 8 f.epoch ++ end_bytes f.from ++ end_bytes f.to ++ number_bytes 4 f.k ++ body_bytes f.body
+
+-- a kind byte, and what this kind holds; nothing follows
+abbrev pub spelling : Frame → List ℕ
+spelling (Carry f) = 1 ∷ carry_bytes f
+spelling (Ack epoch from to n) = 2 ∷ number_bytes 8 epoch ++ end_bytes from ++ end_bytes to ++ number_bytes 4 n
+spelling (Probe from nonce) = 3 ∷ end_bytes from ++ number_bytes 8 nonce
+spelling (Reply from to nonce) = 4 ∷ end_bytes from ++ end_bytes to ++ number_bytes 8 nonce

@@ -1,0 +1,23 @@
+ghost use Rattle.std.specs.Prelude.{◌≡◌};
+ghost use Rattle.frame_codec.specs.Reading.{are_numbers};
+
+// Whether each number is 1 to 126, and none comes twice.
+pub fn are_numbers(numbers: &[u8]) -> bool
+    ensures { result ≡ are_numbers numbers.now }
+{
+    let mut seen = [false; 127];
+    'numbers: for number in numbers {
+        let number = *number;
+        if number < 1 {
+            return false;
+        }
+        if number > 126 {
+            return false;
+        }
+        if seen[usize::from(number)] {
+            return false;
+        }
+        seen[usize::from(number)] = true;
+    }
+    true
+}

@@ -1,0 +1,249 @@
+ghost use Rattle.std.specs.Prelude.{◌≡◌, ◌≤◌, ◌<◌, ◌^◌, ◌+◌, ◌*◌, ◌∷◌, ◌++◌, length, All};
+ghost use Rattle.std.specs.List.{flat_map};
+ghost use Rattle.frame_codec.specs.Spelling.{number_bytes, life_bytes, end_bytes, truth_bytes, position_bytes, link_bytes, links_bytes, entry_bytes, entries_bytes, pos_bytes, answer_bytes, topo_bytes, body_bytes, carry_bytes, spelling};
+ghost use Rattle.frame_codec.specs.Frames.{IsLife, IsEnd, IsPosition, IsLink, AreLinks, IsEntry, AreEntries, IsPos, IsCounted, IsTopo, IsBody, IsCarry, IsFrame};
+
+use an_base::body::{AnswerBody, Body, PosBody, TopoBody};
+use an_base::entry::{Entries, Entry};
+use an_base::frame::{CarryFrame, Frame};
+use an_base::life::{End, Life};
+use an_base::links::{Links, PortLink};
+use an_base::position::Position;
+use byteorder::{BigEndian, ByteOrder};
+use frame_region::buffer::FrameBuf;
+
+#[tactic(auto, unfolding(crate::specs::Spelling::number_bytes))]
+fn put_number_32(out: &mut FrameBuf, number: u32)
+    requires { length out.old + 4 ≤ 22591 }
+    ensures spelled { out.new ≡ out.old ++ number_bytes 4 number }
+    ensures longer { length out.new ≡ length out.old + 4 }
+{
+    let mut bytes = [0; 4];
+    BigEndian::write_u32(&mut bytes, number);
+    out.add(&bytes);
+}
+
+#[tactic(auto, unfolding(crate::specs::Spelling::number_bytes))]
+fn put_number_64(out: &mut FrameBuf, number: u64)
+    requires { length out.old + 8 ≤ 22591 }
+    ensures spelled { out.new ≡ out.old ++ number_bytes 8 number }
+    ensures longer { length out.new ≡ length out.old + 8 }
+{
+    let mut bytes = [0; 8];
+    BigEndian::write_u64(&mut bytes, number);
+    out.add(&bytes);
+}
+
+fn put_truth(out: &mut FrameBuf, truth: bool)
+    requires { length out.old + 1 ≤ 22591 }
+    ensures spelled { out.new ≡ out.old ++ truth_bytes truth }
+    ensures longer { length out.new ≡ length out.old + 1 }
+{
+    if truth {
+        out.add(&[1]);
+    } else {
+        out.add(&[0]);
+    }
+}
+
+#[tactic(auto, unfolding(crate::specs::Spelling::number_bytes))]
+fn put_life(out: &mut FrameBuf, life: Life)
+    requires { length out.old + 10 ≤ 22591 }
+    ensures spelled { out.new ≡ out.old ++ life_bytes life }
+    ensures within { IsLife life }
+    ensures longer { length out.new ≡ length out.old + 10 }
+{
+    let mut uid = [0; 6];
+    BigEndian::write_uint(&mut uid, life.uid(), 6);
+    out.add(&uid);
+    put_number_32(out, life.boot());
+}
+
+fn put_end(out: &mut FrameBuf, end: End)
+    requires { length out.old + 11 ≤ 22591 }
+    ensures spelled { out.new ≡ out.old ++ end_bytes end }
+    ensures within { IsEnd end }
+    ensures longer { length out.new ≡ length out.old + 11 }
+{
+    put_life(out, end.life());
+    out.add(&[end.port()]);
+}
+
+fn put_position(out: &mut FrameBuf, position: &Position)
+    requires { length out.old + 22 ≤ 22591 }
+    ensures spelled { out.new ≡ out.old ++ position_bytes position.now }
+    ensures within { IsPosition position.now }
+    ensures longer { length out.new ≡ length out.old + 22 }
+{
+    put_life(out, position.root());
+    out.add(&[position.level()]);
+    put_life(out, position.parent());
+    out.add(&[position.port()]);
+}
+
+fn put_link(out: &mut FrameBuf, link: &PortLink)
+    requires { length out.old + 12 ≤ 22591 }
+    ensures spelled { out.new ≡ out.old ++ link_bytes link.now }
+    ensures within { IsLink link.now }
+    ensures longer { length out.new ≡ length out.old + 12 }
+{
+    out.add(&[link.port()]);
+    put_end(out, link.peer());
+}
+
+// The links after their count.
+fn put_each_link(out: &mut FrameBuf, links: &[PortLink])
+    requires { length out.old + 12 * length links.now ≤ 22591 }
+    ensures spelled { out.new ≡ out.old ++ flat_map link_bytes links.now }
+    ensures within { All IsLink links.now }
+    ensures longer { length out.new ≤ length out.old + 12 * length links.now }
+{
+    'links: for link in links {
+        put_link(out, link);
+    }
+}
+
+fn put_links(out: &mut FrameBuf, links: &Links)
+    requires { length out.old + 145 ≤ 22591 }
+    ensures spelled { out.new ≡ out.old ++ links_bytes links.now }
+    ensures within { AreLinks links.now }
+    ensures longer { length out.new ≤ length out.old + 145 }
+{
+    let links = links.as_slice();
+    out.add(&[links.len() as u8]);
+    put_each_link(out, links);
+}
+
+fn put_entry(out: &mut FrameBuf, entry: &Entry)
+    requires { length out.old + 178 ≤ 22591 }
+    ensures spelled { out.new ≡ out.old ++ entry_bytes entry.now }
+    ensures within { IsEntry entry.now }
+    ensures longer { length out.new ≤ length out.old + 178 }
+{
+    put_life(out, entry.life);
+    put_position(out, &entry.position);
+    out.add(&[entry.proposed()]);
+    put_links(out, &entry.links);
+}
+
+// The entries after their count.
+fn put_each_entry(out: &mut FrameBuf, entries: &[Entry])
+    requires { length out.old + 178 * length entries.now ≤ 22591 }
+    ensures spelled { out.new ≡ out.old ++ flat_map entry_bytes entries.now }
+    ensures within { All IsEntry entries.now }
+    ensures longer { length out.new ≤ length out.old + 178 * length entries.now }
+{
+    'entries: for entry in entries {
+        put_entry(out, entry);
+    }
+}
+
+fn put_entries(out: &mut FrameBuf, entries: &Entries)
+    requires { length out.old + 22429 ≤ 22591 }
+    ensures spelled { out.new ≡ out.old ++ entries_bytes entries.now }
+    ensures within { AreEntries entries.now }
+    ensures longer { length out.new ≤ length out.old + 22429 }
+{
+    let entries = entries.as_slice();
+    out.add(&[entries.len() as u8]);
+    put_each_entry(out, entries);
+}
+
+fn put_pos(out: &mut FrameBuf, body: PosBody)
+    requires { length out.old + 16 ≤ 22591 }
+    ensures spelled { out.new ≡ out.old ++ pos_bytes body }
+    ensures within { IsPos body }
+{
+    put_number_32(out, body.version());
+    put_life(out, body.root());
+    out.add(&[body.level()]);
+    put_truth(out, body.to_parent());
+}
+
+fn put_answer(out: &mut FrameBuf, body: AnswerBody)
+    requires { length out.old + 5 ≤ 22591 }
+    ensures spelled { out.new ≡ out.old ++ answer_bytes body }
+    ensures within { IsCounted body.version }
+{
+    put_number_32(out, body.version());
+    put_truth(out, body.to_parent());
+}
+
+fn put_topo(out: &mut FrameBuf, body: &TopoBody)
+    requires { length out.old + 22555 ≤ 22591 }
+    ensures spelled { out.new ≡ out.old ++ topo_bytes body.now }
+    ensures within { IsTopo body.now }
+{
+    put_entries(out, body.entries());
+    out.add(body.numbers().as_slice());
+}
+
+fn put_body(out: &mut FrameBuf, body: &Body)
+    requires { length out.old + 22556 ≤ 22591 }
+    ensures spelled { out.new ≡ out.old ++ body_bytes body.now }
+    ensures within { IsBody body.now }
+{
+    match body {
+        Body::Pos(body) => {
+            out.add(&[1]);
+            put_pos(out, *body);
+        }
+        Body::Answer(body) => {
+            out.add(&[2]);
+            put_answer(out, *body);
+        }
+        Body::Stable { entries } => {
+            out.add(&[3]);
+            put_entries(out, entries);
+        }
+        Body::Topo(body) => {
+            out.add(&[4]);
+            put_topo(out, body);
+        }
+    }
+}
+
+fn put_carry(out: &mut FrameBuf, carry: &CarryFrame)
+    requires { length out.old + 22590 ≤ 22591 }
+    ensures spelled { out.new ≡ out.old ++ carry_bytes carry.now }
+    ensures within { IsCarry carry.now }
+{
+    put_number_64(out, carry.epoch);
+    put_end(out, carry.from);
+    put_end(out, carry.to);
+    put_number_32(out, carry.k());
+    put_body(out, &carry.body);
+}
+
+/// Sets `out` to the spelling of the frame, without taking memory. Each value of the type is within
+/// the ranges of a frame.
+pub fn encode(frame: &Frame, out: &mut FrameBuf)
+    ensures spelled { out.new ≡ spelling frame.now }
+    ensures within { IsFrame frame.now }
+{
+    out.clear();
+    match frame {
+        Frame::Carry(carry) => {
+            out.add(&[1]);
+            put_carry(out, carry);
+        }
+        Frame::Ack { epoch, from, to, n } => {
+            out.add(&[2]);
+            put_number_64(out, *epoch);
+            put_end(out, *from);
+            put_end(out, *to);
+            put_number_32(out, *n);
+        }
+        Frame::Probe { from, nonce } => {
+            out.add(&[3]);
+            put_end(out, *from);
+            put_number_64(out, *nonce);
+        }
+        Frame::Reply { from, to, nonce } => {
+            out.add(&[4]);
+            put_end(out, *from);
+            put_end(out, *to);
+            put_number_64(out, *nonce);
+        }
+    }
+}
