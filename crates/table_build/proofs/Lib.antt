@@ -8,3 +8,4 @@ pub mod TreeRoutes
 pub mod CycleLaws
 pub mod ShortestLaws
 pub mod TableLaws
+pub mod LengthLaws

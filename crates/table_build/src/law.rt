@@ -1,4 +1,4 @@
-ghost use Rattle.std.specs.Prelude.{◌≡◌, ◌≢◌, ◌+◌, ◌<◌, ℕ, suc, List, [], Bool, true, false, Some, length, slice_index};
+ghost use Rattle.std.specs.Prelude.{◌≡◌, ◌≢◌, ◌+◌, ◌-◌, ◌*◌, ◌<◌, ◌≤◌, ℕ, suc, List, [], Bool, true, false, Some, length, slice_index};
 ghost use Rattle.an_base.specs.Values.{EntryOf};
 ghost use Rattle.an_base.specs.Numbers.{AreNumbers};
 ghost use Rattle.topo_graph.specs.Topology.{far_of, IsGraph, IsTree};
@@ -43,6 +43,20 @@ pub fn following_comes_nearer()
     ensures { (es : List EntryOf) (y x entry z out n : ℕ) (ps : List ℕ) → IsGraph es
         → Follows es false y x entry ps z out → IsShortest es (may_go_up es x entry) x y n
         → (m : ℕ) × (n ≡ length ps + m) × IsShortest es (may_go_up es z out) z y m }
+{}
+
+/// To follow exits ends: from any place of n, by whatever exits, after at most 2 (n - 1) links.
+pub fn following_ends()
+    ensures { (es : List EntryOf) (any : Bool) (y x entry z out : ℕ) (ps : List ℕ) → IsGraph es
+        → x < length es → Follows es any y x entry ps z out → length ps ≤ 2 * (length es - 1) }
+{}
+
+/// What follows exits from entry 0 of a member towards another one has an exit wherever it comes to
+/// before that one. So, since to follow exits ends, it comes to it.
+pub fn following_goes_on()
+    ensures { (es : List EntryOf) (any : Bool) (y x z out : ℕ) (ps : List ℕ) → IsGraph es → IsTree es
+        → x < length es → y < length es → Follows es any y x 0 ps z out → z ≢ y
+        → (p : ℕ) × Begins es any (may_go_up es z out) z y p }
 {}
 
 /// No channel leads back to itself, over whatever members and numbers, whether packets take any
