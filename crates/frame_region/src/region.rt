@@ -1,0 +1,350 @@
+ghost use Rattle.std.specs.Prelude.{◌≡◌, ◌≢◌, min, ◌+◌, ◌-◌, ◌*◌, ◌<◌, ◌≤◌, ℕ, length, take, drop, replicate, None, IfOk, IfErr, OnOk, OnErr, IsSome, slice_index_or};
+ghost use Rattle.frame_region.specs.Blocks.{needed, block, chain_bytes, IsWritten};
+ghost use Rattle.frame_region.specs.Regions.{blocks_of, bytes_at, held_at, piece_of, with_put, without};
+
+use crate::buffer::FrameBuf;
+use an_base::memory::OutOfMemory;
+use std::alloc::Global;
+use std::marker::Model;
+
+/// The bytes of a block.
+pub const BLOCK: usize = 64;
+
+/// The most blocks of a region.
+pub const MOST_BLOCKS: u32 = 1_048_576;
+
+/// What names bytes that were put in a region, 1 to 22,591 of them. It cannot be copied. The bytes
+/// that it names stay until it is given back; where it is dropped, until the region is dropped.
+#[derive(Debug, Drop)]
+pub struct Slip {
+    first: u32,
+}
+
+impl Model for Slip {
+    ghost use Rattle.std.specs.Prelude.{ℕ};
+
+    ghost Value = { ℕ };
+
+    ghost view = { λ s. s.first };
+}
+
+impl Slip {
+    /// Its number: two slips of one region that both name bytes have different numbers, each below the
+    /// number of the region's blocks.
+    pub fn number(&self) -> u32
+        ensures { result ≡ self.now }
+    {
+        self.first
+    }
+}
+
+/// There are too few free blocks.
+#[derive(Clone, Copy, Debug, PartialEq, Eq)]
+pub struct NoRoom {
+    /// How many blocks the bytes need, 1 to 353.
+    pub need: u32,
+    /// How many are free.
+    pub free: u32,
+}
+
+/// Blocks of 64 bytes, all of which are taken from memory at once. Each has the number of the next
+/// block of its chain, and the first block of a chain has the length of the byte string in it.
+#[derive(Debug, Drop)]
+pub struct Region {
+    bytes: Vec<u8>,
+    next: Vec<u32>,
+    lens: Vec<u16>,
+    first_free: u32,
+    free: u32,
+}
+
+impl Model for Region {
+    ghost use Rattle.frame_region.specs.Regions.{RegionOf, shown, IsKept};
+
+    ghost Value = { RegionOf };
+
+    ghost view = { λ r. shown r.bytes.items r.next.items r.lens.items r.free };
+
+    ghost invariant = { λ r. IsKept r.bytes.items r.next.items r.lens.items r.first_free r.free };
+}
+
+// How many blocks so many bytes need.
+fn needed(len: usize) -> u32
+    requires { len ≤ 22591 }
+    ensures { result ≡ needed len }
+{
+    ((len + 63) / BLOCK) as u32
+}
+
+// Writes a piece of at most 64 bytes at the front of a block.
+fn write(bytes: &mut [u8], block: u32, piece: &[u8])
+    requires most { length piece.now ≤ 64 }
+    requires room { 64 * block + 64 ≤ length bytes.old }
+    ensures count { length bytes.new ≡ length bytes.old }
+    ensures piece { (m : ℕ) → m < length piece.now → slice_index_or bytes.new (64 * block + m) 0 ≡ slice_index_or piece.now m 0 }
+    ensures others { (b m : ℕ) → m < 64 → b ≢ block → slice_index_or bytes.new (64 * b + m) 0 ≡ slice_index_or bytes.old (64 * b + m) 0 }
+{
+    let start = BLOCK * block as usize;
+    bytes[start..start + piece.len()].copy_from_slice(piece);
+}
+
+// Piece number k, from 0, of a frame: 64 bytes, the last one fewer.
+fn piece_of(frame: &[u8], k: usize) -> &[u8]
+    requires { 64 * k < length frame.now }
+    ensures length { length result.now ≡ min 64 (length frame.now - 64 * k) }
+    ensures bytes { (m : ℕ) → m < length result.now → slice_index_or result.now m 0 ≡ slice_index_or frame.now (64 * k + m) 0 }
+{
+    let rest = &frame[BLOCK * k..];
+    &rest[..rest.len().min(BLOCK)]
+}
+
+// The front of a block: of so many bytes that are left, those that lie in it.
+fn front_of(bytes: &[u8], block: u32, left: usize) -> &[u8]
+    requires { 64 * block + 64 ≤ length bytes.now }
+    ensures length { length result.now ≡ min 64 left }
+    ensures bytes { (m : ℕ) → m < length result.now → slice_index_or result.now m 0 ≡ slice_index_or bytes.now (64 * block + m) 0 }
+{
+    let start = BLOCK * block as usize;
+    &bytes[start..start + left.min(BLOCK)]
+}
+
+// The block of a chain after so many.
+fn block_after(next: &[u32], first: u32, count: u32) -> u32
+    requires { (k : ℕ) → k < count → block next.now first k < length next.now }
+    ensures { result ≡ block next.now first count }
+{
+    let mut block = first;
+    'blocks: for _ in 0..count {
+        block = next[block as usize];
+    }
+    block
+}
+
+// Writes a frame into the blocks of a chain, and answers the block after them.
+fn fill(bytes: &mut [u8], next: &[u32], first: u32, frame: &[u8]) -> u32
+    requires most { length frame.now ≤ 22591 }
+    requires room { length bytes.old ≡ 64 * length next.now }
+    requires within { (k : ℕ) → k < needed (length frame.now) → block next.now first k < length next.now }
+    requires apart { (i j : ℕ) → i < needed (length frame.now) → j < needed (length frame.now) → block next.now first i ≡ block next.now first j → i ≡ j }
+    ensures end { result ≡ block next.now first (needed (length frame.now)) }
+    ensures written { IsWritten next.now first frame.now bytes.old bytes.new }
+{
+    let mut block = first;
+    'blocks: for k in 0..needed(frame.len()) as usize {
+        write(bytes, block, piece_of(frame, k));
+        block = next[block as usize];
+    }
+    block
+}
+
+// Sets the buffer to so many bytes of a chain.
+fn gather(bytes: &[u8], next: &[u32], first: u32, len: usize, out: &mut FrameBuf)
+    requires most { len ≤ 22591 }
+    requires room { length bytes.now ≡ 64 * length next.now }
+    requires within { (k : ℕ) → k < needed len → block next.now first k < length next.now }
+    ensures { out.new ≡ chain_bytes bytes.now next.now first len }
+{
+    out.clear();
+    let mut block = first;
+    'blocks: for k in 0..needed(len) as usize {
+        out.add(front_of(bytes, block, len - BLOCK * k));
+        block = next[block as usize];
+    }
+}
+
+// For each of so many blocks the next one.
+fn following(alloc: Global, blocks: u32) -> Result<Vec<u32>, OutOfMemory>
+    requires { blocks ≤ 1048576 }
+    ensures count { IfOk result (λ next. length next.items ≡ blocks) }
+    ensures next { IfOk result (λ next. (b : ℕ) → b < blocks → slice_index_or next.items b 0 ≡ b + 1) }
+{
+    let mut next = Vec::with_capacity(alloc, blocks as usize)?;
+    'blocks: for b in 0..blocks {
+        next.push(b + 1)?;
+    }
+    Ok(next)
+}
+
+impl Region {
+    /// So many blocks, 1 to 1,048,576, all of them free.
+    pub fn new(alloc: Global, blocks: u32) -> Result<Self, OutOfMemory>
+        requires least { 1 ≤ blocks }
+        requires most { blocks ≤ 1048576 }
+        ensures { IfOk result (λ r. r ≡ record { held = replicate blocks None; free = blocks }) }
+    {
+        let next = following(alloc, blocks)?;
+        let lens = vec![in alloc; 0u16; blocks as usize]?;
+        let bytes = vec![in alloc; 0u8; BLOCK * blocks as usize]?;
+        Ok(Region {
+            bytes,
+            next,
+            lens,
+            first_free: 0,
+            free: blocks,
+        })
+    }
+
+    /// How many blocks are free.
+    pub fn free_blocks(&self) -> u32
+        ensures free { result ≡ self.now.free }
+        ensures most { self.now.free ≤ length self.now.held }
+    {
+        self.free
+    }
+
+    /// Puts bytes, 1 to 22,591, without taking memory. They need a block for each 64 of them. There is
+    /// no room exactly where fewer blocks are free, and then nothing changes.
+    pub fn put(&mut self, bytes: &[u8]) -> Result<Slip, NoRoom>
+        requires least { 1 ≤ length bytes.now }
+        requires most { length bytes.now ≤ 22591 }
+        ensures put { IfOk result (λ slip. self.new ≡ with_put slip bytes.now self.old) }
+        ensures new { IfOk result (λ slip. (slip < length self.old.held) × (held_at self.old slip ≡ None)) }
+        ensures room { OnOk result (blocks_of bytes.now ≤ self.old.free) }
+        ensures refused { IfErr result (λ r. r ≡ record { need = blocks_of bytes.now; free = self.old.free }) }
+        ensures no_room { OnErr result (self.old.free < blocks_of bytes.now) }
+        ensures err { OnErr result (self.new ≡ self.old) }
+    {
+        let need = needed(bytes.len());
+        if self.free < need {
+            return Err(NoRoom {
+                need,
+                free: self.free,
+            });
+        }
+        let first = self.first_free;
+        self.first_free = fill(&mut self.bytes, &self.next, first, bytes);
+        self.free -= need;
+        self.lens[first as usize] = bytes.len() as u16;
+        Ok(Slip { first })
+    }
+
+    /// How many bytes are under a slip that the region has, 1 to 22,591.
+    pub fn len(&self, slip: &Slip) -> usize
+        requires { IsSome (held_at self.now slip.now) }
+        ensures len { result ≡ length (bytes_at self.now slip.now) }
+        ensures least { 1 ≤ result }
+        ensures most { result ≤ 22591 }
+    {
+        usize::from(self.lens[slip.first as usize])
+    }
+
+    /// Piece number i, from 0, of the bytes under a slip that the region has: 64 of them, the last
+    /// piece fewer. The pieces in order are the bytes.
+    pub fn piece(&self, slip: &Slip, i: usize) -> &[u8]
+        requires has { IsSome (held_at self.now slip.now) }
+        requires i { i < blocks_of (bytes_at self.now slip.now) }
+        ensures { result.now ≡ piece_of i (bytes_at self.now slip.now) }
+    {
+        let left = self.len(slip) - BLOCK * i;
+        let block = block_after(&self.next, slip.first, i as u32);
+        front_of(&self.bytes, block, left)
+    }
+
+    /// Sets the buffer to the bytes under a slip that the region has; they stay there.
+    pub fn read(&self, slip: &Slip, out: &mut FrameBuf)
+        requires { IsSome (held_at self.now slip.now) }
+        ensures { out.new ≡ bytes_at self.now slip.now }
+    {
+        gather(&self.bytes, &self.next, slip.first, self.len(slip), out);
+    }
+
+    /// Sets the buffer to the bytes under a slip that the region has, and frees their blocks.
+    pub fn take(&mut self, slip: Slip, out: &mut FrameBuf)
+        requires { IsSome (held_at self.old slip) }
+        ensures out { out.new ≡ bytes_at self.old slip }
+        ensures taken { self.new ≡ without slip self.old }
+    {
+        self.read(&slip, out);
+        self.free(slip);
+    }
+
+    /// Frees the blocks of the bytes under a slip that the region has.
+    pub fn free(&mut self, slip: Slip)
+        requires { IsSome (held_at self.old slip) }
+        ensures { self.new ≡ without slip self.old }
+    {
+        let first = slip.first;
+        let count = needed(usize::from(self.lens[first as usize]));
+        let last = block_after(&self.next, first, count - 1);
+        self.next[last as usize] = self.first_free;
+        self.first_free = first;
+        self.free += count;
+        self.lens[first as usize] = 0;
+    }
+}
+
+#[cfg(test)]
+mod tests {
+    use super::*;
+    use std::test::Fail;
+
+    // A region of so many blocks.
+    fn region_of(alloc: Global, blocks: u32) -> Result<Region, OutOfMemory>
+        requires least { 1 ≤ blocks }
+        requires most { blocks ≤ 1048576 }
+    {
+        Region::new(alloc, blocks)
+    }
+
+    // Puts more bytes in a region that has a slip, and answers the refusal, if there is one.
+    fn put_more(region: &mut Region, slip: &Slip, bytes: &[u8]) -> Option<NoRoom>
+        requires has { IsSome (held_at region.old slip.now) }
+        requires least { 1 ≤ length bytes.now }
+        requires most { length bytes.now ≤ 22591 }
+        ensures { IsSome (held_at region.new slip.now) }
+    {
+        match region.put(bytes) {
+            Ok(_slip) => None,
+            Err(refused) => Some(refused),
+        }
+    }
+
+    #[test]
+    fn a_region_of_two_blocks_has_room_for_two(rt: HostRuntime) -> Result<(), Fail> {
+        let mut region = region_of(rt.alloc(), 2)?;
+        let mut out = FrameBuf::new(rt.alloc())?;
+        let first = region.put(&[7u8; 64]).ok().ok_or("no room")?;
+        assert!(rt; put_more(&mut region, &first, &[1u8; 65]) == Some(NoRoom { need: 2, free: 1 }));
+        assert!(rt; put_more(&mut region, &first, &[2]) == None);
+        assert!(rt; put_more(&mut region, &first, &[3]) == Some(NoRoom { need: 1, free: 0 }));
+        region.take(first, &mut out);
+        assert!(rt; out.bytes() == [7u8; 64].as_slice());
+        assert!(rt; region.free_blocks() == 1);
+        Ok(())
+    }
+
+    #[test]
+    fn the_largest_frame_needs_353_blocks(rt: HostRuntime) -> Result<(), Fail> {
+        let mut small = region_of(rt.alloc(), 352)?;
+        let mut region = region_of(rt.alloc(), 353)?;
+        let mut out = FrameBuf::new(rt.alloc())?;
+        let frame = [9u8; 22_591];
+        assert!(rt;
+            small.put(&frame).err()
+                == Some(NoRoom {
+                    need: 353,
+                    free: 352
+                })
+        );
+        let slip = region.put(&frame).ok().ok_or("no room")?;
+        assert!(rt; region.free_blocks() == 0);
+        assert!(rt; region.piece(&slip, 352).len() == 63);
+        region.take(slip, &mut out);
+        assert!(rt; out.bytes() == frame.as_slice());
+        Ok(())
+    }
+
+    #[test]
+    fn two_blocks_take_65_bytes_a_thousand_times(rt: HostRuntime) -> Result<(), Fail> {
+        let mut region = region_of(rt.alloc(), 2)?;
+        let mut out = FrameBuf::new(rt.alloc())?;
+        'puts: for k in 0..1000u32 {
+            let frame = [(k % 251) as u8; 65];
+            let slip = region.put(&frame).ok().ok_or("no room")?;
+            region.take(slip, &mut out);
+            assert!(rt; out.bytes() == frame.as_slice());
+            assert!(rt; region.free_blocks() == 2);
+        }
+        Ok(())
+    }
+}
