@@ -65,6 +65,16 @@ body_bytes (Answer b) = 2 ∷ answer_bytes b
 body_bytes (Stable entries) = 3 ∷ entries_bytes entries
 body_bytes (Topo b) = 4 ∷ topo_bytes b
 
+-- what stands before a body in the frame that carries it: the epoch and the ends of its session, and its number there
+pub record CarryHeadOf : Type 0 where
+  pub epoch : ℕ
+  pub from : EndId
+  pub to : EndId
+  pub k : ℕ
+
+abbrev pub carried : CarryHeadOf → Body → CarryOf
+carried h body = record { epoch = h.epoch; from = h.from; to = h.to; k = h.k; body = body }
+
 -- epoch 8, from 11, to 11, k 4, body
 abbrev pub carry_bytes : CarryOf → List ℕ
 carry_bytes f = number_bytes 8 f.epoch ++ end_bytes f.from ++ end_bytes f.to ++ number_bytes 4 f.k ++ body_bytes f.body

@@ -1,16 +1,18 @@
-ghost use Rattle.std.specs.Prelude.{◌≡◌, ◌≤◌, ◌<◌, ◌^◌, ◌+◌, ◌*◌, ◌∷◌, ◌++◌, length, All};
+ghost use Rattle.std.specs.Prelude.{◌≡◌, ◌≤◌, ◌<◌, ◌^◌, ◌+◌, ◌*◌, [], ◌∷◌, ◌++◌, length, All};
 ghost use Rattle.std.specs.List.{flat_map};
-ghost use Rattle.frame_codec.specs.Spelling.{number_bytes, life_bytes, end_bytes, truth_bytes, position_bytes, link_bytes, links_bytes, entry_bytes, entries_bytes, pos_bytes, answer_bytes, topo_bytes, body_bytes, carry_bytes, spelling};
+ghost use Rattle.frame_codec.specs.Spelling.{number_bytes, life_bytes, end_bytes, truth_bytes, position_bytes, link_bytes, links_bytes, entry_bytes, entries_bytes, pos_bytes, answer_bytes, topo_bytes, body_bytes, carry_bytes, carried, spelling};
+ghost use Rattle.an_base.specs.declared.frame.Frame.TheVariants.{Carry};
 ghost use Rattle.frame_codec.specs.Frames.{IsLife, IsEnd, IsPosition, IsLink, AreLinks, IsEntry, AreEntries, IsPos, IsCounted, IsTopo, IsBody, IsCarry, IsFrame};
 
 use an_base::body::{AnswerBody, Body, PosBody, TopoBody};
 use an_base::entry::{Entries, Entry};
-use an_base::frame::{CarryFrame, Frame};
+use an_base::frame::Frame;
 use an_base::life::{End, Life};
 use an_base::links::{Links, PortLink};
 use an_base::position::Position;
 use byteorder::{BigEndian, ByteOrder};
 use frame_region::buffer::FrameBuf;
+use std::marker::Model;
 
 #[tactic(auto, unfolding(crate::specs::Spelling::number_bytes))]
 fn put_number_32(out: &mut FrameBuf, number: u32)
@@ -203,16 +205,74 @@ fn put_body(out: &mut FrameBuf, body: &Body)
     }
 }
 
-fn put_carry(out: &mut FrameBuf, carry: &CarryFrame)
+fn put_carry(out: &mut FrameBuf, head: &CarryHead, body: &Body)
     requires { length out.old + 22590 ≤ 22591 }
-    ensures spelled { out.new ≡ out.old ++ carry_bytes carry.now }
-    ensures within { IsCarry carry.now }
+    ensures spelled { out.new ≡ out.old ++ carry_bytes (carried head.now body.now) }
+    ensures within { IsCarry (carried head.now body.now) }
 {
-    put_number_64(out, carry.epoch);
-    put_end(out, carry.from);
-    put_end(out, carry.to);
-    put_number_32(out, carry.k());
-    put_body(out, &carry.body);
+    put_number_64(out, head.epoch);
+    put_end(out, head.from);
+    put_end(out, head.to);
+    put_number_32(out, head.k());
+    put_body(out, body);
+}
+
+// The kind byte alone.
+fn begin(out: &mut FrameBuf, kind: u8)
+    ensures { out.new ≡ kind ∷ [] }
+{
+    out.clear();
+    out.add(&[kind]);
+}
+
+/// What stands before the body in the frame that carries it.
+#[derive(Clone, Copy, Debug)]
+pub struct CarryHead {
+    epoch: u64,
+    from: End,
+    to: End,
+    k: u32,
+}
+
+impl Model for CarryHead {
+    ghost use Rattle.std.specs.Prelude.{◌≤◌};
+    ghost use Rattle.frame_codec.specs.Spelling.{CarryHeadOf};
+
+    ghost Value = { CarryHeadOf };
+
+    ghost view = { λ h. record { epoch = h.epoch; from = h.from; to = h.to; k = h.k } };
+
+    ghost invariant = { λ h. 1 ≤ h.k };
+
+    ghost inverse = { λ v. record { epoch = v.epoch; from = v.from; to = v.to; k = v.k } };
+}
+
+impl CarryHead {
+    /// The epoch and the two ends of a session, and the number of the body there, from 1.
+    pub fn new(epoch: u64, from: End, to: End, k: u32) -> Self
+        requires { 1 ≤ k }
+        ensures { result ≡ record { epoch = epoch; from = from; to = to; k = k } }
+    {
+        CarryHead { epoch, from, to, k }
+    }
+
+    /// The number of the body, from 1.
+    pub fn k(&self) -> u32
+        ensures k { result ≡ self.now.k }
+        ensures least { 1 ≤ self.now.k }
+    {
+        self.k
+    }
+}
+
+/// Sets `out` to the spelling of the frame that carries this body, without taking memory. The body
+/// stays where it is.
+pub fn encode_carry(head: &CarryHead, body: &Body, out: &mut FrameBuf)
+    ensures spelled { out.new ≡ spelling (Carry (carried head.now body.now)) }
+    ensures within { IsFrame (Carry (carried head.now body.now)) }
+{
+    begin(out, 1);
+    put_carry(out, head, body);
 }
 
 /// Sets `out` to the spelling of the frame, without taking memory. Each value of the type is within
@@ -221,26 +281,25 @@ pub fn encode(frame: &Frame, out: &mut FrameBuf)
     ensures spelled { out.new ≡ spelling frame.now }
     ensures within { IsFrame frame.now }
 {
-    out.clear();
     match frame {
         Frame::Carry(carry) => {
-            out.add(&[1]);
-            put_carry(out, carry);
+            let head = CarryHead::new(carry.epoch, carry.from, carry.to, carry.k());
+            encode_carry(&head, &carry.body, out);
         }
         Frame::Ack { epoch, from, to, n } => {
-            out.add(&[2]);
+            begin(out, 2);
             put_number_64(out, *epoch);
             put_end(out, *from);
             put_end(out, *to);
             put_number_32(out, *n);
         }
         Frame::Probe { from, nonce } => {
-            out.add(&[3]);
+            begin(out, 3);
             put_end(out, *from);
             put_number_64(out, *nonce);
         }
         Frame::Reply { from, to, nonce } => {
-            out.add(&[4]);
+            begin(out, 4);
             put_end(out, *from);
             put_end(out, *to);
             put_number_64(out, *nonce);

@@ -74,3 +74,7 @@ pub record IsKeptOf (v : SenderOf) (s : Sending) : Type 0 where
   pub sent : v.sent ≡ s.sent
   pub bodies : v.bodies ≡ drop s.acked s.pushed
   pub within : highest s ≤ length s.pushed
+
+-- the number is that of an outstanding body
+abbrev pub IsOut : SenderOf → ℕ → Type 0
+IsOut v k = (v.acked < k) × (k ≤ v.acked + length v.sent)

@@ -1,5 +1,5 @@
 ghost use Rattle.std.specs.Prelude.{◌≡◌, ◌+◌, ◌-◌, ◌<◌, ◌≤◌, ◌^◌, ℕ, length, OnErr, IfOk, IfSome, IfNone, nat_lt, Some, slice_get, slice_index_or, drop};
-ghost use Rattle.ordered_link.specs.Sending.{Sending, IsDue, IsKeptOf, acknowledge, forget, next_to_send, push, send_again, send_next, sent_by_ack, sent_by_push, unused};
+ghost use Rattle.ordered_link.specs.Sending.{Sending, IsDue, IsOut, IsKeptOf, acknowledge, forget, next_to_send, push, send_again, send_next, sent_by_ack, sent_by_push, unused};
 
 use an_base::body::Body;
 use an_base::memory::OutOfMemory;
@@ -55,6 +55,7 @@ impl Sender {
     pub fn push(&mut self, body: Body, now: u32) -> Result<Option<u32>, OutOfMemory>
         requires { self.old.acked + length self.old.bodies < 2 ^ 30 }
         ensures ok { IfOk result (λ number. (s : Sending) → IsKeptOf self.old s → IsKeptOf self.new (push body now s) × (number ≡ sent_by_push body s)) }
+        ensures out { IfOk result (λ number. IfSome number (IsOut self.new)) }
         ensures err { OnErr result (self.new ≡ self.old) }
     {
         let is_waiting = self.outstanding < self.bodies.len();
@@ -68,7 +69,8 @@ impl Sender {
     /// The number of the first waiting body, which is sent at this tick; none exactly where eight are
     /// outstanding or none waits, and then nothing changes.
     pub fn more(&mut self, now: u32) -> Option<u32>
-        ensures { (s : Sending) → IsKeptOf self.old s → IsKeptOf self.new (send_next now s) × (result ≡ next_to_send s) }
+        ensures sent { (s : Sending) → IsKeptOf self.old s → IsKeptOf self.new (send_next now s) × (result ≡ next_to_send s) }
+        ensures out { IfSome result (IsOut self.new) }
     {
         if self.outstanding == WINDOW || self.outstanding == self.bodies.len() {
             return None;
@@ -82,7 +84,8 @@ impl Sender {
     /// of an outstanding body: then these bodies are acknowledged, and the first waiting one is sent,
     /// with the number that is answered. None exactly where it does not count or none waits.
     pub fn on_ack(&mut self, n: u32, now: u32) -> Option<u32>
-        ensures { (s : Sending) → IsKeptOf self.old s → IsKeptOf self.new (acknowledge n now s) × (result ≡ sent_by_ack n s) }
+        ensures sent { (s : Sending) → IsKeptOf self.old s → IsKeptOf self.new (acknowledge n now s) × (result ≡ sent_by_ack n s) }
+        ensures out { IfSome result (IsOut self.new) }
     {
         if n <= self.acked || (n - self.acked) as usize > self.outstanding {
             return None;
@@ -94,6 +97,7 @@ impl Sender {
     /// The lowest number of an outstanding body that was last sent at least four ticks ago; none
     /// exactly where there is none.
     pub fn due(&self, now: u32) -> Option<u32>
+        ensures out { IfSome result (IsOut self.now) }
         ensures due { IfSome result (λ k. (s : Sending) → IsKeptOf self.now s → IsDue s now k) }
         ensures least { IfSome result (λ k. (s : Sending) (j : ℕ) → IsKeptOf self.now s → IsDue s now j → k ≤ j) }
         ensures none { IfNone result ((s : Sending) (j : ℕ) → IsKeptOf self.now s → IsDue s now j → ⊥) }
@@ -105,8 +109,7 @@ impl Sender {
 
     /// The outstanding body with the number `k` is sent again at this tick.
     pub fn resent(&mut self, k: u32, now: u32)
-        requires above { self.old.acked < k }
-        requires sent { k ≤ self.old.acked + length self.old.sent }
+        requires { IsOut self.old k }
         ensures { (s : Sending) → IsKeptOf self.old s → IsKeptOf self.new (send_again k now s) }
     {
         self.sent[(k - self.acked - 1) as usize] = now;
@@ -114,8 +117,7 @@ impl Sender {
 
     /// The outstanding body with the number `k`.
     pub fn body(&self, k: u32) -> &Body
-        requires above { self.now.acked < k }
-        requires sent { k ≤ self.now.acked + length self.now.sent }
+        requires { IsOut self.now k }
         ensures { (s : Sending) → IsKeptOf self.now s → slice_get s.pushed (k - 1) ≡ Some result.now }
     {
         &self.bodies[(k - self.acked - 1) as usize]

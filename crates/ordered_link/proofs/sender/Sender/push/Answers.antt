@@ -7,4 +7,4 @@ pub returns-clause-ok : goal.returns-clause-ok
 returns-clause-ok c s kept =
     let kept_before = subst (λ v. IsKeptOf v s) (sym c.self.view_is) kept in
     pushed_at_once _ _ s c.args.body c.args.now (none_waits _ s kept_before (search rules))
-    (c.more.ensures (with_pushed c.args.body s) (kept_pushed _ _ s c.args.body kept_before refl refl c.in_ok-push_back.ensures.items))
+    (c.more.ensures.sent (with_pushed c.args.body s) (kept_pushed _ _ s c.args.body kept_before refl refl c.in_ok-push_back.ensures.items))

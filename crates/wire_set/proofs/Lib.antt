@@ -1,0 +1,6 @@
+pub mod QueueLemmas
+pub mod PopLemmas
+pub mod AppendLemmas
+pub mod FrameLemmas
+pub mod StoreLemmas
+pub mod WireLemmas

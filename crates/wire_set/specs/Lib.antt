@@ -1,0 +1,3 @@
+pub mod Queues
+pub mod Frames
+pub mod WireState

@@ -1,0 +1,178 @@
+ghost use Rattle.std.specs.Prelude.{◌≡◌, ◌≢◌, ◌+◌, ◌-◌, ◌<◌, ◌≤◌, ◌++◌, ◌∷◌, [], ℕ, length, take, drop, replicate, None, Some, IfOk, slice_index_or};
+ghost use Rattle.wire_set.specs.Queues.{QueuesOf, IsApart, IsNew, empty, queue_at, slot, with_queue};
+
+use an_base::memory::OutOfMemory;
+use frame_region::region::Slip;
+use std::alloc::Global;
+use std::marker::Model;
+
+// The first and the last slip of a queue, by their numbers, and how many there are.
+#[derive(Clone, Copy, Debug)]
+struct Queue {
+    first: u32,
+    last: u32,
+    count: u32,
+}
+
+/// Queues of slips that share their places: the place of a slip is that of its number.
+#[derive(Debug, Drop)]
+pub struct Queues {
+    slips: Vec<Option<Slip>>,
+    next: Vec<u32>,
+    queues: Vec<Queue>,
+}
+
+impl Model for Queues {
+    ghost use Rattle.wire_set.specs.Queues.{QueuesOf, shown, IsLinked};
+
+    ghost Value = { QueuesOf };
+
+    ghost view = { λ q. shown q.next.items q.queues.items };
+
+    ghost invariant = { λ q. IsLinked q.slips.items q.next.items q.queues.items };
+}
+
+// The queue with one more slip at its end.
+fn appended(queue: Queue, number: u32) -> Queue
+    requires { queue.count ≤ 1048576 }
+    ensures first { queue.count ≡ 0 → result.first ≡ number }
+    ensures kept { 1 ≤ queue.count → result.first ≡ queue.first }
+    ensures last { result.last ≡ number }
+    ensures count { result.count ≡ queue.count + 1 }
+{
+    Queue {
+        first: if queue.count == 0 {
+            number
+        } else {
+            queue.first
+        },
+        last: number,
+        count: queue.count + 1,
+    }
+}
+
+// The place after which a slip follows: the last one, or its own in an empty queue.
+fn place_before(queue: Queue, number: u32) -> u32
+    ensures empty { queue.count ≡ 0 → result ≡ number }
+    ensures some { 1 ≤ queue.count → result ≡ queue.last }
+{
+    if queue.count == 0 { number } else { queue.last }
+}
+
+// The queue without its second slip.
+fn shortened(queue: Queue, second: u32) -> Queue
+    requires { 1 ≤ queue.count }
+    ensures first { result.first ≡ queue.first }
+    ensures only { second ≡ queue.last → result.last ≡ queue.first }
+    ensures last { second ≢ queue.last → result.last ≡ queue.last }
+    ensures count { result.count + 1 ≡ queue.count }
+{
+    Queue {
+        first: queue.first,
+        last: if second == queue.last {
+            queue.first
+        } else {
+            queue.last
+        },
+        count: queue.count - 1,
+    }
+}
+
+// So many empty queues.
+fn empty_queues(alloc: Global, queues: usize) -> Result<Vec<Queue>, OutOfMemory>
+    ensures { IfOk result (λ v. v.items ≡ replicate queues empty) }
+{
+    let mut all = Vec::with_capacity(alloc, queues)?;
+    'queues: for _ in 0..queues {
+        all.push(Queue {
+            first: 0,
+            last: 0,
+            count: 0,
+        })?;
+    }
+    Ok(all)
+}
+
+// So many empty places.
+fn empty_places(alloc: Global, places: u32) -> Result<Vec<Option<Slip>>, OutOfMemory>
+    ensures { IfOk result (λ v. length v.items ≡ places) }
+{
+    let mut all = Vec::with_capacity(alloc, places as usize)?;
+    'places: for _ in 0..places {
+        all.push(None)?;
+    }
+    Ok(all)
+}
+
+impl Queues {
+    /// So many empty queues with so many places, at most 1,048,576.
+    pub fn new(alloc: Global, queues: usize, places: u32) -> Result<Self, OutOfMemory>
+        requires { places ≤ 1048576 }
+        ensures { IfOk result (λ v. v ≡ record { queues = replicate queues []; places = places }) }
+    {
+        Ok(Queues {
+            slips: empty_places(alloc, places)?,
+            next: vec![in alloc; 0u32; places as usize]?,
+            queues: empty_queues(alloc, queues)?,
+        })
+    }
+
+    /// How many slips a queue has, at most as many as there are places.
+    pub fn len(&self, q: usize) -> u32
+        requires { q < length self.now.queues }
+        ensures len { result ≡ length (queue_at self.now q) }
+        ensures most { result ≤ 1048576 }
+        ensures apart { IsApart self.now }
+    {
+        self.queues[q].count
+    }
+
+    /// Puts a slip that is in no queue at the end of one.
+    pub fn push(&mut self, q: usize, slip: Slip)
+        requires q { q < length self.old.queues }
+        requires place { slip < self.old.places }
+        requires room { length (queue_at self.old q) < self.old.places }
+        requires new { IsNew slip self.old }
+        ensures { self.new ≡ with_queue q (queue_at self.old q ++ slip ∷ []) self.old }
+    {
+        let queue = self.queues[q];
+        let number = slip.number();
+        self.next[place_before(queue, number) as usize] = number;
+        self.slips[number as usize] = Some(slip);
+        self.queues[q] = appended(queue, number);
+    }
+
+    /// Takes the first slip of a queue.
+    pub fn pop(&mut self, q: usize) -> Slip
+        requires { 1 ≤ length (queue_at self.old q) }
+        ensures slip { result ≡ slot self.old q 0 }
+        ensures rest { self.new ≡ with_queue q (drop 1 (queue_at self.old q)) self.old }
+        ensures apart { IsApart self.old }
+        ensures place { result < self.old.places }
+    {
+        let queue = self.queues[q];
+        let slip = self.slips[queue.first as usize].take();
+        self.queues[q] = Queue {
+            first: self.next[queue.first as usize],
+            last: queue.last,
+            count: queue.count - 1,
+        };
+        slip.unwrap()
+    }
+
+    /// Takes the second slip of a queue.
+    pub fn pop_second(&mut self, q: usize) -> Slip
+        requires { 2 ≤ length (queue_at self.old q) }
+        ensures slip { result ≡ slot self.old q 1 }
+        ensures rest { self.new ≡ with_queue q (take 1 (queue_at self.old q) ++ drop 2 (queue_at self.old q)) self.old }
+        ensures apart { IsApart self.old }
+        ensures place { result < self.old.places }
+    {
+        let queue = self.queues[q];
+        let second = self.next[queue.first as usize];
+        let slip = self.slips[second as usize].take();
+        self.next[queue.first as usize] = self.next[second as usize];
+        self.queues[q] = shortened(queue, second);
+        slip.unwrap()
+    }
+}

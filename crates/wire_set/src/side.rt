@@ -1,0 +1,53 @@
+use net_graph::wiring::Far;
+
+/// A port of a switch, with the wire into it.
+#[derive(Clone, Copy, Debug)]
+pub struct Side {
+    /// What is at its far side.
+    pub far: Option<Far>,
+    /// Whether its link is up.
+    pub is_up: bool,
+    /// How many frames put on the wire are to be lost.
+    pub lose: u32,
+    /// How many frames taken from the wire are to be copied.
+    pub again: u32,
+    /// How many takes are to give the second frame.
+    pub swap: u32,
+}
+
+/// Why a frame is lost.
+#[derive(Clone, Copy, Debug, PartialEq, Eq)]
+pub enum Loss {
+    /// The link is down.
+    Down,
+    /// The loss was told; there is one less to come.
+    Told,
+    /// Too few blocks are free.
+    NoRoom {
+        /// How many the frame needs, 1 to 353.
+        need: u32,
+        /// How many are free.
+        free: u32,
+    },
+}
+
+/// What becomes of a frame that is put on a wire.
+#[derive(Clone, Copy, Debug, PartialEq, Eq)]
+pub enum Put {
+    /// It is the last one on the wire.
+    Kept,
+    /// It is lost.
+    Lost {
+        /// The first cause that holds.
+        cause: Loss,
+    },
+}
+
+/// How a frame was taken from a wire.
+#[derive(Clone, Copy, Debug, PartialEq, Eq)]
+pub struct Taken {
+    /// Whether it was the second frame of the wire.
+    pub second: bool,
+    /// What became of its copy; none exactly where no copy was told.
+    pub copied: Option<Put>,
+}

@@ -1,0 +1,297 @@
+ghost use Rattle.std.specs.Prelude.{◌≡◌, ◌+◌, ◌*◌, ◌<◌, ◌≤◌, ◌/◌, ◌%◌, ℕ, true, [], length, map, min, IfOk, ◌^◌, ◌-◌};
+ghost use Rattle.std.specs.List.{range_with_len};
+ghost use Rattle.net_graph.specs.Wires.{far_at};
+ghost use Rattle.wire_set.specs.Frames.{clear, occupied};
+ghost use Rattle.wire_set.specs.WireState.{HasLink, IsUsed, WiresOf, again_on, copied_from, dropped_at, fail_at, far_place, hand_of, held_from, how_taken, is_link, is_second, link_set, lose_on, place, put_into, release_from, repair_at, side_at, side_of, start, swap_on, take_from, taken_frame, what_becomes, what_copy_becomes, wire_at, wire_out, with_up};
+
+use crate::frames::Frames;
+use crate::side::{Loss, Put, Side, Taken};
+use an_base::memory::OutOfMemory;
+use frame_region::buffer::FrameBuf;
+use frame_region::region::NoRoom;
+use net_graph::wiring::{Far, Wiring};
+use std::alloc::Global;
+use std::marker::Model;
+
+/// The wires of a network, with the frame that each switch holds.
+#[derive(Debug, Drop)]
+pub struct WireSet {
+    sides: Vec<Side>,
+    frames: Frames,
+}
+
+impl Model for WireSet {
+    ghost use Rattle.wire_set.specs.WireState.{WiresOf, IsSound};
+
+    ghost Value = { WiresOf };
+
+    ghost view = { λ w. record { sides = w.sides.items; frames = w.frames } };
+
+    ghost invariant = { λ w. IsSound (record { sides = w.sides.items; frames = w.frames }) };
+}
+
+// How many places a switch has: twelve ports, and port 0, whose queue is the frame that it holds.
+const PLACES: usize = 13;
+
+// The place of a port of a switch.
+fn place_of(s: u8, port: u8) -> usize
+    ensures { result ≡ place s port }
+{
+    PLACES * usize::from(s) + usize::from(port)
+}
+
+// The place of the port at the other end of a link.
+fn far_place(far: Option<Far>) -> usize
+    ensures { result ≡ far_place far }
+{
+    match far {
+        Some(Far::Switch { s, port }) => place_of(s, port),
+        _ => 0,
+    }
+}
+
+// The sides of all ports, with all links up.
+fn sides_of(alloc: Global, wiring: &Wiring) -> Result<Vec<Side>, OutOfMemory>
+    ensures sides { IfOk result (λ sides. sides.items ≡ map (λ at. side_of (far_at wiring.now (at / 13) (at % 13))) (range_with_len 0 (13 * length wiring.now.switches))) }
+    ensures far { IfOk result (λ sides. (at : ℕ) → at < 13 * length wiring.now.switches → is_link (far_at wiring.now (at / 13) (at % 13)) ≡ true → far_place (far_at wiring.now (at / 13) (at % 13)) < 13 * length wiring.now.switches) }
+{
+    let count = PLACES * usize::from(wiring.count());
+    let mut sides = Vec::with_capacity(alloc, count)?;
+    'places: for at in 0..count {
+        let far = wiring.far((at / PLACES) as u8, (at % PLACES) as u8);
+        sides.push(Side {
+            far,
+            is_up: far.is_some(),
+            lose: 0,
+            again: 0,
+            swap: 0,
+        })?;
+    }
+    Ok(sides)
+}
+
+impl WireSet {
+    /// The wires of a wiring, with so many blocks for their frames, 1 to 1,048,576: all links are up, and
+    /// nothing is on the wires.
+    pub fn begin(alloc: Global, wiring: &Wiring, blocks: u32) -> Result<Self, OutOfMemory>
+        requires least { 1 ≤ blocks }
+        requires most { blocks ≤ 1048576 }
+        ensures { IfOk result (λ w. w ≡ start wiring.now blocks) }
+    {
+        let sides = sides_of(alloc, wiring)?;
+        let frames = Frames::new(alloc, sides.len(), blocks)?;
+        Ok(WireSet { sides, frames })
+    }
+
+    /// Puts a frame, 1 to 22,591 bytes, on the wire out of a switch by a port that has a link of two
+    /// switch ports, without taking memory. It is lost by the first cause that holds: the link is down; a
+    /// loss was told, and one less is then to come; too few blocks are free.
+    pub fn put(&mut self, s: u8, port: u8, bytes: &[u8]) -> Put
+        requires link { HasLink self.old s port }
+        requires least { 1 ≤ length bytes.now }
+        requires most { length bytes.now ≤ 22591 }
+        ensures put { self.new ≡ put_into (place s port) (wire_out self.old s port) bytes.now self.old }
+        ensures what { result ≡ what_becomes (place s port) (wire_out self.old s port) bytes.now self.old }
+    {
+        let here = place_of(s, port);
+        let wire = far_place(self.sides[here].far);
+        self.put_into(here, wire, bytes)
+    }
+
+    /// Takes a frame from the wire into a switch at a port that has a link of two switch ports, and sets
+    /// the buffer to its bytes, without taking memory. It is the second frame where an exchange was told
+    /// and there are two, else the first. The switch, which held none, holds it with its blocks until
+    /// `release`. Then, where a copy was told, one is put at the wire's end.
+    pub fn take(&mut self, s: u8, port: u8, out: &mut FrameBuf) -> Taken
+        requires link { HasLink self.old s port }
+        requires some { 1 ≤ length (wire_at self.old (place s port)) }
+        requires none_held { hand_of self.old s ≡ [] }
+        ensures out { out.new ≡ taken_frame (place s port) self.old }
+        ensures taken { self.new ≡ take_from (place s port) (place s 0) self.old }
+        ensures how { result ≡ how_taken (place s port) (place s 0) self.old }
+    {
+        let wire = place_of(s, port);
+        let second = self.hold(wire, place_of(s, 0), out);
+        let copied = self.copy(wire, out.bytes());
+        Taken { second, copied }
+    }
+
+    /// Frees the blocks of the frame that a switch holds, which it then holds no longer, without taking
+    /// memory.
+    pub fn release(&mut self, s: u8)
+        requires { 1 ≤ length (hand_of self.old s) }
+        ensures { self.new ≡ release_from (place s 0) self.old }
+    {
+        self.frames.clear(place_of(s, 0));
+    }
+
+    /// The link of a port, which has one or a host, goes down, and the frames of its two wires are
+    /// dropped; it answers how many they were. It takes no memory.
+    pub fn fail(&mut self, s: u8, port: u8) -> u32
+        requires { IsUsed self.old s port }
+        ensures failed { self.new ≡ fail_at (place s port) self.old }
+        ensures dropped { result ≡ dropped_at (place s port) self.old }
+    {
+        let here = place_of(s, port);
+        let far = self.sides[here].far;
+        self.set_link(here, false);
+        match far {
+            Some(Far::Switch { s, port }) => self.drop_frames(here, place_of(s, port)),
+            _ => 0,
+        }
+    }
+
+    /// The link of a port, which has one or a host, goes up, without taking memory.
+    pub fn repair(&mut self, s: u8, port: u8)
+        requires { IsUsed self.old s port }
+        ensures { self.new ≡ repair_at (place s port) self.old }
+    {
+        self.set_link(place_of(s, port), true);
+    }
+
+    /// Whether the link of a port, which has one or a host, is up.
+    pub fn is_up(&self, s: u8, port: u8) -> bool
+        requires { IsUsed self.now s port }
+        ensures { result ≡ (side_at self.now (place s port)).is_up }
+    {
+        self.sides[place_of(s, port)].is_up
+    }
+
+    /// So many more losses are told for the wire out of a switch by a port that has a link of two switch
+    /// ports; the count ends at 2^32 - 1.
+    pub fn lose(&mut self, s: u8, port: u8, n: u32)
+        requires { HasLink self.old s port }
+        ensures { self.new ≡ lose_on (wire_out self.old s port) n self.old }
+    {
+        let wire = far_place(self.sides[place_of(s, port)].far);
+        let side = &mut self.sides[wire];
+        side.lose = side.lose.saturating_add(n);
+    }
+
+    /// So many more copies are told for the wire out of a switch by a port that has a link of two switch
+    /// ports; the count ends at 2^32 - 1.
+    pub fn again(&mut self, s: u8, port: u8, n: u32)
+        requires { HasLink self.old s port }
+        ensures { self.new ≡ again_on (wire_out self.old s port) n self.old }
+    {
+        let wire = far_place(self.sides[place_of(s, port)].far);
+        let side = &mut self.sides[wire];
+        side.again = side.again.saturating_add(n);
+    }
+
+    /// So many more exchanges are told for the wire out of a switch by a port that has a link of two
+    /// switch ports; the count ends at 2^32 - 1.
+    pub fn swap(&mut self, s: u8, port: u8, n: u32)
+        requires { HasLink self.old s port }
+        ensures { self.new ≡ swap_on (wire_out self.old s port) n self.old }
+    {
+        let wire = far_place(self.sides[place_of(s, port)].far);
+        let side = &mut self.sides[wire];
+        side.swap = side.swap.saturating_add(n);
+    }
+
+    /// How many frames are on the wire into a switch at a port that has a link of two switch ports.
+    pub fn len(&self, s: u8, port: u8) -> u32
+        requires { HasLink self.now s port }
+        ensures { result ≡ length (wire_at self.now (place s port)) }
+    {
+        self.frames.len(place_of(s, port))
+    }
+
+    /// How many blocks are free: those that no frame on a wire or held by a switch occupies.
+    pub fn free(&self) -> u32
+        ensures free { result ≡ self.now.frames.free }
+        ensures law { self.now.frames.free + occupied self.now.frames ≡ self.now.frames.limit }
+    {
+        self.frames.free()
+    }
+
+    // Puts a frame on a wire from the port at its other end.
+    fn put_into(&mut self, from: usize, wire: usize, bytes: &[u8]) -> Put
+        requires from { from < length self.old.sides }
+        requires wire { wire < length self.old.sides }
+        requires least { 1 ≤ length bytes.now }
+        requires most { length bytes.now ≤ 22591 }
+        ensures put { self.new ≡ put_into from wire bytes.now self.old }
+        ensures what { result ≡ what_becomes from wire bytes.now self.old }
+    {
+        if !self.sides[from].is_up {
+            return Put::Lost { cause: Loss::Down };
+        }
+        if self.sides[wire].lose > 0 {
+            self.sides[wire].lose -= 1;
+            return Put::Lost { cause: Loss::Told };
+        }
+        match self.frames.put(wire, bytes) {
+            Ok(()) => Put::Kept,
+            Err(NoRoom { need, free }) => Put::Lost {
+                cause: Loss::NoRoom { need, free },
+            },
+        }
+    }
+
+    // Moves a frame from a wire to a hand that is empty, and answers whether it was the second one.
+    fn hold(&mut self, wire: usize, hand: usize, out: &mut FrameBuf) -> bool
+        requires hand { hand < length self.old.sides }
+        requires some { 1 ≤ length (wire_at self.old wire) }
+        requires empty { wire_at self.old hand ≡ [] }
+        ensures out { out.new ≡ taken_frame wire self.old }
+        ensures least { 1 ≤ length out.new }
+        ensures held { self.new ≡ held_from wire hand self.old }
+        ensures second { result ≡ is_second wire self.old }
+    {
+        if self.sides[wire].swap == 0 || self.frames.len(wire) < 2 {
+            self.frames.move_first(wire, hand, out);
+            return false;
+        }
+        self.sides[wire].swap -= 1;
+        self.frames.move_second(wire, hand, out);
+        true
+    }
+
+    // Puts a copy of a frame that was taken at the end of its wire, where one was told.
+    fn copy(&mut self, wire: usize, bytes: &[u8]) -> Option<Put>
+        requires link { is_link (side_at self.old wire).far ≡ true }
+        requires least { 1 ≤ length bytes.now }
+        requires most { length bytes.now ≤ 22591 }
+        ensures copied { self.new ≡ copied_from wire bytes.now self.old }
+        ensures what { result ≡ what_copy_becomes wire bytes.now self.old }
+    {
+        let side = self.sides[wire];
+        if side.again == 0 {
+            return None;
+        }
+        self.sides[wire] = Side {
+            again: side.again - 1,
+            ..side
+        };
+        Some(self.put_into(far_place(side.far), wire, bytes))
+    }
+
+    // Sets the link of a port up or down, at both its ends.
+    fn set_link(&mut self, here: usize, is_up: bool)
+        requires { here < length self.old.sides }
+        ensures { self.new ≡ link_set is_up (side_at self.old here).far here self.old }
+    {
+        self.sides[here].is_up = is_up;
+        if let Some(Far::Switch { s, port }) = self.sides[here].far {
+            self.sides[place_of(s, port)].is_up = is_up;
+        }
+    }
+
+    // Drops the frames of two wires, and answers how many they were.
+    fn drop_frames(&mut self, here: usize, far: usize) -> u32
+        requires here { here < length self.old.sides }
+        requires far { far < length self.old.sides }
+        ensures count { result ≡ length (wire_at self.old here) + length (wire_at self.old far) }
+        ensures dropped { self.new ≡ record self.old { frames = clear far (clear here self.old.frames) } }
+    {
+        let count = self.frames.len(here) + self.frames.len(far);
+        self.frames.clear(here);
+        self.frames.clear(far);
+        count
+    }
+}
+
+#[cfg(test)]
+mod tests;
