@@ -1,0 +1,147 @@
+use Rattle.std.proofs.Common.{◌≡◌, ◌∙◌, sym, ap, subst, refl, ℕ, ◌+◌, ◌<◌, ◌≤◌, List, [], Option, Some, None, true, arith, length, get_or, Less, Equal, Greater, inl, inr}
+use Rattle.std.specs.Prelude.{Contains, MatchOption}
+use Rattle.std.specs.declared.cmp.Ordering.{Ordering}
+use Rattle.std.specs.Ordering.{nat_cmp, ordering_then, ordering_reverse, is_le}
+use Rattle.std.specs.Cmp.{IsTotalOrder, then_total, on_total, nat_cmp_total}
+use Rattle.std.specs.BTreeMap.Comparable.{le_lt_trans}
+use Rattle.std.proofs.lemmas.Bool.{cases_eq, cases_lt}
+use Rattle.std.proofs.lemmas.Bool.Decides.{nat_tests}
+use Rattle.std.proofs.lemmas.List.{get_or_default}
+use Rattle.an_base.specs.Values.{EntryOf}
+use Rattle.an_base.specs.Rows.{RowOf, ExitsRise}
+use Rattle.dep_check.specs.declared.illegal.RowExit.{RowExit}
+use Rattle.dep_check.specs.Packets.{four_cmp}
+use Rattle.dep_check.specs.Illegal.{IsBad, IsIllegal, AllAreLegal, IsLeastIllegal}
+use Rattle.dep_check.specs.Tables.{row_at}
+use Rattle.dep_check.specs.Worst.{IsBadOf, FirstBad, IsNotAfter, LeastBelow}
+
+-- the order of four numbers
+pub four_total : IsTotalOrder four_cmp
+four_total = then_total (on_total (λ x. x.0) nat_cmp_total) (then_total (on_total (λ x. x.1) nat_cmp_total) (then_total (on_total (λ x. x.2) nat_cmp_total) (on_total (λ x. x.3) nat_cmp_total)))
+
+less_le : (o : Ordering) → o ≡ Less → is_le o ≡ true
+less_le o e = rw e refl
+
+le_through : (x y z : ℕ × ℕ × ℕ × ℕ) (o : Ordering) → four_cmp y z ≡ o → is_le (four_cmp x y) ≡ true → is_le o ≡ true → is_le (four_cmp x z) ≡ true
+le_through x y z Less e a b = less_le (four_cmp x z) (le_lt_trans four_total x y z a e)
+le_through x y z Equal e a b =
+    let same : four_cmp x z ≡ four_cmp x y = four_total.antisymm x z ∙ ap ordering_reverse (sym (four_total.congr y z x e)) ∙ sym (four_total.antisymm x y) in
+    ap is_le same ∙ a
+le_through x y z Greater e a b = absurd (cc)
+
+not_after_trans : (i j k : RowExit) → IsNotAfter i j → IsNotAfter j k → IsNotAfter i k
+not_after_trans i j k a b = le_through (i.at, i.entry, i.to, i.exit) (j.at, j.entry, j.to, j.exit) (k.at, k.entry, k.to, k.exit) (four_cmp (j.at, j.entry, j.to, j.exit) (k.at, k.entry, k.to, k.exit)) refl a b
+
+reversed : (x y : ℕ × ℕ × ℕ × ℕ) (o : Ordering) → four_cmp x y ≡ o → (is_le o ≡ true → ⊥) → is_le (four_cmp y x) ≡ true
+reversed x y Less e not_le = absurd (not_le refl)
+reversed x y Equal e not_le = absurd (not_le refl)
+reversed x y Greater e not_le = less_le (four_cmp y x) (four_total.antisymm y x ∙ ap ordering_reverse e)
+
+after_reversed : (i j : RowExit) → (IsNotAfter i j → ⊥) → IsNotAfter j i
+after_reversed i j not_le = reversed (i.at, i.entry, i.to, i.exit) (j.at, j.entry, j.to, j.exit) (four_cmp (i.at, i.entry, i.to, i.exit) (j.at, j.entry, j.to, j.exit)) refl not_le
+
+-- exits of one row
+four_last : (a b c d x y z w : ℕ) → a ≡ x → b ≡ y → c ≡ z → d ≤ w → is_le (ordering_then (nat_cmp a x) (ordering_then (nat_cmp b y) (ordering_then (nat_cmp c z) (nat_cmp d w)))) ≡ true
+four_last a b c d x y z w e f g le = grind (arith, nat_tests)
+
+same_row : (es : List EntryOf) (numbers : List ℕ) (r : RowOf) (i j : RowExit) → IsBadOf es numbers r i → IsBadOf es numbers r j → i.exit ≤ j.exit → IsNotAfter i j
+same_row es numbers r i j a b le = four_last i.at i.entry i.to i.exit j.at j.entry j.to j.exit (sym a.at ∙ b.at) (sym a.entry ∙ b.entry) (sym a.to ∙ b.to) le
+
+-- the least, with one row more
+module _ (es : List EntryOf) (numbers : List ℕ) (rows : List RowOf) (k : ℕ) where
+  row_moved : (n : ℕ) (j : RowExit) → n ≡ k → IsBadOf es numbers (row_at rows n) j → IsBadOf es numbers (row_at rows k) j
+  row_moved n j e bad = subst (λ (m : ℕ). IsBadOf es numbers (row_at rows m) j) e bad
+
+  pub least_same : (best : Option RowExit) → LeastBelow es numbers rows k best → FirstBad es numbers (row_at rows k) None → LeastBelow es numbers rows (k + 1) best
+  least_same None so_far none = λ n j low bad. elim (cases_eq n k) [
+    | inl last ↦ none j (row_moved n j last bad)
+    | inr before ↦ so_far n j (omega arith) bad
+  ]
+  least_same (Some i) so_far none = (
+    (so_far.0.0, (let low = so_far.0.1 in omega arith), so_far.0.2),
+    λ n j low bad. elim (cases_eq n k) [
+      | inl last ↦ absurd (none j (row_moved n j last bad))
+      | inr before ↦ so_far.1 n j (omega arith) bad
+    ],
+  )
+
+  pub least_kept : (i next : RowExit) → IsNotAfter i next → LeastBelow es numbers rows k (Some i) → FirstBad es numbers (row_at rows k) (Some next) → LeastBelow es numbers rows (k + 1) (Some i)
+  least_kept i next le so_far first = (
+    (so_far.0.0, (let low = so_far.0.1 in omega arith), so_far.0.2),
+    λ n j low bad. elim (cases_eq n k) [
+      | inl last ↦ (let here = row_moved n j last bad in not_after_trans i next j le (same_row es numbers (row_at rows k) next j first.0 here (first.1 j here)))
+      | inr before ↦ so_far.1 n j (omega arith) bad
+    ],
+  )
+
+  pub least_first : (next : RowExit) → LeastBelow es numbers rows k None → FirstBad es numbers (row_at rows k) (Some next) → LeastBelow es numbers rows (k + 1) (Some next)
+  least_first next so_far first = (
+    (k, omega arith, first.0),
+    λ n j low bad. elim (cases_eq n k) [
+      | inl last ↦ (let here = row_moved n j last bad in same_row es numbers (row_at rows k) next j first.0 here (first.1 j here))
+      | inr before ↦ absurd (so_far n j (omega arith) bad)
+    ],
+  )
+
+  pub least_less : (i next : RowExit) → (IsNotAfter i next → ⊥) → LeastBelow es numbers rows k (Some i) → FirstBad es numbers (row_at rows k) (Some next) → LeastBelow es numbers rows (k + 1) (Some next)
+  least_less i next not_le so_far first = (
+    (k, omega arith, first.0),
+    λ n j low bad. elim (cases_eq n k) [
+      | inl last ↦ (let here = row_moved n j last bad in same_row es numbers (row_at rows k) next j first.0 here (first.1 j here))
+      | inr before ↦ not_after_trans next i j (after_reversed i next not_le) (so_far.1 n j (omega arith) bad)
+    ],
+  )
+
+-- the first bad exit of a row
+pub first_bad : (es : List EntryOf) (numbers : List ℕ) (r : RowOf) (exits : List ℕ) (k : ℕ) → exits ≡ r.exits → ExitsRise r.exits → k < length exits → ((n : ℕ) → n < k → IsBad es numbers r.at r.entry (get_or exits n 0) → ⊥) → IsBad es numbers r.at r.entry (get_or exits k 0) → FirstBad es numbers r (Some (record { at = r.at; entry = r.entry; to = r.to; exit = get_or exits k 0 }))
+first_bad es numbers r exits k all rising low before bad = (
+  record { at = refl; entry = refl; to = refl; has = subst (λ (xs : List ℕ). Contains xs (get_or exits k 0)) all (k, low, get_or_default exits k (get_or exits k 0) 0 low); bad = bad },
+  λ j is.
+      let has : Contains exits j.exit = subst (λ (xs : List ℕ). Contains xs j.exit) (sym all) is.has in
+      let rises : ExitsRise exits = subst (λ (xs : List ℕ). ExitsRise xs) (sym all) rising in
+      let there : get_or exits has.0 0 ≡ j.exit = get_or_default exits has.0 0 j.exit has.1 ∙ has.2 in
+      elim (cases_lt has.0 k) [
+        | inl less ↦ absurd (before has.0 less (moved r.at j.at r.entry j.entry j.exit (get_or exits has.0 0) (sym is.at) (sym is.entry) (sym there) is.bad))
+        | inr more ↦ elim (cases_eq k has.0) [
+          | inl same ↦ (let e : get_or exits k 0 ≡ j.exit = ap (λ (n : ℕ). get_or exits n 0) same ∙ there in omega arith)
+          | inr other ↦ (let lt = rises k has.0 0 (omega arith) has.1 in omega arith)
+        ]
+      ],
+)
+  where
+    moved : (a b c d e f : ℕ) → b ≡ a → d ≡ c → e ≡ f → IsBad es numbers b d e → IsBad es numbers a c f
+    moved a b c d e f x y z bad = subst (λ (n : ℕ). IsBad es numbers a c n) z (subst (λ (n : ℕ). IsBad es numbers a n e) y (subst (λ (n : ℕ). IsBad es numbers n d e) x bad))
+
+-- and none
+pub no_bad : (es : List EntryOf) (numbers : List ℕ) (r : RowOf) (exits : List ℕ) → exits ≡ r.exits → ((n : ℕ) → n < length exits → IsBad es numbers r.at r.entry (get_or exits n 0) → ⊥) → FirstBad es numbers r None
+no_bad es numbers r exits all none = λ j is.
+    let has : Contains exits j.exit = subst (λ (xs : List ℕ). Contains xs j.exit) (sym all) is.has in
+    let there : get_or exits has.0 0 ≡ j.exit = get_or_default exits has.0 0 j.exit has.1 ∙ has.2 in
+    none has.0 has.1 (subst (λ (n : ℕ). IsBad es numbers r.at r.entry n) (sym there) (subst (λ (n : ℕ). IsBad es numbers r.at n j.exit) (sym is.entry) (subst (λ (n : ℕ). IsBad es numbers n j.entry j.exit) (sym is.at) is.bad)))
+
+-- an illegal exit is that of a row of the list
+index_of : (es : List EntryOf) (numbers : List ℕ) (rows : List RowOf) (at entry to exit : ℕ) → IsIllegal es numbers rows at entry to exit → (k : ℕ) × (k < length rows) × IsBadOf es numbers (row_at rows k) (record { at = at; entry = entry; to = to; exit = exit })
+index_of es numbers rows at entry to exit illegal =
+    let h = illegal.has in
+    let here = get_or_default rows h.0 (record { at = 0; entry = 0; to = 0; exits = [] }) h.1 h.2 ∙ h.3 in (
+      h.0,
+      h.2,
+      record {
+        at = ap (λ (r : RowOf). r.at) here ∙ h.4.0;
+        entry = ap (λ (r : RowOf). r.entry) here ∙ h.4.1;
+        to = ap (λ (r : RowOf). r.to) here ∙ h.4.2;
+        has = subst (λ (r : RowOf). Contains r.exits exit) (sym here) h.4.3;
+        bad = illegal.bad;
+      },
+    )
+
+-- the least of all rows
+pub all_rows : (es : List EntryOf) (numbers : List ℕ) (rows : List RowOf) (end : ℕ) (best : Option RowExit) → end ≡ length rows → LeastBelow es numbers rows end best → MatchOption best (AllAreLegal es numbers rows) (λ i. IsLeastIllegal es numbers rows i.at i.entry i.to i.exit)
+all_rows es numbers rows end None all so_far = λ at entry to exit illegal. let i = index_of es numbers rows at entry to exit illegal in so_far i.0 (record { at = at; entry = entry; to = to; exit = exit }) (let low = i.1 in omega arith) i.2
+all_rows es numbers rows end (Some i) all so_far = record {
+  illegal = record {
+    has = (let k = so_far.0.0 in let low = so_far.0.1 in let bad = so_far.0.2 in (k, row_at rows k, omega arith, get_or_default rows k (row_at rows k) (record { at = 0; entry = 0; to = 0; exits = [] }) (omega arith), (bad.at, bad.entry, bad.to, bad.has)));
+    bad = so_far.0.2.bad;
+  };
+  least = λ a e t p illegal. let j = index_of es numbers rows a e t p illegal in so_far.1 j.0 (record { at = a; entry = e; to = t; exit = p }) (let low = j.1 in omega arith) j.2;
+}

@@ -1,0 +1,15 @@
+pub mod Pigeons
+pub mod SpotLemmas
+pub mod StepLemmas
+pub mod PushLemmas
+pub mod ExitLemmas
+pub mod LevelLemmas
+pub mod RankLemmas
+pub mod CycleLemmas
+pub mod BridgeLemmas
+pub mod GapLemmas
+pub mod IllegalLemmas
+pub mod WireLemmas
+pub mod CheckLemmas
+pub mod TableLaws
+pub mod OneAnswer

@@ -1,0 +1,10 @@
+pub mod Channels
+pub mod Cycles
+pub mod Packets
+pub mod Illegal
+pub mod Answer
+pub mod Tables
+pub mod Worst
+pub mod Pairs
+pub mod Search
+pub mod Laws

@@ -1,0 +1,115 @@
+ghost use Rattle.std.specs.Prelude.{◌≡◌, ◌<◌, length, Some, None, IfOk, IfErr, MatchBool};
+ghost use Rattle.dep_check.specs.declared.channel.Channel.{Channel};
+ghost use Rattle.dep_check.specs.Tables.{IsSpot, level_at};
+ghost use Rattle.dep_check.specs.Answer.{IsRefusal, Passes};
+ghost use Rattle.dep_check.specs.Search.{IsLinked};
+
+use crate::channel::Channel;
+use crate::cycle::least_cycle;
+use crate::gap::least_gap;
+use crate::illegal::least_illegal;
+use crate::level::{level_of, ranks_of};
+use crate::refusal::CheckRefusal;
+use crate::spot::{SPOTS, spot_at};
+use crate::steps::Steps;
+use crate::wires::wires_of;
+use an_base::memory::OutOfMemory;
+use an_base::numbers::Numbers;
+use an_base::row::Row;
+use std::alloc::Global;
+use std::marker::Model;
+use topo_graph::graph::Graph;
+
+/// The ranks of the channels, so that each is above all that it leads to. Contracts see them as a
+/// list over all switches and ports.
+#[derive(Debug, Drop)]
+pub struct Ranks {
+    levels: Vec<Option<u16>>,
+}
+
+impl Model for Ranks {
+    ghost use Rattle.std.specs.Prelude.{ℕ, List, Option};
+
+    ghost Value = { List (Option ℕ) };
+
+    ghost view = { λ r. r.levels.items };
+}
+
+impl Ranks {
+    ghost use Rattle.dep_check.specs.Tables.{rank_at};
+
+    /// The rank of the channel at a port of the switch that has a number: 0 where it leads nowhere,
+    /// else one more than the greatest rank that it leads to. None exactly where this is no channel.
+    /// It takes no memory.
+    pub fn rank(&self, at: u8, port: u8) -> Option<u16>
+        ensures { result ≡ rank_at self.now (record { at = at; port = port }) }
+    {
+        if at > 126 || port > 12 {
+            return None;
+        }
+        level_of(&self.levels, Channel { at, port })
+    }
+}
+
+// Whether each channel has a rank.
+fn are_all_ranked(steps: &Steps, levels: &[Option<u16>]) -> bool
+    ensures { MatchBool result ((s : Channel) → IsSpot s → IsLinked steps.now s → level_at levels.now s ≡ None → ⊥)
+        ((s : Channel) × IsSpot s × IsLinked steps.now s × (level_at levels.now s ≡ None)) }
+{
+    'spots: for place in 0..SPOTS {
+        let spot = spot_at(place);
+        if steps.far(spot).is_some() && level_of(levels, spot).is_none() {
+            return false;
+        }
+    }
+    true
+}
+
+/// Judges the rows of routing tables for a graph, with one number for each of its entries. A row
+/// names its switch and its target by number.
+///
+/// The rows may come in any order. A row without exits is as one that is missing, and the exits of
+/// rows for one switch, entry and number count together. Rows whose entry is no port with a link, or
+/// whose number is the switch's own or no switch's, count for cycles and illegal exits and not for
+/// pairs. A host's port and a link of a switch to itself are exits without a link.
+///
+/// It refuses, in this order, a cycle of channels, a pair that is not joined, and an illegal exit, each
+/// the least there is; and else gives the ranks of the channels.
+pub fn check(
+    alloc: Global,
+    graph: &Graph,
+    numbers: &Numbers,
+    rows: &[Row],
+) -> Result<Ranks, CheckRefusal>
+    requires { length numbers.now ≡ length graph.now }
+    ensures passes { IfOk result (Passes graph.now numbers.now rows.now) }
+    ensures refused { IfErr result (IsRefusal graph.now numbers.now rows.now) }
+{
+    let wires = wires_of(alloc, graph, numbers)?;
+    let steps = Steps::of(alloc, &wires, rows, None)?;
+    let levels = ranks_of(alloc, &steps)?;
+    if !are_all_ranked(&steps, &levels) {
+        let channels = least_cycle(alloc, &steps)?.unwrap();
+        return Err(CheckRefusal::Cycle { channels });
+    }
+    if let Some(gap) = least_gap(alloc, &wires, numbers, rows)? {
+        return Err(CheckRefusal::NotJoined {
+            from: gap.from,
+            to: gap.to,
+            at: gap.at,
+            entry: gap.entry,
+        });
+    }
+    if let Some(illegal) = least_illegal(graph, numbers, rows) {
+        return Err(CheckRefusal::IllegalExit {
+            at: illegal.at,
+            entry: illegal.entry,
+            to: illegal.to,
+            exit: illegal.exit,
+        });
+    }
+    Ok(Ranks { levels })
+}
+
+#[cfg(test)]
+mod tests;

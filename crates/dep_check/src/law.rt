@@ -1,0 +1,40 @@
+ghost use Rattle.std.specs.Prelude.{◌≡◌, ◌⊎◌, ℕ, List, Option, Bool, length};
+ghost use Rattle.an_base.specs.Values.{EntryOf};
+ghost use Rattle.an_base.specs.Rows.{RowOf};
+ghost use Rattle.an_base.specs.Numbers.{AreNumbers};
+ghost use Rattle.topo_graph.specs.Topology.{IsGraph, IsTree};
+ghost use Rattle.dep_check.specs.Channels.{far_at, LeadsTo};
+ghost use Rattle.dep_check.specs.Cycles.{HasNoCycle};
+ghost use Rattle.dep_check.specs.Packets.{AllAreJoined};
+ghost use Rattle.dep_check.specs.Illegal.{AllAreLegal};
+ghost use Rattle.dep_check.specs.Laws.{AreTables};
+ghost use Rattle.dep_check.specs.Answer.{IsRefusal, Passes};
+ghost use Rattle.dep_check.specs.Tables.{rank_at};
+ghost use Rattle.dep_check.specs.declared.channel.Channel.{Channel};
+ghost use Rattle.dep_check.specs.declared.refusal.CheckRefusal.{CheckRefusal};
+ghost use Rattle.dep_check.specs.declared.refusal.CheckRefusal.TheVariants.{OutOfMemory};
+
+/// The rows of the tables of all members are never refused: where the positions are the tree of the
+/// links, for any distinct numbers, whether packets take any legal route or shortest ones alone.
+pub fn tables_are_never_refused()
+    ensures no_cycle { (es : List EntryOf) (numbers : List ℕ) (any : Bool) (rows : List RowOf) → IsGraph es
+        → AreNumbers numbers → length numbers ≡ length es → AreTables es numbers any rows
+        → HasNoCycle (LeadsTo (far_at es numbers) rows) }
+    ensures joined { (es : List EntryOf) (numbers : List ℕ) (any : Bool) (rows : List RowOf) → IsGraph es → IsTree es
+        → AreNumbers numbers → length numbers ≡ length es → AreTables es numbers any rows
+        → AllAreJoined (far_at es numbers) numbers rows }
+    ensures legal { (es : List EntryOf) (numbers : List ℕ) (any : Bool) (rows : List RowOf) → IsGraph es
+        → AreNumbers numbers → length numbers ≡ length es → AreTables es numbers any rows
+        → AllAreLegal es numbers rows }
+{}
+
+/// Rows have one answer, but for want of memory: what passes is not refused, a refusal is one, and
+/// the ranks are.
+pub fn one_answer()
+    ensures passed { (es : List EntryOf) (numbers : List ℕ) (rows : List RowOf) (ranks : List (Option ℕ)) (refusal : CheckRefusal)
+        → Passes es numbers rows ranks → IsRefusal es numbers rows refusal → refusal ≡ OutOfMemory }
+    ensures refused { (es : List EntryOf) (numbers : List ℕ) (rows : List RowOf) (a b : CheckRefusal)
+        → IsRefusal es numbers rows a → IsRefusal es numbers rows b → (a ≡ b) ⊎ (a ≡ OutOfMemory) ⊎ (b ≡ OutOfMemory) }
+    ensures ranked { (es : List EntryOf) (numbers : List ℕ) (rows : List RowOf) (ranks others : List (Option ℕ)) (c : Channel)
+        → Passes es numbers rows ranks → Passes es numbers rows others → rank_at ranks c ≡ rank_at others c }
+{}
