@@ -1,17 +1,26 @@
-//! Bodies per second of the layers: the cores of a path of switches in one epoch, and a session
-//! without and with losses. With no argument it prints how to use it.
+//! What the layers do in a second: bodies at the cores of a path of switches in one epoch and through a
+//! session without and with losses, frames read and written, and frames put in blocks and taken. With no
+//! argument it prints how to use it.
 #![tactic(auto)]
 
+mod blocks;
+mod frames;
 mod path;
 mod session;
 
+use frames::Kind;
 use std::time::Duration;
 use std::{env, io};
 
-// Thousands per second. A time of no whole microsecond counts as one.
-fn thousands_per_second(count: u64, time: Duration) -> u64 {
-    let rate = count as u128 * 1000 / time.as_micros().max(1);
+// How many per second. A time of no whole microsecond counts as one.
+fn per_second(count: u64, time: Duration) -> u64 {
+    let rate = count as u128 * 1_000_000 / time.as_micros().max(1);
     u64::try_from(rate).unwrap_or(u64::MAX)
+}
+
+// How many thousands per second.
+fn thousands_per_second(count: u64, time: Duration) -> u64 {
+    per_second(count, time) / 1000
 }
 
 fn main(rt: HostRuntime) -> io::Result<()> {
@@ -32,6 +41,24 @@ fn main(rt: HostRuntime) -> io::Result<()> {
         let (count, time) = session::delivered(&rt, rt.alloc(), bodies, lost)?;
         let rate = thousands_per_second(count, time);
         println!(rt; "session with {lost} of 10 frames lost: {rate:6}")?;
+    }
+    println!(rt; "frames per second")?;
+    for (kind, share) in [
+        (Kind::Position, 1),
+        (Kind::Report, 1000),
+        (Kind::Topology, 1000),
+    ] {
+        let times = u64::from(bodies) / share;
+        let (reading, writing) = frames::measured(&rt, rt.alloc(), kind, times)?;
+        let read = per_second(times, reading);
+        let written = per_second(times, writing);
+        println!(rt; "{kind:?}: {read:8} read, {written:8} written")?;
+    }
+    for (len, share) in [(52, 1), (22_591, 100)] {
+        let times = u64::from(bodies) / share;
+        let (count, time) = blocks::kept(&rt, rt.alloc(), len, times)?;
+        let rate = per_second(count, time);
+        println!(rt; "{len:5} bytes: {rate:8} put and taken")?;
     }
     Ok(())
 }

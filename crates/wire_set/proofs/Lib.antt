@@ -4,3 +4,4 @@ pub mod AppendLemmas
 pub mod FrameLemmas
 pub mod StoreLemmas
 pub mod WireLemmas
+pub mod AgreeLemmas

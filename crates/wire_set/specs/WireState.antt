@@ -176,3 +176,12 @@ swap_on wire n w = with_side wire (record (side_at w wire) { swap = more_told (s
 pub record IsSound (w : WiresOf) : Type 0 where
   pub size : length w.sides ≡ length w.frames.queues
   pub far : (at : ℕ) → is_link (side_at w at).far ≡ true → far_place (side_at w at).far < length w.sides
+
+-- a link is at both its ends, and is up at both or down at both
+pub record AreOne (w : WiresOf) (at other : ℕ) : Type 0 where
+  pub link : is_link (side_at w other).far ≡ true
+  pub back : far_place (side_at w other).far ≡ at
+  pub up : (side_at w other).is_up ≡ (side_at w at).is_up
+
+abbrev pub LinksAgree : WiresOf → Type 0
+LinksAgree w = (at : ℕ) → is_link (side_at w at).far ≡ true → AreOne w at (far_place (side_at w at).far)
