@@ -2,7 +2,7 @@ use Rattle.std.specs.Prelude.{ℕ, List, [], ◌++◌, codes}
 use Rattle.std.specs.Fmt.{decimal}
 use Rattle.net_script.specs.Causes.{cause_text}
 use Rattle.autonet.specs.declared.status.Status.{Status}
-use Rattle.autonet.specs.declared.status.Status.TheVariants.{Ok, Usage, ScriptRefused, ReadFault, WriteFault, OutOfMemory}
+use Rattle.autonet.specs.declared.status.Status.TheVariants.{Ok, Usage, ScriptRefused, ReadFault, WriteFault, TablesRefused, OutOfMemory}
 
 -- the number of a status
 abbrev pub code_of : Status → ℕ
@@ -11,6 +11,7 @@ code_of Usage = 2
 code_of (ScriptRefused line cause) = 3
 code_of ReadFault = 4
 code_of WriteFault = 5
+code_of TablesRefused = 8
 code_of OutOfMemory = 9
 
 -- the line of a status
@@ -20,4 +21,5 @@ line_of Usage = codes "usage: autonet expect, run, replay, check or gen SEED N\n
 line_of (ScriptRefused line cause) = codes "autonet: script line " ++ decimal line ++ codes ": " ++ cause_text cause ++ codes "\n"
 line_of ReadFault = codes "autonet: read fault\n"
 line_of WriteFault = codes "autonet: write fault\n"
+line_of TablesRefused = codes "autonet: tables refused\n"
 line_of OutOfMemory = codes "autonet: out of memory\n"

@@ -5,7 +5,9 @@
 //! source then has left, and what each sink gained.
 #![tactic(auto)]
 
+mod check;
 mod expect;
+mod input;
 mod status;
 mod top;
 

@@ -27,6 +27,8 @@ pub enum Status {
     ReadFault,
     /// A sink failed.
     WriteFault,
+    /// The tables of some component are refused.
+    TablesRefused,
     /// No memory was found.
     OutOfMemory,
 }
@@ -42,6 +44,7 @@ impl Status {
             Status::ScriptRefused { line: _, cause: _ } => 3,
             Status::ReadFault => 4,
             Status::WriteFault => 5,
+            Status::TablesRefused => 8,
             Status::OutOfMemory => 9,
         }
     }
@@ -102,6 +105,7 @@ pub fn finish<E: Sink>(alloc: Global, err: &mut E, status: Status) -> u8
         },
         Status::ReadFault => tell(err, status, b"autonet: read fault\n"),
         Status::WriteFault => tell(err, status, b"autonet: write fault\n"),
+        Status::TablesRefused => tell(err, status, b"autonet: tables refused\n"),
         Status::OutOfMemory => tell(err, status, b"autonet: out of memory\n"),
     }
 }

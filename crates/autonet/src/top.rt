@@ -1,7 +1,9 @@
 ghost use Rattle.std.specs.Prelude.{◌≡◌, ◌≢◌, ◌≤◌, ◌↔◌, [], ◌∷◌, codes, IsTrue};
-ghost use Rattle.autonet.specs.Answer.{seen, streams, IsExpectAnswer, IsUsageAnswer};
+ghost use Rattle.autonet.specs.Answer.{seen, streams, IsCheckAnswer, IsExpectAnswer, IsUsageAnswer};
 
-use crate::expect::{INPUT_LIMIT, autonet_expect};
+use crate::check::autonet_check;
+use crate::expect::autonet_expect;
+use crate::input::INPUT_LIMIT;
 use crate::status::{Status, finish};
 use an_base::text::Word;
 use outside::sink::Sink;
@@ -10,12 +12,12 @@ use std::alloc::Global;
 use std::sync::Wait;
 use std::thread::Threads;
 
-// Whether the words are the one word expect.
-fn is_expect(words: &[Word]) -> bool
-    ensures { IsTrue result ↔ (words.now ≡ codes "expect" ∷ []) }
+// Whether the words are one word, of these bytes.
+fn is_word(words: &[Word], bytes: &[u8]) -> bool
+    ensures { IsTrue result ↔ (words.now ≡ bytes.now ∷ []) }
 {
     match words {
-        [word] => word.as_bytes() == b"expect".as_slice(),
+        [word] => word.as_bytes() == bytes,
         _ => false,
     }
 }
@@ -33,15 +35,20 @@ pub fn autonet<R: Threads + Wait + Sync, S: Source, O: Sink, E: Sink>(
     ensures expect { words.now ≡ codes "expect" ∷ [] → IsExpectAnswer INPUT_LIMIT
         (streams (seen (S.left source.old) (S.faults source.old)) (seen (O.written out.old) (O.faults out.old)) (seen (E.written err.old) (E.faults err.old)))
         (streams (seen (S.left source.new) (S.faults source.new)) (seen (O.written out.new) (O.faults out.new)) (seen (E.written err.new) (E.faults err.new))) result }
-    ensures usage { words.now ≢ codes "expect" ∷ [] → IsUsageAnswer
+    ensures check { words.now ≡ codes "check" ∷ [] → IsCheckAnswer INPUT_LIMIT
+        (streams (seen (S.left source.old) (S.faults source.old)) (seen (O.written out.old) (O.faults out.old)) (seen (E.written err.old) (E.faults err.old)))
+        (streams (seen (S.left source.new) (S.faults source.new)) (seen (O.written out.new) (O.faults out.new)) (seen (E.written err.new) (E.faults err.new))) result }
+    ensures usage { words.now ≢ codes "expect" ∷ [] → words.now ≢ codes "check" ∷ [] → IsUsageAnswer
         (streams (seen (S.left source.old) (S.faults source.old)) (seen (O.written out.old) (O.faults out.old)) (seen (E.written err.old) (E.faults err.old)))
         (streams (seen (S.left source.new) (S.faults source.new)) (seen (O.written out.new) (O.faults out.new)) (seen (E.written err.new) (E.faults err.new))) result }
 {
-    if is_expect(words) {
-        autonet_expect(alloc, source, out, err)
-    } else {
-        finish(alloc, err, Status::Usage)
+    if is_word(words, b"expect") {
+        return autonet_expect(alloc, source, out, err);
     }
+    if is_word(words, b"check") {
+        return autonet_check(alloc, source, out, err);
+    }
+    finish(alloc, err, Status::Usage)
 }
 
 #[cfg(test)]

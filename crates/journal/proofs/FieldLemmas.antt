@@ -32,7 +32,7 @@ name_good names name x at = (ap (λ (o : Option ℕ). unless (is_some o) NoSuchN
 zero_alone : (w : List ℕ) → (not (eqb (get_or w 0 0) 48) || eqb (length w) 1) ≡ true → get_or w 0 0 ≡ 48 → length w ≡ 1
 zero_alone w t zero = grind (arith, nat_tests)
 
-spelled : (w : List ℕ) → is_number w ≡ true → digits_value 10 w < 2 ^ 64 → w ≡ decimal (digits_value 10 w)
+pub spelled : (w : List ℕ) → is_number w ≡ true → digits_value 10 w < 2 ^ 64 → w ≡ decimal (digits_value 10 w)
 spelled w is low =
     let one = and_parts (list_all is_ascii_digit w) _ is in
     let two = and_parts (ltb 0 (length w)) _ one.1 in

@@ -1,20 +1,15 @@
-use Rattle.std.proofs.Common.{◌≡◌, ◌≢◌, ◌∙◌, sym, ap, refl, ℕ, ◌<◌, ◌≤◌, inl, inr, List, [], ◌∷◌, ◌++◌, append_assoc, append-nil, length, get_or, Option, Some, None, false, cond, All, AllPairs, arith, codes, eqb}
+use Rattle.std.proofs.Common.{◌≡◌, ◌≢◌, ◌∙◌, sym, ap, refl, ℕ, ◌<◌, ◌≤◌, List, [], ◌∷◌, ◌++◌, append_assoc, append-nil, length, Option, Some, None, false, cond, All, arith, codes, eqb}
 use Rattle.std.specs.Prelude.{unwrap_or}
 use Rattle.std.specs.Option.{option_map}
 use Rattle.std.specs.Fmt.{decimal}
 use Rattle.std.specs.List.{join_with_byte, slice_split}
 use Rattle.std.specs.Str.{bytes_eq}
-use Rattle.std.proofs.lemmas.Bool.{cases_lt}
 use Rattle.std.proofs.lemmas.Bool.Decides.{nat_tests}
 use Rattle.std.proofs.lemmas.List.Splits.{slice_split_none, slice_split_at}
-use Rattle.std.proofs.lemmas.List.{get_or_default}
 use Rattle.std.proofs.lemmas.List.Elements.{All-head, All-tail, All-get_or, All-nil, All-cons, All-append, All-weaker}
-use Rattle.std.proofs.lemmas.List.Quantifiers.{position-Some}
-use Rattle.std.proofs.lemmas.Slice.Eq.{bytes_eq-Decides}
 use Rattle.an_base.specs.declared.event.Event.{Event}
 use Rattle.an_base.specs.declared.event.Event.TheVariants.{Tick, Clock, Take, Handle, Load, Fail, Repair, Lose, Again, Swap, Noise, Send, Move, Restart}
-use Rattle.net_graph.proofs.ListLemmas.{AllPairs-front, AllPairs-tail}
-use Rattle.net_script.specs.declared.command.WireChange.{WireChange}
+use Rattle.net_graph.proofs.ListLemmas.{AllPairs-front}
 use Rattle.net_script.specs.declared.command.WireChange.TheVariants as wire
 use Rattle.net_script.specs.Commands.{wire_event}
 use Rattle.net_script.specs.Lines.{line_text}
@@ -22,7 +17,8 @@ use Rattle.net_script.specs.Names.{place_of}
 use Rattle.net_script.specs.Rules.{place}
 use Rattle.net_script.specs.Scripts.{ScriptOf, IsScript}
 use Rattle.net_script.specs.Words.{IsName, number_value}
-use Rattle.net_script.proofs.FieldLemmas.{no_place}
+use Rattle.net_script.proofs.FormOf.{wire_of}
+use Rattle.net_script.proofs.NameLemmas.{place_at, apart_back}
 use Rattle.net_script.proofs.SpellLemmas.{IsWord, decimal_value, decimal_word, name_word}
 use Rattle.net_script.proofs.ChainLemmas.{fixed_word, words_cons, words_nil}
 use Rattle.journal.specs.declared.kind.SwitchEvent.{SwitchEvent}
@@ -42,38 +38,6 @@ event_of s (OnSwitch event name) = switch_event event (place s.switch_names name
 event_of s (OnPort event name p) = port_event event (place s.switch_names name) (number_value p)
 event_of s (OnWire change name p n) = wire_event change (place s.switch_names name) (number_value p) (number_value n)
 event_of s (Sends host to) = Send (place s.names_of_hosts host) (place s.names_of_hosts to)
-
--- the place of a name among names that are apart
-place_found : (names : List (List ℕ)) (name : List ℕ) (i : ℕ) → place_of names name ≡ Some i → (i < length names) × (get_or names i name ≡ name)
-unfolding place_of
-place_found names name i at = let h = position-Some (λ (n : List ℕ). bytes_eq n name) names i name at in (h.0, (bytes_eq-Decides (get_or names i name) name).0 h.1)
-
-place_at : (names : List (List ℕ)) (i : ℕ) → AllPairs (λ n m. n ≢ m) names → i < length names → place_of names (get_or names i []) ≡ Some i
-place_at names i apart within = go (place_of names name) refl
-  where
-    name : List ℕ
-    name = get_or names i []
-
-    here : get_or names i name ≡ name
-    here = get_or_default names i name [] within
-
-    same : (j : ℕ) → j < length names → get_or names j name ≡ name → j ≡ i
-    same j low at = elim (cases_lt j i) [
-      | inl before ↦ absurd (apart j i name before within (at ∙ sym here))
-      | inr after ↦ elim (cases_lt i j) [
-        | inl past ↦ absurd (apart i j name past low (here ∙ sym at))
-        | inr eq ↦ omega arith
-      ]
-    ]
-
-    go : (o : Option ℕ) → place_of names name ≡ o → o ≡ Some i
-    go None e = absurd (no_place names name e (i, within, here))
-    go (Some j) e = let h = place_found names name j e in ap Some (same j h.0 h.1)
-
--- the elements behind others are apart where all are
-apart_back : {X : Type 0} (xs ys : List X) → AllPairs (λ a b. a ≢ b) (xs ++ ys) → AllPairs (λ a b. a ≢ b) ys
-apart_back [] ys apart = apart
-apart_back (x ∷ xs) ys apart = apart_back xs ys (AllPairs-tail (λ a b. a ≢ b) x (xs ++ ys) apart)
 
 pub switch_found : (s : ScriptOf) → IsScript s → (x : ℕ) → x < length s.wires.switches → place_of s.switch_names (switch_name s x) ≡ Some x
 switch_found s kept x low = place_at s.switch_names x (AllPairs-front (λ a b. a ≢ b) s.switch_names s.names_of_hosts kept.names_apart) (omega (arith, kept.switch_count))
@@ -115,16 +79,13 @@ event_back s kept (Move k) can = ap (λ (m : ℕ). Move m) (decimal_value k (let
 event_back s kept (Restart x) can = ap (λ (y : ℕ). Restart y) (switch_is s kept x can)
 
 -- the form of words
-abbrev switch_of : List ℕ → Option SwitchEvent
+abbrev pub switch_of : List ℕ → Option SwitchEvent
 switch_of w = cond (bytes_eq w (codes "clock")) (Some switch.Clock) (cond (bytes_eq w (codes "handle")) (Some switch.Handle) (cond (bytes_eq w (codes "load")) (Some switch.Load) (cond (bytes_eq w (codes "restart")) (Some switch.Restart) None)))
 
-abbrev port_of : List ℕ → Option PortEvent
+abbrev pub port_of : List ℕ → Option PortEvent
 port_of w = cond (bytes_eq w (codes "take")) (Some port.Take) (cond (bytes_eq w (codes "fail")) (Some port.Fail) (cond (bytes_eq w (codes "repair")) (Some port.Repair) None))
 
-abbrev wire_of : List ℕ → Option WireChange
-wire_of w = cond (bytes_eq w (codes "lose")) (Some wire.Lose) (cond (bytes_eq w (codes "again")) (Some wire.Again) (cond (bytes_eq w (codes "swap")) (Some wire.Swap) (cond (bytes_eq w (codes "noise")) (Some wire.Noise) None)))
-
-abbrev line_of : List (List ℕ) → Option Line
+abbrev pub line_of : List (List ℕ) → Option Line
 line_of [] = None
 line_of (a ∷ []) = cond (bytes_eq a (codes "tick")) (Some Ticks) None
 line_of (a ∷ b ∷ []) = cond (bytes_eq a (codes "move")) (Some (Moves b)) (option_map (λ k. OnSwitch k b) (switch_of a))
@@ -132,7 +93,7 @@ line_of (a ∷ b ∷ c ∷ []) = cond (bytes_eq a (codes "send")) (Some (Sends b
 line_of (a ∷ b ∷ c ∷ d ∷ []) = option_map (λ k. OnWire k b c d) (wire_of a)
 line_of (a ∷ b ∷ c ∷ d ∷ e ∷ more) = None
 
-line_back : (form : Line) → line_of (line_words form) ≡ Some form
+pub line_back : (form : Line) → line_of (line_words form) ≡ Some form
 line_back Ticks = refl
 line_back (Moves k) = refl
 line_back (OnSwitch switch.Clock n) = refl

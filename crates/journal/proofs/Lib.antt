@@ -3,3 +3,4 @@ pub mod LineLemmas
 pub mod ReadLemmas
 pub mod JournalLemmas
 pub mod FaultLemmas
+pub mod EitherLemmas

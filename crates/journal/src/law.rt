@@ -1,6 +1,6 @@
 //! What holds of all journals.
 
-ghost use Rattle.std.specs.Prelude.{◌≡◌, ℕ, List, All};
+ghost use Rattle.std.specs.Prelude.{◌≡◌, ◌⊎◌, ℕ, List, All};
 ghost use Rattle.an_base.specs.declared.event.Event.{Event};
 ghost use Rattle.net_script.specs.Scripts.{ScriptOf, IsScript};
 ghost use Rattle.journal.specs.declared.cause.JournalCause.{JournalCause};
@@ -29,4 +29,11 @@ pub fn no_fault_in_journal()
 pub fn one_fault()
     ensures { (s : ScriptOf) (bytes : List ℕ) (line other : ℕ) (c d : JournalCause) → IsScript s →
         IsFault s bytes line c → IsFault s bytes other d → (line ≡ other) × (c ≡ d) }
+{}
+
+/// Bytes that begin with the text of no journal have a fault.
+pub fn journal_or_fault()
+    ensures { (s : ScriptOf) (bytes : List ℕ) → IsScript s →
+        ((events : List Event) × IsJournal s bytes events)
+        ⊎ ((line : ℕ) × (c : JournalCause) × IsFault s bytes line c) }
 {}

@@ -1,13 +1,13 @@
 //! The printer of journals.
 
-ghost use Rattle.std.specs.Prelude.{◌≡◌, ◌<◌, ◌++◌, [], ◌∷◌, codes, length, map, All, OnOk, IfOk, slice_index_or};
+ghost use Rattle.std.specs.Prelude.{◌≡◌, ◌<◌, ◌++◌, [], ◌∷◌, codes, length, All, OnOk, IfOk, slice_index_or};
 ghost use Rattle.std.specs.Fmt.{decimal};
 ghost use Rattle.net_script.specs.Lines.{line_text};
 ghost use Rattle.journal.specs.Events.{CanSpell, event_words, events_text, journal_text};
 
 use an_base::event::{Event, Journal};
 use an_base::memory::OutOfMemory;
-use an_base::text::Word;
+use net_script::names::Names;
 use net_script::printer::{decimal, push_line};
 use net_script::script::Script;
 use std::alloc::Global;
@@ -72,7 +72,7 @@ fn push_event(
 // Appends the line of an event of a switch.
 fn push_switch<'a>(
     text: &mut Vec<u8>,
-    names: &'a [Word],
+    names: &'a Names,
     word: &'a [u8],
     s: u8,
 ) -> Result<(), OutOfMemory>
@@ -80,7 +80,7 @@ fn push_switch<'a>(
     ensures { OnOk result (text.new.items ≡ text.old.items
         ++ line_text (word.now ∷ slice_index_or names.now s [] ∷ [])) }
 {
-    let name = names[usize::from(s)].as_bytes();
+    let name = names.get(usize::from(s));
     push_line(text, &[word, name])
 }
 
@@ -88,7 +88,7 @@ fn push_switch<'a>(
 fn push_port<'a>(
     alloc: Global,
     text: &mut Vec<u8>,
-    names: &'a [Word],
+    names: &'a Names,
     word: &'a [u8],
     s: u8,
     port: u8,
@@ -98,7 +98,7 @@ fn push_port<'a>(
         ++ line_text (word.now ∷ slice_index_or names.now s [] ∷ decimal port ∷ [])) }
 {
     let port = decimal(alloc, u64::from(port))?;
-    let name = names[usize::from(s)].as_bytes();
+    let name = names.get(usize::from(s));
     push_line(text, &[word, name, &port])
 }
 
@@ -106,7 +106,7 @@ fn push_port<'a>(
 fn push_count<'a>(
     alloc: Global,
     text: &mut Vec<u8>,
-    names: &'a [Word],
+    names: &'a Names,
     word: &'a [u8],
     s: u8,
     port: u8,
@@ -118,20 +118,20 @@ fn push_count<'a>(
 {
     let port = decimal(alloc, u64::from(port))?;
     let count = decimal(alloc, u64::from(n))?;
-    let name = names[usize::from(s)].as_bytes();
+    let name = names.get(usize::from(s));
     push_line(text, &[word, name, &port, &count])
 }
 
 // Appends the line by which a host sends.
-fn push_send(text: &mut Vec<u8>, hosts: &[Word], host: u16, to: u16) -> Result<(), OutOfMemory>
+fn push_send(text: &mut Vec<u8>, hosts: &Names, host: u16, to: u16) -> Result<(), OutOfMemory>
     requires host { host < length hosts.now }
     requires to { to < length hosts.now }
     ensures { OnOk result (text.new.items ≡ text.old.items
         ++ line_text (codes "send" ∷ slice_index_or hosts.now host []
         ∷ slice_index_or hosts.now to [] ∷ [])) }
 {
-    let host = hosts[usize::from(host)].as_bytes();
-    let to = hosts[usize::from(to)].as_bytes();
+    let host = hosts.get(usize::from(host));
+    let to = hosts.get(usize::from(to));
     push_line(text, &[b"send", host, to])
 }
 

@@ -2,8 +2,6 @@
 
 ghost use Rattle.std.specs.Prelude.{◌≡◌, ◌≢◌, ◌<◌, ◌≤◌, [], ◌∷◌, map, IfSome, IfNone};
 ghost use Rattle.std.specs.Fmt.{decimal};
-ghost use Rattle.net_script.specs.declared.command.WireChange.{WireChange};
-ghost use Rattle.net_script.specs.Commands.{wire_word};
 ghost use Rattle.journal.specs.declared.kind.SwitchEvent.{SwitchEvent};
 ghost use Rattle.journal.specs.declared.kind.PortEvent.{PortEvent};
 ghost use Rattle.journal.specs.Lines.{Moves, OnSwitch, OnPort, OnWire, Sends, switch_word, port_word};
@@ -67,7 +65,7 @@ fn read_three(script: &Script, a: &[u8], b: &[u8], c: &[u8]) -> Result<Event, Jo
 fn read_four(script: &Script, a: &[u8], b: &[u8], c: &[u8], d: &[u8]) -> Result<Event, JournalCause>
     ensures { ReadsWords script.now (a.now ∷ b.now ∷ c.now ∷ d.now ∷ []) result }
 {
-    match wire_change_of(a) {
+    match WireChange::of(a) {
         Some(change) => read_on_wire(script, change, b, c, d),
         None => Err(JournalCause::UnknownWord),
     }
@@ -155,25 +153,6 @@ fn port_event_of(word: &[u8]) -> Option<PortEvent>
     }
     if is(word, "repair") {
         return Some(PortEvent::Repair);
-    }
-    None
-}
-
-fn wire_change_of(word: &[u8]) -> Option<WireChange>
-    ensures some { IfSome result (λ k. word.now ≡ wire_word k) }
-    ensures none { IfNone result ((k : WireChange) → word.now ≢ wire_word k) }
-{
-    if is(word, "lose") {
-        return Some(WireChange::Lose);
-    }
-    if is(word, "again") {
-        return Some(WireChange::Again);
-    }
-    if is(word, "swap") {
-        return Some(WireChange::Swap);
-    }
-    if is(word, "noise") {
-        return Some(WireChange::Noise);
     }
     None
 }

@@ -13,7 +13,7 @@ use Rattle.net_graph.specs.declared.wiring.SwitchAt.{SwitchAt}
 use Rattle.net_graph.specs.declared.wiring.LinkAt.{LinkAt}
 use Rattle.net_graph.specs.declared.wiring.HostOn.{HostOn}
 use Rattle.net_graph.specs.Wires.{IsSwitch, IsLink, IsHost, uids, used_ports, link_ends, a_end, b_end, host_end}
-use Rattle.net_graph.proofs.ListLemmas.{AllPairs-front, AllPairs-tail}
+use Rattle.net_graph.proofs.ListLemmas.{AllPairs-front}
 use Rattle.net_script.specs.declared.command.Command.{Command}
 use Rattle.net_script.specs.declared.command.LinkChange.{LinkChange}
 use Rattle.net_script.specs.declared.command.WireChange.{WireChange}
@@ -34,6 +34,7 @@ use Rattle.net_script.specs.Drafts.{start}
 use Rattle.net_script.specs.Rules.{with_form, setting_cause, switch_of, switch_cause, link_of, link_cause, host_of, host_cause, link_change_cause, wire_change_cause, send_cause, restart_cause, link_command, wire_command, send_command, restart_command}
 use Rattle.net_script.specs.Texts.{Adds, AddsRow, Leads, IsText}
 use Rattle.net_script.specs.Canonical.{setting_form, pace_form, routes_form, setting_forms, had_word, switch_form, link_form, host_form, command_form, event_form, forms_of, canonical_text}
+use Rattle.net_script.proofs.NameLemmas.{apart_back}
 use Rattle.net_script.proofs.SpellLemmas.{IsWord, name_word, decimal_word, decimal_value, uid_word, line_good, line_words, lines_of-text}
 use Rattle.net_script.proofs.GoodLemmas.{AreNames, unless_good, first_good, number_good, switch_good, switch_is, link_good, link_is, host_good, host_is, link_change_good, wire_change_good, send_good, restart_good, link_event_is, wire_event_is, send_event_is, restart_event_is}
 use Rattle.net_script.proofs.ScriptLemmas.{last_time_is, restarts_push}
@@ -283,11 +284,6 @@ is_next s cs ms c kept parts = record {
   room = let count = kept.command_count in omega (arith, ap length parts, length-append cs (c ∷ ms));
   lives = λ t. let more = restarts_at cs ms c t in let lives = kept.lives in omega (arith, ap restarts_of parts);
 }
-
--- the elements behind others are apart where all are
-apart_back : {X : Type 0} (xs ys : List X) → AllPairs (λ a b. a ≢ b) (xs ++ ys) → AllPairs (λ a b. a ≢ b) ys
-apart_back [] ys apart = apart
-apart_back (x ∷ xs) ys apart = apart_back xs ys (AllPairs-tail (λ a b. a ≢ b) x (xs ++ ys) apart)
 
 host_names_are : (s : ScriptOf) → IsScript s → AreNames s.names_of_hosts (length s.wires.hosts)
 host_names_are s kept = record { are_names = kept.names_of_hosts; apart = apart_back s.switch_names s.names_of_hosts kept.names_apart; counted = kept.host_count }

@@ -70,7 +70,7 @@ pub word_is : (w v : List ℕ) → bytes_eq w v ≡ true → w ≡ v
 word_is w v same = (bytes_eq-Decides w v).0 same
 
 -- a choice that found something
-branch : {X : Type 0} (b : Bool) (one more : Option X) (f : X) (Q : Type 0) → (b ≡ true → one ≡ Some f → Q) → (b ≡ false → more ≡ Some f → Q) → cond b one more ≡ Some f → Q
+pub branch : {X : Type 0} (b : Bool) (one more : Option X) (f : X) (Q : Type 0) → (b ≡ true → one ≡ Some f → Q) → (b ≡ false → more ≡ Some f → Q) → cond b one more ≡ Some f → Q
 branch true one more f Q here later found = here refl found
 branch false one more f Q here later found = later refl found
 
@@ -87,7 +87,7 @@ link_is w k found =
     (λ n. branch (bytes_eq w (codes "repair")) _ _ k _ (λ t e. let h : link.Repair ≡ k = cc in rw (word_is w (codes "repair") t, ← h) refl)
     (λ n e. absurd (cc))) found
 
-wire_is : (w : List ℕ) (k : WireChange) → wire_of w ≡ Some k → w ≡ wire_word k
+pub wire_is : (w : List ℕ) (k : WireChange) → wire_of w ≡ Some k → w ≡ wire_word k
 wire_is w k found =
     branch (bytes_eq w (codes "lose")) _ _ k _ (λ t e. let h : wire.Lose ≡ k = cc in rw (word_is w (codes "lose") t, ← h) refl)
     (λ n. branch (bytes_eq w (codes "again")) _ _ k _ (λ t e. let h : wire.Again ≡ k = cc in rw (word_is w (codes "again") t, ← h) refl)
@@ -96,7 +96,7 @@ wire_is w k found =
     (λ n e. absurd (cc))))) found
 
 -- a choice by a map
-mapped : {X Y : Type 0} (o : Option X) (g : X → Y) (f : Y) (Q : Type 0) → ((x : X) → o ≡ Some x → g x ≡ f → Q) → option_map g o ≡ Some f → Q
+pub mapped : {X Y : Type 0} (o : Option X) (g : X → Y) (f : Y) (Q : Type 0) → ((x : X) → o ≡ Some x → g x ≡ f → Q) → option_map g o ≡ Some f → Q
 mapped None g f Q here found = absurd (cc)
 mapped (Some x) g f Q here found = let same : g x ≡ f = cc in here x refl same
 

@@ -28,11 +28,11 @@ zip_push (u ∷ xs) [] x y same = absurd (omega arith)
 zip_push {X} {Y} (u ∷ xs) (v ∷ ys) x y same = ap (λ (ps : List (X × Y)). (u, v) ∷ ps) (zip_push xs ys x y (omega arith))
 
 -- the lines of items with names, with one more
-pub pairs_more : {X : Type 0} (f : List ℕ × X → Form) (ns : List (List ℕ)) (xs : List X) (i : ℕ) (name item : List ℕ) (d : X) (old text all : List ℕ) → i < length ns → i < length xs → name ≡ item → item ≡ get_or ns i item → text ≡ old ++ forms_text (map f (zip (take i ns) (take i xs))) → all ≡ text ++ line_text (form_words (f (name, get_or xs i d))) → all ≡ old ++ forms_text (map f (zip (take (i + 1) ns) (take (i + 1) xs)))
-pairs_more {X} f ns xs i name item d old text all low within is at so_far last =
+pub pairs_more : {X : Type 0} (f : List ℕ × X → Form) (ns : List (List ℕ)) (xs : List X) (i : ℕ) (name : List ℕ) (d : X) (old text all : List ℕ) → i < length ns → i < length xs → name ≡ get_or ns i [] → text ≡ old ++ forms_text (map f (zip (take i ns) (take i xs))) → all ≡ text ++ line_text (form_words (f (name, get_or xs i d))) → all ≡ old ++ forms_text (map f (zip (take (i + 1) ns) (take (i + 1) xs)))
+pairs_more {X} f ns xs i name d old text all low within is so_far last =
     let ps = zip (take i ns) (take i xs) in
     let p : List ℕ × X = (name, get_or xs i d) in
-    let front : take (i + 1) ns ≡ take i ns ++ name ∷ [] = take_more ns i item low ∙ ap (λ (n : List ℕ). take i ns ++ n ∷ []) (sym at ∙ sym is) in
+    let front : take (i + 1) ns ≡ take i ns ++ name ∷ [] = take_more ns i [] low ∙ ap (λ (n : List ℕ). take i ns ++ n ∷ []) (sym is) in
     let more : zip (take (i + 1) ns) (take (i + 1) xs) ≡ ps ++ p ∷ [] =
     ap (λ (l : List (List ℕ)). zip l (take (i + 1) xs)) front ∙ ap (λ (l : List X). zip (take i ns ++ name ∷ []) l) (take_more xs i d within)
     ∙ zip_push (take i ns) (take i xs) name (get_or xs i d) (omega (arith, length-take i ns, length-take i xs)) in

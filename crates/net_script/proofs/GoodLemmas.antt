@@ -1,14 +1,9 @@
-use Rattle.std.proofs.Common.{◌≡◌, ◌≢◌, ◌∙◌, sym, ap, refl, ℕ, ◌<◌, ◌≤◌, ◌^◌, inl, inr, List, [], length, get_or, Option, Some, None, Bool, true, false, not, ◌&&◌, ◌||◌, eqb, leb, ltb, cond, is_some, All, AllPairs, Contains, arith}
+use Rattle.std.proofs.Common.{◌≡◌, ◌≢◌, ◌∙◌, sym, ap, refl, ℕ, ◌<◌, ◌≤◌, ◌^◌, List, [], length, get_or, Option, Some, None, Bool, true, false, not, ◌&&◌, ◌||◌, eqb, leb, ltb, cond, is_some, All, AllPairs, Contains, arith}
 use Rattle.std.specs.Prelude.{unwrap_or}
 use Rattle.std.specs.Option.{option_or}
 use Rattle.std.specs.Fmt.{decimal}
-use Rattle.std.specs.Str.{bytes_eq}
-use Rattle.std.proofs.lemmas.Bool.{cases_lt}
 use Rattle.std.proofs.lemmas.Bool.Decides.{nat_tests}
-use Rattle.std.proofs.lemmas.List.{get_or_default}
 use Rattle.std.proofs.lemmas.List.Elements.{All-get_or, Contains-append_left, Contains-append_right}
-use Rattle.std.proofs.lemmas.List.Quantifiers.{position-Some}
-use Rattle.std.proofs.lemmas.Slice.Eq.{bytes_eq-Decides}
 use Rattle.an_base.specs.declared.event.Event.TheVariants.{Send, Restart}
 use Rattle.net_graph.specs.declared.wiring.SwitchAt.{SwitchAt}
 use Rattle.net_graph.specs.declared.wiring.LinkAt.{LinkAt}
@@ -26,7 +21,8 @@ use Rattle.net_script.specs.Names.{place_of}
 use Rattle.net_script.specs.Scripts.{ScriptOf, IsNewName, CanAddSwitch, CanAddLink, CanAddHost, lives_of}
 use Rattle.net_script.specs.Rules.{place, is_taken, number_cause, port_cause, new_name_cause, new_uid_cause, known_cause, had_cause, had_of, time_cause, lives_cause, commands_cause, switch_of, link_of, host_of, link_command, wire_command, send_command, restart_command, is_free, switch_cause, link_cause, host_cause, link_change_cause, wire_change_cause, send_cause, restart_cause}
 use Rattle.net_script.specs.Canonical.{had_word}
-use Rattle.net_script.proofs.FieldLemmas.{no_place, uid_good}
+use Rattle.net_script.proofs.FieldLemmas.{uid_good}
+use Rattle.net_script.proofs.NameLemmas.{place_none, place_at}
 use Rattle.net_script.proofs.SpellLemmas.{decimal_number, decimal_value, uid_is, uid_value_is}
 
 -- nothing is wrong where a test is passed, and where nothing is wrong with each part
@@ -68,39 +64,6 @@ port_value : (p : ℕ) → p ≤ 12 → number_value (decimal p) ≡ p
 port_value p most = decimal_value p (omega arith)
 
 -- names and their places
-place_found : (names : List (List ℕ)) (name : List ℕ) (i : ℕ) → place_of names name ≡ Some i → (i < length names) × (get_or names i name ≡ name)
-unfolding place_of
-place_found names name i at = let h = position-Some (λ (n : List ℕ). bytes_eq n name) names i name at in (h.0, (bytes_eq-Decides (get_or names i name) name).0 h.1)
-
-place_none : (names : List (List ℕ)) (name : List ℕ) → ¬ Contains names name → place_of names name ≡ None
-place_none names name new = go (place_of names name) refl
-  where
-    go : (o : Option ℕ) → place_of names name ≡ o → o ≡ None
-    go None e = refl
-    go (Some i) e = let h = place_found names name i e in absurd (new (i, h.0, h.1))
-
-place_at : (names : List (List ℕ)) (i : ℕ) → AllPairs (λ n m. n ≢ m) names → i < length names → place_of names (get_or names i []) ≡ Some i
-place_at names i apart within = go (place_of names name) refl
-  where
-    name : List ℕ
-    name = get_or names i []
-
-    here : get_or names i name ≡ name
-    here = get_or_default names i name [] within
-
-    same : (j : ℕ) → j < length names → get_or names j name ≡ name → j ≡ i
-    same j low at = elim (cases_lt j i) [
-      | inl before ↦ absurd (apart j i name before within (at ∙ sym here))
-      | inr after ↦ elim (cases_lt i j) [
-        | inl past ↦ absurd (apart i j name past low (here ∙ sym at))
-        | inr eq ↦ omega arith
-      ]
-    ]
-
-    go : (o : Option ℕ) → place_of names name ≡ o → o ≡ Some i
-    go None e = absurd (no_place names name e (i, within, here))
-    go (Some j) e = let h = place_found names name j e in ap Some (same j h.0 h.1)
-
 known_good : (names : List (List ℕ)) (i : ℕ) → All IsName names → AllPairs (λ n m. n ≢ m) names → i < length names → known_cause names (get_or names i []) ≡ None
 known_good names i are apart within =
     first_good (unless (is_name (get_or names i [])) BadName) _ (unless_good (is_name (get_or names i [])) BadName (All-get_or IsName names i [] within are))

@@ -1,7 +1,9 @@
 pub mod FormOf
+pub mod ChainLaws
 pub mod TextLemmas
 pub mod WiredLemmas
 pub mod ScriptLemmas
+pub mod NameLemmas
 pub mod WordLemmas
 pub mod LineLemmas
 pub mod FieldLemmas
@@ -13,3 +15,15 @@ pub mod FormTextLemmas
 pub mod GoodLemmas
 pub mod ChainLemmas
 pub mod CanonicalLemmas
+pub mod PartLemmas
+pub mod LabelLemmas
+pub mod TableFormOf
+pub mod JoinedLemmas
+pub mod KeptLemmas
+pub mod TableLaws
+pub mod FinalLemmas
+pub mod CauseLemmas
+pub mod PairLemmas
+pub mod NumberLineLemmas
+pub mod ReadyLemmas
+pub mod WalkJoined

@@ -169,7 +169,7 @@ line_short (w ∷ v ∷ more) are = let h = (All-head IsWord w (v ∷ more) are)
 line_byte : (c : ℕ) → IsLineByte c → is_line_byte c ≡ true
 line_byte c is = elim is [ inl space ↦ rw space refl | inr printed ↦ (let h = printed.0 in let k = printed.1 in grind (arith, nat_tests)) ]
 
-pub line_good : (row : List (List ℕ)) → All IsWord row → length row ≤ 6 → bytes_cause (join_with_byte 32 row) ≡ None
+pub line_good : (row : List (List ℕ)) → All IsWord row → length row ≤ 6 → bytes_cause 200 (join_with_byte 32 row) ≡ None
 line_good row are few =
     let short : leb (length (join_with_byte 32 row)) 200 ≡ true = (let h = line_short row are in grind (arith, nat_tests)) in
     rw (short, test_from_all is_line_byte IsLineByte line_byte (join_with_byte 32 row) (line_bytes row are)) refl

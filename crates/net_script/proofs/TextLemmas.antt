@@ -1,6 +1,6 @@
-use Rattle.std.proofs.Common.{◌≡◌, ◌≢◌, ◌⊎◌, inl, inr, ◌∙◌, sym, ap, refl, subst, ℕ, ◌+◌, List, [], ◌∷◌, ◌++◌, append_assoc, append-nil, length, Option, Some, None, Bool, true, false, ◌&&◌, codes, arith}
+use Rattle.std.proofs.Common.{◌≡◌, ◌≢◌, ◌⊎◌, inl, inr, ◌∙◌, sym, ap, refl, ℕ, List, [], ◌∷◌, Option, Some, None, Bool, true, false, ◌&&◌, codes}
 use Rattle.net_script.specs.declared.cause.ScriptCause.{ScriptCause}
-use Rattle.net_script.specs.declared.cause.ScriptCause.TheVariants.{BadHeader, UnknownWord, NoEnd, AfterEnd}
+use Rattle.net_script.specs.declared.cause.ScriptCause.TheVariants.{BadHeader, UnknownWord, AfterEnd}
 use Rattle.net_script.specs.declared.draft.Draft.{Draft}
 use Rattle.net_script.specs.declared.draft.Part.{Part}
 use Rattle.net_script.specs.declared.draft.Part.TheVariants.{Header, Items, After}
@@ -9,7 +9,8 @@ use Rattle.net_script.specs.Scripts.{ScriptOf}
 use Rattle.net_script.specs.Forms.{Form, form_words, header_words}
 use Rattle.net_script.specs.Drafts.{start}
 use Rattle.net_script.specs.Rules.{cause_of, with_form}
-use Rattle.net_script.specs.Texts.{AddsWords, AddsRow, Adds, IsFaultyWords, IsFaultyRow, IsFaulty, bytes_cause, Leads, IsText, IsFault}
+use Rattle.net_script.specs.Texts.{AddsWords, AddsRow, Adds, IsFaultyWords, IsFaultyRow, IsFaulty, bytes_cause, IsEnded, IsText, IsFault}
+use Rattle.net_script.proofs.ChainLaws.{LeadsBy-once, no_fault_of, one_fault_of, end_or_fault}
 use Rattle.net_script.proofs.FormOf.{one_form, form_of, form_is, no_form, word_is}
 use Rattle.std.specs.Str.{bytes_eq}
 use Rattle.std.proofs.lemmas.Bool.{and_parts}
@@ -69,7 +70,7 @@ row_one_cause : (d : Draft) (words : List (List ℕ)) (b c : ScriptCause) → Is
 row_one_cause d [] b c one other = absurd one
 row_one_cause d (w ∷ ws) b c one other = words_one_cause d.part d (w ∷ ws) b c one other
 
-one_cause : (d : Draft) (line : List ℕ) (b c : ScriptCause) → IsFaulty d line b → IsFaulty d line c → b ≡ c
+pub one_cause : (d : Draft) (line : List ℕ) (b c : ScriptCause) → IsFaulty d line b → IsFaulty d line c → b ≡ c
 one_cause d line b c one other = elim one [
   | inl bytes ↦ elim other [
     | inl bytes' ↦ (let both : Some b ≡ Some c = sym bytes ∙ bytes' in cc)
@@ -78,74 +79,6 @@ one_cause d line b c one other = elim one [
   | inr row ↦ elim other [
     | inl bytes ↦ (let both : ◌≡◌ {A = Option ScriptCause} (Some c) None = sym bytes ∙ row.0 in absurd (cc))
     | inr row' ↦ row_one_cause d (words_of line) b c row.1 row'.1
-  ]
-]
-
--- good lines lead to one draft
-pub Leads-once : (d : Draft) (lines : List (List ℕ)) (e f : Draft) → Leads d lines e → Leads d lines f → e ≡ f
-Leads-once d [] e f one other = sym one ∙ other
-Leads-once d (l ∷ ls) e f one other =
-    let same = Adds-once d l one.0 other.0 one.1 other.1 in
-    Leads-once one.0 ls e f one.2 (subst (λ (m : Draft). Leads m ls f) (sym same) other.2)
-
--- good lines with one more
-pub Leads-push : (d : Draft) (lines : List (List ℕ)) (e : Draft) (line : List ℕ) (f : Draft) → Leads d lines e → Adds e line f → Leads d (lines ++ line ∷ []) f
-Leads-push d [] e line f leads adds = (f, subst (λ (m : Draft). Adds m line f) (sym leads) adds, refl)
-Leads-push d (l ∷ ls) e line f leads adds = (leads.0, leads.1, Leads-push leads.0 ls e line f leads.2 adds)
-
--- good lines after good lines
-pub Leads-append : (d : Draft) (lines : List (List ℕ)) (e : Draft) (more : List (List ℕ)) (f : Draft) → Leads d lines e → Leads e more f → Leads d (lines ++ more) f
-Leads-append d [] e more f leads on = subst (λ (m : Draft). Leads m more f) (sym leads) on
-Leads-append d (l ∷ ls) e more f leads on = (leads.0, leads.1, Leads-append leads.0 ls e more f leads.2 on)
-
--- where all lines are good none is faulty
-none_faulty : (before : List (List ℕ)) (d : Draft) (here : List ℕ) (after : List (List ℕ)) (e said : Draft) (c : ScriptCause) → Leads d (before ++ here ∷ after) e → Leads d before said → IsFaulty said here c → ⊥
-none_faulty [] d here after e said c all good faulty = not_both d here all.0 c all.1 (subst (λ (m : Draft). IsFaulty m here c) (sym good) faulty)
-none_faulty (b ∷ bs) d here after e said c all good faulty =
-    let same = Adds-once d b all.0 good.0 all.1 good.1 in
-    none_faulty bs all.0 here after e said c all.2 (subst (λ (m : Draft). Leads m bs said) (sym same) good.2) faulty
-
--- the first faulty line is one, and so is its cause
-one_faulty : (before before' : List (List ℕ)) (d : Draft) (here here' : List ℕ) (after after' : List (List ℕ)) (said said' : Draft) (c c' : ScriptCause) → before ++ here ∷ after ≡ before' ++ here' ∷ after' → Leads d before said → Leads d before' said' → IsFaulty said here c → IsFaulty said' here' c' → (length before ≡ length before') × (c ≡ c')
-one_faulty [] [] d here here' after after' said said' c c' same good good' faulty faulty' =
-    let heads : here ≡ here' = cc in
-    let drafts : said ≡ said' = sym good ∙ good' in
-    (refl, one_cause said here c c' faulty (subst (λ (m : Draft). IsFaulty m here c') (sym drafts) (subst (λ (l : List ℕ). IsFaulty said' l c') (sym heads) faulty')))
-one_faulty [] (b ∷ bs) d here here' after after' said said' c c' same good good' faulty faulty' =
-    let heads : here ≡ b = cc in
-    absurd (not_both d b good'.0 c good'.1 (subst (λ (m : Draft). IsFaulty m b c) (sym good) (subst (λ (l : List ℕ). IsFaulty said l c) heads faulty)))
-one_faulty (b ∷ bs) [] d here here' after after' said said' c c' same good good' faulty faulty' =
-    let heads : here' ≡ b = cc in
-    absurd (not_both d b good.0 c' good.1 (subst (λ (m : Draft). IsFaulty m b c') (sym good') (subst (λ (l : List ℕ). IsFaulty said' l c') heads faulty')))
-one_faulty (b ∷ bs) (b' ∷ bs') d here here' after after' said said' c c' same good good' faulty faulty' =
-    let heads : b' ≡ b = cc in
-    let tails : bs ++ here ∷ after ≡ bs' ++ here' ∷ after' = cc in
-    let drafts = Adds-once d b good.0 good'.0 good.1 (subst (λ (l : List ℕ). Adds d l good'.0) heads good'.1) in
-    let more = one_faulty bs bs' good.0 here here' after after' said said' c c' tails good.2 (subst (λ (m : Draft). Leads m bs' said') (sym drafts) good'.2) faulty faulty' in
-    (let lengths = more.0 in omega arith, more.1)
-
--- the laws
-
-pub one_text : (bytes : List ℕ) (s t : ScriptOf) → IsText bytes s → IsText bytes t → s ≡ t
-one_text bytes s t one other =
-    one.says ∙ ap (λ (d : Draft). d.script) (Leads-once start (lines_of bytes) one.last other.last one.good other.good) ∙ sym other.says
-
-pub no_fault : (bytes : List ℕ) (s : ScriptOf) (line : ℕ) (c : ScriptCause) → IsText bytes s → IsFault bytes line c → ⊥
-no_fault bytes s line c text fault = elim fault [
-  | inl at ↦ none_faulty at.before start at.here at.after text.last at.said c (subst (λ (ls : List (List ℕ)). Leads start ls text.last) at.parts text.good) at.good at.faulty
-  | inr early ↦ early.unended (ap (λ (d : Draft). d.part) (Leads-once start (lines_of bytes) early.said text.last early.good text.good) ∙ text.ended)
-]
-
-pub one_fault : (bytes : List ℕ) (line other : ℕ) (c d : ScriptCause) → IsFault bytes line c → IsFault bytes other d → (line ≡ other) × (c ≡ d)
-one_fault bytes line other c d one two = elim one [
-  | inl a ↦ elim two [
-    | inl b ↦ (let h = one_faulty a.before b.before start a.here b.here a.after b.after a.said b.said c d (sym a.parts ∙ b.parts) a.good b.good a.faulty b.faulty in
-        (let lengths = h.0 in omega (arith, a.number, b.number), h.1))
-    | inr e ↦ absurd (none_faulty a.before start a.here a.after e.said a.said c (subst (λ (ls : List (List ℕ)). Leads start ls e.said) a.parts e.good) a.good a.faulty)
-  ]
-  | inr e ↦ elim two [
-    | inl b ↦ absurd (none_faulty b.before start b.here b.after e.said b.said d (subst (λ (ls : List (List ℕ)). Leads start ls e.said) b.parts e.good) b.good b.faulty)
-    | inr f ↦ (omega (arith, e.number, f.number), e.cause ∙ sym f.cause)
   ]
 ]
 
@@ -187,10 +120,10 @@ either_row : (d : Draft) (ws : List (List ℕ)) → ((e : Draft) × AddsRow d ws
 either_row d [] = inl (d, refl)
 either_row d (w ∷ ws) = either_words d.part d (w ∷ ws)
 
-either : (d : Draft) (line : List ℕ) → ((e : Draft) × Adds d line e) ⊎ ((c : ScriptCause) × IsFaulty d line c)
-either d line = go (bytes_cause line) refl
+pub either : (d : Draft) (line : List ℕ) → ((e : Draft) × Adds d line e) ⊎ ((c : ScriptCause) × IsFaulty d line c)
+either d line = go (bytes_cause 200 line) refl
   where
-    go : (o : Option ScriptCause) → bytes_cause line ≡ o → ((e : Draft) × Adds d line e) ⊎ ((c : ScriptCause) × IsFaulty d line c)
+    go : (o : Option ScriptCause) → bytes_cause 200 line ≡ o → ((e : Draft) × Adds d line e) ⊎ ((c : ScriptCause) × IsFaulty d line c)
     go (Some c) bad = inr (c, inl bad)
     go None good = elim (either_row d (words_of line)) [
       | inl adds ↦ inl (adds.0, record { bytes = good; row = adds.1 })
@@ -215,20 +148,27 @@ not_after Header t same = absurd (cc)
 not_after Items t same = absurd (cc)
 not_after After t same = absurd (cc)
 
--- the lines from one place on, after good ones
-walk : (bytes : List ℕ) (lines before : List (List ℕ)) (d : Draft) → lines_of bytes ≡ before ++ lines → Leads start before d → ((s : ScriptOf) × IsText bytes s) ⊎ ((line : ℕ) × (c : ScriptCause) × IsFault bytes line c)
-walk bytes [] before d parts good = ended (is_after d.part) refl
+pub ended_or : (d : Draft) → IsEnded d ⊎ (¬ IsEnded d)
+ended_or d = go (is_after d.part) refl
   where
-    all : Leads start (lines_of bytes) d
-    all = subst (λ (ls : List (List ℕ)). Leads start ls d) (sym (parts ∙ append-nil before)) good
+    go : (b : Bool) → is_after d.part ≡ b → IsEnded d ⊎ (¬ IsEnded d)
+    go true t = inl (after_is d.part t)
+    go false t = inr (not_after d.part t)
 
-    ended : (b : Bool) → is_after d.part ≡ b → ((s : ScriptOf) × IsText bytes s) ⊎ ((line : ℕ) × (c : ScriptCause) × IsFault bytes line c)
-    ended true t = inl (d.script, record { last = d; good = all; ended = after_is d.part t; says = refl })
-    ended false t = inr (length (lines_of bytes) + 1, NoEnd, inr (record { said = d; good = all; unended = not_after d.part t; number = refl; cause = refl }))
-walk bytes (line ∷ lines) before d parts good = elim (either d line) [
-  | inl adds ↦ walk bytes lines (before ++ line ∷ []) adds.0 (parts ∙ sym (append_assoc before (line ∷ []) lines)) (Leads-push start before d line adds.0 good adds.1)
-  | inr faulty ↦ inr (length before + 1, faulty.0, inl (record { before = before; here = line; after = lines; parts = parts; said = d; good = good; number = refl; faulty = faulty.1 }))
-]
+-- the laws
+
+pub one_text : (bytes : List ℕ) (s t : ScriptOf) → IsText bytes s → IsText bytes t → s ≡ t
+one_text bytes s t one other =
+    one.says ∙ ap (λ (d : Draft). d.script) (LeadsBy-once start Adds IsFaulty IsEnded Adds-once not_both one_cause start (lines_of bytes) one.last other.last one.good other.good) ∙ sym other.says
+
+pub no_fault : (bytes : List ℕ) (s : ScriptOf) (line : ℕ) (c : ScriptCause) → IsText bytes s → IsFault bytes line c → ⊥
+no_fault bytes s line c text fault = no_fault_of start Adds IsFaulty IsEnded Adds-once not_both one_cause bytes text.last line c text.good text.ended fault
+
+pub one_fault : (bytes : List ℕ) (line other : ℕ) (c d : ScriptCause) → IsFault bytes line c → IsFault bytes other d → (line ≡ other) × (c ≡ d)
+one_fault = one_fault_of start Adds IsFaulty IsEnded Adds-once not_both one_cause
 
 pub text_or_fault : (bytes : List ℕ) → ((s : ScriptOf) × IsText bytes s) ⊎ ((line : ℕ) × (c : ScriptCause) × IsFault bytes line c)
-text_or_fault bytes = walk bytes (lines_of bytes) [] start refl refl
+text_or_fault bytes = elim (end_or_fault start Adds IsFaulty IsEnded either ended_or bytes) [
+  | inl text ↦ inl (text.0.script, record { last = text.0; good = text.1; ended = text.2; says = refl })
+  | inr fault ↦ inr fault
+]

@@ -1,6 +1,7 @@
 pub mod Words
 pub mod Lines
 pub mod Causes
+pub mod Chains
 pub mod Settings
 pub mod Commands
 pub mod Names
@@ -11,3 +12,9 @@ pub mod Rules
 pub mod Texts
 pub mod Steps
 pub mod Canonical
+pub mod Tables
+pub mod TableForms
+pub mod TableDrafts
+pub mod TableRules
+pub mod TableTexts
+pub mod TableSteps

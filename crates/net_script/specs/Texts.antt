@@ -1,11 +1,12 @@
-use Rattle.std.specs.Prelude.{◌≡◌, ◌≢◌, ◌⊎◌, ℕ, ◌+◌, List, [], ◌∷◌, ◌++◌, length, Option, Some, None, nat_le}
+use Rattle.std.specs.Prelude.{◌≡◌, ◌≢◌, ◌⊎◌, ℕ, List, [], ◌∷◌, length, Option, Some, None, nat_le}
 use Rattle.std.specs.List.{list_all}
 use Rattle.net_script.specs.declared.cause.ScriptCause.{ScriptCause}
-use Rattle.net_script.specs.declared.cause.ScriptCause.TheVariants.{NotAscii, BadHeader, UnknownWord, NoEnd, AfterEnd, LineTooLong}
+use Rattle.net_script.specs.declared.cause.ScriptCause.TheVariants.{NotAscii, BadHeader, UnknownWord, AfterEnd, LineTooLong}
 use Rattle.net_script.specs.declared.draft.Part.{Part}
 use Rattle.net_script.specs.declared.draft.Part.TheVariants.{Header, Items, After}
 use Rattle.net_script.specs.Lines.{lines_of, words_of, is_line_byte}
 use Rattle.net_script.specs.Causes.{unless, first_of}
+use Rattle.net_script.specs.Chains.{LeadsBy, IsFaultOf}
 use Rattle.net_script.specs.Scripts.{ScriptOf}
 use Rattle.net_script.specs.Forms.{Form, form_words, header_words}
 use Rattle.net_script.specs.declared.draft.Draft.{Draft}
@@ -31,13 +32,13 @@ abbrev pub AddsRow : Draft → List (List ℕ) → Draft → Type 0
 AddsRow d [] e = e ≡ d
 AddsRow d (word ∷ words) e = AddsWords d.part d (word ∷ words) e
 
--- what is wrong with the bytes of a line, if anything is
-abbrev pub bytes_cause : List ℕ → Option ScriptCause
-bytes_cause line = first_of (unless (nat_le (length line) 200) LineTooLong ∷ unless (list_all is_line_byte line) NotAscii ∷ [])
+-- what is wrong with the bytes of a line of at most so many, if anything is
+abbrev pub bytes_cause : ℕ → List ℕ → Option ScriptCause
+bytes_cause most line = first_of (unless (nat_le (length line) most) LineTooLong ∷ unless (list_all is_line_byte line) NotAscii ∷ [])
 
 -- the line after d is good and leads to e
 pub record Adds (d : Draft) (line : List ℕ) (e : Draft) : Type 0 where
-  pub bytes : bytes_cause line ≡ None
+  pub bytes : bytes_cause 200 line ≡ None
   pub row : AddsRow d (words_of line) e
 
 -- the words have no form
@@ -67,40 +68,25 @@ IsFaultyRow d (word ∷ words) c = IsFaultyWords d.part d (word ∷ words) c
 
 -- the line after d is faulty, first by this cause
 abbrev pub IsFaulty : Draft → List ℕ → ScriptCause → Type 0
-IsFaulty d line c = (bytes_cause line ≡ Some c) ⊎ ((bytes_cause line ≡ None) × IsFaultyRow d (words_of line) c)
+IsFaulty d line c = (bytes_cause 200 line ≡ Some c) ⊎ ((bytes_cause 200 line ≡ None) × IsFaultyRow d (words_of line) c)
 
 -- all the lines are good, each after those before it, and lead from d to e
 abbrev pub Leads : Draft → List (List ℕ) → Draft → Type 0
-Leads d [] e = d ≡ e
-Leads d (line ∷ lines) e = (between : Draft) × Adds d line between × Leads between lines e
+Leads = LeadsBy Adds
+
+-- the last line with words came
+abbrev pub IsEnded : Draft → Type 0
+IsEnded d = d.part ≡ After
 
 -- the bytes are the text of the script s: each line is good after those before it, the last with words
 -- is `end`, and s is what they say
 pub record IsText (bytes : List ℕ) (s : ScriptOf) : Type 0 where
   pub last : Draft
   pub good : Leads start (lines_of bytes) last
-  pub ended : last.part ≡ After
+  pub ended : IsEnded last
   pub says : s ≡ last.script
 
--- line number `line` is the first that is faulty, and this is its first cause
-pub record IsFaultyLine (bytes : List ℕ) (line : ℕ) (c : ScriptCause) : Type 0 where
-  pub before : List (List ℕ)
-  pub here : List ℕ
-  pub after : List (List ℕ)
-  pub parts : lines_of bytes ≡ before ++ here ∷ after
-  pub said : Draft
-  pub good : Leads start before said
-  pub number : line ≡ length before + 1
-  pub faulty : IsFaulty said here c
-
--- no line is faulty, but none is `end`
-pub record HasNoEnd (bytes : List ℕ) (line : ℕ) (c : ScriptCause) : Type 0 where
-  pub said : Draft
-  pub good : Leads start (lines_of bytes) said
-  pub unended : said.part ≢ After
-  pub number : line ≡ length (lines_of bytes) + 1
-  pub cause : c ≡ NoEnd
-
--- the first fault of the bytes is in this line and of this cause
+-- the first fault of the bytes is in this line and of this cause: the line is the first that is not
+-- good after those before it, or all are good and none is `end`
 abbrev pub IsFault : List ℕ → ℕ → ScriptCause → Type 0
-IsFault bytes line c = IsFaultyLine bytes line c ⊎ HasNoEnd bytes line c
+IsFault = IsFaultOf start Adds IsFaulty IsEnded

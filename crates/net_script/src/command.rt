@@ -1,8 +1,9 @@
 //! Timed commands.
 
-ghost use Rattle.std.specs.Prelude.{◌≡◌};
-ghost use Rattle.net_script.specs.Commands.{link_event, most_count, wire_event, is_restart};
+ghost use Rattle.std.specs.Prelude.{◌≡◌, ◌≢◌, IfSome, IfNone};
+ghost use Rattle.net_script.specs.Commands.{link_event, most_count, wire_word, wire_event, is_restart};
 
+use crate::word::is;
 use an_base::event::Event;
 
 /// An event of a script, and the tick from which it is due.
@@ -49,6 +50,28 @@ pub enum WireChange {
 }
 
 impl WireChange {
+    ghost use Rattle.net_script.specs.declared.command.WireChange.{WireChange};
+
+    /// The change that a word stands for, if it stands for one.
+    pub fn of(word: &[u8]) -> Option<Self>
+        ensures some { IfSome result (λ k. word.now ≡ wire_word k) }
+        ensures none { IfNone result ((k : WireChange) → word.now ≢ wire_word k) }
+    {
+        if is(word, "lose") {
+            return Some(WireChange::Lose);
+        }
+        if is(word, "again") {
+            return Some(WireChange::Again);
+        }
+        if is(word, "swap") {
+            return Some(WireChange::Swap);
+        }
+        if is(word, "noise") {
+            return Some(WireChange::Noise);
+        }
+        None
+    }
+
     /// The greatest number of frames, or of bytes.
     pub fn most(self) -> u64
         ensures { result ≡ most_count self }

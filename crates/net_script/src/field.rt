@@ -1,13 +1,13 @@
 //! The fields of lines: what a word says in its place, and what is wrong with it.
 
-ghost use Rattle.std.specs.Prelude.{◌≡◌, ◌≢◌, ◌<◌, ◌≤◌, ◌^◌, ◌↔◌, not, true, false, length, Contains, IsTrue, IfOk, OnOk};
+ghost use Rattle.std.specs.Prelude.{◌≡◌, ◌≢◌, ◌<◌, ◌≤◌, ◌^◌, not, true, false, length, Contains, IfOk, OnOk};
 ghost use Rattle.std.specs.Option.{option_map};
 ghost use Rattle.net_graph.specs.Wires.{uids, used_ports, a_end, b_end};
 ghost use Rattle.net_script.specs.declared.cause.ScriptCause.TheVariants.{PortUsed, NoLink};
 ghost use Rattle.net_script.specs.Words.{number_value, uid_value};
 ghost use Rattle.net_script.specs.Causes.{unless};
 ghost use Rattle.net_script.specs.Commands.{is_used, is_linked, last_time};
-ghost use Rattle.net_script.specs.Scripts.{IsNewName, names_of, lives_of};
+ghost use Rattle.net_script.specs.Scripts.{IsNewName, lives_of};
 ghost use Rattle.net_script.specs.Rules.{number_cause, port_cause, new_name_cause, new_uid_cause, known_cause, had_cause, time_cause, lives_cause, commands_cause, is_taken, is_free, place, had_of};
 ghost use Rattle.net_script.specs.Steps.{IsField, IsTest};
 

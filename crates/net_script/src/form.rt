@@ -4,13 +4,12 @@ ghost use Rattle.std.specs.Prelude.{◌≡◌, ◌≢◌, [], ◌∷◌, None, m
 ghost use Rattle.std.specs.Option.{option_map};
 ghost use Rattle.net_script.specs.declared.form.Stop.TheVariants.{Fault, OutOfMemory};
 ghost use Rattle.net_script.specs.Settings.{setting_words};
-ghost use Rattle.net_script.specs.Commands.{link_word, wire_word};
+ghost use Rattle.net_script.specs.Commands.{link_word};
 ghost use Rattle.net_script.specs.Scripts.{CanAddSwitch, CanAddLink, CanAddHost, CanAddCommand};
 ghost use Rattle.net_script.specs.Forms.{Number, AnyRoutes, SwitchLine, LinkLine, HostLine, ChangesLink, ChangesWire, Sends, Restarts};
 ghost use Rattle.net_script.specs.Rules.{switch_of, link_of, host_of, link_command, wire_command, send_command, restart_command, switch_cause, link_cause, host_cause, link_change_cause, wire_change_cause, send_cause, restart_cause};
 ghost use Rattle.net_script.specs.declared.setting.Setting.{Setting};
 ghost use Rattle.net_script.specs.declared.command.LinkChange.{LinkChange};
-ghost use Rattle.net_script.specs.declared.command.WireChange.{WireChange};
 ghost use Rattle.net_script.specs.Texts.{AddsForm, IsFaultyForm};
 ghost use Rattle.net_script.specs.Steps.{IsField, IsStep, ReadsForm, IsWrong};
 
@@ -170,7 +169,7 @@ fn read_six(
         (IsFaultyForm draft.old (a.now ∷ b.now ∷ c.now ∷ d.now ∷ e.now ∷ f.now ∷ [])) }
 {
     if is(a, "at") {
-        return match wire_change_of(c) {
+        return match WireChange::of(c) {
             Some(change) => read_wire_change(draft, change, b, d, e, f),
             None => Err(Stop::Fault(ScriptCause::UnknownWord)),
         };
@@ -204,25 +203,6 @@ fn link_change_of(word: &[u8]) -> Option<LinkChange>
     }
     if is(word, "repair") {
         return Some(LinkChange::Repair);
-    }
-    None
-}
-
-fn wire_change_of(word: &[u8]) -> Option<WireChange>
-    ensures some { IfSome result (λ k. word.now ≡ wire_word k) }
-    ensures none { IfNone result ((k : WireChange) → word.now ≢ wire_word k) }
-{
-    if is(word, "lose") {
-        return Some(WireChange::Lose);
-    }
-    if is(word, "again") {
-        return Some(WireChange::Again);
-    }
-    if is(word, "swap") {
-        return Some(WireChange::Swap);
-    }
-    if is(word, "noise") {
-        return Some(WireChange::Noise);
     }
     None
 }

@@ -11,6 +11,9 @@ use std::alloc::Global;
 /// The most bytes of a line, without what ends it.
 pub const MOST_LINE: usize = 200;
 
+/// The most bytes of a line of tables, without what ends it.
+pub const MOST_TABLE_LINE: usize = 4_000;
+
 /// The first line of the bytes, without what ends it, and the bytes after that. There is none where
 /// there are no bytes.
 pub fn first_line(bytes: &[u8]) -> Option<(&[u8], &[u8])>
@@ -28,7 +31,7 @@ pub fn first_line(bytes: &[u8]) -> Option<(&[u8], &[u8])>
 }
 
 // Where a byte stands first.
-fn first_of(bytes: &[u8], byte: u8) -> Option<usize>
+pub(crate) fn first_of(bytes: &[u8], byte: u8) -> Option<usize>
     ensures { result ≡ position (λ c. c == byte) bytes.now }
 {
     bytes.iter().position(|c| *c == byte)

@@ -1,22 +1,22 @@
 //! The printer of scripts.
 
-ghost use Rattle.std.specs.Prelude.{if◌then◌else◌, nat_lt, ◌≡◌, ◌<◌, ◌≤◌, ◌++◌, [], ◌∷◌, codes, length, map, OnOk, IfOk, slice_index_or};
+ghost use Rattle.std.specs.Prelude.{if◌then◌else◌, nat_lt, ◌≡◌, ◌<◌, ◌++◌, [], ◌∷◌, codes, length, map, OnOk, IfOk, slice_index_or};
 ghost use Rattle.std.specs.Fmt.{decimal};
-ghost use Rattle.std.specs.List.{flat_map, zip};
+ghost use Rattle.std.specs.List.{zip};
 ghost use Rattle.net_script.specs.Words.{hex_text, hex_glyph};
-ghost use Rattle.net_script.specs.Lines.{line_text, lines_text};
+ghost use Rattle.net_script.specs.Lines.{line_text};
 ghost use Rattle.net_script.specs.Forms.{form_words};
 ghost use Rattle.net_script.specs.Scripts.{IsScript};
 ghost use Rattle.net_script.specs.Texts.{IsText};
 ghost use Rattle.net_script.specs.Commands.{IsCommand};
-ghost use Rattle.net_script.specs.Canonical.{canonical_text, setting_forms, setting_form, pace_form, routes_form, switch_form, link_form, host_form, command_form, event_form, forms_text};
+ghost use Rattle.net_script.specs.Canonical.{canonical_text, setting_forms, setting_form, pace_form, routes_form, switch_form, link_form, host_form, command_form, forms_text};
 
 use crate::command::Command;
+use crate::names::Names;
 use crate::script::Script;
 use crate::setting::Setting;
 use an_base::event::Event;
 use an_base::memory::OutOfMemory;
-use an_base::text::Word;
 use net_graph::wiring::{HostOn, LinkAt, SwitchAt};
 use std::alloc::Global;
 
@@ -179,7 +179,7 @@ fn push_switches(alloc: Global, text: &mut Vec<u8>, script: &Script) -> Result<(
     let names = script.switch_names();
     let switches = script.wiring().switches();
     'switches: for (s, switch) in switches.iter().enumerate() {
-        push_switch(alloc, text, names[s].as_bytes(), *switch)?;
+        push_switch(alloc, text, names.get(s), *switch)?;
     }
     Ok(())
 }
@@ -216,7 +216,7 @@ fn push_links(alloc: Global, text: &mut Vec<u8>, script: &Script) -> Result<(), 
 fn push_link(
     alloc: Global,
     text: &mut Vec<u8>,
-    names: &[Word],
+    names: &Names,
     link: LinkAt,
 ) -> Result<(), OutOfMemory>
     requires a { link.a < length names.now }
@@ -226,8 +226,8 @@ fn push_link(
 {
     let a_port = decimal(alloc, u64::from(link.a_port))?;
     let b_port = decimal(alloc, u64::from(link.b_port))?;
-    let a = names[usize::from(link.a)].as_bytes();
-    let b = names[usize::from(link.b)].as_bytes();
+    let a = names.get(usize::from(link.a));
+    let b = names.get(usize::from(link.b));
     push_line(text, &[b"link", a, &a_port, b, &b_port])
 }
 
@@ -240,7 +240,7 @@ fn push_hosts(alloc: Global, text: &mut Vec<u8>, script: &Script) -> Result<(), 
     let names_of_hosts = script.names_of_hosts();
     let hosts = script.wiring().hosts();
     'hosts: for (h, host) in hosts.iter().enumerate() {
-        push_host(alloc, text, names, names_of_hosts[h].as_bytes(), *host)?;
+        push_host(alloc, text, names, names_of_hosts.get(h), *host)?;
     }
     Ok(())
 }
@@ -248,7 +248,7 @@ fn push_hosts(alloc: Global, text: &mut Vec<u8>, script: &Script) -> Result<(), 
 fn push_host<'a>(
     alloc: Global,
     text: &mut Vec<u8>,
-    names: &'a [Word],
+    names: &'a Names,
     name: &'a [u8],
     host: HostOn,
 ) -> Result<(), OutOfMemory>
@@ -258,7 +258,7 @@ fn push_host<'a>(
 {
     let uid = identifier(alloc, host.uid)?;
     let port = decimal(alloc, u64::from(host.port))?;
-    let switch = names[usize::from(host.s)].as_bytes();
+    let switch = names.get(usize::from(host.s));
     push_line(text, &[b"host", name, &uid, switch, &port])
 }
 
@@ -302,7 +302,7 @@ fn push_command(
 fn push_change<'a>(
     alloc: Global,
     text: &mut Vec<u8>,
-    names: &'a [Word],
+    names: &'a Names,
     time: &'a [u8],
     word: &'a [u8],
     s: u8,
@@ -314,7 +314,7 @@ fn push_change<'a>(
         ∷ decimal port ∷ [])) }
 {
     let port = decimal(alloc, u64::from(port))?;
-    let name = names[usize::from(s)].as_bytes();
+    let name = names.get(usize::from(s));
     push_line(text, &[b"at", time, word, name, &port])
 }
 
@@ -322,7 +322,7 @@ fn push_change<'a>(
 fn push_count<'a>(
     alloc: Global,
     text: &mut Vec<u8>,
-    names: &'a [Word],
+    names: &'a Names,
     time: &'a [u8],
     word: &'a [u8],
     s: u8,
@@ -336,14 +336,14 @@ fn push_count<'a>(
 {
     let port = decimal(alloc, u64::from(port))?;
     let count = decimal(alloc, u64::from(n))?;
-    let name = names[usize::from(s)].as_bytes();
+    let name = names.get(usize::from(s));
     push_line(text, &[b"at", time, word, name, &port, &count])
 }
 
 // Appends the line of a command by which a host sends.
 fn push_send<'a>(
     text: &mut Vec<u8>,
-    hosts: &'a [Word],
+    hosts: &'a Names,
     time: &'a [u8],
     host: u16,
     to: u16,
@@ -354,15 +354,15 @@ fn push_send<'a>(
         ++ line_text (codes "at" ∷ time.now ∷ codes "send" ∷ slice_index_or hosts.now host []
         ∷ slice_index_or hosts.now to [] ∷ [])) }
 {
-    let host = hosts[usize::from(host)].as_bytes();
-    let to = hosts[usize::from(to)].as_bytes();
+    let host = hosts.get(usize::from(host));
+    let to = hosts.get(usize::from(to));
     push_line(text, &[b"at", time, b"send", host, to])
 }
 
 // Appends the line of a command that restarts a switch.
 fn push_restart<'a>(
     text: &mut Vec<u8>,
-    names: &'a [Word],
+    names: &'a Names,
     time: &'a [u8],
     s: u8,
 ) -> Result<(), OutOfMemory>
@@ -371,7 +371,7 @@ fn push_restart<'a>(
         ++ line_text (codes "at" ∷ time.now ∷ codes "restart" ∷ slice_index_or names.now s []
         ∷ [])) }
 {
-    let name = names[usize::from(s)].as_bytes();
+    let name = names.get(usize::from(s));
     push_line(text, &[b"at", time, b"restart", name])
 }
 

@@ -30,7 +30,7 @@ pub enum ReadRefusal {
 
 impl Stop {
     // The refusal of a text that was stopped at this line.
-    fn at(self, line: u32) -> ReadRefusal
+    pub(crate) fn at(self, line: u32) -> ReadRefusal
         ensures { result ≡ refusal_at line self }
     {
         match self {
@@ -68,7 +68,7 @@ pub fn read(alloc: Global, bytes: &[u8]) -> Result<Script, ReadRefusal>
 }
 
 // Adds what a line says.
-fn read_line(draft: &mut Draft, alloc: Global, line: &[u8]) -> Result<(), Stop>
+pub(crate) fn read_line(draft: &mut Draft, alloc: Global, line: &[u8]) -> Result<(), Stop>
     ensures { IsStep result (Adds draft.old line.now draft.new) (IsFaulty draft.old line.now) }
 {
     if line.len() > MOST_LINE {
@@ -155,10 +155,10 @@ mod tests {
         let script = read_few(&rt, bytes).map_err(|_error| "refused")?;
         let names = script.switch_names();
         assert_eq!(rt; names.len(), 2);
-        assert_eq!(rt; names[1].as_bytes(), b"B".as_slice());
+        assert_eq!(rt; names.get(1), b"B".as_slice());
         let names = script.names_of_hosts();
         assert_eq!(rt; names.len(), 1);
-        assert_eq!(rt; names[0].as_bytes(), b"H".as_slice());
+        assert_eq!(rt; names.get(0), b"H".as_slice());
         let switches = [
             SwitchAt { uid: 10, had: 1 },
             SwitchAt { uid: 255, had: 126 },

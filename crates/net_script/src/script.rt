@@ -1,12 +1,12 @@
 //! What a network is made of, and what happens to it.
 
-ghost use Rattle.std.specs.Prelude.{◌≡◌, ◌<◌, ◌≤◌, ◌^◌, true, length, OnOk, OnErr, IfSome};
+ghost use Rattle.std.specs.Prelude.{◌≡◌, ◌<◌, ◌≤◌, true, length, OnOk, OnErr, IfSome};
 ghost use Rattle.net_script.specs.Settings.{least_of, most_of};
 ghost use Rattle.net_script.specs.Scripts.{IsScript, CanAddSwitch, CanAddLink, CanAddHost, CanAddCommand, empty_script, restarts_of, lives_of, with_switch, with_link, with_host, with_command, with_setting};
 ghost use Rattle.net_script.specs.Names.{place_of};
 
 use crate::command::{Command, is_restart};
-use crate::names::place_of;
+use crate::names::Names;
 use crate::setting::{Limits, Setting};
 use an_base::memory::OutOfMemory;
 use an_base::text::Word;
@@ -28,8 +28,8 @@ pub const MOST_TIME: u64 = 1_000_000;
 #[derive(Debug, Drop)]
 pub struct Script {
     wiring: Wiring,
-    switch_names: Vec<Word>,
-    names_of_hosts: Vec<Word>,
+    switch_names: Names,
+    names_of_hosts: Names,
     commands: Vec<Command>,
     epoch: u64,
     pace: Option<u32>,
@@ -42,10 +42,10 @@ impl Model for Script {
 
     ghost Value = { ScriptOf };
 
-    ghost view = { λ s. record { wires = s.wiring; switch_names = s.switch_names.items; names_of_hosts = s.names_of_hosts.items; commands = s.commands.items; epoch = s.epoch; pace = s.pace; limits = s.limits; any_routes = s.any_routes } };
+    ghost view = { λ s. record { wires = s.wiring; switch_names = s.switch_names; names_of_hosts = s.names_of_hosts; commands = s.commands.items; epoch = s.epoch; pace = s.pace; limits = s.limits; any_routes = s.any_routes } };
 
     ghost invariant = { λ s. IsScript
-        (record { wires = s.wiring; switch_names = s.switch_names.items; names_of_hosts = s.names_of_hosts.items; commands = s.commands.items; epoch = s.epoch; pace = s.pace; limits = s.limits; any_routes = s.any_routes }) };
+        (record { wires = s.wiring; switch_names = s.switch_names; names_of_hosts = s.names_of_hosts; commands = s.commands.items; epoch = s.epoch; pace = s.pace; limits = s.limits; any_routes = s.any_routes }) };
 }
 
 impl Script {
@@ -55,8 +55,8 @@ impl Script {
     {
         Script {
             wiring: Wiring::new(alloc),
-            switch_names: Vec::new(alloc),
-            names_of_hosts: Vec::new(alloc),
+            switch_names: Names::new(alloc),
+            names_of_hosts: Names::new(alloc),
             commands: Vec::new(alloc),
             epoch: 0,
             pace: None,
@@ -78,7 +78,7 @@ impl Script {
     }
 
     /// The names of the switches, by the switch's place in the wiring.
-    pub fn switch_names(&self) -> &[Word]
+    pub fn switch_names(&self) -> &Names
         ensures names { result.now ≡ self.now.switch_names }
         ensures kept { IsScript self.now }
     {
@@ -86,30 +86,30 @@ impl Script {
     }
 
     /// The names of the hosts, by the host's place in the wiring.
-    pub fn names_of_hosts(&self) -> &[Word]
+    pub fn names_of_hosts(&self) -> &Names
         ensures names { result.now ≡ self.now.names_of_hosts }
         ensures kept { IsScript self.now }
     {
         &self.names_of_hosts
     }
 
-    /// The place of the switch that has this name.
+    /// The place of the switch that has this name, in constant time.
     pub fn place_of_switch(&self, name: &[u8]) -> Option<u8>
         ensures place { result ≡ place_of self.now.switch_names name.now }
         ensures range { IfSome result (λ s. s < length self.now.wires.switches) }
         ensures kept { IsScript self.now }
     {
-        let place = place_of(&self.switch_names, name)?;
+        let place = self.switch_names.place(name)?;
         Some(place as u8)
     }
 
-    /// The place of the host that has this name.
+    /// The place of the host that has this name, in constant time.
     pub fn place_of_host(&self, name: &[u8]) -> Option<u16>
         ensures place { result ≡ place_of self.now.names_of_hosts name.now }
         ensures range { IfSome result (λ h. h < length self.now.wires.hosts) }
         ensures kept { IsScript self.now }
     {
-        let place = place_of(&self.names_of_hosts, name)?;
+        let place = self.names_of_hosts.place(name)?;
         Some(place as u16)
     }
 
@@ -165,10 +165,14 @@ impl Script {
         ensures ok { OnOk result (self.new ≡ with_switch self.old name switch) }
         ensures err { OnErr result (self.new ≡ self.old) }
     {
-        self.switch_names.reserve(1)?;
-        self.wiring.add_switch(switch)?;
         self.switch_names.push(name)?;
-        Ok(())
+        match self.wiring.add_switch(switch) {
+            Ok(()) => Ok(()),
+            Err(error) => {
+                self.switch_names.pop();
+                Err(error)
+            }
+        }
     }
 
     /// Adds a link between two ports that are not used. Where no memory is found nothing is added.
@@ -187,10 +191,14 @@ impl Script {
         ensures ok { OnOk result (self.new ≡ with_host self.old name host) }
         ensures err { OnErr result (self.new ≡ self.old) }
     {
-        self.names_of_hosts.reserve(1)?;
-        self.wiring.add_host(host)?;
         self.names_of_hosts.push(name)?;
-        Ok(())
+        match self.wiring.add_host(host) {
+            Ok(()) => Ok(()),
+            Err(error) => {
+                self.names_of_hosts.pop();
+                Err(error)
+            }
+        }
     }
 
     /// Adds a command after the others. Where no memory is found nothing is added.

@@ -1,6 +1,6 @@
 //! The settings of a script that are numbers.
 
-ghost use Rattle.std.specs.Prelude.{◌≡◌, ◌<◌, ◌^◌};
+ghost use Rattle.std.specs.Prelude.{◌≡◌};
 ghost use Rattle.net_script.specs.Settings.{least_of, most_of, has_come, with_come};
 
 /// A setting that is a number.

@@ -5,6 +5,7 @@
 //! their members and the tables of these.
 #![tactic(auto)]
 
+pub mod check;
 mod decimals;
 pub mod expect;
 mod piece;

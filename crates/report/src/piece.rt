@@ -3,8 +3,8 @@ ghost use Rattle.std.specs.Fmt.{decimal};
 ghost use Rattle.report.specs.Names.{switch_name, life_text};
 
 use an_base::life::Life;
-use an_base::text::Word;
 use net_graph::wiring::SwitchAt;
+use net_script::names::Names;
 use net_script::script::Script;
 use std::alloc::{AllocError, Global};
 
@@ -17,14 +17,14 @@ pub(crate) fn push_number(alloc: Global, text: &mut Vec<u8>, n: u32) -> Result<(
 }
 
 // The place of the switch with this identifier.
-fn place_of(switches: &[SwitchAt], uid: u64) -> Option<usize>
+pub(crate) fn place_of(switches: &[SwitchAt], uid: u64) -> Option<usize>
     ensures { result ≡ position (λ s. s.uid == uid) switches.now }
 {
     switches.iter().position(|switch| switch.uid == uid)
 }
 
 // The name of the switch with this identifier.
-fn name_of<'a>(names: &'a [Word], switches: &[SwitchAt], uid: u64) -> &'a [u8]
+fn name_of<'a>(names: &'a Names, switches: &[SwitchAt], uid: u64) -> &'a [u8]
     ensures { result.now ≡ switch_name names.now switches.now uid }
 {
     let Some(s) = place_of(switches, uid) else {
@@ -33,7 +33,7 @@ fn name_of<'a>(names: &'a [Word], switches: &[SwitchAt], uid: u64) -> &'a [u8]
     if s >= names.len() {
         return &[];
     }
-    names[s].as_bytes()
+    names.get(s)
 }
 
 // Appends a life: the name of its switch, and a boot above 1.

@@ -6,6 +6,6 @@ use Rattle.net_script.proofs.printer.push_hosts.Goals as goal
 
 pub hosts-preserved : goal.hosts-preserved
 hosts-preserved c =
-    pairs_more (host_form c.switch_names-names.result.now) c.names_of_hosts-names_of_hosts.result.now c.hosts-hosts.result.now c.hosts.h c.as_bytes.result.now c.index-names_of_hosts-h.result _ c.args.text.now.items c.hosts.text.items c.push_host.new.text.items
+    pairs_more (host_form c.switch_names-names.result.now) c.names_of_hosts-names_of_hosts.result.now c.hosts-hosts.result.now c.hosts.h c.get.result.now _ c.args.text.now.items c.hosts.text.items c.push_host.new.text.items
     (omega (arith, ap length c.names_of_hosts-names_of_hosts.ensures.names, c.names_of_hosts-names_of_hosts.ensures.kept.host_count, ap length c.hosts-hosts.ensures.all, ap (λ (w : Wires). length w.hosts) c.wiring.ensures.wires))
-    (omega arith) c.as_bytes.ensures c.index-names_of_hosts-h.is c.hosts.invariant c.in_ok-push_host.ensures
+    (omega arith) c.get.ensures c.hosts.invariant c.in_ok-push_host.ensures

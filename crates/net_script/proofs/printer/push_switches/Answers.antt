@@ -6,6 +6,6 @@ use Rattle.net_script.proofs.printer.push_switches.Goals as goal
 
 pub switches-preserved : goal.switches-preserved
 switches-preserved c =
-    pairs_more switch_form c.switch_names-names.result.now c.switches-switches.result.now c.switches.s c.as_bytes.result.now c.index-names-s.result _ c.args.text.now.items c.switches.text.items c.push_switch.new.text.items
+    pairs_more switch_form c.switch_names-names.result.now c.switches-switches.result.now c.switches.s c.get.result.now _ c.args.text.now.items c.switches.text.items c.push_switch.new.text.items
     (omega (arith, ap length c.switch_names-names.ensures.names, c.switch_names-names.ensures.kept.switch_count, ap length c.switches-switches.ensures.all, ap (λ (w : Wires). length w.switches) c.wiring.ensures.wires))
-    (omega arith) c.as_bytes.ensures c.index-names-s.is c.switches.invariant c.in_ok-push_switch.ensures
+    (omega arith) c.get.ensures c.switches.invariant c.in_ok-push_switch.ensures

@@ -1,7 +1,11 @@
+use Rattle.std.proofs.lemmas.List.Elements.{Contains-append_right}
 use Rattle.net_script.proofs.ScriptLemmas.{host_kept}
 use Rattle.net_script.proofs.script.Script.add_host.Goals as goal
 
-pub invariant_of-self-2 : goal.invariant_of-self-2
-invariant_of-self-2 c =
-    rw (c.in_ok-add_host.ensures.ok, c.in_ok-push.ensures.items, c.reserve.ensures.items)
-    (host_kept (record { wires = c.self.inside.wiring; switch_names = c.self.inside.switch_names.items; names_of_hosts = c.self.inside.names_of_hosts.items; commands = c.self.inside.commands.items; epoch = c.self.inside.epoch; pace = c.self.inside.pace; limits = c.self.inside.limits; any_routes = c.self.inside.any_routes }) c.args.name c.args.host c.self.invariant (rw (← c.self.view_is) at c.requires.can))
+pub invariant_of-self-in-Ok : goal.invariant_of-self-in-Ok
+invariant_of-self-in-Ok c =
+    rw (c.in-Ok.ensures.ok, c.in_ok-push.ensures.ok)
+    (host_kept (record { wires = c.self.inside.wiring; switch_names = c.self.inside.switch_names; names_of_hosts = c.self.inside.names_of_hosts; commands = c.self.inside.commands.items; epoch = c.self.inside.epoch; pace = c.self.inside.pace; limits = c.self.inside.limits; any_routes = c.self.inside.any_routes }) c.args.name c.args.host c.self.invariant (rw (← c.self.view_is) at c.requires.can))
+
+pub push-requires : goal.push-requires
+push-requires c has = let can = rw (← c.self.view_is) at c.requires.can in can.new_name.is_new (Contains-append_right c.self.inside.switch_names c.self.inside.names_of_hosts c.args.name has)
