@@ -1,12 +1,12 @@
-use Rattle.std.specs.Prelude.{◌≡◌, ◌==◌, ◌-◌, ◌≤◌, ℕ, List, [], ◌∷◌, slice_get, Option, Some, if◌then◌else◌}
-use Rattle.an_base.specs.Values.{EndId}
+use Rattle.std.specs.Prelude.{◌≡◌, ◌==◌, ◌-◌, ◌≤◌, ℕ, List, [], ◌∷◌, map, slice_get, Option, Some, if◌then◌else◌}
+use Rattle.an_base.specs.Values.{LifeId, EndId, PeerAt}
 use Rattle.an_base.specs.declared.port.Sample.{Sample}
 use Rattle.an_base.specs.declared.port.Sample.TheVariants as sample
 use Rattle.port_monitor.specs.declared.port.Phase.{Phase}
 use Rattle.port_monitor.specs.declared.port.Phase.TheVariants.{Dead, Checking, Host, Switch}
 use Rattle.port_monitor.specs.declared.port.Port.{Port}
 use Rattle.port_monitor.specs.declared.monitor.Monitor.{Monitor}
-use Rattle.port_monitor.specs.Ports.{unsampled, sampled, replied_to}
+use Rattle.port_monitor.specs.Ports.{unsampled, sampled, replied_to, links_from}
 
 -- what happens at a port: a clock with a sample, or a reply
 pub data Happening : Type 0 where
@@ -30,6 +30,14 @@ with_happening port x histories q = if q == port then x ∷ histories q else his
 -- the ports 1 to 12 are those of these histories
 pub record IsAfter (m : Monitor) (histories : ℕ → History) : Type 0 where
   pub ports : (port : ℕ) → 1 ≤ port → port ≤ 12 → slice_get m.ports (port - 1) ≡ Some (port_after (record { life = m.life; port = port }) (histories port))
+
+-- the external ports, rising
+abbrev pub externals : List ℕ
+externals = 1 ∷ 2 ∷ 3 ∷ 4 ∷ 5 ∷ 6 ∷ 7 ∷ 8 ∷ 9 ∷ 10 ∷ 11 ∷ 12 ∷ []
+
+-- the good links of this life after these histories, rising
+abbrev pub links_after : LifeId → (ℕ → History) → List PeerAt
+links_after life histories = links_from 1 (map (λ port. port_after (record { life = life; port = port }) (histories port)) externals)
 
 -- Who answered the probes since the far end was last asked anew, the last first
 abbrev pub answered_by : Sample → Phase → Option EndId → List (Option EndId) → List (Option EndId)

@@ -1,6 +1,6 @@
 ghost use Rattle.std.specs.Prelude.{◌≡◌, ◌-◌, ◌<◌, ◌≤◌, ◌^◌, ℕ, [], ◌∷◌, ◌++◌, Some, slice_get, length, All};
 ghost use Rattle.port_monitor.specs.Ports.{link_to, links_from, peer_of, probe_of, reply_to, state_of};
-ghost use Rattle.port_monitor.specs.Histories.{History, IsAfter, Replied, Sampled, port_after, with_happening};
+ghost use Rattle.port_monitor.specs.Histories.{History, IsAfter, Replied, Sampled, links_after, port_after, with_happening};
 
 use crate::port::Port;
 use an_base::frame::Frame;
@@ -122,16 +122,16 @@ impl Monitor {
 
     /// The good links, by rising port.
     pub fn good_links(&self) -> Links
-        ensures { result ≡ links_from 1 self.now.ports }
+        ensures { (histories : ℕ → History) → IsAfter self.now histories → result ≡ links_after self.now.life histories }
     {
         links_of(&self.ports)
     }
 }
 
 // The links at the good ports, of which the first is port 1.
-fn links_of(ports: &[Port]) -> Links
-    requires { length ports.now ≤ 12 }
-    ensures { result ≡ links_from 1 ports.now }
+fn links_of(ports: &[Port; 12]) -> Links
+    ensures links { result ≡ links_from 1 ports.now }
+    ensures twelve { length ports.now ≡ 12 }
 {
     let mut links = Links::new();
     'ports: for i in 0..ports.len() {

@@ -67,14 +67,14 @@ pub struct Table {
 }
 
 impl Model for Table {
-    ghost use Rattle.std.specs.Prelude.{AllPairs};
+    ghost use Rattle.std.specs.Prelude.{◌≤◌, AllPairs};
     ghost use Rattle.table_build.specs.Tables.{IsBefore, TableOf};
 
     ghost Value = { TableOf };
 
     ghost view = { λ t. record { number = t.number; rows = t.rows.items } };
 
-    ghost invariant = { λ t. AllPairs IsBefore t.rows.items };
+    ghost invariant = { λ t. (1 ≤ t.number) × (t.number ≤ 126) × AllPairs IsBefore t.rows.items };
 }
 
 impl Table {
@@ -117,9 +117,11 @@ impl Table {
         Ok(Table { number, rows })
     }
 
-    /// The number of the member whose table it is.
+    /// The number of the member whose table it is, 1 to 126.
     pub fn number(&self) -> u8
-        ensures { result ≡ self.now.number }
+        ensures number { result ≡ self.now.number }
+        ensures least { 1 ≤ self.now.number }
+        ensures most { self.now.number ≤ 126 }
     {
         self.number
     }

@@ -1,0 +1,156 @@
+//! Two switches with links between them, port to the same port.
+
+use crate::frames::{FAR, NEAR};
+use an_base::life::Life;
+use an_base::memory::OutOfMemory;
+use an_base::port::Sample;
+use std::alloc::{AllocError, Global};
+use std::collections::VecDeque;
+use std::io;
+use switch_core::out::Out;
+use switch_core::switch::{ClockRefusal, MOST_WORKS, Switch};
+
+// Memory was wanted.
+fn wanted(_memory: OutOfMemory) -> io::Error {
+    io::Error::from(io::ErrorKind::OutOfMemory)
+}
+
+// A switch takes no more.
+fn stopped() -> io::Error {
+    io::Error::from(io::ErrorKind::Other)
+}
+
+// Bytes come to a switch by a port.
+fn handle(switch: &mut Switch, bytes: &[u8], port: u8, out: &mut Out) -> io::Result<()> {
+    if switch.works() >= MOST_WORKS {
+        return Err(stopped());
+    }
+    if switch.is_spent() {
+        return Err(stopped());
+    }
+    if port < 1 {
+        return Err(stopped());
+    }
+    if port > 12 {
+        return Err(stopped());
+    }
+    switch.handle(bytes, port, out).map_err(wanted)
+}
+
+// A clock comes to a switch.
+fn clock(switch: &mut Switch, now: u32, samples: &[Sample; 12], out: &mut Out) -> io::Result<()> {
+    if switch.works() >= MOST_WORKS {
+        return Err(stopped());
+    }
+    if switch.is_spent() {
+        return Err(stopped());
+    }
+    match switch.clock(now, samples, out) {
+        Ok(()) => Ok(()),
+        Err(ClockRefusal::EpochsSpent) => Err(stopped()),
+        Err(ClockRefusal::OutOfMemory) => Err(wanted(OutOfMemory)),
+    }
+}
+
+// A frame on its way to a port of one of the switches.
+#[derive(Drop)]
+struct Way {
+    to_near: bool,
+    port: u8,
+    bytes: Vec<u8>,
+}
+
+/// Two switches with links between them, and the frames on their way.
+#[derive(Drop)]
+pub struct Pair {
+    alloc: Global,
+    near: Switch,
+    far: Switch,
+    samples: [Sample; 12],
+    now: u32,
+    out: Out,
+    ways: VecDeque<Way>,
+}
+
+impl Pair {
+    // Two switches at power-on, with links at so many ports.
+    fn new(alloc: Global, links: u8) -> Result<Pair, OutOfMemory> {
+        let mut samples = [Sample::Down; 12];
+        for sample in samples.iter_mut().take(usize::from(links)) {
+            *sample = Sample::Switch;
+        }
+        Ok(Pair {
+            alloc,
+            near: Switch::start(alloc, Life::new(u64::from(NEAR), 1), 0, 1, false)?,
+            far: Switch::start(alloc, Life::new(u64::from(FAR), 1), 0, 1, false)?,
+            samples,
+            now: 0,
+            out: Out::new(alloc),
+            ways: VecDeque::new(alloc),
+        })
+    }
+
+    /// Two switches that know one another at so many ports, and have finished their epoch.
+    pub fn joined(alloc: Global, links: u8) -> io::Result<Pair> {
+        let mut pair = Pair::new(alloc, links).map_err(wanted)?;
+        for _ in 0..8 {
+            clock(&mut pair.far, pair.now, &pair.samples, &mut pair.out)?;
+            pair.put(true)?;
+            pair.clock()?;
+            pair.hand_over()?;
+        }
+        Ok(pair)
+    }
+
+    /// The epoch of the near switch.
+    pub fn epoch(&self) -> u64 {
+        self.near.note().epoch
+    }
+
+    /// A clock comes to the near switch.
+    pub fn clock(&mut self) -> io::Result<()> {
+        clock(&mut self.near, self.now, &self.samples, &mut self.out)?;
+        self.now = self.now.wrapping_add(1);
+        Ok(())
+    }
+
+    /// Bytes come to the near switch by port 1.
+    pub fn handle(&mut self, bytes: &[u8]) -> io::Result<()> {
+        handle(&mut self.near, bytes, 1, &mut self.out)
+    }
+
+    /// What came of the last clock or frame.
+    pub fn out(&self) -> &Out {
+        &self.out
+    }
+
+    // Puts what went out last on its way to the other switch.
+    fn put(&mut self, to_near: bool) -> Result<(), AllocError> {
+        for frame in self.out.frames.as_slice() {
+            self.ways.push_back(Way {
+                to_near,
+                port: frame.port(),
+                bytes: Vec::from_slice(self.alloc, frame.bytes())?,
+            })?;
+        }
+        Ok(())
+    }
+
+    /// Hands what the near switch sent last to the far one, and all that follows, until no frame is on
+    /// its way.
+    pub fn hand_over(&mut self) -> io::Result<()> {
+        self.put(false)?;
+        for _ in 0..1_000_000 {
+            let Some(way) = self.ways.pop_front() else {
+                break;
+            };
+            if way.to_near {
+                handle(&mut self.near, &way.bytes, way.port, &mut self.out)?;
+            } else {
+                handle(&mut self.far, &way.bytes, way.port, &mut self.out)?;
+            }
+            self.put(!way.to_near)?;
+        }
+        Ok(())
+    }
+}

@@ -1,0 +1,41 @@
+use Rattle.std.proofs.Common.{◌≡◌, ◌∙◌, sym, ap, ℕ, suc, ◌≤◌, ◌==◌, arith, is_some, true, not, inl, inr}
+use Rattle.std.proofs.lemmas.Bool.{and_parts, cond_both, true≢false, or_cases}
+use Rattle.an_base.specs.declared.body.Body.{Body}
+use Rattle.epoch_core.specs.Epoch.{finish}
+use Rattle.switch_core.specs.Switch.{SwitchOf, finish_of}
+use Rattle.switch_core.specs.Steps.{accepted_by, finishes_by, log_with, received, receives}
+use Rattle.switch_core.specs.Sound.{IsSound}
+use Rattle.switch_core.proofs.CountLemmas.{log_length}
+use Rattle.switch_core.proofs.FinishLemmas.{finish_joined, finish_stays}
+use Rattle.switch_core.proofs.HeldLemmas.{IsNear, came_more, received_grows}
+
+-- a load is due where something was finished with
+due_with : (works port k : ℕ) (body : Body) (s : SwitchOf) → IsSound works s → s.joined ≡ true → (receives port k body s).load_due ≡ true → is_some (finish_of (receives port k body s)) ≡ true
+due_with works port k body s h joined due =
+    let bodies = accepted_by k body (s.receivings port) in
+    let log = log_with port bodies s.log in
+    let some : is_some (finish s.card log) ≡ true = elim (or_cases s.load_due (finishes_by s.card s.log log) due) [
+      | inl before ↦ finish_stays s.card port bodies s.log (ap is_some (sym (finish_joined s joined)) ∙ h.due before)
+      | inr now ↦ (and_parts (not (is_some (finish s.card s.log))) (is_some (finish s.card log)) now).1
+    ]
+    in
+    ap is_some (finish_joined (receives port k body s) joined) ∙ some
+
+-- a body comes to a session
+pub sound_receives : (works port k : ℕ) (body : Body) (s : SwitchOf) → 1 ≤ port → port ≤ 12 → s.joined ≡ true → IsSound works s → IsSound (suc works) (receives port k body s)
+sound_receives works port k body s least most joined h =
+    let r = s.receivings port in
+    let e = log_length port (accepted_by k body r) s.log in
+    record {
+      me = h.me;
+      least = h.least;
+      most = h.most;
+      one_link = h.one_link;
+      unjoined = λ is. absurd (true≢false (sym joined ∙ is));
+      due = due_with works port k body s h joined;
+      probes = λ q. omega (arith, h.probes q);
+      windows = h.windows;
+      near = λ q. cond_both (q == port) (received k body r) (s.receivings q) IsNear (λ _. (received_grows k body r (h.near port)).near) (λ _. h.near q);
+      came = λ _. let more = came_more port k body s.receivings (h.near port) least most in omega (arith, e, more, h.came joined);
+      pushed = λ q. omega (arith, e, h.pushed q);
+    }

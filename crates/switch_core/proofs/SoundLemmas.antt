@@ -1,0 +1,260 @@
+use Rattle.std.proofs.Common.{◌≡◌, ◌∙◌, sym, ap, refl, subst, ℕ, suc, ◌+◌, ◌*◌, ◌^◌, ◌<◌, ◌≤◌, ◌==◌, arith, List, [], ◌∷◌, length, Any, Some, Bool, true, false, cond, not, ◌&&◌, nat_lt, inl, inr}
+use Rattle.std.proofs.lemmas.Bool.{cond_both, false≢true, true≢false, or_parts, not-false}
+use Rattle.an_base.specs.Values.{LifeId, EndId, TopoOf}
+use Rattle.an_base.specs.declared.body.Body.{Body}
+use Rattle.an_base.specs.declared.frame.Frame.{Frame}
+use Rattle.an_base.specs.declared.frame.Frame.TheVariants.{Carry, Ack, Probe, Reply}
+use Rattle.an_base.specs.declared.port.Sample.{Sample}
+use Rattle.an_base.specs.Frames.{CarryOf}
+use Rattle.connectivity.specs.Connections.{is_end, is_same_end}
+use Rattle.epoch_core.specs.Log.{CardOf, Log, on_port}
+use Rattle.epoch_core.specs.Epoch.{adds, finish, finished_as_root, given_by, or_else}
+use Rattle.switch_core.specs.Switch.{SwitchOf, counts, end_at, good_links, port_of, ports_of, started}
+use Rattle.switch_core.specs.Steps.{after, are_same_links, accepted_by, all_added, all_pushed, all_resent, answers_body, begun, clocked, framed, goes_on, is_change_due, is_spent_by, joins, loaded, on_ack, on_carry, probes, receives, sample_at, sampled_by, still}
+use Rattle.switch_core.specs.Sound.{IsSound}
+use Rattle.switch_core.proofs.CountLemmas.{added_few, joining_few, log_length, one_from}
+use Rattle.switch_core.proofs.FarLemmas.{hears, hears_nonce, hears_peer, sampled_nonce}
+use Rattle.switch_core.proofs.FinishLemmas.{first_or_else, given_names, root_names}
+use Rattle.switch_core.proofs.HeldLemmas.{came_more}
+use Rattle.switch_core.proofs.ReceiveLemmas.{sound_receives}
+use Rattle.switch_core.proofs.WindowLemmas.{SendsUpTo, all_pushed_few, all_resent_few, none_more, on_ack_few}
+
+-- what is so stays so
+pub sound_more : (n m : ℕ) (s : SwitchOf) → n ≤ m → IsSound n s → IsSound m s
+sound_more n m s more h = record {
+  me = h.me;
+  least = h.least;
+  most = h.most;
+  one_link = h.one_link;
+  unjoined = h.unjoined;
+  due = h.due;
+  probes = λ port. omega (arith, more, h.probes port);
+  windows = h.windows;
+  near = h.near;
+  came = λ joined. omega (arith, more, h.came joined);
+  pushed = h.pushed;
+}
+
+-- at power-on
+pub sound_started : (life : LifeId) (epoch had : ℕ) (any : Bool) → 1 ≤ had → had ≤ 126 → IsSound 0 (started life epoch had any)
+sound_started life epoch had any least most = record {
+  me = refl;
+  least = least;
+  most = most;
+  one_link = λ port. omega arith;
+  unjoined = λ _ _ port. refl;
+  due = λ is. absurd (false≢true is);
+  probes = λ port. omega arith;
+  windows = λ port. omega arith;
+  near = λ port k _. refl;
+  came = λ is. absurd (false≢true is);
+  pushed = λ port. omega arith;
+}
+
+-- bodies are pushed and go out, at most as many as the log allows
+sound_sends : (works : ℕ) (more : ℕ → ℕ) (old new : SwitchOf) → SendsUpTo more old new → ((port : ℕ) → length (old.sendings port).pushed + more port ≤ 1 + 4 * length old.log) → IsSound works old → IsSound works new
+sound_sends works more old new sends few h = subst (IsSound works) (sym sends.only) (record {
+  me = h.me;
+  least = h.least;
+  most = h.most;
+  one_link = h.one_link;
+  unjoined = h.unjoined;
+  due = h.due;
+  probes = h.probes;
+  windows = sends.windows h.windows;
+  near = h.near;
+  came = h.came;
+  pushed = λ port. omega (arith, few port, sends.pushed port);
+})
+
+-- or none more is pushed
+sound_sends_none : (works : ℕ) (old new : SwitchOf) → SendsUpTo none_more old new → IsSound works old → IsSound works new
+sound_sends_none works old new sends h = sound_sends works none_more old new sends (λ port. omega (arith, h.pushed port)) h
+
+-- an epoch begins
+sound_begun : (works epoch : ℕ) (s : SwitchOf) → 1 ≤ works → 1 ≤ s.number → s.number ≤ 126 → ((port : ℕ) → (port_of s port).far.nonce ≤ works) → IsSound works (begun epoch s)
+sound_begun works epoch s some least most probes = record {
+  me = refl;
+  least = least;
+  most = most;
+  one_link = λ port. one_from 1 port (ports_of s);
+  unjoined = λ is. absurd (true≢false is);
+  due = λ is. is;
+  probes = probes;
+  windows = λ port. omega arith;
+  near = λ port k _. refl;
+  came = λ _. omega (arith, some);
+  pushed = λ port. omega arith;
+}
+
+-- and is joined
+joining_sound : (works epoch : ℕ) (s : SwitchOf) → 1 ≤ works → 1 ≤ s.number → s.number ≤ 126 → ((port : ℕ) → (port_of s port).far.nonce ≤ works) → IsSound works (joins epoch s).switch
+joining_sound works epoch s some least most probes =
+    let b = begun epoch s in
+    sound_sends works (λ port. length (on_port port (adds b.card []))) b (joins epoch s).switch (all_pushed_few (adds b.card []) b)
+    (λ port. let few = joining_few b.card port (one_from 1 port (ports_of s)) in omega (arith, few))
+    (sound_begun works epoch s some least most probes)
+
+pub sound_joins : (works epoch : ℕ) (s : SwitchOf) → 1 ≤ works → IsSound works s → IsSound works (joins epoch s).switch
+sound_joins works epoch s some h = joining_sound works epoch s some h.least h.most h.probes
+
+-- a switch that joins stays spent or not, and has joined
+pub joins_spent : (epoch : ℕ) (s : SwitchOf) → (joins epoch s).switch.spent ≡ s.spent
+joins_spent epoch s = ap (λ (u : SwitchOf). u.spent) (all_pushed_few (adds (begun epoch s).card []) (begun epoch s)).only
+
+pub joins_joined : (epoch : ℕ) (s : SwitchOf) → (joins epoch s).switch.joined ≡ true
+joins_joined epoch s = ap (λ (u : SwitchOf). u.joined) (all_pushed_few (adds (begun epoch s).card []) (begun epoch s)).only
+
+-- in a session that begins there are numbers left for what joining sends
+pub numbers_of_joins : (epoch : ℕ) (s : SwitchOf) (q : ℕ) → length ((begun epoch s).sendings q).pushed + length (on_port q (adds (begun epoch s).card [])) ≤ 2 ^ 30
+numbers_of_joins epoch s q = let few = joining_few (begun epoch s).card q (one_from 1 q (ports_of s)) in omega (arith, few)
+
+-- a frame of a session counts at no port before the first epoch
+counted_by : (b : Bool) (works port : ℕ) (from to : EndId) (s : SwitchOf) → s.joined ≡ b → IsSound works s → s.spent ≡ false → counts s port from to ≡ true → s.joined ≡ true
+counted_by true works port from to s joined h working counted = joined
+counted_by false works port from to s joined h working counted =
+    absurd (false≢true (sym (ap (λ o. is_end o from && is_same_end to (end_at s port)) (h.unjoined joined working port)) ∙ counted))
+
+pub counted_joined : (works port : ℕ) (from to : EndId) (s : SwitchOf) → IsSound works s → s.spent ≡ false → counts s port from to ≡ true → s.joined ≡ true
+counted_joined works port from to s h working counted = counted_by s.joined works port from to s refl h working counted
+
+-- a body comes to a session, and what the accepted ones add goes out
+pub sound_body : (works port k : ℕ) (peer : EndId) (body : Body) (s : SwitchOf) → 1 ≤ port → port ≤ 12 → s.joined ≡ true → IsSound works s → IsSound (suc works) (answers_body port peer k body s).switch
+sound_body works port k peer body s least most joined h =
+    let bodies = accepted_by k body (s.receivings port) in
+    let xs = all_added s.card port bodies s.log in
+    let u = receives port k body s in
+    let e = log_length port bodies s.log in
+    sound_sends (suc works) (λ q. length (on_port q xs)) u (all_pushed xs u).switch (all_pushed_few xs u)
+    (λ q. let few = added_few s.card port bodies s.log q (h.one_link q) in omega (arith, e, few, h.pushed q))
+    (sound_receives works port k body s least most joined h)
+
+-- in each session there are numbers left for what the accepted bodies add
+pub numbers_of_body : (works port k : ℕ) (body : Body) (s : SwitchOf) → IsSound works s → s.joined ≡ true → works < 2 ^ 28 → 1 ≤ port → port ≤ 12
+    → (q : ℕ) → length ((receives port k body s).sendings q).pushed + length (on_port q (all_added s.card port (accepted_by k body (s.receivings port)) s.log)) ≤ 2 ^ 30
+numbers_of_body works port k body s h joined few least most q =
+    let added = added_few s.card port (accepted_by k body (s.receivings port)) s.log q (h.one_link q) in
+    let more = came_more port k body s.receivings (h.near port) least most in
+    omega (arith, added, more, few, h.came joined, h.pushed q)
+
+-- a body of a session, or of a greater epoch
+sound_carried : (works port : ℕ) (f : CarryOf) (s : SwitchOf) → 1 ≤ port → port ≤ 12 → s.joined ≡ true → IsSound works s → IsSound (suc works) (on_carry port f s).switch
+sound_carried works port f s least most joined h =
+    let one = joins f.epoch s in
+    let here = answers_body port f.from f.k f.body s in
+    let later = cond_both (f.epoch == s.epoch) here (still s) (λ step. IsSound (suc works) step.switch) (λ _. sound_body works port f.k f.from f.body s least most joined h) (λ _. sound_more works (suc works) s (omega arith) h) in
+    cond_both (nat_lt s.epoch f.epoch) (after one (answers_body port f.from f.k f.body one.switch)) (cond (f.epoch == s.epoch) here (still s)) (λ step. IsSound (suc works) step.switch)
+    (λ _. sound_body works port f.k f.from f.body one.switch least most (joins_joined f.epoch s) (sound_joins works f.epoch s (omega (arith, h.came joined)) h))
+    (λ _. later)
+
+-- a reply comes in
+sound_hears : (works port nonce : ℕ) (from : EndId) (s : SwitchOf) → IsSound works s → IsSound works (hears port from nonce s)
+sound_hears works port nonce from s h = record {
+  me = h.me;
+  least = h.least;
+  most = h.most;
+  one_link = h.one_link;
+  unjoined = λ not_joined working q. hears_peer port nonce q from s ∙ h.unjoined not_joined working q;
+  due = h.due;
+  probes = λ q. let e = hears_nonce port nonce q from s in omega (arith, e, h.probes q);
+  windows = h.windows;
+  near = h.near;
+  came = h.came;
+  pushed = h.pushed;
+}
+
+-- a frame comes in
+pub sound_framed : (works port : ℕ) (frame : Frame) (s : SwitchOf) → 1 ≤ port → port ≤ 12 → s.spent ≡ false → IsSound works s → IsSound (suc works) (framed port frame s).switch
+sound_framed works port (Carry f) s least most working h =
+    cond_both (counts s port f.from f.to) (on_carry port f s) (still s) (λ step. IsSound (suc works) step.switch)
+    (λ counted. sound_carried works port f s least most (counted_joined works port f.from f.to s h working counted) h)
+    (λ _. sound_more works (suc works) s (omega arith) h)
+sound_framed works port (Ack epoch from to n) s least most working h =
+    let stays = sound_more works (suc works) s (omega arith) h in
+    cond_both (counts s port from to) (on_ack port from epoch n s) (still s) (λ step. IsSound (suc works) step.switch)
+    (λ _. sound_sends_none (suc works) s (on_ack port from epoch n s).switch (on_ack_few port epoch n from s) stays) (λ _. stays)
+sound_framed works port (Probe from nonce) s least most working h = sound_more works (suc works) s (omega arith) h
+sound_framed works port (Reply from to nonce) s least most working h =
+    let stays = sound_more works (suc works) s (omega arith) h in
+    cond_both (is_same_end to (end_at s port)) (still (hears port from nonce s)) (still s) (λ step. IsSound (suc works) step.switch)
+    (λ _. sound_hears (suc works) port nonce from s stays) (λ _. stays)
+
+-- At a clock each port was sampled. All is so but `unjoined`, which asks nothing of a switch that is spent
+pub sound_sampled : (works now : ℕ) (samples : List Sample) (s : SwitchOf) → IsSound works s → IsSound (suc works) (record (sampled_by now samples s) { spent = true })
+sound_sampled works now samples s h = record {
+  me = h.me;
+  least = h.least;
+  most = h.most;
+  one_link = h.one_link;
+  unjoined = λ _ is. absurd (true≢false is);
+  due = h.due;
+  probes = λ port. let more = sampled_nonce (sample_at samples port) (port_of s port) in omega (arith, more, h.probes port);
+  windows = h.windows;
+  near = h.near;
+  came = λ joined. omega (arith, h.came joined);
+  pushed = h.pushed;
+}
+
+-- nor of any that has joined
+pub sound_joined : (works : ℕ) (s : SwitchOf) → s.joined ≡ true → IsSound works (record s { spent = true }) → IsSound works s
+sound_joined works s joined h = record {
+  me = h.me;
+  least = h.least;
+  most = h.most;
+  one_link = h.one_link;
+  unjoined = λ is. absurd (true≢false (sym joined ∙ is));
+  due = h.due;
+  probes = h.probes;
+  windows = h.windows;
+  near = h.near;
+  came = h.came;
+  pushed = h.pushed;
+}
+
+-- where no change is due the epoch was joined
+pub unchanged_joined : (before s : SwitchOf) → is_change_due before s ≡ false → before.joined ≡ true
+unchanged_joined before s unchanged = not-false before.joined (or_parts (not before.joined) (not (are_same_links (good_links before) (good_links s))) unchanged).0
+
+-- behind the probes the next epoch is joined, or what is due is sent again
+goes_sound : (works : ℕ) (before s : SwitchOf) → 1 ≤ works → s.joined ≡ before.joined → IsSound works (record s { spent = true }) → IsSound works (goes_on before s).switch
+goes_sound works before s some same sampled =
+    let again = all_resent s.card.links s in
+    cond_both (is_change_due before s) (joins (suc s.epoch) s) again (λ step. IsSound works step.switch)
+    (λ _. joining_sound works (suc s.epoch) s some sampled.least sampled.most sampled.probes)
+    (λ unchanged. sound_sends_none works s again.switch (all_resent_few s.card.links s) (sound_joined works s (same ∙ unchanged_joined before s unchanged) sampled))
+
+-- a clock comes
+pub sound_clocked : (works now : ℕ) (samples : List Sample) (s : SwitchOf) → IsSound works s → IsSound (suc works) (clocked now samples s).switch
+sound_clocked works now samples s h =
+    let u = sampled_by now samples s in
+    let sampled = sound_sampled works now samples s h in
+    cond_both (is_spent_by s u) (still (record u { spent = true })) (after (record { switch = u; frames = probes u }) (goes_on s u)) (λ step. IsSound (suc works) step.switch)
+    (λ _. sampled) (λ _. goes_sound (suc works) s u (omega arith) refl sampled)
+
+-- a table is loaded
+pub sound_loaded : (works number : ℕ) (s : SwitchOf) → 1 ≤ number → number ≤ 126 → IsSound works s → IsSound works (loaded number s)
+sound_loaded works number s least most h = record {
+  me = h.me;
+  least = least;
+  most = most;
+  one_link = h.one_link;
+  unjoined = h.unjoined;
+  due = λ is. absurd (false≢true is);
+  probes = h.probes;
+  windows = h.windows;
+  near = h.near;
+  came = h.came;
+  pushed = h.pushed;
+}
+
+-- what a switch finishes with names its life: the report of a root has its own entry, and a topology that was given names it
+pub finish_named : (c : CardOf) (log : Log) (topo : TopoOf) → finish c log ≡ Some topo → Any (λ e. e.life ≡ c.me) topo.entries
+finish_named c [] topo is = root_names c [] topo is
+finish_named c (x ∷ log) topo is =
+    elim (first_or_else (finish c log) (or_else (finished_as_root c (x ∷ log)) (given_by c.me x.body)) topo is) [
+      | inl before ↦ finish_named c log topo before
+      | inr now ↦ elim (first_or_else (finished_as_root c (x ∷ log)) (given_by c.me x.body) topo now) [
+        | inl root ↦ root_names c (x ∷ log) topo root
+        | inr given ↦ given_names c.me x.body topo given
+      ]
+    ]

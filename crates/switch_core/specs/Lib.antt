@@ -1,0 +1,6 @@
+pub mod Switch
+pub mod Sessions
+pub mod Steps
+pub mod Bytes
+pub mod Sound
+pub mod Stands

@@ -1,0 +1,589 @@
+//! What a switch keeps, and what it does with what comes in.
+
+ghost use Rattle.std.specs.Prelude.{◌≡◌, ◌+◌, ◌<◌, ◌≤◌, ◌^◌, ◌∷◌, ◌++◌, [], ℕ, suc, None, Some, length, map, slice_get, IfOk, IfSome, IsSome, OnErr, OnOk, option_copied, ◌-◌, List, true, false, not, is_some, ◌||◌};
+ghost use Rattle.epoch_core.specs.Log.{OnPort, on_port};
+ghost use Rattle.epoch_core.specs.Epoch.{adds};
+ghost use Rattle.ordered_link.specs.Sending.{IsOut, Sending, IsKeptOf, push, sent_by_push};
+ghost use Rattle.frame_codec.specs.Spelling.{CarryHeadOf, carried, spelling};
+ghost use Rattle.an_base.specs.declared.frame.Frame.TheVariants.{Carry, Probe, Reply};
+ghost use Rattle.switch_core.specs.Switch.{counts, finish_of, good_links, note_of, ports_of, started, view_of, SwitchOf};
+ghost use Rattle.switch_core.specs.Steps.{all_pushed, all_resent, answers_body, are_same_links, fills, framed, joins, on_ack, on_carry, peer_among, pushed, resends_on};
+ghost use Rattle.switch_core.specs.Bytes.{BytesOut};
+ghost use Rattle.switch_core.specs.Sessions.{IsOutAt};
+ghost use Rattle.switch_core.specs.Stands.{answered, Accepts, AcceptsInTurn, Clocks, Does, Loads, Handles, HasAccepting, HasNumbers, HasRoom, HasState, HasWindows, IsSame, MayJoin, Carries, probed, Receives, Stands};
+
+use crate::out::Frames;
+use crate::session::Sessions;
+use an_base::body::{Body, TopoBody};
+use an_base::frame::{CarryFrame, Frame};
+use an_base::life::{End, Life};
+use an_base::links::{Links, PortLink};
+use an_base::memory::OutOfMemory;
+use an_base::port::{Note, PortState, PortView, Ports, Sample};
+use epoch_core::epoch::Core;
+use epoch_core::sends::{Outgoing, Sends};
+use frame_codec::reading::{DecodeRefusal, decode};
+use frame_codec::writing::{CarryHead, encode, encode_carry};
+use frame_region::buffer::FrameBuf;
+use ordered_link::receiver::Verdict;
+use port_monitor::monitor::Monitor;
+use std::alloc::Global;
+use table_build::table::Table;
+use topo_graph::graph::Graph;
+
+/// What a switch keeps of what happened to it.
+#[derive(Debug, Drop)]
+pub struct Control {
+    pub alloc: Global,
+    pub life: Life,
+    pub any: bool,
+    pub monitor: Monitor,
+    pub epoch: u64,
+    pub core: Option<Core>,
+    pub links: Links,
+    pub sessions: Sessions,
+    pub number: u8,
+    pub load_due: bool,
+    pub tick: u32,
+    pub spent: bool,
+    pub buffer: Option<FrameBuf>,
+}
+
+// The other end of the link at a port, if there is one.
+fn peer_of(links: &Links, port: u8) -> Option<End>
+    ensures peer { result ≡ peer_among links.now port }
+    ensures range { IfSome result (λ _. (1 ≤ port) × (port ≤ 12)) }
+{
+    'links: for link in links.as_slice() {
+        if link.port() == port {
+            return Some(link.peer());
+        }
+    }
+    None
+}
+
+impl Control {
+    /// At power-on, without taking memory.
+    pub fn new(alloc: Global, life: Life, epoch: u64, had: u8, any: bool) -> Control
+        ensures { Stands result (started life epoch had any) }
+    {
+        Control {
+            alloc,
+            life,
+            any,
+            monitor: Monitor::new(life),
+            epoch,
+            core: None,
+            links: Links::new(),
+            sessions: Sessions::new(alloc),
+            number: had,
+            load_due: false,
+            tick: 0,
+            spent: false,
+            buffer: None,
+        }
+    }
+
+    /// At power-on, with the memory in which frames are spelled.
+    pub fn start(
+        alloc: Global,
+        life: Life,
+        epoch: u64,
+        had: u8,
+        any: bool,
+    ) -> Result<Control, OutOfMemory>
+        ensures { IfOk result (λ c. Stands c (started life epoch had any)) }
+    {
+        let mut control = Control::new(alloc, life, epoch, had, any);
+        control.buffer = Some(FrameBuf::new(alloc)?);
+        Ok(control)
+    }
+
+    // The end of this switch at a port.
+    fn end_at(&self, port: u8) -> End
+        requires least { 1 ≤ port }
+        requires most { port ≤ 12 }
+        ensures { result ≡ record { life = self.now.life; port = port } }
+    {
+        End::new(self.life, port)
+    }
+
+    // The buffer in which frames are spelled.
+    fn take_buffer(&mut self) -> Result<FrameBuf, OutOfMemory>
+        ensures { IsSame self.old self.new }
+    {
+        match self.buffer.take() {
+            Some(buffer) => Ok(buffer),
+            None => FrameBuf::new(self.alloc),
+        }
+    }
+
+    // Puts a frame out by a port.
+    fn put(&mut self, port: u8, frame: &Frame, out: &mut Frames) -> Result<(), OutOfMemory>
+        requires least { 1 ≤ port }
+        requires most { port ≤ 12 }
+        ensures same { OnOk result (IsSame self.old self.new) }
+        ensures out { OnOk result (out.new ≡ out.old ++ record { port = port; bytes = spelling frame.now } ∷ []) }
+    {
+        let mut buffer = self.take_buffer()?;
+        encode(frame, &mut buffer);
+        out.push(port, buffer.bytes())?;
+        self.buffer = Some(buffer);
+        Ok(())
+    }
+
+    // Puts out the outstanding body with this number of the session at a port.
+    fn carry(&mut self, port: u8, peer: End, k: u32, out: &mut Frames) -> Result<(), OutOfMemory>
+        requires least { 1 ≤ port }
+        requires most { port ≤ 12 }
+        requires number { IsOutAt self.old.sessions port k }
+        ensures same { OnOk result (IsSame self.old self.new) }
+        ensures out { OnOk result (Carries self.old port peer k out.old out.new) }
+    {
+        let head = CarryHead::new(self.epoch, self.end_at(port), peer, k);
+        let mut buffer = self.take_buffer()?;
+        encode_carry(&head, self.sessions.body(port, k), &mut buffer);
+        out.push(port, buffer.bytes())?;
+        self.buffer = Some(buffer);
+        Ok(())
+    }
+
+    // Pushes a body in the session of its port, and puts it out where the window lets it.
+    fn push(&mut self, outgoing: Outgoing, out: &mut Frames) -> Result<(), OutOfMemory>
+        requires { HasNumbers self.old (outgoing ∷ []) }
+        ensures { OnOk result (Does (pushed outgoing) self.old self.new out.old out.new) }
+    {
+        let port = outgoing.port;
+        let Some(peer) = peer_of(&self.links, port) else {
+            return Ok(());
+        };
+        if let Some(k) = self.sessions.push(port, outgoing.body, self.tick)? {
+            self.carry(port, peer, k, out)?;
+        }
+        Ok(())
+    }
+
+    // Pushes bodies in their order.
+    fn push_all(&mut self, sends: Sends, out: &mut Frames) -> Result<(), OutOfMemory>
+        requires { HasNumbers self.old sends }
+        ensures { OnOk result (Does (all_pushed sends) self.old self.new out.old out.new) }
+    {
+        'sends: for outgoing in sends.into_vec() {
+            self.push(outgoing, out)?;
+        }
+        Ok(())
+    }
+
+    // Joins an epoch with the present good links.
+    fn join(&mut self, epoch: u64, out: &mut Frames) -> Result<(), OutOfMemory>
+        requires { MayJoin self.old }
+        ensures { OnOk result (Does (joins epoch) self.old self.new out.old out.new) }
+    {
+        let links = self.monitor.good_links();
+        let mut sends = Sends::new(self.alloc);
+        let core = Core::join(
+            self.alloc,
+            self.life,
+            epoch,
+            self.number,
+            &links,
+            &mut sends,
+        )?;
+        self.epoch = epoch;
+        self.load_due = core.finish().is_some();
+        self.core = Some(core);
+        self.links = links;
+        self.sessions = Sessions::new(self.alloc);
+        self.push_all(sends, out)?;
+        Ok(())
+    }
+
+    // Puts out waiting bodies of the session at a port until its window is full.
+    fn fill(&mut self, port: u8, peer: End, out: &mut Frames) -> Result<(), OutOfMemory>
+        requires least { 1 ≤ port }
+        requires most { port ≤ 12 }
+        ensures { OnOk result (Does (fills 7 port peer) self.old self.new out.old out.new) }
+    {
+        'window: for _ in 0..7u8 {
+            let Some(k) = self.sessions.more(port, self.tick) else {
+                return Ok(());
+            };
+            self.carry(port, peer, k, out)?;
+        }
+        Ok(())
+    }
+
+    // An acknowledgement comes from the peer of a good port.
+    fn on_ack(
+        &mut self,
+        port: u8,
+        peer: End,
+        epoch: u64,
+        n: u32,
+        out: &mut Frames,
+    ) -> Result<(), OutOfMemory>
+        requires least { 1 ≤ port }
+        requires most { port ≤ 12 }
+        ensures { OnOk result (Does (on_ack port peer epoch n) self.old self.new out.old out.new) }
+    {
+        if epoch != self.epoch {
+            return Ok(());
+        }
+        if let Some(k) = self.sessions.on_ack(port, n, self.tick) {
+            self.carry(port, peer, k, out)?;
+            self.fill(port, peer, out)?;
+        }
+        Ok(())
+    }
+
+    // Accepts a wanted body that came by a port, and each held one that follows it.
+    fn accept(&mut self, port: u8, body: Body, sends: &mut Sends) -> Result<(), OutOfMemory>
+        requires least { 1 ≤ port }
+        requires most { port ≤ 12 }
+        requires core { HasAccepting self.old.core }
+        ensures { OnOk result (Accepts port body self.old self.new sends.old sends.new) }
+    {
+        let mut core = self.core.take().unwrap();
+        let had_finished = core.finish().is_some();
+        accept_in_turn(&mut core, &mut self.sessions, port, body, sends)?;
+        if !had_finished && core.finish().is_some() {
+            self.load_due = true;
+        }
+        self.core = Some(core);
+        Ok(())
+    }
+
+    // A body comes to the session at a port; the bodies that are accepted by it add what they add to
+    // the sends. Answers whether it is acknowledged.
+    fn receive(
+        &mut self,
+        port: u8,
+        k: u32,
+        body: Body,
+        sends: &mut Sends,
+    ) -> Result<bool, OutOfMemory>
+        requires least { 1 ≤ port }
+        requires most { port ≤ 12 }
+        requires core { HasAccepting self.old.core }
+        ensures { IfOk result (Receives port k body self.old self.new sends.old sends.new) }
+    {
+        match self.sessions.on_carry(port, k, body) {
+            Verdict::Accepted(body) => {
+                self.accept(port, body, sends)?;
+                Ok(true)
+            }
+            Verdict::Held { .. } => Ok(true),
+            Verdict::Repeat { .. } => Ok(true),
+            Verdict::Ahead { .. } => Ok(false),
+        }
+    }
+
+    // Acknowledges all bodies that were accepted at a port.
+    fn acknowledge(&mut self, port: u8, peer: End, out: &mut Frames) -> Result<(), OutOfMemory>
+        requires least { 1 ≤ port }
+        requires most { port ≤ 12 }
+        ensures { OnOk result (Does (answered port peer) self.old self.new out.old out.new) }
+    {
+        let ack = Frame::Ack {
+            epoch: self.epoch,
+            from: self.end_at(port),
+            to: peer,
+            n: self.sessions.last(port),
+        };
+        self.put(port, &ack, out)?;
+        Ok(())
+    }
+
+    // A body of the present epoch comes from the peer of a good port.
+    fn answer_body(
+        &mut self,
+        port: u8,
+        peer: End,
+        k: u32,
+        body: Body,
+        out: &mut Frames,
+    ) -> Result<(), OutOfMemory>
+        requires least { 1 ≤ port }
+        requires most { port ≤ 12 }
+        requires room { HasRoom self.old }
+        requires joined { IsSome self.old.core }
+        ensures { OnOk result (Does (answers_body port peer k body) self.old self.new out.old out.new) }
+    {
+        let mut sends = Sends::new(self.alloc);
+        if self.receive(port, k, body, &mut sends)? {
+            self.acknowledge(port, peer, out)?;
+        }
+        self.push_all(sends, out)?;
+        Ok(())
+    }
+
+    // A body comes from the peer of a good port. A greater epoch is joined first.
+    fn on_carry(&mut self, port: u8, carry: CarryFrame, out: &mut Frames) -> Result<(), OutOfMemory>
+        requires least { 1 ≤ port }
+        requires most { port ≤ 12 }
+        requires room { HasRoom self.old }
+        requires joined { IsSome self.old.core }
+        ensures { OnOk result (Does (on_carry port carry) self.old self.new out.old out.new) }
+    {
+        if carry.epoch < self.epoch {
+            return Ok(());
+        }
+        if carry.epoch > self.epoch {
+            self.join(carry.epoch, out)?;
+        }
+        let peer = carry.from;
+        let k = carry.k();
+        self.answer_body(port, peer, k, carry.into_body(), out)?;
+        Ok(())
+    }
+
+    // Whether a frame of a session counts that came by a port.
+    fn counts(&self, port: u8, from: End, to: End) -> bool
+        requires least { 1 ≤ port }
+        requires most { port ≤ 12 }
+        ensures { (s : SwitchOf) → Stands self.now s → result ≡ counts s port from to }
+    {
+        if self.monitor.state(port) != PortState::Good {
+            return false;
+        }
+        self.monitor.peer(port) == Some(from) && to == self.end_at(port)
+    }
+
+    // A probe comes by a port.
+    fn on_probe(
+        &mut self,
+        port: u8,
+        from: End,
+        nonce: u64,
+        out: &mut Frames,
+    ) -> Result<(), OutOfMemory>
+        requires least { 1 ≤ port }
+        requires most { port ≤ 12 }
+        ensures { OnOk result (Does (framed port (Probe from nonce)) self.old self.new out.old out.new) }
+    {
+        if let Some(reply) = self.monitor.on_probe(port, from, nonce) {
+            self.put(port, &reply, out)?;
+        }
+        Ok(())
+    }
+
+    // A reply comes by a port.
+    fn on_reply(&mut self, port: u8, from: End, to: End, nonce: u64)
+        requires least { 1 ≤ port }
+        requires most { port ≤ 12 }
+        ensures { (out : List BytesOut) → Does (framed port (Reply from to nonce)) self.old self.new out out }
+    {
+        if to == self.end_at(port) {
+            self.monitor.on_reply(port, from, nonce);
+        }
+    }
+
+    /// A frame comes by a port, 1 to 12.
+    pub fn on_frame(&mut self, port: u8, frame: Frame, out: &mut Frames) -> Result<(), OutOfMemory>
+        requires least { 1 ≤ port }
+        requires most { port ≤ 12 }
+        requires room { HasRoom self.old }
+        ensures { OnOk result (Does (framed port frame) self.old self.new out.old out.new) }
+    {
+        match frame {
+            Frame::Carry(carry) => {
+                if !self.counts(port, carry.from, carry.to) {
+                    return Ok(());
+                }
+                self.on_carry(port, carry, out)
+            }
+            Frame::Ack { epoch, from, to, n } => {
+                if !self.counts(port, from, to) {
+                    return Ok(());
+                }
+                self.on_ack(port, from, epoch, n, out)
+            }
+            Frame::Probe { from, nonce } => self.on_probe(port, from, nonce, out),
+            Frame::Reply { from, to, nonce } => {
+                self.on_reply(port, from, to, nonce);
+                Ok(())
+            }
+        }
+    }
+
+    /// Bytes come by a port, 1 to 12. Answers whether they are a frame.
+    pub fn handle(&mut self, bytes: &[u8], port: u8, out: &mut Frames) -> Result<bool, OutOfMemory>
+        requires least { 1 ≤ port }
+        requires most { port ≤ 12 }
+        requires room { HasRoom self.old }
+        requires none { out.old ≡ [] }
+        ensures handled { (s : SwitchOf) → Stands self.old s → IfOk result (λ is_frame. Handles port bytes.now s self.new (record { frames = out.new; noframe = not is_frame })) }
+        ensures state { (works : ℕ) → HasState works self.old → OnOk result (HasState (works + 1) self.new) }
+        ensures working { OnOk result (self.new.spent ≡ false) }
+    {
+        match decode(self.alloc, bytes) {
+            Ok(frame) => {
+                self.on_frame(port, frame, out)?;
+                Ok(true)
+            }
+            Err(DecodeRefusal::NotAFrame) => Ok(false),
+            Err(DecodeRefusal::OutOfMemory) => Err(OutOfMemory),
+        }
+    }
+
+    // One clock at each port: its sample, and the probe that goes out.
+    fn sample(
+        &mut self,
+        now: u32,
+        samples: &[Sample; 12],
+        out: &mut Frames,
+    ) -> Result<(), OutOfMemory>
+        requires room { HasRoom self.old }
+        ensures { OnOk result (Does (probed now samples.now) self.old self.new out.old out.new) }
+    {
+        self.tick = now;
+        'ports: for port in EXTERNALS {
+            let sample = samples[usize::from(port - 1)];
+            if let Some(nonce) = self.monitor.sample(port, sample) {
+                let from = self.end_at(port);
+                self.put(port, &Frame::Probe { from, nonce }, out)?;
+            }
+        }
+        Ok(())
+    }
+
+    // Sends again what is due in the session at the port of a link.
+    fn resend(&mut self, link: &PortLink, out: &mut Frames) -> Result<(), OutOfMemory>
+        requires { HasWindows self.old }
+        ensures { OnOk result (Does (resends_on link.now) self.old self.new out.old out.new) }
+    {
+        let port = link.port();
+        'window: for _ in 0..8u8 {
+            let Some(k) = self.sessions.due(port, self.tick) else {
+                return Ok(());
+            };
+            self.carry(port, link.peer(), k, out)?;
+            self.sessions.resent(port, k, self.tick);
+        }
+        Ok(())
+    }
+
+    // Sends again what is due in the session of each link, rising.
+    fn resend_all(&mut self, out: &mut Frames) -> Result<(), OutOfMemory>
+        requires { HasWindows self.old }
+        ensures { OnOk result (Does (λ s. all_resent s.card.links s) self.old self.new out.old out.new) }
+    {
+        let links = self.links.copy();
+        'links: for link in links.as_slice() {
+            self.resend(link, out)?;
+        }
+        Ok(())
+    }
+
+    // Whether a change is due: at the first clock, and where the good links are others than these.
+    fn is_change_due(&self, before: &Links) -> bool
+        ensures { (s : SwitchOf) → Stands self.now s → result ≡ (not s.joined || not (are_same_links before.now (good_links s))) }
+    {
+        if self.core.is_none() {
+            return true;
+        }
+        before.as_slice() != self.monitor.good_links().as_slice()
+    }
+
+    /// A clock at this tick, with a sample of each port. Answers whether a change is due that no epoch
+    /// is left for.
+    pub fn clock(
+        &mut self,
+        now: u32,
+        samples: &[Sample; 12],
+        out: &mut Frames,
+    ) -> Result<bool, OutOfMemory>
+        requires room { HasRoom self.old }
+        ensures clocks { IfOk result (Clocks now samples.now self.old self.new out.old out.new) }
+        ensures spent { IfOk result (λ spent. self.new.spent ≡ spent) }
+    {
+        let before = self.monitor.good_links();
+        self.sample(now, samples, out)?;
+        if !self.is_change_due(&before) {
+            self.resend_all(out)?;
+            return Ok(false);
+        }
+        if self.epoch == u64::MAX {
+            self.spent = true;
+            return Ok(true);
+        }
+        self.join(self.epoch + 1, out)?;
+        Ok(false)
+    }
+
+    /// What the life has finished with in its present epoch, if it has.
+    pub fn finish(&self) -> Option<&TopoBody>
+        ensures { (s : SwitchOf) → Stands self.now s → option_copied result ≡ finish_of s }
+    {
+        self.core.as_ref()?.finish()
+    }
+
+    // What each port is taken to be.
+    fn ports(&self) -> Ports
+        ensures { (s : SwitchOf) → Stands self.now s → result ≡ map view_of (ports_of s) }
+    {
+        let mut ports = Ports::new();
+        'ports: for port in EXTERNALS {
+            let view = PortView {
+                state: self.monitor.state(port),
+                peer: self.monitor.peer(port),
+            };
+            ports.set(port, view);
+        }
+        ports
+    }
+
+    /// What the switch shows of itself, without taking memory.
+    pub fn note(&self) -> Note
+        ensures { (s : SwitchOf) → Stands self.now s → result ≡ note_of s }
+    {
+        Note {
+            life: self.life,
+            epoch: self.epoch,
+            ports: self.ports(),
+            load_due: self.load_due,
+            unacked: self.sessions.is_unacked(),
+        }
+    }
+
+    /// Loads the table of what the life has finished with. After want of memory nothing has changed.
+    pub fn load(&mut self) -> Result<Table, OutOfMemory>
+        requires state { (works : ℕ) × HasState works self.old }
+        requires due { self.old.load_due ≡ true }
+        ensures ok { IfOk result (Loads self.old self.new) }
+        ensures err { OnErr result (self.new ≡ self.old) }
+    {
+        let topo = self.finish().unwrap();
+        let graph = Graph::of(self.alloc, topo.entries())?;
+        let table = Table::build(self.alloc, &graph, topo.numbers(), self.life, self.any)?;
+        self.number = table.number();
+        self.load_due = false;
+        Ok(table)
+    }
+}
+
+// The external ports, rising.
+const EXTERNALS: [u8; 12] = [1, 2, 3, 4, 5, 6, 7, 8, 9, 10, 11, 12];
+
+// Accepts a body, and each held one that follows it, in the order of their numbers.
+fn accept_in_turn(
+    core: &mut Core,
+    sessions: &mut Sessions,
+    port: u8,
+    body: Body,
+    sends: &mut Sends,
+) -> Result<(), OutOfMemory>
+    requires least { 1 ≤ port }
+    requires most { port ≤ 12 }
+    requires room { core.old.version + 8 ≤ 2 ^ 30 }
+    ensures { OnOk result (AcceptsInTurn port body core.old core.new sessions.old sessions.new sends.old sends.new) }
+{
+    core.accept(port, body, sends)?;
+    'held: for _ in 0..7u8 {
+        let Some(body) = sessions.next(port) else {
+            return Ok(());
+        };
+        core.accept(port, body, sends)?;
+    }
+    Ok(())
+}

@@ -1,0 +1,70 @@
+ghost use Rattle.std.specs.Prelude.{◌≡◌, ◌≢◌, ◌⊎◌, ◌+◌, ◌<◌, ◌≤◌, ℕ, List, [], ◌∷◌, None, Some, false};
+ghost use Rattle.an_base.specs.Values.{EndId};
+ghost use Rattle.an_base.specs.Frames.{CarryOf};
+ghost use Rattle.an_base.specs.declared.body.Body.TheVariants.{Pos};
+ghost use Rattle.an_base.specs.declared.frame.Frame.{Frame};
+ghost use Rattle.an_base.specs.declared.frame.Frame.TheVariants.{Ack, Carry};
+ghost use Rattle.an_base.specs.declared.port.Sample.{Sample};
+ghost use Rattle.ordered_link.specs.Receiving.{untouched};
+ghost use Rattle.epoch_core.specs.Log.{on_port};
+ghost use Rattle.epoch_core.specs.Epoch.{adds};
+ghost use Rattle.switch_core.specs.Switch.{SwitchOf, card_of, end_at, good_links, good_peer};
+ghost use Rattle.switch_core.specs.Steps.{clocked, framed, joins, loaded, peer_among, still};
+
+/// The epoch never falls: not by a frame, nor by a clock, which raises it by one at most; a load
+/// leaves it.
+pub fn an_epoch_never_falls()
+    ensures frame { (port : ℕ) (frame : Frame) (s : SwitchOf) → s.epoch ≤ (framed port frame s).switch.epoch }
+    ensures clock { (now : ℕ) (samples : List Sample) (s : SwitchOf) → s.epoch ≤ (clocked now samples s).switch.epoch }
+    ensures one_more { (now : ℕ) (samples : List Sample) (s : SwitchOf) → (clocked now samples s).switch.epoch ≤ s.epoch + 1 }
+    ensures load { (number : ℕ) (s : SwitchOf) → (loaded number s).epoch ≡ s.epoch }
+{}
+
+/// An acknowledgement changes nothing but what is sent at its port, so no switch joins an epoch by
+/// it. One of another epoch, be it lower or greater, changes nothing, and nothing goes out.
+pub fn an_acknowledgement_never_makes_it_join()
+    ensures rest { (port epoch n : ℕ) (from to : EndId) (s : SwitchOf)
+        → (framed port (Ack epoch from to n) s).switch ≡ record s { sendings = (framed port (Ack epoch from to n) s).switch.sendings } }
+    ensures other_ports { (port epoch n q : ℕ) (from to : EndId) (s : SwitchOf) → q ≢ port
+        → (framed port (Ack epoch from to n) s).switch.sendings q ≡ s.sendings q }
+    ensures other_epoch { (port epoch n : ℕ) (from to : EndId) (s : SwitchOf) → epoch ≢ s.epoch
+        → framed port (Ack epoch from to n) s ≡ still s }
+{}
+
+/// A body or an acknowledgement of a lower epoch changes nothing, and nothing goes out.
+pub fn a_frame_of_a_lower_epoch_changes_nothing()
+    ensures body { (port : ℕ) (f : CarryOf) (s : SwitchOf) → f.epoch < s.epoch → framed port (Carry f) s ≡ still s }
+    ensures acknowledgement { (port epoch n : ℕ) (from to : EndId) (s : SwitchOf) → epoch < s.epoch
+        → framed port (Ack epoch from to n) s ≡ still s }
+{}
+
+/// A switch joins an epoch with its present good links, and all sessions begin anew: nothing was
+/// accepted, nothing came and nothing is acknowledged, and what was pushed is what joining adds, on
+/// each good link the position of a root and nothing else. Where the epoch is greater than that of a
+/// session before, no frame of that session changes anything, and nothing goes out by one.
+pub fn a_join_begins_all_sessions_anew()
+    ensures epoch { (epoch : ℕ) (s : SwitchOf) → (joins epoch s).switch.epoch ≡ epoch }
+    ensures card { (epoch : ℕ) (s : SwitchOf) → (joins epoch s).switch.card ≡ card_of s.life s.number (good_links s) }
+    ensures accepted { (epoch : ℕ) (s : SwitchOf) → (joins epoch s).switch.log ≡ [] }
+    ensures came { (epoch port : ℕ) (s : SwitchOf) → (joins epoch s).switch.receivings port ≡ untouched }
+    ensures acknowledged { (epoch port : ℕ) (s : SwitchOf) → ((joins epoch s).switch.sendings port).acked ≡ 0 }
+    ensures pushed { (epoch port : ℕ) (s : SwitchOf)
+        → ((joins epoch s).switch.sendings port).pushed ≡ on_port port (adds (joins epoch s).switch.card []) }
+    ensures position { (epoch port : ℕ) (s : SwitchOf) (peer : EndId) → peer_among (good_links s) port ≡ Some peer
+        → ((joins epoch s).switch.sendings port).pushed ≡ Pos (record { version = 1; root = s.life; level = 0; to_parent = false }) ∷ [] }
+    ensures nothing_else { (epoch port : ℕ) (s : SwitchOf) → peer_among (good_links s) port ≡ None
+        → ((joins epoch s).switch.sendings port).pushed ≡ [] }
+    ensures body { (epoch port : ℕ) (f : CarryOf) (s : SwitchOf) → f.epoch < epoch
+        → framed port (Carry f) (joins epoch s).switch ≡ still (joins epoch s).switch }
+    ensures acknowledgement { (epoch port older n : ℕ) (from to : EndId) (s : SwitchOf) → older < epoch
+        → framed port (Ack older from to n) (joins epoch s).switch ≡ still (joins epoch s).switch }
+{}
+
+/// A body or an acknowledgement that comes by a port that is not good, that another end than the peer
+/// of the port sent, or that is for another end than this port, changes nothing, and nothing goes out.
+pub fn an_uncounted_frame_changes_nothing()
+    ensures body { (port : ℕ) (f : CarryOf) (s : SwitchOf) → (good_peer s port ≢ Some f.from) ⊎ (f.to ≢ end_at s port)
+        → framed port (Carry f) s ≡ still s }
+    ensures acknowledgement { (port epoch n : ℕ) (from to : EndId) (s : SwitchOf) → (good_peer s port ≢ Some from) ⊎ (to ≢ end_at s port)
+        → framed port (Ack epoch from to n) s ≡ still s }
+{}

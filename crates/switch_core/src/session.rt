@@ -1,0 +1,230 @@
+//! The sessions of a switch, one at each port, each with its two directions.
+
+ghost use Rattle.std.specs.Prelude.{◌≡◌, ◌+◌, ◌-◌, ◌<◌, ◌≤◌, ◌^◌, ℕ, All, IfOk, IfSome, Some, length, slice_get};
+ghost use Rattle.ordered_link.specs.Sending.{IsOut, Sending, acknowledge, next_to_send, push, send_again, send_next, sent_by_ack, sent_by_push, unused};
+ghost use Rattle.ordered_link.specs.Receiving.{Receiving, come, follow, last, untouched, verdict};
+ghost use Rattle.switch_core.specs.Steps.{first_due};
+ghost use Rattle.std.specs.List.{list_any};
+ghost use Rattle.port_monitor.specs.Histories.{externals};
+ghost use Rattle.switch_core.specs.Switch.{at_port, is_unacked};
+ghost use Rattle.switch_core.specs.Sessions.{AreSessions, IsNew, IsOutAt, IsSessionOf, OfSender, Receives, ReceivesBy, Sends, SendsBy, wanted};
+
+use an_base::body::Body;
+use an_base::memory::OutOfMemory;
+use ordered_link::receiver::{Receiver, Verdict};
+use ordered_link::sender::Sender;
+use std::alloc::Global;
+
+/// What a switch keeps of the session at a port.
+#[derive(Debug, Drop)]
+struct Session {
+    // What it sends.
+    sender: Sender,
+    // What it receives.
+    receiver: Receiver,
+}
+
+impl Session {
+    // A session in which nothing was sent and nothing came, without taking memory.
+    fn new(alloc: Global) -> Self
+        ensures { IsNew result }
+    {
+        Session {
+            sender: Sender::new(alloc),
+            receiver: Receiver::new(),
+        }
+    }
+
+    // Pushes a body, and answers its number where it is to be sent now.
+    fn push(&mut self, body: Body, now: u32) -> Result<Option<u32>, OutOfMemory>
+        requires { self.old.sender.acked + length self.old.sender.bodies < 2 ^ 30 }
+        ensures ok { IfOk result (λ number. SendsBy (push body now) (sent_by_push body) self.old self.new number) }
+        ensures out { IfOk result (λ number. IfSome number (IsOut self.new.sender)) }
+    {
+        self.sender.push(body, now)
+    }
+
+    // The number of the first waiting body, where it is to be sent now.
+    fn more(&mut self, now: u32) -> Option<u32>
+        ensures sent { SendsBy (send_next now) next_to_send self.old self.new result }
+        ensures out { IfSome result (IsOut self.new.sender) }
+    {
+        self.sender.more(now)
+    }
+
+    // An acknowledgement comes. Answers the number of the body that is to be sent now.
+    fn on_ack(&mut self, n: u32, now: u32) -> Option<u32>
+        ensures sent { SendsBy (acknowledge n now) (sent_by_ack n) self.old self.new result }
+        ensures out { IfSome result (IsOut self.new.sender) }
+    {
+        self.sender.on_ack(n, now)
+    }
+
+    // The lowest number of an outstanding body that is due to be sent again.
+    fn due(&self, now: u32) -> Option<u32>
+        ensures first { (t : Sending) (r : Receiving) → IsSessionOf self.now t r → result ≡ first_due now t }
+        ensures out { IfSome result (IsOut self.now.sender) }
+    {
+        self.sender.due(now)
+    }
+
+    // An outstanding body is sent again.
+    fn resent(&mut self, k: u32, now: u32)
+        requires { IsOut self.old.sender k }
+        ensures { (t : Sending) (r : Receiving) → IsSessionOf self.old t r → IsSessionOf self.new (send_again k now t) r }
+    {
+        self.sender.resent(k, now);
+    }
+
+    // A body comes.
+    fn on_carry(&mut self, k: u32, body: Body) -> Verdict
+        ensures { ReceivesBy (come k body) (verdict k body) self.old self.new result }
+    {
+        self.receiver.on_carry(k, body)
+    }
+
+    // The held body that is wanted next, which is then accepted.
+    fn next(&mut self) -> Option<Body>
+        ensures { ReceivesBy follow wanted self.old self.new result }
+    {
+        self.receiver.next()
+    }
+}
+
+/// The sessions at the ports 1 to 12. Ticks are counted from the beginning of the run.
+#[derive(Debug, Drop)]
+pub struct Sessions {
+    items: [Session; 12],
+}
+
+impl Sessions {
+    /// Sessions in which nothing was sent and nothing came, without taking memory.
+    pub fn new(alloc: Global) -> Self
+        ensures { AreSessions result (λ port. unused) (λ port. untouched) }
+    {
+        Sessions {
+            items: new_sessions(alloc),
+        }
+    }
+
+    /// Pushes a body at a port, and answers its number where it is to be sent now.
+    pub fn push(&mut self, port: u8, body: Body, now: u32) -> Result<Option<u32>, OutOfMemory>
+        requires least { 1 ≤ port }
+        requires most { port ≤ 12 }
+        requires room { OfSender self.old port (λ v. v.acked + length v.bodies < 2 ^ 30) }
+        ensures ok { IfOk result (λ number. Sends port (push body now) (sent_by_push body) self.old self.new number) }
+        ensures out { IfOk result (λ number. IfSome number (IsOutAt self.new port)) }
+    {
+        Ok(self.items[usize::from(port - 1)].push(body, now)?)
+    }
+
+    /// The number of the first waiting body of a port, where it is to be sent now.
+    pub fn more(&mut self, port: u8, now: u32) -> Option<u32>
+        requires least { 1 ≤ port }
+        requires most { port ≤ 12 }
+        ensures sent { Sends port (send_next now) next_to_send self.old self.new result }
+        ensures out { IfSome result (IsOutAt self.new port) }
+    {
+        self.items[usize::from(port - 1)].more(now)
+    }
+
+    /// An acknowledgement comes by a port. Answers the number of the body that is to be sent now.
+    pub fn on_ack(&mut self, port: u8, n: u32, now: u32) -> Option<u32>
+        requires least { 1 ≤ port }
+        requires most { port ≤ 12 }
+        ensures sent { Sends port (acknowledge n now) (sent_by_ack n) self.old self.new result }
+        ensures out { IfSome result (IsOutAt self.new port) }
+    {
+        self.items[usize::from(port - 1)].on_ack(n, now)
+    }
+
+    /// The lowest number of an outstanding body of a port that was last sent at least four ticks ago;
+    /// none exactly where there is none.
+    pub fn due(&self, port: u8, now: u32) -> Option<u32>
+        requires least { 1 ≤ port }
+        requires most { port ≤ 12 }
+        ensures first { (t : ℕ → Sending) (r : ℕ → Receiving) → AreSessions self.now t r → result ≡ first_due now (t port) }
+        ensures out { IfSome result (IsOutAt self.now port) }
+    {
+        self.items[usize::from(port - 1)].due(now)
+    }
+
+    /// The outstanding body with this number at a port is sent again at this tick.
+    pub fn resent(&mut self, port: u8, k: u32, now: u32)
+        requires least { 1 ≤ port }
+        requires most { port ≤ 12 }
+        requires out { IsOutAt self.old port k }
+        ensures { (t : ℕ → Sending) (r : ℕ → Receiving) → AreSessions self.old t r → AreSessions self.new (at_port port (send_again k now (t port)) t) r }
+    {
+        self.items[usize::from(port - 1)].resent(k, now);
+    }
+
+    /// The outstanding body with this number at a port.
+    pub fn body(&self, port: u8, k: u32) -> &Body
+        requires least { 1 ≤ port }
+        requires most { port ≤ 12 }
+        requires out { IsOutAt self.now port k }
+        ensures { (t : ℕ → Sending) (r : ℕ → Receiving) → AreSessions self.now t r → slice_get (t port).pushed (k - 1) ≡ Some result.now }
+    {
+        self.items[usize::from(port - 1)].sender.body(k)
+    }
+
+    /// How many bodies were accepted at a port.
+    pub fn last(&self, port: u8) -> u32
+        requires least { 1 ≤ port }
+        requires most { port ≤ 12 }
+        ensures { (t : ℕ → Sending) (r : ℕ → Receiving) → AreSessions self.now t r → result ≡ last (r port) }
+    {
+        self.items[usize::from(port - 1)].receiver.last()
+    }
+
+    /// Whether some body that was pushed at some port is not acknowledged.
+    pub fn is_unacked(&self) -> bool
+        ensures { (t : ℕ → Sending) (r : ℕ → Receiving) → AreSessions self.now t r → result ≡ list_any (λ port. is_unacked (t port)) externals }
+    {
+        'sessions: for session in &self.items {
+            if session.sender.unacked() {
+                return true;
+            }
+        }
+        false
+    }
+
+    /// A body comes by a port.
+    pub fn on_carry(&mut self, port: u8, k: u32, body: Body) -> Verdict
+        requires least { 1 ≤ port }
+        requires most { port ≤ 12 }
+        ensures { Receives port (come k body) (verdict k body) self.old self.new result }
+    {
+        self.items[usize::from(port - 1)].on_carry(k, body)
+    }
+
+    /// The held body that is wanted next at a port, which is then accepted.
+    pub fn next(&mut self, port: u8) -> Option<Body>
+        requires least { 1 ≤ port }
+        requires most { port ≤ 12 }
+        ensures { Receives port follow wanted self.old self.new result }
+    {
+        self.items[usize::from(port - 1)].next()
+    }
+}
+
+// Twelve new sessions.
+fn new_sessions(alloc: Global) -> [Session; 12]
+    ensures { All IsNew result }
+{
+    [
+        Session::new(alloc),
+        Session::new(alloc),
+        Session::new(alloc),
+        Session::new(alloc),
+        Session::new(alloc),
+        Session::new(alloc),
+        Session::new(alloc),
+        Session::new(alloc),
+        Session::new(alloc),
+        Session::new(alloc),
+        Session::new(alloc),
+        Session::new(alloc),
+    ]
+}

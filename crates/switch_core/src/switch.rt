@@ -1,0 +1,225 @@
+//! One switch.
+
+ghost use Rattle.std.specs.Prelude.{◌≡◌, ◌+◌, ◌<◌, ◌≤◌, ◌^◌, ℕ, IfOk, OnOk, OnErr, Err, [], false, true, option_copied};
+ghost use Rattle.switch_core.specs.Switch.{finish_of, note_of, started, started_as, SwitchOf};
+ghost use Rattle.switch_core.specs.Stands.{Handles, Loads, Stands, Ticks};
+ghost use Rattle.switch_core.specs.declared.switch.ClockRefusal.TheVariants as refusal;
+
+use crate::control::Control;
+use crate::out::Out;
+use an_base::body::TopoBody;
+use an_base::life::Life;
+use an_base::memory::OutOfMemory;
+use an_base::port::{Note, Sample};
+use std::alloc::Global;
+use std::marker::Model;
+use table_build::table::Table;
+
+/// The most clocks and frames that a switch takes in one life.
+pub const MOST_WORKS: u32 = 268_435_456;
+
+/// What a switch is started with.
+#[derive(Clone, Copy, Debug)]
+struct PowerOn {
+    life: Life,
+    epoch: u64,
+    had: u8,
+    any: bool,
+}
+
+impl PowerOn {
+    // What a switch keeps at power-on, without taking memory.
+    fn control(self, alloc: Global) -> Control
+        ensures { Stands result (started self.life self.epoch self.had self.any) }
+    {
+        Control::new(alloc, self.life, self.epoch, self.had, self.any)
+    }
+}
+
+/// One life of a switch: what it keeps of what happened to it, and how many clocks and frames came.
+#[derive(Debug, Drop)]
+pub struct Switch {
+    start: PowerOn,
+    control: Control,
+    works: u32,
+}
+
+impl Model for Switch {
+    ghost use Rattle.std.specs.Prelude.{◌≤◌};
+    ghost use Rattle.switch_core.specs.Stands.{HasState, KeptOf};
+
+    ghost Value = { KeptOf };
+
+    ghost view = { λ v. record { start = record { life = v.start.life; epoch = v.start.epoch; had = v.start.had; any = v.start.any }; control = v.control; works = v.works } };
+
+    ghost invariant = { λ v. (1 ≤ v.start.had) × (v.start.had ≤ 126) × HasState v.works v.control };
+}
+
+/// A table, and the epoch whose topology it is of.
+#[derive(Debug, Drop)]
+pub struct TableFor {
+    /// The epoch.
+    pub epoch: u64,
+    /// The table.
+    pub table: Table,
+}
+
+/// Why a clock did not come to its end.
+#[derive(Clone, Copy, Debug, PartialEq, Eq)]
+pub enum ClockRefusal {
+    /// A change is due and no epoch is left for it.
+    EpochsSpent,
+    /// No memory was found.
+    OutOfMemory,
+}
+
+impl Switch {
+    /// A switch at power-on in this life, in an epoch that it has not joined, with the number that it
+    /// had before, 1 to 126. Its tables are to have all legal routes where `any` holds, else the least
+    /// ones alone.
+    pub fn start(
+        alloc: Global,
+        life: Life,
+        epoch: u64,
+        had: u8,
+        any: bool,
+    ) -> Result<Switch, OutOfMemory>
+        requires least { 1 ≤ had }
+        requires most { had ≤ 126 }
+        ensures start { IfOk result (λ switch. switch.start ≡ record { life = life; epoch = epoch; had = had; any = any }) }
+        ensures stands { IfOk result (λ switch. Stands switch.control (started life epoch had any)) }
+        ensures works { IfOk result (λ switch. switch.works ≡ 0) }
+    {
+        Ok(Switch {
+            start: PowerOn {
+                life,
+                epoch,
+                had,
+                any,
+            },
+            control: Control::start(alloc, life, epoch, had, any)?,
+            works: 0,
+        })
+    }
+
+    /// Bytes come by a port, 1 to 12. Where they are a frame, this is what happens; where they are none,
+    /// nothing does, and that is told. After want of memory the switch is as it was started, and no frame
+    /// goes out.
+    pub fn handle(&mut self, frame: &[u8], port: u8, out: &mut Out) -> Result<(), OutOfMemory>
+        requires least { 1 ≤ port }
+        requires most { port ≤ 12 }
+        requires works { self.old.works < 2 ^ 28 }
+        requires working { self.old.control.spent ≡ false }
+        ensures start { self.new.start ≡ self.old.start }
+        ensures works { self.new.works ≡ self.old.works + 1 }
+        ensures handled { (s : SwitchOf) → Stands self.old.control s → OnOk result (Handles port frame.now s self.new.control out.new) }
+        ensures working { OnOk result (self.new.control.spent ≡ false) }
+        ensures lost { OnErr result (Stands self.new.control (started_as self.old.start) × (out.new ≡ record { frames = []; noframe = false })) }
+    {
+        out.clear();
+        self.works += 1;
+        let alloc = self.control.alloc;
+        match self.control.handle(frame, port, &mut out.frames) {
+            Ok(is_frame) => {
+                out.noframe = !is_frame;
+                Ok(())
+            }
+            Err(OutOfMemory) => {
+                out.clear();
+                self.control = self.start.control(alloc);
+                Err(OutOfMemory)
+            }
+        }
+    }
+
+    /// A clock comes at this tick, with a sample of each port: first the probes go out, by rising port;
+    /// then the positions of a join, where a change is due, else the bodies that are sent again.
+    /// `EpochsSpent` says that a change is due and no epoch is left for it; then the ports have changed,
+    /// nothing is joined and no frame goes out. After want of memory the switch is as it was started, and
+    /// no frame goes out.
+    pub fn clock(
+        &mut self,
+        now: u32,
+        samples: &[Sample; 12],
+        out: &mut Out,
+    ) -> Result<(), ClockRefusal>
+        requires works { self.old.works < 2 ^ 28 }
+        requires working { self.old.control.spent ≡ false }
+        ensures start { self.new.start ≡ self.old.start }
+        ensures works { self.new.works ≡ self.old.works + 1 }
+        ensures ok { (s : SwitchOf) → Stands self.old.control s → OnOk result (Ticks now samples.now s self.new.control out.new false) }
+        ensures working { OnOk result (self.new.control.spent ≡ false) }
+        ensures spent { (s : SwitchOf) → Stands self.old.control s → result ≡ Err refusal.EpochsSpent → Ticks now samples.now s self.new.control out.new true }
+        ensures lost { result ≡ Err refusal.OutOfMemory → Stands self.new.control (started_as self.old.start) × (out.new ≡ record { frames = []; noframe = false }) }
+    {
+        out.clear();
+        self.works += 1;
+        let alloc = self.control.alloc;
+        match self.control.clock(now, samples, &mut out.frames) {
+            Ok(false) => Ok(()),
+            Ok(true) => {
+                out.clear();
+                Err(ClockRefusal::EpochsSpent)
+            }
+            Err(OutOfMemory) => {
+                out.clear();
+                self.control = self.start.control(alloc);
+                Err(ClockRefusal::OutOfMemory)
+            }
+        }
+    }
+
+    /// Loads the table of what the switch has finished with, which is due. Its number is proposed at
+    /// the next join. After want of memory nothing has changed.
+    pub fn load(&mut self) -> Result<TableFor, OutOfMemory>
+        requires { self.old.control.load_due ≡ true }
+        ensures start { self.new.start ≡ self.old.start }
+        ensures works { self.new.works ≡ self.old.works }
+        ensures epoch { (s : SwitchOf) → Stands self.old.control s → IfOk result (λ loaded. loaded.epoch ≡ s.epoch) }
+        ensures ok { IfOk result (λ loaded. Loads self.old.control self.new.control loaded.table) }
+        ensures err { OnErr result (self.new ≡ self.old) }
+    {
+        let table = self.control.load()?;
+        Ok(TableFor {
+            epoch: self.control.epoch,
+            table,
+        })
+    }
+
+    /// What the switch has finished with in its present epoch; none exactly where it has not finished.
+    pub fn finish(&self) -> Option<&TopoBody>
+        ensures { (s : SwitchOf) → Stands self.now.control s → option_copied result ≡ finish_of s }
+    {
+        self.control.finish()
+    }
+
+    /// Whether it is to load a table.
+    pub fn load_due(&self) -> bool
+        ensures due { result ≡ self.now.control.load_due }
+        ensures stands { (s : SwitchOf) → Stands self.now.control s → result ≡ s.load_due }
+    {
+        self.control.load_due
+    }
+
+    /// Whether a clock has answered that the epochs are spent.
+    pub fn is_spent(&self) -> bool
+        ensures spent { result ≡ self.now.control.spent }
+        ensures stands { (s : SwitchOf) → Stands self.now.control s → result ≡ s.spent }
+    {
+        self.control.spent
+    }
+
+    /// How many clocks and frames came.
+    pub fn works(&self) -> u32
+        ensures { result ≡ self.now.works }
+    {
+        self.works
+    }
+
+    /// What the switch shows of itself.
+    pub fn note(&self) -> Note
+        ensures { (s : SwitchOf) → Stands self.now.control s → result ≡ note_of s }
+    {
+        self.control.note()
+    }
+}
