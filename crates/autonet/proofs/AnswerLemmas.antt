@@ -1,4 +1,4 @@
-use Rattle.std.proofs.Common.{◌≡◌, ◌∙◌, sym, ap, subst, ℕ, ◌+◌, ◌-◌, ◌^◌, ◌<◌, ◌≤◌, ◌==◌, List, [], refl, ◌++◌, length, take, length-append, length-take, count_by, Some, None, IfSome, arith, rules, Fits, w32, inl, inr}
+use Rattle.std.proofs.Common.{◌≡◌, ◌∙◌, sym, ap, subst, ℕ, ◌+◌, ◌-◌, ◌^◌, ◌<◌, ◌==◌, List, [], refl, ◌++◌, take, length-append, length-take, count_by, Some, None, IfSome, arith, rules, Fits, w32, inl, inr}
 use Rattle.std.proofs.lemmas.List.{take-append-le}
 use Rattle.std.proofs.lemmas.List.Sums.{count_by-le-length}
 use Rattle.net_script.specs.declared.cause.ScriptCause.{ScriptCause}

@@ -135,6 +135,10 @@ gives_judged bytes status text = (passed : Bool) × (status ≡ status_of passed
 abbrev pub IsCheckAnswer : ℕ → Streams → Streams → ℕ → Type 0
 IsCheckAnswer limit old new answer = IsAnswer limit gives_judged IsFaultWith old new answer
 
+-- the tables pass, and this is the text of that
+abbrev pub gives_passing : Gives
+gives_passing bytes status text = (status ≡ Ok) × IsJudgedOf true text bytes
+
 -- the status of a refused script
 abbrev pub refused_as : ReadRefusal → Status
 refused_as (refusal.Fault line cause) = ScriptRefused line cause

@@ -8,6 +8,7 @@
 mod check;
 mod expect;
 mod input;
+mod law;
 mod status;
 mod top;
 

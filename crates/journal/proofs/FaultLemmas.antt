@@ -1,17 +1,17 @@
-use Rattle.std.proofs.Common.{◌≡◌, ◌≢◌, ◌∙◌, sym, ap, refl, subst, ℕ, ◌*◌, ◌-◌, ◌<◌, ◌≤◌, ◌^◌, inl, inr, List, [], ◌∷◌, ◌++◌, append_assoc, length, length-append, get_or, Option, Some, None, Bool, true, false, ◌&&◌, not, eqb, leb, is_some, All, arith, codes}
+use Rattle.std.proofs.Common.{◌≡◌, ◌≢◌, ◌∙◌, sym, ap, refl, subst, ℕ, ◌-◌, ◌<◌, ◌≤◌, ◌^◌, inl, inr, List, [], ◌∷◌, ◌++◌, append_assoc, length, length-append, get_or, Option, Some, None, Bool, true, false, ◌&&◌, leb, is_some, All, arith, codes}
 use Rattle.std.specs.Option.{option_or}
 use Rattle.std.specs.Fmt.{decimal}
 use Rattle.std.specs.List.{join_with_byte, list_all}
 use Rattle.std.proofs.lemmas.Bool.Decides.{nat_tests}
 use Rattle.std.proofs.lemmas.List.{get_or_at}
-use Rattle.std.proofs.lemmas.List.Elements.{All-head, All-tail, All-nil, All-cons, All-append, All-weaker}
+use Rattle.std.proofs.lemmas.List.Elements.{All-head, All-tail}
 use Rattle.an_base.specs.declared.event.Event.{Event}
 use Rattle.an_base.specs.declared.event.Event.TheVariants.{Tick, Clock, Take, Handle, Load, Fail, Repair, Lose, Again, Swap, Noise, Send, Move, Restart}
 use Rattle.net_script.specs.Lines.{line_text}
 use Rattle.net_script.specs.Names.{place_of}
 use Rattle.net_script.specs.Scripts.{ScriptOf, IsScript}
 use Rattle.net_script.specs.Words.{is_number, number_value}
-use Rattle.net_script.proofs.SpellLemmas.{IsWord, decimal_number, decimal_value}
+use Rattle.net_script.proofs.SpellLemmas.{IsLineByte, IsWord, decimal_number, decimal_value, line_bytes, line_short, nonempty, test_from_all}
 use Rattle.journal.specs.declared.cause.JournalCause.{JournalCause}
 use Rattle.journal.specs.declared.cause.JournalCause.TheVariants.{BadNumber, NoSuchName}
 use Rattle.journal.specs.Words.{unless, words_of, is_shaped, is_line_byte, has_words}
@@ -22,33 +22,13 @@ use Rattle.journal.specs.Texts.{IsJournal, IsFault, IsFaultyRest, IsWrongLine, A
 use Rattle.journal.proofs.JournalLemmas.{switch_found, host_found, one_line, not_last, words_are, cut_row, feed_free, cut_once, cut_front, rows_once, last_are, some_words}
 
 -- the bytes of a line of words may stand in a line
-row_bytes : (row : List (List ℕ)) → All IsWord row → All (λ c. (32 ≤ c) × (c < 127)) (join_with_byte 32 row)
-row_bytes [] are = All-nil (λ c. (32 ≤ c) × (c < 127))
-row_bytes (w ∷ []) are = All-weaker (λ c. (47 < c) × (c < 127)) (λ c. (32 ≤ c) × (c < 127)) (λ c is. (let h = is.0 in omega arith, is.1)) w (All-head IsWord w [] are).bytes
-row_bytes (w ∷ v ∷ more) are =
-    All-append (λ c. (32 ≤ c) × (c < 127)) w (32 ∷ join_with_byte 32 (v ∷ more)) (All-weaker (λ c. (47 < c) × (c < 127)) (λ c. (32 ≤ c) × (c < 127)) (λ c is. (let h = is.0 in omega arith, is.1)) w (All-head IsWord w (v ∷ more) are).bytes)
-    (All-cons (λ c. (32 ≤ c) × (c < 127)) 32 (join_with_byte 32 (v ∷ more)) (omega arith, omega arith) (row_bytes (v ∷ more) (All-tail IsWord w (v ∷ more) are)))
-
-line_byte : (c : ℕ) → (32 ≤ c) × (c < 127) → is_line_byte c ≡ true
-line_byte c is = let h = is.0 in let k = is.1 in grind (arith, nat_tests)
-
-bytes_pass : (xs : List ℕ) → All (λ c. (32 ≤ c) × (c < 127)) xs → list_all is_line_byte xs ≡ true
-bytes_pass [] all = refl
-bytes_pass (x ∷ xs) all = rw (line_byte x (All-head (λ c. (32 ≤ c) × (c < 127)) x xs all), bytes_pass xs (All-tail (λ c. (32 ≤ c) × (c < 127)) x xs all)) refl
-
--- it is not long
-row_short : (row : List (List ℕ)) → All IsWord row → length (join_with_byte 32 row) ≤ 21 * length row
-row_short [] are = omega arith
-row_short (w ∷ []) are = let h = (All-head IsWord w [] are).most in omega arith
-row_short (w ∷ v ∷ more) are = let h = (All-head IsWord w (v ∷ more) are).most in omega (arith, length-append w (32 ∷ join_with_byte 32 (v ∷ more)), row_short (v ∷ more) (All-tail IsWord w (v ∷ more) are))
+line_byte : (c : ℕ) → IsLineByte c → is_line_byte c ≡ true
+line_byte c is = elim is [ inl space ↦ rw space refl | inr printed ↦ (let h = printed.0 in let k = printed.1 in grind (arith, nat_tests)) ]
 
 -- none of its words is empty
-word_some : (w : List ℕ) → IsWord w → not (eqb (length w) 0) ≡ true
-word_some w is = let h = is.some in grind (arith, nat_tests)
-
 words_some : (row : List (List ℕ)) → All IsWord row → has_words row ≡ true
 words_some [] are = refl
-words_some (w ∷ ws) are = rw (word_some w (All-head IsWord w ws are), words_some ws (All-tail IsWord w ws are)) refl
+words_some (w ∷ ws) are = rw (nonempty w (All-head IsWord w ws are), words_some ws (All-tail IsWord w ws are)) refl
 
 row_words : (row : List (List ℕ)) → 0 < length row → All IsWord row → words_of (join_with_byte 32 row) ≡ row
 unfolding words_of
@@ -63,7 +43,7 @@ short_test n le = grind (arith, nat_tests)
 row_shaped : (row : List (List ℕ)) → 0 < length row → length row ≤ 4 → All IsWord row → is_shaped (join_with_byte 32 row) ≡ true
 row_shaped row some few are =
     three (leb (length (join_with_byte 32 row)) 200) (list_all is_line_byte (join_with_byte 32 row)) (has_words (words_of (join_with_byte 32 row)))
-    (short_test (length (join_with_byte 32 row)) (let h = row_short row are in omega arith)) (bytes_pass (join_with_byte 32 row) (row_bytes row are)) (ap has_words (row_words row some are) ∙ words_some row are)
+    (short_test (length (join_with_byte 32 row)) (let h = line_short row are in omega arith)) (test_from_all is_line_byte IsLineByte line_byte (join_with_byte 32 row) (line_bytes row are)) (ap has_words (row_words row some are) ∙ words_some row are)
 
 few_words : (form : Line) → length (line_words form) ≤ 4
 few_words Ticks = omega arith

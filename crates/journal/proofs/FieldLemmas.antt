@@ -1,5 +1,6 @@
-use Rattle.std.proofs.Common.{◌≡◌, ◌∙◌, sym, ap, refl, ℕ, ◌^◌, ◌<◌, ◌≤◌, List, [], length, get_or, Option, Some, None, Bool, true, is_some, not, ◌&&◌, ◌||◌, eqb, leb, ltb, arith}
+use Rattle.std.proofs.Common.{◌≡◌, ◌∙◌, sym, ap, ℕ, ◌^◌, ◌<◌, ◌≤◌, List, [], length, get_or, Option, Some, None, Bool, true, false, is_some, IfSome, MatchOption, not, ◌||◌, eqb, ltb, arith}
 use Rattle.std.specs.Fmt.{decimal}
+use Rattle.std.specs.Option.{ok_or}
 use Rattle.std.specs.List.{list_all}
 use Rattle.std.specs.Char.{is_ascii_digit}
 use Rattle.std.specs.Str.{bytes_eq}
@@ -10,12 +11,13 @@ use Rattle.std.proofs.lemmas.Fmt.{decimal-digits_value}
 use Rattle.std.proofs.lemmas.List.{get_or_default}
 use Rattle.std.proofs.lemmas.List.Quantifiers.{position-Some}
 use Rattle.std.proofs.lemmas.Slice.Eq.{bytes_eq-Decides}
-use Rattle.net_script.specs.Words.{is_number, number_value}
+use Rattle.net_script.specs.Words.{is_number, is_number_in, number_value}
 use Rattle.net_script.specs.Names.{place_of}
 use Rattle.net_script.proofs.WordLemmas.{own}
 use Rattle.journal.specs.declared.cause.JournalCause.TheVariants.{BadNumber, NoSuchName}
 use Rattle.journal.specs.Words.{unless}
 use Rattle.journal.specs.Rules.{name_cause, number_cause}
+use Rattle.journal.specs.Steps.{IsField}
 
 -- the name at a place that was found
 place_found : (names : List (List ℕ)) (name : List ℕ) (x : ℕ) → place_of names name ≡ Some x → name ≡ get_or names x []
@@ -39,16 +41,11 @@ spelled w is low =
     let some : 0 < length w = (let t = two.0 in grind (arith, nat_tests)) in
     sym (decimal-digits_value own w one.0 some (zero_alone w two.1) low)
 
-in_range : (a b c : Bool) → a ≡ true → b ≡ true → c ≡ true → unless (a && (b && c)) BadNumber ≡ None
-in_range a b c p q r = rw (p, q, r) refl
-
-le_test : (a b : ℕ) → a ≤ b → leb a b ≡ true
-le_test a b le = grind (arith, nat_tests)
-
--- a number of a range
-pub number_good : (w : List ℕ) (least most n : ℕ) → is_number w ≡ true → n ≡ number_value w → n < 2 ^ 64 → least ≤ n → n ≤ most → (number_cause least most w ≡ None) × (w ≡ decimal n)
+-- what was found as a number of a range is the field's value
+pub number_field : (w : List ℕ) (least most : ℕ) (o : Option ℕ) → most < 2 ^ 64 → MatchOption o (is_number_in least most w ≡ false) (λ n. (is_number_in least most w ≡ true) × (n ≡ number_value w)) → IfSome o (λ n. (least ≤ n) × (n ≤ most)) → IsField (ok_or o BadNumber) (number_cause least most w) (λ n. (w ≡ decimal n) × (least ≤ n) × (n ≤ most))
 unfolding number_value
-number_good w least most n is says low least_ok most_ok = (
-  in_range (is_number w) (leb least (digits_value 10 w)) (leb (digits_value 10 w) most) is (le_test least (digits_value 10 w) (omega arith)) (le_test (digits_value 10 w) most (omega arith)),
-  spelled w is (omega arith) ∙ ap decimal (sym says),
+number_field w least most None low none range = ap (λ (b : Bool). unless b BadNumber) none
+number_field w least most (Some n) low some range = (
+  ap (λ (b : Bool). unless b BadNumber) some.0,
+  (spelled w (and_parts (is_number w) _ some.0).0 (let r = range.1 in omega (arith, some.1)) ∙ ap decimal (sym some.1), range.0, range.1),
 )

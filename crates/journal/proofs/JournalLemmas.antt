@@ -1,12 +1,11 @@
-use Rattle.std.proofs.Common.{◌≡◌, ◌≢◌, ◌∙◌, sym, ap, refl, ℕ, ◌<◌, ◌≤◌, List, [], ◌∷◌, ◌++◌, append_assoc, append-nil, length, Option, Some, None, false, cond, All, arith, codes, eqb}
+use Rattle.std.proofs.Common.{◌≡◌, ◌≢◌, ◌∙◌, sym, ap, refl, ℕ, ◌<◌, ◌≤◌, List, [], ◌∷◌, ◌++◌, append_assoc, append-nil, length, Option, Some, None, false, cond, All, arith, codes, eqb, inl, inr}
 use Rattle.std.specs.Prelude.{unwrap_or}
 use Rattle.std.specs.Option.{option_map}
 use Rattle.std.specs.Fmt.{decimal}
 use Rattle.std.specs.List.{join_with_byte, slice_split}
 use Rattle.std.specs.Str.{bytes_eq}
 use Rattle.std.proofs.lemmas.Bool.Decides.{nat_tests}
-use Rattle.std.proofs.lemmas.List.Splits.{slice_split_none, slice_split_at}
-use Rattle.std.proofs.lemmas.List.Elements.{All-head, All-tail, All-get_or, All-nil, All-cons, All-append, All-weaker}
+use Rattle.std.proofs.lemmas.List.Elements.{All-head, All-tail, All-get_or, All-weaker}
 use Rattle.an_base.specs.declared.event.Event.{Event}
 use Rattle.an_base.specs.declared.event.Event.TheVariants.{Tick, Clock, Take, Handle, Load, Fail, Repair, Lose, Again, Swap, Noise, Send, Move, Restart}
 use Rattle.net_graph.proofs.ListLemmas.{AllPairs-front}
@@ -19,7 +18,7 @@ use Rattle.net_script.specs.Scripts.{ScriptOf, IsScript}
 use Rattle.net_script.specs.Words.{IsName, number_value}
 use Rattle.net_script.proofs.FormOf.{wire_of}
 use Rattle.net_script.proofs.NameLemmas.{place_at, apart_back}
-use Rattle.net_script.proofs.SpellLemmas.{IsWord, decimal_value, decimal_word, name_word}
+use Rattle.net_script.proofs.SpellLemmas.{IsPrinted, IsLineByte, IsWord, decimal_value, decimal_word, line_bytes, name_word, split_words}
 use Rattle.net_script.proofs.ChainLemmas.{fixed_word, words_cons, words_nil}
 use Rattle.journal.specs.declared.kind.SwitchEvent.{SwitchEvent}
 use Rattle.journal.specs.declared.kind.SwitchEvent.TheVariants as switch
@@ -158,36 +157,23 @@ words_are s kept (Move k) can = words_cons (codes "move") (decimal k ∷ []) (fi
 words_are s kept (Restart x) can = one_word s kept (codes "restart") (fixed_word (codes "restart") refl (omega arith) (omega arith)) x can
 
 -- cut at spaces, a line of words gives them again
-not_space : (c : ℕ) → (47 < c) × (c < 127) → eqb c 32 ≡ false
+not_space : (c : ℕ) → IsPrinted c → eqb c 32 ≡ false
 not_space c is = let h = is.0 in grind (arith, nat_tests)
-
-space_free : (w : List ℕ) → IsWord w → All (λ c. eqb c 32 ≡ false) w
-space_free w is = All-weaker (λ c. (47 < c) × (c < 127)) (λ c. eqb c 32 ≡ false) not_space w is.bytes
-
-cut_words : (w : List ℕ) (more : List (List ℕ)) → All IsWord (w ∷ more) → slice_split (λ c. eqb c 32) (join_with_byte 32 (w ∷ more)) ≡ w ∷ more
-cut_words w [] are = slice_split_none (λ c. eqb c 32) w (space_free w (All-head IsWord w [] are))
-cut_words w (v ∷ more) are =
-    slice_split_at (λ c. eqb c 32) w 32 (join_with_byte 32 (v ∷ more)) (space_free w (All-head IsWord w (v ∷ more) are)) refl
-    ∙ ap (λ (ws : List (List ℕ)). w ∷ ws) (cut_words v more (All-tail IsWord w (v ∷ more) are))
 
 pub cut_row : (row : List (List ℕ)) → 0 < length row → All IsWord row → slice_split (λ c. eqb c 32) (join_with_byte 32 row) ≡ row
 cut_row [] some are = absurd (omega arith)
-cut_row (w ∷ more) some are = cut_words w more are
+cut_row (w ∷ more) some are = split_words (λ c. eqb c 32) not_space refl w more are
 
 -- lines of the same text have the same words
 same_row : (row other : List (List ℕ)) → 0 < length row → 0 < length other → All IsWord row → All IsWord other → join_with_byte 32 row ≡ join_with_byte 32 other → row ≡ other
 same_row row other some some' are are' same = sym (cut_row row some are) ∙ ap (slice_split (λ c. eqb c 32)) same ∙ cut_row other some' are'
 
 -- a line of words has no line feed
-not_feed : (c : ℕ) → (47 < c) × (c < 127) → c ≢ 10
-not_feed c is same = let h = is.0 in omega arith
+not_feed : (c : ℕ) → IsLineByte c → c ≢ 10
+not_feed c is same = elim is [ inl space ↦ omega arith | inr printed ↦ (let h = printed.0 in omega arith) ]
 
 pub feed_free : (row : List (List ℕ)) → All IsWord row → All (λ c. c ≢ 10) (join_with_byte 32 row)
-feed_free [] are = All-nil (λ c. c ≢ 10)
-feed_free (w ∷ []) are = All-weaker (λ c. (47 < c) × (c < 127)) (λ c. c ≢ 10) not_feed w (All-head IsWord w [] are).bytes
-feed_free (w ∷ v ∷ more) are =
-    All-append (λ c. c ≢ 10) w (32 ∷ join_with_byte 32 (v ∷ more)) (All-weaker (λ c. (47 < c) × (c < 127)) (λ c. c ≢ 10) not_feed w (All-head IsWord w (v ∷ more) are).bytes)
-    (All-cons (λ c. c ≢ 10) 32 (join_with_byte 32 (v ∷ more)) (λ same. omega arith) (feed_free (v ∷ more) (All-tail IsWord w (v ∷ more) are)))
+feed_free row are = All-weaker IsLineByte (λ c. c ≢ 10) not_feed (join_with_byte 32 row) (line_bytes row are)
 
 -- bytes are cut at the first line feed in one way
 pub cut_once : (xs ys us vs : List ℕ) → All (λ c. c ≢ 10) xs → All (λ c. c ≢ 10) us → xs ++ 10 ∷ ys ≡ us ++ 10 ∷ vs → (xs ≡ us) × (ys ≡ vs)

@@ -7,8 +7,9 @@ ghost use Rattle.journal.specs.Events.{CanSpell, event_words, events_text, journ
 
 use an_base::event::{Event, Journal};
 use an_base::memory::OutOfMemory;
-use net_script::names::Names;
-use net_script::printer::{decimal, push_line};
+use net_script::printer::{
+    decimal, push_at_port, push_at_switch, push_line, push_on_wire, push_send,
+};
 use net_script::script::Script;
 use std::alloc::Global;
 
@@ -53,86 +54,20 @@ fn push_event(
     let names = script.switch_names();
     match event {
         Event::Tick => push_line(text, &[b"tick"]),
-        Event::Clock { s } => push_switch(text, names, b"clock", s),
-        Event::Take { s, port } => push_port(alloc, text, names, b"take", s, port),
-        Event::Handle { s } => push_switch(text, names, b"handle", s),
-        Event::Load { s } => push_switch(text, names, b"load", s),
-        Event::Fail { s, port } => push_port(alloc, text, names, b"fail", s, port),
-        Event::Repair { s, port } => push_port(alloc, text, names, b"repair", s, port),
-        Event::Lose { s, port, n } => push_count(alloc, text, names, b"lose", s, port, n),
-        Event::Again { s, port, n } => push_count(alloc, text, names, b"again", s, port, n),
-        Event::Swap { s, port, n } => push_count(alloc, text, names, b"swap", s, port, n),
-        Event::Noise { s, port, n } => push_count(alloc, text, names, b"noise", s, port, n),
+        Event::Clock { s } => push_at_switch(text, names, b"clock", s),
+        Event::Take { s, port } => push_at_port(alloc, text, names, b"take", s, port),
+        Event::Handle { s } => push_at_switch(text, names, b"handle", s),
+        Event::Load { s } => push_at_switch(text, names, b"load", s),
+        Event::Fail { s, port } => push_at_port(alloc, text, names, b"fail", s, port),
+        Event::Repair { s, port } => push_at_port(alloc, text, names, b"repair", s, port),
+        Event::Lose { s, port, n } => push_on_wire(alloc, text, names, b"lose", s, port, n),
+        Event::Again { s, port, n } => push_on_wire(alloc, text, names, b"again", s, port, n),
+        Event::Swap { s, port, n } => push_on_wire(alloc, text, names, b"swap", s, port, n),
+        Event::Noise { s, port, n } => push_on_wire(alloc, text, names, b"noise", s, port, n),
         Event::Send { host, to } => push_send(text, script.names_of_hosts(), host, to),
         Event::Move { packet } => push_move(alloc, text, packet),
-        Event::Restart { s } => push_switch(text, names, b"restart", s),
+        Event::Restart { s } => push_at_switch(text, names, b"restart", s),
     }
-}
-
-// Appends the line of an event of a switch.
-fn push_switch<'a>(
-    text: &mut Vec<u8>,
-    names: &'a Names,
-    word: &'a [u8],
-    s: u8,
-) -> Result<(), OutOfMemory>
-    requires { s < length names.now }
-    ensures { OnOk result (text.new.items ≡ text.old.items
-        ++ line_text (word.now ∷ slice_index_or names.now s [] ∷ [])) }
-{
-    let name = names.get(usize::from(s));
-    push_line(text, &[word, name])
-}
-
-// Appends the line of an event at a port.
-fn push_port<'a>(
-    alloc: Global,
-    text: &mut Vec<u8>,
-    names: &'a Names,
-    word: &'a [u8],
-    s: u8,
-    port: u8,
-) -> Result<(), OutOfMemory>
-    requires { s < length names.now }
-    ensures { OnOk result (text.new.items ≡ text.old.items
-        ++ line_text (word.now ∷ slice_index_or names.now s [] ∷ decimal port ∷ [])) }
-{
-    let port = decimal(alloc, u64::from(port))?;
-    let name = names.get(usize::from(s));
-    push_line(text, &[word, name, &port])
-}
-
-// Appends the line of an event at a port with a count.
-fn push_count<'a>(
-    alloc: Global,
-    text: &mut Vec<u8>,
-    names: &'a Names,
-    word: &'a [u8],
-    s: u8,
-    port: u8,
-    n: u32,
-) -> Result<(), OutOfMemory>
-    requires { s < length names.now }
-    ensures { OnOk result (text.new.items ≡ text.old.items
-        ++ line_text (word.now ∷ slice_index_or names.now s [] ∷ decimal port ∷ decimal n ∷ [])) }
-{
-    let port = decimal(alloc, u64::from(port))?;
-    let count = decimal(alloc, u64::from(n))?;
-    let name = names.get(usize::from(s));
-    push_line(text, &[word, name, &port, &count])
-}
-
-// Appends the line by which a host sends.
-fn push_send(text: &mut Vec<u8>, hosts: &Names, host: u16, to: u16) -> Result<(), OutOfMemory>
-    requires host { host < length hosts.now }
-    requires to { to < length hosts.now }
-    ensures { OnOk result (text.new.items ≡ text.old.items
-        ++ line_text (codes "send" ∷ slice_index_or hosts.now host []
-        ∷ slice_index_or hosts.now to [] ∷ [])) }
-{
-    let host = hosts.get(usize::from(host));
-    let to = hosts.get(usize::from(to));
-    push_line(text, &[b"send", host, to])
 }
 
 // Appends the line of a packet's hop.

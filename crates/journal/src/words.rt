@@ -14,7 +14,7 @@ use crate::kind::{PortEvent, SwitchEvent};
 use an_base::event::Event;
 use net_script::command::WireChange;
 use net_script::script::Script;
-use net_script::word::{is, is_number, number_of};
+use net_script::word::{is, number_between};
 
 /// The event that words say.
 pub fn read_words(script: &Script, words: &[&[u8]]) -> Result<Event, JournalCause>
@@ -184,17 +184,5 @@ fn number_in(word: &[u8], least: u64, most: u64) -> Result<u64, JournalCause>
     ensures { IsField result (number_cause least most word.now)
         (λ n. (word.now ≡ decimal n) × (least ≤ n) × (n ≤ most)) }
 {
-    if !is_number(word) {
-        return Err(JournalCause::BadNumber);
-    }
-    let Some(number) = number_of(word) else {
-        return Err(JournalCause::BadNumber);
-    };
-    if number < least {
-        return Err(JournalCause::BadNumber);
-    }
-    if number > most {
-        return Err(JournalCause::BadNumber);
-    }
-    Ok(number)
+    number_between(word, least, most).ok_or(JournalCause::BadNumber)
 }

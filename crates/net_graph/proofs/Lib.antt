@@ -1,6 +1,7 @@
 pub mod ListLemmas
 pub mod FarLemmas
 pub mod HostLemmas
+pub mod WiredLemmas
 pub mod TableLemmas
 pub mod LevelLemmas
 pub mod ParentLemmas

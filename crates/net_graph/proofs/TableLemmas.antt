@@ -1,10 +1,9 @@
-use Rattle.std.proofs.Common.{◌≡◌, ◌≢◌, ◌∙◌, sym, ap, subst, refl, ℕ, ◌+◌, ◌-◌, ◌<◌, ◌≤◌, List, [], ◌∷◌, ◌++◌, Option, Some, None, arith, length, length-append, append_assoc, get_or, replicate, AllPairs, Contains, inl, inr, Bool, true, false, ◌==◌, ◌&&◌, map, is_some, IsTrue, ◌↔◌, MatchOption, IfSome, cond}
+use Rattle.std.proofs.Common.{◌≡◌, ◌∙◌, sym, ap, subst, refl, ℕ, ◌-◌, ◌<◌, ◌≤◌, List, [], ◌∷◌, ◌++◌, Option, Some, None, arith, length, length-append, get_or, replicate, Contains, inl, inr, Bool, true, false, ◌==◌, ◌&&◌, map, is_some, IsTrue, ◌↔◌, MatchOption, IfSome, cond}
 use Rattle.std.specs.Prelude.{Any}
 use Rattle.std.specs.List.{flat_map}
 use Rattle.std.proofs.lemmas.Bool.{cases_Bool, cases_lt, cases_eq, and_cases, eqb-true, eqb-false, and_parts}
-use Rattle.std.proofs.lemmas.List.{map-append, get_or_append_left, get_or_past, get_or-replicate, get_or-append_right}
-use Rattle.std.proofs.lemmas.List.Elements.{All-push, All-weaker, All-get_or, Contains-append_left, Contains-append_right, Contains-append_cases}
-use Rattle.std.proofs.lemmas.Grind.{flat_map-append}
+use Rattle.std.proofs.lemmas.List.{get_or_append_left, get_or_past, get_or-replicate, get_or-append_right}
+use Rattle.std.proofs.lemmas.List.Elements.{All-get_or, Contains-append_left, Contains-append_right, Contains-append_cases}
 use Rattle.std.proofs.lemmas.Option.{get_or_from_slice_get}
 use Rattle.net_graph.specs.declared.wiring.SwitchAt.{SwitchAt}
 use Rattle.net_graph.specs.declared.wiring.LinkAt.{LinkAt}
@@ -14,8 +13,9 @@ use Rattle.net_graph.specs.declared.wiring.Far.TheVariants.{Switch, HostAt}
 use Rattle.net_graph.specs.declared.wiring.PortRow.{PortRow}
 use Rattle.net_graph.specs.Wires.{Wires, IsWired, IsSwitch, IsLink, IsHost, IsWithin, IsAtFarSide, far_of, host_of, far_or_host, far_at, has_end, has_other_end, a_end, b_end, link_ends, host_end, used_ports, uids}
 use Rattle.net_graph.specs.Table.{cell_at, Puts, IsKept}
-use Rattle.net_graph.proofs.ListLemmas.{Contains-map, Any-from_map, Contains-cons_cases, apart_insert, apart_push}
+use Rattle.net_graph.proofs.ListLemmas.{Contains-map, Any-from_map}
 use Rattle.net_graph.proofs.FarLemmas.{port_is, joined, joined_used, used_far, far_new_a, far_new_b, far_new_other, far_is}
+use Rattle.net_graph.proofs.WiredLemmas.{switch_wired, link_wired, host_wired}
 use Rattle.net_graph.proofs.HostLemmas.{is_at, host_found, no_host, host_here, host_other}
 
 -- nothing is at a port that is not used, and what is at one that is used is there by a link or as a host
@@ -160,86 +160,26 @@ row_cells rows s p = elim (cases_lt s (length rows)) [
 -- what a wiring keeps, with one switch more
 pub switch_kept : (w : Wires) (x : SwitchAt) (rows : List PortRow) → IsKept w rows → length w.switches < 126 → IsSwitch x → (Contains (uids w) x.uid → ⊥) → IsKept (record { switches = w.switches ++ x ∷ []; links = w.links; hosts = w.hosts }) (rows ++ record { cells = replicate 13 None } ∷ [])
 switch_kept w x rows kept room is new = record {
-  wired = record {
-    count = omega (arith, length-append w.switches (x ∷ []));
-    host_count = kept.wired.host_count;
-    switches = All-push IsSwitch w.switches x kept.wired.switches is;
-    links = All-weaker (IsLink (length w.switches)) (IsLink (length (w.switches ++ x ∷ []))) more_link w.links kept.wired.links;
-    hosts = All-weaker (IsHost (length w.switches)) (IsHost (length (w.switches ++ x ∷ []))) more_host w.hosts kept.wired.hosts;
-    uids_apart = subst (λ (l : List ℕ). AllPairs (λ a b. a ≢ b) l) (sym uids_are) (apart_insert (map (λ s. s.uid) w.switches) (map (λ h. h.uid) w.hosts) x.uid kept.wired.uids_apart new);
-    ports_apart = kept.wired.ports_apart;
-  };
+  wired = switch_wired w x kept.wired room is new;
   count = omega (arith, kept.count, length-append w.switches (x ∷ []), length-append rows (record { cells = replicate 13 None } ∷ []));
   cells = λ s p. row_cells rows s p ∙ kept.cells s p;
 }
-  where
-    one_more : length (w.switches ++ x ∷ []) ≡ length w.switches + 1
-    one_more = length-append w.switches (x ∷ [])
-
-    more_link : (l : LinkAt) → IsLink (length w.switches) l → IsLink (length (w.switches ++ x ∷ [])) l
-    more_link l old = record { a = let h = old.a in omega (arith, one_more); b = let h = old.b in omega (arith, one_more); a_port_least = old.a_port_least; a_port_most = old.a_port_most; b_port_least = old.b_port_least; b_port_most = old.b_port_most }
-
-    more_host : (h : HostOn) → IsHost (length w.switches) h → IsHost (length (w.switches ++ x ∷ [])) h
-    more_host h old = record { uid = old.uid; s = let k = old.s in omega (arith, one_more); port_least = old.port_least; port_most = old.port_most }
-
-    uids_are : uids (record { switches = w.switches ++ x ∷ []; links = w.links; hosts = w.hosts }) ≡ map (λ s. s.uid) w.switches ++ (x.uid ∷ map (λ h. h.uid) w.hosts)
-    uids_are = ap (λ (l : List ℕ). l ++ map (λ h. h.uid) w.hosts) (map-append (λ s. s.uid) w.switches (x ∷ [])) ∙ append_assoc (map (λ s. s.uid) w.switches) (x.uid ∷ []) (map (λ h. h.uid) w.hosts)
 
 -- with one link more
 pub link_kept : (w : Wires) (l : LinkAt) (rows mid new : List PortRow) → IsKept w rows → IsLink (length w.switches) l → (Contains (used_ports w) (a_end l) → ⊥) → (Contains (used_ports w) (b_end l) → ⊥) → (a_end l ≡ b_end l → ⊥) → Puts rows mid l.a l.a_port (Switch l.b l.b_port) → Puts mid new l.b l.b_port (Switch l.a l.a_port) → IsKept (record { switches = w.switches; links = w.links ++ l ∷ []; hosts = w.hosts }) new
 link_kept w l rows mid new kept is a_free b_free apart one other = record {
-  wired = record {
-    count = kept.wired.count;
-    host_count = kept.wired.host_count;
-    switches = kept.wired.switches;
-    links = All-push (IsLink (length w.switches)) w.links l kept.wired.links is;
-    hosts = kept.wired.hosts;
-    uids_apart = kept.wired.uids_apart;
-    ports_apart = subst (λ (ps : List (ℕ × ℕ)). AllPairs (λ a b. a ≢ b) ps) (sym ports_are) (apart_insert links (b_end l ∷ hosts) (a_end l) (apart_insert links hosts (b_end l) kept.wired.ports_apart b_free) a_new);
-  };
+  wired = link_wired w l kept.wired is a_free b_free apart;
   count = other.count ∙ one.count ∙ kept.count;
   cells = link_cells w l rows mid new kept.cells a_free b_free apart one other;
 }
-  where
-    links : List (ℕ × ℕ)
-    links = flat_map link_ends w.links
-
-    hosts : List (ℕ × ℕ)
-    hosts = map host_end w.hosts
-
-    a_new : Contains (links ++ (b_end l ∷ hosts)) (a_end l) → ⊥
-    a_new has = elim (Contains-append_cases links (b_end l ∷ hosts) (a_end l) has) [
-      | inl front ↦ a_free (Contains-append_left links hosts (a_end l) front)
-      | inr back ↦ elim (Contains-cons_cases (b_end l) (a_end l) hosts back) [
-        | inl same ↦ apart (sym same)
-        | inr later ↦ a_free (Contains-append_right links hosts (a_end l) later)
-      ]
-    ]
-
-    ports_are : used_ports (record { switches = w.switches; links = w.links ++ l ∷ []; hosts = w.hosts }) ≡ links ++ (a_end l ∷ b_end l ∷ hosts)
-    ports_are = ap (λ (ps : List (ℕ × ℕ)). ps ++ hosts) (flat_map-append link_ends w.links (l ∷ [])) ∙ append_assoc links (a_end l ∷ b_end l ∷ []) hosts
 
 -- with one host more
 pub host_kept : (w : Wires) (x : HostOn) (rows new : List PortRow) → IsKept w rows → length w.hosts < 1000 → IsHost (length w.switches) x → (Contains (uids w) x.uid → ⊥) → (Contains (used_ports w) (host_end x) → ⊥) → Puts rows new x.s x.port (HostAt (length w.hosts)) → IsKept (record { switches = w.switches; links = w.links; hosts = w.hosts ++ x ∷ [] }) new
 host_kept w x rows new kept room is new_uid free puts = record {
-  wired = record {
-    count = kept.wired.count;
-    host_count = omega (arith, length-append w.hosts (x ∷ []));
-    switches = kept.wired.switches;
-    links = kept.wired.links;
-    hosts = All-push (IsHost (length w.switches)) w.hosts x kept.wired.hosts is;
-    uids_apart = subst (λ (l : List ℕ). AllPairs (λ a b. a ≢ b) l) (sym uids_are) (apart_push (uids w) x.uid kept.wired.uids_apart new_uid);
-    ports_apart = subst (λ (ps : List (ℕ × ℕ)). AllPairs (λ a b. a ≢ b) ps) (sym ports_are) (apart_push (used_ports w) (host_end x) kept.wired.ports_apart free);
-  };
+  wired = host_wired w x kept.wired room is new_uid free;
   count = puts.count ∙ kept.count;
   cells = host_cells w x rows new kept.cells free puts;
 }
-  where
-    uids_are : uids (record { switches = w.switches; links = w.links; hosts = w.hosts ++ x ∷ [] }) ≡ uids w ++ x.uid ∷ []
-    uids_are = ap (λ (l : List ℕ). map (λ s. s.uid) w.switches ++ l) (map-append (λ h. h.uid) w.hosts (x ∷ [])) ∙ sym (append_assoc (map (λ s. s.uid) w.switches) (map (λ h. h.uid) w.hosts) (x.uid ∷ []))
-
-    ports_are : used_ports (record { switches = w.switches; links = w.links; hosts = w.hosts ++ x ∷ [] }) ≡ used_ports w ++ host_end x ∷ []
-    ports_are = ap (λ (ps : List (ℕ × ℕ)). flat_map link_ends w.links ++ ps) (map-append host_end w.hosts (x ∷ [])) ∙ sym (append_assoc (flat_map link_ends w.links) (map host_end w.hosts) (host_end x ∷ []))
 
 -- an identifier is that of a switch
 pub uid_of_switch : (w : Wires) (u : ℕ) (r : Bool) → (IsTrue r → Any (λ s. s.uid ≡ u) w.switches) → r ≡ true → (IsTrue r → Contains (uids w) u) × (Contains (uids w) u → IsTrue r)

@@ -591,7 +591,7 @@ canonical_is s kept =
     let rows = map form_words (forms_of s) in
     let all = All-cons (All IsWord) header_words rows header (Chain-words begun (forms_of s) done.last done.chain) in
     let first : Adds start (line_of header_words) begun = record {
-      bytes = line_good header_words header (omega arith);
+      bytes = line_good 200 header_words header (omega arith);
       row = subst (λ (ws : List (List ℕ)). AddsRow start ws begun) (sym (line_words header_words (omega arith) header)) (refl, refl);
     } in
     let good : Leads start (map line_of (header_words ∷ rows)) done.last = (begun, first, Chain-leads begun (forms_of s) done.last done.chain) in

@@ -41,7 +41,7 @@ adds_row d e (w ∷ ws) some adds = adds
 
 good_adds : (d : Draft) (form : Form) → IsGood d form → Adds d (line_of (form_words form)) (with_form d form)
 good_adds d form is = record {
-  bytes = line_good (form_words form) is.words is.few;
+  bytes = line_good 200 (form_words form) is.words (let h = is.few in omega arith);
   row = subst (λ (ws : List (List ℕ)). AddsRow d ws (with_form d form)) (sym (line_words (form_words form) is.some is.words))
       (adds_row d (with_form d form) (form_words form) is.some (subst (λ (p : Part). AddsWords p d (form_words form) (with_form d form)) (sym is.part) (record { form = form; line = refl; good = is.good; then = refl })));
 }
@@ -82,14 +82,14 @@ Reaches-all f base all step xs (y ∷ ys) parts d script part =
     record { last = rest.last; chain = (one.good, rest.chain); script = rest.script; part = rest.part }
 
 -- fixed words
-word_byte : (c : ℕ) → (ltb 47 c && ltb c 127) ≡ true → (47 < c) × (c < 127)
+word_byte : (c : ℕ) → (ltb 44 c && ltb c 127) ≡ true → (44 < c) × (c < 127)
 word_byte c t = (grind (arith, nat_tests), grind (arith, nat_tests))
 
-word_bytes : (w : List ℕ) → list_all (λ c. ltb 47 c && ltb c 127) w ≡ true → All (λ c. (47 < c) × (c < 127)) w
-word_bytes [] t = All-nil (λ c. (47 < c) × (c < 127))
-word_bytes (c ∷ w) t = let parts = and_parts (ltb 47 c && ltb c 127) (list_all (λ b. ltb 47 b && ltb b 127) w) t in All-cons (λ b. (47 < b) × (b < 127)) c w (word_byte c parts.0) (word_bytes w parts.1)
+word_bytes : (w : List ℕ) → list_all (λ c. ltb 44 c && ltb c 127) w ≡ true → All (λ c. (44 < c) × (c < 127)) w
+word_bytes [] t = All-nil (λ c. (44 < c) × (c < 127))
+word_bytes (c ∷ w) t = let parts = and_parts (ltb 44 c && ltb c 127) (list_all (λ b. ltb 44 b && ltb b 127) w) t in All-cons (λ b. (44 < b) × (b < 127)) c w (word_byte c parts.0) (word_bytes w parts.1)
 
-pub fixed_word : (w : List ℕ) → list_all (λ c. ltb 47 c && ltb c 127) w ≡ true → 0 < length w → length w ≤ 20 → IsWord w
+pub fixed_word : (w : List ℕ) → list_all (λ c. ltb 44 c && ltb c 127) w ≡ true → 0 < length w → length w ≤ 30 → IsWord w
 fixed_word w t some most = record { bytes = word_bytes w t; some = some; most = most }
 
 pub words_cons : (w : List ℕ) (ws : List (List ℕ)) → IsWord w → All IsWord ws → All IsWord (w ∷ ws)

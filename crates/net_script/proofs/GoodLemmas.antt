@@ -64,12 +64,12 @@ port_value : (p : ℕ) → p ≤ 12 → number_value (decimal p) ≡ p
 port_value p most = decimal_value p (omega arith)
 
 -- names and their places
-known_good : (names : List (List ℕ)) (i : ℕ) → All IsName names → AllPairs (λ n m. n ≢ m) names → i < length names → known_cause names (get_or names i []) ≡ None
+pub known_good : (names : List (List ℕ)) (i : ℕ) → All IsName names → AllPairs (λ n m. n ≢ m) names → i < length names → known_cause names (get_or names i []) ≡ None
 known_good names i are apart within =
     first_good (unless (is_name (get_or names i [])) BadName) _ (unless_good (is_name (get_or names i [])) BadName (All-get_or IsName names i [] within are))
     (first_good (unless (is_some (place_of names (get_or names i []))) NoSuchName) None (unless_good (is_some (place_of names (get_or names i []))) NoSuchName (ap (λ (o : Option ℕ). is_some o) (place_at names i apart within))) refl)
 
-place_is : (names : List (List ℕ)) (i : ℕ) → AllPairs (λ n m. n ≢ m) names → i < length names → place names (get_or names i []) ≡ i
+pub place_is : (names : List (List ℕ)) (i : ℕ) → AllPairs (λ n m. n ≢ m) names → i < length names → place names (get_or names i []) ≡ i
 place_is names i apart within = ap (λ (o : Option ℕ). unwrap_or o 0) (place_at names i apart within)
 
 -- new names and identifiers

@@ -1,4 +1,4 @@
-use Rattle.std.proofs.Common.{◌≡◌, ◌∙◌, sym, ap, refl, subst, ℕ, ◌+◌, ◌<◌, ◌≤◌, List, [], ◌∷◌, ◌++◌, append_assoc, append-nil, arith, length, get_or, map, Option, Some, None, Bool, true, false, eqb, ltb, leb, not, ◌&&◌, ◌||◌, All, AllPairs, is_some, Result, Ok, Err, OnOk}
+use Rattle.std.proofs.Common.{◌≡◌, ◌∙◌, sym, ap, refl, subst, ℕ, ◌<◌, ◌≤◌, List, [], ◌∷◌, ◌++◌, append_assoc, append-nil, arith, length, get_or, map, Option, Some, None, Bool, true, false, eqb, ltb, leb, not, ◌&&◌, ◌||◌, All, AllPairs, is_some, Result, Ok, Err, OnOk}
 use Rattle.std.specs.Prelude.{unwrap_or}
 use Rattle.std.specs.List.{list_any, list_all}
 use Rattle.std.proofs.lemmas.Bool.{and_parts}

@@ -27,3 +27,4 @@ pub mod PairLemmas
 pub mod NumberLineLemmas
 pub mod ReadyLemmas
 pub mod WalkJoined
+pub mod ScriptKept

@@ -17,7 +17,8 @@ use Rattle.net_script.specs.declared.command.Command.{Command}
 use Rattle.net_script.specs.Words.{IsName}
 use Rattle.net_script.specs.Commands.{IsPort, IsUsedPort, IsWireChange, IsCommandEvent, IsCommand, is_used, is_switch_far, is_restart, last_time}
 use Rattle.net_script.specs.Scripts.{ScriptOf, IsScript, CanAddSwitch, CanAddLink, CanAddHost, CanAddCommand, names_of, restarts_of, empty_script, with_switch, with_link, with_host, with_command}
-use Rattle.net_script.proofs.WiredLemmas.{no_wires_kept, switch_wired, link_wired, host_wired, far_with_link, far_with_host}
+use Rattle.net_graph.proofs.WiredLemmas.{no_wires_kept, switch_wired, link_wired, host_wired}
+use Rattle.net_script.proofs.WiredLemmas.{far_with_link, far_with_host}
 
 -- a port of a wiring is one of a wiring with more switches
 port_of_more : (w v : Wires) (s p : ℕ) → length w.switches ≤ length v.switches → IsPort w s p → IsPort v s p

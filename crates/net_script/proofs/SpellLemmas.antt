@@ -19,15 +19,15 @@ use Rattle.net_script.specs.Texts.{bytes_cause}
 use Rattle.net_script.proofs.WordLemmas.{own}
 use Rattle.net_script.proofs.LineLemmas.{is_feed, first_of_parts, parts_some}
 
--- a byte of a printed word: above `/` and below DEL
+-- a byte of a printed word: above `,` and below DEL
 abbrev pub IsPrinted : ℕ → Type 0
-IsPrinted c = (47 < c) × (c < 127)
+IsPrinted c = (44 < c) × (c < 127)
 
 -- a printed word
 pub record IsWord (word : List ℕ) : Type 0 where
   pub bytes : All IsPrinted word
   pub some : 0 < length word
-  pub most : length word ≤ 20
+  pub most : length word ≤ 30
 
 -- a byte that passes the test of names is printed
 name_byte : (c : ℕ) → is_name_byte c ≡ true → IsPrinted c
@@ -38,7 +38,7 @@ all_from_test : (p : ℕ → Bool) (P : ℕ → Type 0) → ((c : ℕ) → p c �
 all_from_test p P each [] t = All-nil P
 all_from_test p P each (x ∷ xs) t = let parts = and_parts (p x) (list_all p xs) t in All-cons P x xs (each x parts.0) (all_from_test p P each xs parts.1)
 
-test_from_all : (p : ℕ → Bool) (P : ℕ → Type 0) → ((c : ℕ) → P c → p c ≡ true) → (xs : List ℕ) → All P xs → list_all p xs ≡ true
+pub test_from_all : (p : ℕ → Bool) (P : ℕ → Type 0) → ((c : ℕ) → P c → p c ≡ true) → (xs : List ℕ) → All P xs → list_all p xs ≡ true
 test_from_all p P each [] all = refl
 test_from_all p P each (x ∷ xs) all = rw (each x (All-head P x xs all), test_from_all p P each xs (All-tail P x xs all)) refl
 
@@ -63,7 +63,7 @@ pub decimal_word : (n : ℕ) → n < 2 ^ 64 → IsWord (decimal n)
 decimal_word n low = record {
   bytes = all_from_test is_ascii_digit IsPrinted digit_byte (decimal n) (digits_decimal own n low);
   some = decimal_nonempty n low;
-  most = length-decimal-le 20 n (omega arith) (omega arith) low;
+  most = let h = length-decimal-le 20 n (omega arith) (omega arith) low in omega arith;
 }
 
 -- they are numbers, and say what they were
@@ -149,10 +149,10 @@ free_of : (w : List ℕ) (p : ℕ → Bool) → ((c : ℕ) → IsPrinted c → p
 free_of w p each is = All-weaker IsPrinted (λ c. p c ≡ false) each w is.bytes
 
 -- a byte of a line of printed words
-abbrev IsLineByte : ℕ → Type 0
+abbrev pub IsLineByte : ℕ → Type 0
 IsLineByte c = (c ≡ 32) ⊎ IsPrinted c
 
-line_bytes : (row : List (List ℕ)) → All IsWord row → All IsLineByte (join_with_byte 32 row)
+pub line_bytes : (row : List (List ℕ)) → All IsWord row → All IsLineByte (join_with_byte 32 row)
 line_bytes [] are = All-nil IsLineByte
 line_bytes (w ∷ []) are = All-weaker IsPrinted IsLineByte (λ c is. inr is) w (All-head IsWord w [] are).bytes
 line_bytes (w ∷ v ∷ more) are =
@@ -160,7 +160,7 @@ line_bytes (w ∷ v ∷ more) are =
     (All-cons IsLineByte 32 (join_with_byte 32 (v ∷ more)) (inl refl) (line_bytes (v ∷ more) (All-tail IsWord w (v ∷ more) are)))
 
 -- a line of words is not long
-line_short : (row : List (List ℕ)) → All IsWord row → length (join_with_byte 32 row) ≤ 21 * length row
+pub line_short : (row : List (List ℕ)) → All IsWord row → length (join_with_byte 32 row) ≤ 31 * length row
 line_short [] are = omega arith
 line_short (w ∷ []) are = let h = (All-head IsWord w [] are).most in omega arith
 line_short (w ∷ v ∷ more) are = let h = (All-head IsWord w (v ∷ more) are).most in omega (arith, length-append w (32 ∷ join_with_byte 32 (v ∷ more)), line_short (v ∷ more) (All-tail IsWord w (v ∷ more) are))
@@ -169,23 +169,24 @@ line_short (w ∷ v ∷ more) are = let h = (All-head IsWord w (v ∷ more) are)
 line_byte : (c : ℕ) → IsLineByte c → is_line_byte c ≡ true
 line_byte c is = elim is [ inl space ↦ rw space refl | inr printed ↦ (let h = printed.0 in let k = printed.1 in grind (arith, nat_tests)) ]
 
-pub line_good : (row : List (List ℕ)) → All IsWord row → length row ≤ 6 → bytes_cause 200 (join_with_byte 32 row) ≡ None
-line_good row are few =
-    let short : leb (length (join_with_byte 32 row)) 200 ≡ true = (let h = line_short row are in grind (arith, nat_tests)) in
+pub line_good : (most : ℕ) (row : List (List ℕ)) → All IsWord row → 31 * length row ≤ most → bytes_cause most (join_with_byte 32 row) ≡ None
+line_good most row are few =
+    let short : leb (length (join_with_byte 32 row)) most ≡ true = (let h = line_short row are in grind (arith, nat_tests)) in
     rw (short, test_from_all is_line_byte IsLineByte line_byte (join_with_byte 32 row) (line_bytes row are)) refl
 
 -- cut at blanks it gives its words again
 not_blank : (c : ℕ) → IsPrinted c → is_blank c ≡ false
 not_blank c is = let h = is.0 in grind (arith, nat_tests)
 
-split_words : (w : List ℕ) (more : List (List ℕ)) → All IsWord (w ∷ more) → slice_split is_blank (join_with_byte 32 (w ∷ more)) ≡ w ∷ more
-split_words w [] are = slice_split_none is_blank w (free_of w is_blank not_blank (All-head IsWord w [] are))
-split_words w (v ∷ more) are =
-    slice_split_at is_blank w 32 (join_with_byte 32 (v ∷ more)) (free_of w is_blank not_blank (All-head IsWord w (v ∷ more) are)) refl
-    ∙ ap (λ (ws : List (List ℕ)). w ∷ ws) (split_words v more (All-tail IsWord w (v ∷ more) are))
+-- the same for any cut at spaces that leaves words whole
+pub split_words : (p : ℕ → Bool) → ((c : ℕ) → IsPrinted c → p c ≡ false) → p 32 ≡ true → (w : List ℕ) (more : List (List ℕ)) → All IsWord (w ∷ more) → slice_split p (join_with_byte 32 (w ∷ more)) ≡ w ∷ more
+split_words p whole space w [] are = slice_split_none p w (free_of w p whole (All-head IsWord w [] are))
+split_words p whole space w (v ∷ more) are =
+    slice_split_at p w 32 (join_with_byte 32 (v ∷ more)) (free_of w p whole (All-head IsWord w (v ∷ more) are)) space
+    ∙ ap (λ (ws : List (List ℕ)). w ∷ ws) (split_words p whole space v more (All-tail IsWord w (v ∷ more) are))
 
 -- no word is empty
-nonempty : (w : List ℕ) → IsWord w → not (eqb (length w) 0) ≡ true
+pub nonempty : (w : List ℕ) → IsWord w → not (eqb (length w) 0) ≡ true
 nonempty w is = let h = is.some in grind (arith, nat_tests)
 
 keep_words : (row : List (List ℕ)) → All IsWord row → filter (λ w. not (eqb (length w) 0)) row ≡ row
@@ -206,7 +207,7 @@ unfolding words_of
 line_words [] some are = absurd (omega arith)
 line_words (w ∷ more) some are =
     ap parts_of (before_none (λ c. eqb c 35) (join_with_byte 32 (w ∷ more)) (All-weaker IsLineByte (λ c. eqb c 35 ≡ false) not_comment (join_with_byte 32 (w ∷ more)) (line_bytes (w ∷ more) are)))
-    ∙ ap (λ (ws : List (List ℕ)). filter (λ v. not (eqb (length v) 0)) ws) (split_words w more are)
+    ∙ ap (λ (ws : List (List ℕ)). filter (λ v. not (eqb (length v) 0)) ws) (split_words is_blank not_blank refl w more are)
     ∙ keep_words (w ∷ more) are
 
 -- the lines of printed rows are the rows, joined
@@ -224,7 +225,7 @@ no_return (x ∷ xs) all = elim (all (length (x ∷ xs) - 1) 0 (omega arith)) [
 strip_none : (xs : List ℕ) → All IsLineByte xs → strip_carriage_return xs ≡ xs
 strip_none xs all = rw (no_return xs all) refl
 
-lines_of-line : (l rest : List ℕ) → All IsLineByte l → lines_of (l ++ 10 ∷ rest) ≡ l ∷ lines_of rest
+pub lines_of-line : (l rest : List ℕ) → All IsLineByte l → lines_of (l ++ 10 ∷ rest) ≡ l ∷ lines_of rest
 unfolding lines_of
 lines_of-line l rest all =
     ap lines_of_parts (slice_split_at is_feed l 10 rest (All-weaker IsLineByte (λ c. is_feed c ≡ false) not_feed l all) refl)

@@ -13,7 +13,7 @@ ghost use Rattle.net_script.specs.Steps.{IsField, IsTest};
 
 use crate::cause::ScriptCause;
 use crate::script::{MOST_COMMANDS, MOST_LIVES, MOST_TIME, Script};
-use crate::word::{is_name, is_number, number_of, uid_of};
+use crate::word::{is_name, is_number, number_between, number_of, uid_of};
 use net_graph::wiring::{Far, LinkAt, Wiring};
 
 /// The number of a range that a word says.
@@ -21,13 +21,7 @@ pub fn number_in(word: &[u8], least: u64, most: u64) -> Result<u64, ScriptCause>
     ensures number { IsField result (number_cause least most word.now) (number_value word.now) }
     ensures range { IfOk result (λ n. (least ≤ n) × (n ≤ most)) }
 {
-    if !is_number(word) {
-        return Err(ScriptCause::BadNumber);
-    }
-    match number_of(word) {
-        Some(number) if least <= number && number <= most => Ok(number),
-        _ => Err(ScriptCause::BadNumber),
-    }
+    number_between(word, least, most).ok_or(ScriptCause::BadNumber)
 }
 
 /// The port that a word says.

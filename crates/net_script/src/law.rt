@@ -2,7 +2,7 @@
 
 ghost use Rattle.std.specs.Prelude.{◌≡◌, ◌⊎◌, ◌↔◌, ℕ, List, true};
 ghost use Rattle.net_script.specs.declared.cause.ScriptCause.{ScriptCause};
-ghost use Rattle.net_script.specs.Scripts.{ScriptOf};
+ghost use Rattle.net_script.specs.Scripts.{IsScript, ScriptOf};
 ghost use Rattle.an_base.specs.Tree.{Walk};
 ghost use Rattle.net_graph.specs.Wires.{Wires, IsWired, network};
 ghost use Rattle.net_script.specs.Tables.{TablesOf, are_joined};
@@ -12,6 +12,13 @@ ghost use Rattle.net_script.specs.TableTexts.{IsTextWith, IsFaultWith};
 /// No bytes are the text of two scripts.
 pub fn one_script()
     ensures { (bytes : List ℕ) (s t : ScriptOf) → IsText bytes s → IsText bytes t → s ≡ t }
+{}
+
+/// What a text says is a script: ranges and limits are kept, each switch and each host has a name,
+/// names and identifiers differ, no port is used twice, each command is one of the wiring, and times
+/// never fall.
+pub fn a_text_says_a_script()
+    ensures { (bytes : List ℕ) (s : ScriptOf) → IsText bytes s → IsScript s }
 {}
 
 /// Bytes that are the text of a script have no fault.

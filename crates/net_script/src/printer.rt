@@ -39,7 +39,7 @@ pub fn print(alloc: Global, script: &Script) -> Result<Vec<u8>, OutOfMemory>
 }
 
 /// Appends a line of words: they are joined by one space each, and a line feed follows. Where no memory
-/// is found some of it may have been appended.
+/// is found nothing is said of the text.
 pub fn push_line(text: &mut Vec<u8>, words: &[&[u8]]) -> Result<(), OutOfMemory>
     ensures { OnOk result
         (text.new.items ≡ text.old.items ++ line_text (map (λ w. w.now) words.now)) }
@@ -283,47 +283,73 @@ fn push_command(
     ensures { OnOk result (text.new.items ≡ text.old.items
         ++ line_text (form_words (command_form script.now command))) }
 {
-    let time = decimal(alloc, u64::from(command.time))?;
+    push_time(alloc, text, command.time)?;
     let names = script.switch_names();
     match command.event {
-        Event::Fail { s, port } => push_change(alloc, text, names, &time, b"fail", s, port),
-        Event::Repair { s, port } => push_change(alloc, text, names, &time, b"repair", s, port),
-        Event::Lose { s, port, n } => push_count(alloc, text, names, &time, b"lose", s, port, n),
-        Event::Again { s, port, n } => push_count(alloc, text, names, &time, b"again", s, port, n),
-        Event::Swap { s, port, n } => push_count(alloc, text, names, &time, b"swap", s, port, n),
-        Event::Noise { s, port, n } => push_count(alloc, text, names, &time, b"noise", s, port, n),
-        Event::Send { host, to } => push_send(text, script.names_of_hosts(), &time, host, to),
-        Event::Restart { s } => push_restart(text, names, &time, s),
+        Event::Fail { s, port } => push_at_port(alloc, text, names, b"fail", s, port),
+        Event::Repair { s, port } => push_at_port(alloc, text, names, b"repair", s, port),
+        Event::Lose { s, port, n } => push_on_wire(alloc, text, names, b"lose", s, port, n),
+        Event::Again { s, port, n } => push_on_wire(alloc, text, names, b"again", s, port, n),
+        Event::Swap { s, port, n } => push_on_wire(alloc, text, names, b"swap", s, port, n),
+        Event::Noise { s, port, n } => push_on_wire(alloc, text, names, b"noise", s, port, n),
+        Event::Send { host, to } => push_send(text, script.names_of_hosts(), host, to),
+        Event::Restart { s } => push_at_switch(text, names, b"restart", s),
         _ => Ok(()),
     }
 }
 
-// Appends the line of a command that changes a link.
-fn push_change<'a>(
+// Appends `at` and the time, each with a space after it.
+fn push_time(alloc: Global, text: &mut Vec<u8>, time: u32) -> Result<(), OutOfMemory>
+    ensures { OnOk result (text.new.items ≡ text.old.items ++ (codes "at " ++ (decimal time ++ 32 ∷ []))) }
+{
+    let time = decimal(alloc, u64::from(time))?;
+    text.extend_from_slice(b"at ")?;
+    text.extend_from_slice(&time)?;
+    text.push(b' ')?;
+    Ok(())
+}
+
+/// Appends a word and the name of a switch, and ends the line. Where no memory is found nothing is said
+/// of the text.
+pub fn push_at_switch<'a>(
+    text: &mut Vec<u8>,
+    names: &'a Names,
+    word: &'a [u8],
+    s: u8,
+) -> Result<(), OutOfMemory>
+    requires { s < length names.now }
+    ensures { OnOk result (text.new.items ≡ text.old.items
+        ++ line_text (word.now ∷ slice_index_or names.now s [] ∷ [])) }
+{
+    let name = names.get(usize::from(s));
+    push_line(text, &[word, name])
+}
+
+/// Appends a word, the name of a switch and a port, and ends the line. Where no memory is found nothing
+/// is said of the text.
+pub fn push_at_port<'a>(
     alloc: Global,
     text: &mut Vec<u8>,
     names: &'a Names,
-    time: &'a [u8],
     word: &'a [u8],
     s: u8,
     port: u8,
 ) -> Result<(), OutOfMemory>
     requires { s < length names.now }
     ensures { OnOk result (text.new.items ≡ text.old.items
-        ++ line_text (codes "at" ∷ time.now ∷ word.now ∷ slice_index_or names.now s []
-        ∷ decimal port ∷ [])) }
+        ++ line_text (word.now ∷ slice_index_or names.now s [] ∷ decimal port ∷ [])) }
 {
     let port = decimal(alloc, u64::from(port))?;
     let name = names.get(usize::from(s));
-    push_line(text, &[b"at", time, word, name, &port])
+    push_line(text, &[word, name, &port])
 }
 
-// Appends the line of a command that changes a wire.
-fn push_count<'a>(
+/// Appends a word, the name of a switch, a port and a count, and ends the line. Where no memory is found
+/// nothing is said of the text.
+pub fn push_on_wire<'a>(
     alloc: Global,
     text: &mut Vec<u8>,
     names: &'a Names,
-    time: &'a [u8],
     word: &'a [u8],
     s: u8,
     port: u8,
@@ -331,48 +357,26 @@ fn push_count<'a>(
 ) -> Result<(), OutOfMemory>
     requires { s < length names.now }
     ensures { OnOk result (text.new.items ≡ text.old.items
-        ++ line_text (codes "at" ∷ time.now ∷ word.now ∷ slice_index_or names.now s []
-        ∷ decimal port ∷ decimal n ∷ [])) }
+        ++ line_text (word.now ∷ slice_index_or names.now s [] ∷ decimal port ∷ decimal n ∷ [])) }
 {
     let port = decimal(alloc, u64::from(port))?;
     let count = decimal(alloc, u64::from(n))?;
     let name = names.get(usize::from(s));
-    push_line(text, &[b"at", time, word, name, &port, &count])
+    push_line(text, &[word, name, &port, &count])
 }
 
-// Appends the line of a command by which a host sends.
-fn push_send<'a>(
-    text: &mut Vec<u8>,
-    hosts: &'a Names,
-    time: &'a [u8],
-    host: u16,
-    to: u16,
-) -> Result<(), OutOfMemory>
+/// Appends `send`, the name of the host that sends and that of the host to which it does, which may be
+/// the same, and ends the line. Where no memory is found nothing is said of the text.
+pub fn push_send(text: &mut Vec<u8>, hosts: &Names, host: u16, to: u16) -> Result<(), OutOfMemory>
     requires host { host < length hosts.now }
     requires to { to < length hosts.now }
     ensures { OnOk result (text.new.items ≡ text.old.items
-        ++ line_text (codes "at" ∷ time.now ∷ codes "send" ∷ slice_index_or hosts.now host []
+        ++ line_text (codes "send" ∷ slice_index_or hosts.now host []
         ∷ slice_index_or hosts.now to [] ∷ [])) }
 {
     let host = hosts.get(usize::from(host));
     let to = hosts.get(usize::from(to));
-    push_line(text, &[b"at", time, b"send", host, to])
-}
-
-// Appends the line of a command that restarts a switch.
-fn push_restart<'a>(
-    text: &mut Vec<u8>,
-    names: &'a Names,
-    time: &'a [u8],
-    s: u8,
-) -> Result<(), OutOfMemory>
-    requires { s < length names.now }
-    ensures { OnOk result (text.new.items ≡ text.old.items
-        ++ line_text (codes "at" ∷ time.now ∷ codes "restart" ∷ slice_index_or names.now s []
-        ∷ [])) }
-{
-    let name = names.get(usize::from(s));
-    push_line(text, &[b"at", time, b"restart", name])
+    push_line(text, &[b"send", host, to])
 }
 
 #[cfg(test)]

@@ -4,7 +4,7 @@ ghost use Rattle.std.specs.Prelude.{◌≡◌, ◌+◌, ◌-◌, ◌*◌, ◌<�
 ghost use Rattle.std.specs.List.{list_all};
 ghost use Rattle.std.specs.Str.{bytes_eq};
 ghost use Rattle.std.specs.Char.{is_ascii_digit, is_digit, digit_value};
-ghost use Rattle.net_script.specs.Words.{is_name, is_name_byte, is_number, is_uid, number_value, uid_value};
+ghost use Rattle.net_script.specs.Words.{is_name, is_name_byte, is_number, is_number_in, is_uid, number_value, uid_value};
 
 /// Whether a word is this one.
 pub fn is(word: &[u8], text: &str) -> bool
@@ -63,6 +63,21 @@ pub fn number_of(word: &[u8]) -> Option<u64>
         number = with_digit(number, *c)?;
     }
     Some(number)
+}
+
+/// The number that a word says, where it is one from `least` to `most`.
+pub fn number_between(word: &[u8], least: u64, most: u64) -> Option<u64>
+    ensures number { MatchOption result (is_number_in least most word.now ≡ false)
+        (λ n. (is_number_in least most word.now ≡ true) × (n ≡ number_value word.now)) }
+    ensures range { IfSome result (λ n. (least ≤ n) × (n ≤ most)) }
+{
+    if !is_number(word) {
+        return None;
+    }
+    match number_of(word) {
+        Some(number) if least <= number && number <= most => Some(number),
+        _ => None,
+    }
 }
 
 // What the digits of a number say with one more, where that is below 2^64.

@@ -22,27 +22,27 @@ use Rattle.net_script.specs.Tables.{TablesOf, IsTables, AreTablesOf}
 use Rattle.report.specs.Check.{number_of, numbers_of}
 
 -- a walk after a walk
-walk_then : (g : Network) (m n x y z : ℕ) → Walk g m x y → Walk g n y z → (k : ℕ) × Walk g k x z
+pub walk_then : (g : Network) (m n x y z : ℕ) → Walk g m x y → Walk g n y z → (k : ℕ) × Walk g k x z
 walk_then g zero n x y z one two = (n, subst (λ (v : ℕ). Walk g n v z) (sym one) two)
 walk_then g (suc m) n x y z (u, near, rest) two = let more = walk_then g m n u y z rest two in (suc more.0, (u, near, more.1))
 
 -- the identifier of a switch that there is
-uid_is : (switches : List SwitchAt) (x : ℕ) (d : SwitchAt) → x < length switches → uid_of switches x ≡ (get_or switches x d).uid
+pub uid_is : (switches : List SwitchAt) (x : ℕ) (d : SwitchAt) → x < length switches → uid_of switches x ≡ (get_or switches x d).uid
 uid_is switches x d low = ap (λ (o : Option SwitchAt). unwrap_or (option_map (λ (s : SwitchAt). s.uid) o) 0) (slice_get-get_or switches x d low)
 
 -- the first switch with the identifier of one is that one
-found_at : (w : Wires) (x u : ℕ) (d : SwitchAt) (o : Option ℕ) → IsWired w → x < length w.switches → u ≡ uid_of w.switches x → position (λ s. s.uid == u) w.switches ≡ o → unwrap_or o 0 ≡ x
-found_at w x u d None wired low is found =
+pub uid_found : (w : Wires) (x u : ℕ) (d : SwitchAt) (o : Option ℕ) → IsWired w → x < length w.switches → u ≡ uid_of w.switches x → position (λ s. s.uid == u) w.switches ≡ o → o ≡ Some x
+uid_found w x u d None wired low is found =
     absurd (eqb-false (get_or w.switches x d).uid u (position_none (λ s. s.uid == u) w.switches d found x low) (sym (uid_is w.switches x d low) ∙ sym is))
-found_at w x u d (Some i) wired low is found =
+uid_found w x u d (Some i) wired low is found =
     let at = position-Some (λ s. s.uid == u) w.switches i d found in
-    uid_one w i x wired at.0 low (uid_is w.switches i d at.0 ∙ eqb-true (get_or w.switches i d).uid u at.1 ∙ is)
+    ap Some (uid_one w i x wired at.0 low (uid_is w.switches i d at.0 ∙ eqb-true (get_or w.switches i d).uid u at.1 ∙ is))
 
 -- the number of a member is that of its switch
-number_is : (w : Wires) (t : TablesOf) (e : EntryOf) (x : ℕ) → IsWired w → x < length w.switches → e.life ≡ (network w).life x → number_of w.switches t.numbers e ≡ get_or t.numbers x 0
+pub number_is : (w : Wires) (t : TablesOf) (e : EntryOf) (x : ℕ) → IsWired w → x < length w.switches → e.life ≡ (network w).life x → number_of w.switches t.numbers e ≡ get_or t.numbers x 0
 number_is w t e x wired low is =
     let d : SwitchAt = record { uid = 0; had = 1 } in
-    ap (λ (i : ℕ). get_or t.numbers i 0) (found_at w x e.life.uid d (position (λ s. s.uid == e.life.uid) w.switches) wired low (ap (λ (l : LifeId). l.uid) is) refl)
+    ap (λ (o : Option ℕ). get_or t.numbers (unwrap_or o 0) 0) (uid_found w x e.life.uid d (position (λ s. s.uid == e.life.uid) w.switches) wired low (ap (λ (l : LifeId). l.uid) is) refl)
 
 below_itself : (a b : LifeId) → IsBelow a b → a ≡ b → ⊥
 below_itself a b below same = not_both_below a b below (subst (λ (l : LifeId). IsBelow b l) (sym same) (subst (λ (l : LifeId). IsBelow l b) same below))

@@ -1,3 +1,15 @@
 pub mod TextLemmas
 pub mod CheckLemmas
 pub mod ComponentLemmas
+pub mod ListLemmas
+pub mod ComponentTree
+pub mod PartLemmas
+pub mod OwnForms
+pub mod OwnNames
+pub mod OwnText
+pub mod OwnChain
+pub mod OwnTold
+pub mod OwnLines
+pub mod OwnApart
+pub mod OwnPass
+pub mod OwnLaw

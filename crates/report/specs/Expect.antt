@@ -2,6 +2,7 @@ use Rattle.std.specs.Prelude.{◌≡◌, ◌==◌, ℕ, ◌<◌, List, [], ◌++
 use Rattle.std.specs.Fmt.{decimal}
 use Rattle.std.specs.List.{flat_map, zip}
 use Rattle.an_base.specs.Values.{Place, EntryOf}
+use Rattle.an_base.specs.Rows.{RowOf}
 use Rattle.net_graph.specs.Forest.{IsForest}
 use Rattle.net_script.specs.Scripts.{ScriptOf}
 use Rattle.topo_graph.specs.Topology.{entry_at}
@@ -46,6 +47,10 @@ pub record Part : Type 0 where
 
 abbrev pub part_lines : ScriptOf → Part → List ℕ
 part_lines s p = component_lines s p.entries p.tables
+
+-- the rows of all its members
+abbrev pub all_rows : Part → List RowOf
+all_rows p = flat_map (λ t. t.rows) p.tables
 
 -- the components, and the last line
 unfoldable pub expect_text : ScriptOf → List Part → List ℕ

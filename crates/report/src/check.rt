@@ -125,24 +125,6 @@ fn place_in(numbers: &[u8], number: u8) -> Option<usize>
     numbers.iter().position(|n| *n == number)
 }
 
-// A pair that is not joined, by numbers, and the place that shows it.
-#[derive(Clone, Copy)]
-struct Pair {
-    from: u8,
-    to: u8,
-    at: u8,
-    entry: u8,
-}
-
-// An illegal exit of a row.
-#[derive(Clone, Copy)]
-struct Illegal {
-    at: u8,
-    entry: u8,
-    to: u8,
-    exit: u8,
-}
-
 // What the names of switches come from, within one component.
 #[derive(Clone, Copy, Drop)]
 struct Naming<'a> {
@@ -263,15 +245,23 @@ impl Naming<'_> {
 
     // Appends the line of a pair that is not joined.
     #[tactic(auto, unfolding(crate::specs::Check::refusal_line))]
-    fn push_pair(&self, alloc: Global, text: &mut Vec<u8>, pair: Pair) -> Result<(), AllocError>
-        ensures { OnOk result (text.new.items ≡ text.old.items ++ refusal_line self.now.script.now self.now.entries.now self.now.numbers.now (NotJoined pair.from pair.to pair.at pair.entry)) }
+    fn push_pair(
+        &self,
+        alloc: Global,
+        text: &mut Vec<u8>,
+        from: u8,
+        to: u8,
+        at: u8,
+        entry: u8,
+    ) -> Result<(), AllocError>
+        ensures { OnOk result (text.new.items ≡ text.old.items ++ refusal_line self.now.script.now self.now.entries.now self.now.numbers.now (NotJoined from to at entry)) }
     {
         text.extend_from_slice(b"refused pair ")?;
-        self.push(alloc, text, pair.from)?;
+        self.push(alloc, text, from)?;
         text.extend_from_slice(b" to ")?;
-        self.push(alloc, text, pair.to)?;
+        self.push(alloc, text, to)?;
         text.extend_from_slice(b" at ")?;
-        self.push_entry(alloc, text, pair.at, pair.entry)?;
+        self.push_entry(alloc, text, at, entry)?;
         text.extend_from_slice(b"\n")?;
         Ok(())
     }
@@ -297,16 +287,19 @@ impl Naming<'_> {
         &self,
         alloc: Global,
         text: &mut Vec<u8>,
-        found: Illegal,
+        at: u8,
+        entry: u8,
+        to: u8,
+        exit: u8,
     ) -> Result<(), AllocError>
-        ensures { OnOk result (text.new.items ≡ text.old.items ++ refusal_line self.now.script.now self.now.entries.now self.now.numbers.now (IllegalExit found.at found.entry found.to found.exit)) }
+        ensures { OnOk result (text.new.items ≡ text.old.items ++ refusal_line self.now.script.now self.now.entries.now self.now.numbers.now (IllegalExit at entry to exit)) }
     {
         text.extend_from_slice(b"refused exit ")?;
-        self.push_entry(alloc, text, found.at, found.entry)?;
+        self.push_entry(alloc, text, at, entry)?;
         text.extend_from_slice(b" to ")?;
-        push_number(alloc, text, u32::from(found.to))?;
+        push_number(alloc, text, u32::from(to))?;
         text.extend_from_slice(b" by ")?;
-        push_number(alloc, text, u32::from(found.exit))?;
+        push_number(alloc, text, u32::from(exit))?;
         text.extend_from_slice(b"\n")?;
         Ok(())
     }
@@ -329,29 +322,13 @@ impl Naming<'_> {
                 to,
                 at,
                 entry,
-            } => {
-                let pair = Pair {
-                    from: *from,
-                    to: *to,
-                    at: *at,
-                    entry: *entry,
-                };
-                self.push_pair(alloc, text, pair)?;
-            }
+            } => self.push_pair(alloc, text, *from, *to, *at, *entry)?,
             CheckRefusal::IllegalExit {
                 at,
                 entry,
                 to,
                 exit,
-            } => {
-                let found = Illegal {
-                    at: *at,
-                    entry: *entry,
-                    to: *to,
-                    exit: *exit,
-                };
-                self.push_illegal(alloc, text, found)?;
-            }
+            } => self.push_illegal(alloc, text, *at, *entry, *to, *exit)?,
             CheckRefusal::OutOfMemory => return Err(OutOfMemory),
         }
         Ok(())

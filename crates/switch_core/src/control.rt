@@ -26,6 +26,7 @@ use frame_codec::reading::{DecodeRefusal, decode};
 use frame_codec::writing::{CarryHead, encode, encode_carry};
 use frame_region::buffer::FrameBuf;
 use ordered_link::receiver::Verdict;
+use ordered_link::sender::WINDOW;
 use port_monitor::monitor::Monitor;
 use std::alloc::Global;
 use table_build::table::Table;
@@ -204,7 +205,7 @@ impl Control {
         requires most { port ≤ 12 }
         ensures { OnOk result (Does (fills 7 port peer) self.old self.new out.old out.new) }
     {
-        'window: for _ in 0..7u8 {
+        'window: for _ in 0..WINDOW - 1 {
             let Some(k) = self.sessions.more(port, self.tick) else {
                 return Ok(());
             };
@@ -453,7 +454,7 @@ impl Control {
         ensures { OnOk result (Does (resends_on link.now) self.old self.new out.old out.new) }
     {
         let port = link.port();
-        'window: for _ in 0..8u8 {
+        'window: for _ in 0..WINDOW {
             let Some(k) = self.sessions.due(port, self.tick) else {
                 return Ok(());
             };
@@ -579,7 +580,7 @@ fn accept_in_turn(
     ensures { OnOk result (AcceptsInTurn port body core.old core.new sessions.old sessions.new sends.old sends.new) }
 {
     core.accept(port, body, sends)?;
-    'held: for _ in 0..7u8 {
+    'held: for _ in 0..WINDOW - 1 {
         let Some(body) = sessions.next(port) else {
             return Ok(());
         };
