@@ -1,10 +1,8 @@
-use Rattle.std.proofs.Common.{◌≡◌, ◌∙◌, sym, ap, subst, refl, ℕ, zero, suc, ◌+◌, ◌*◌, ◌-◌, ◌<◌, ◌≤◌, ◌^◌, ◌==◌, ◌&&◌, List, [], ◌∷◌, ◌++◌, append-nil, Option, None, true, false, Bool, cond, arith, length, length-append, get_or, map, take, drop, eqb, ltb, leb, codes, inl, inr, All, AllPairs}
+use Rattle.std.proofs.Common.{◌≡◌, ◌∙◌, sym, ap, subst, refl, ℕ, zero, suc, ◌+◌, ◌*◌, ◌-◌, ◌<◌, ◌≤◌, ◌^◌, ◌==◌, ◌&&◌, List, [], ◌∷◌, ◌++◌, append-nil, None, true, false, Bool, cond, arith, length, length-append, get_or, map, take, drop, eqb, ltb, leb, codes, inl, inr, All, AllPairs}
 use Rattle.std.specs.List.{flat_map, list_all, list_any, filter, slice_split, before_first, after_first, position_or_len, range_with_len, zip}
 use Rattle.std.specs.Str.{bytes_eq}
 use Rattle.std.specs.Char.{is_ascii_digit}
 use Rattle.std.specs.Fmt.{decimal}
-use Rattle.std.specs.Prelude.{unwrap_or}
-use Rattle.std.specs.Option.{option_map}
 use Rattle.std.proofs.lemmas.Bool.{cases_lt, and_parts, eqb-true, cases_eq}
 use Rattle.std.proofs.lemmas.Bool.Decides.{nat_tests}
 use Rattle.std.proofs.lemmas.Fmt.{digits_decimal, decimal_nonempty, length-decimal-le}
@@ -16,7 +14,6 @@ use Rattle.std.proofs.lemmas.List.Sums.{position_or_len_is}
 use Rattle.std.proofs.lemmas.Slice.Eq.{bytes_eq-Decides}
 use Rattle.std.proofs.Math.Seq.{take-append_seam, drop-append-add}
 use Rattle.std.proofs.lemmas.List.Kept.{AllPairs-filter}
-use Rattle.std.proofs.lemmas.Option.{slice_get-get_or}
 use Rattle.std.proofs.lemmas.List.FromFn.{length-range_with_len, get_or-range_with_len}
 use Rattle.an_base.specs.Rows.{RowOf, ExitsRise}
 use Rattle.an_base.specs.Values.{EntryOf, LifeId}
@@ -24,8 +21,7 @@ use Rattle.an_base.specs.Numbers.{AreNumbers}
 use Rattle.an_base.specs.Tree.{Network, IsDistance, IsClosed}
 use Rattle.an_base.proofs.PlaceLaws.{one_level}
 use Rattle.net_graph.proofs.ListLemmas.{AllPairs-head, AllPairs-tail}
-use Rattle.net_graph.specs.declared.wiring.SwitchAt.{SwitchAt}
-use Rattle.net_graph.specs.Wires.{Wires, had_of, network}
+use Rattle.net_graph.specs.Wires.{network}
 use Rattle.net_graph.specs.Forest.{IsComponent, IsMember}
 use Rattle.net_graph.proofs.FarLemmas.{far_is, network_closed}
 use Rattle.net_script.specs.Words.{is_number, is_number_in, number_value}
@@ -39,7 +35,6 @@ use Rattle.net_script.proofs.WordLemmas.{own}
 use Rattle.net_script.proofs.ChainLemmas.{fixed_word, words_cons, words_nil}
 use Rattle.net_script.proofs.GoodLemmas.{unless_good, first_good}
 use Rattle.switch_numbering.specs.Numbering.{numbering}
-use Rattle.switch_numbering.proofs.Differing.{numbers_are}
 use Rattle.topo_graph.specs.Topology.{IsGraph, nothing, entry_at, life_at}
 use Rattle.table_build.specs.Exits.{LeadsTo, Begins, may_go_up, is_entry}
 use Rattle.table_build.specs.Tables.{TableOf, IsTable, IsRow, IsBefore}
@@ -52,6 +47,7 @@ use Rattle.report.specs.Expect.{Part, AreTables, table_at}
 use Rattle.report.proofs.TextLemmas.{numbered}
 use Rattle.report.proofs.OwnNames.{life_named}
 use Rattle.report.proofs.ComponentTree.{component_tree}
+use Rattle.report.proofs.PartLemmas.{component_numbering}
 
 -- THE TEXT OF A PAIR
 
@@ -402,10 +398,6 @@ distance_most g r n x closed few low d = elim (cases_lt n 126) [
       absurd (omega arith))
 ]
 
--- the number that a switch had last
-had_is : (w : Wires) (x : ℕ) (d : SwitchAt) → x < length w.switches → had_of w x ≡ (get_or w.switches x d).had
-had_is w x d low = ap (λ (o : Option SwitchAt). unwrap_or (option_map (λ (a : SwitchAt). a.had) o) 1) (slice_get-get_or w.switches x d low)
-
 -- what an entry's line shows is in range, and its lives are named
 record IsShown (s : ScriptOf) (e : EntryOf) : Type 0 where
   life : (x : ℕ) × IsNamed s e.life x
@@ -413,17 +405,10 @@ record IsShown (s : ScriptOf) (e : EntryOf) : Type 0 where
   level : e.position.level ≤ 125
   parent : (x : ℕ) × IsNamed s e.position.parent x
   port : e.position.port ≤ 12
-  proposed : (1 ≤ e.proposed) × (e.proposed ≤ 126)
 
 -- so it is of a member
 member_shown : (s : ScriptOf) (r : ℕ) (e : EntryOf) → IsScript s → r < length s.wires.switches → IsMember s.wires r e → IsShown s e
 member_shown s r e kept low (x, below, is) =
-    let d : SwitchAt = record { uid = 0; had = 1 } in
-    let switch = kept.wired.switches x d below in
-    let least = switch.had_least in
-    let most = switch.had_most in
-    let had = had_is s.wires x d below in
-    let is_had = is.proposed in
     let up : ((y : ℕ) × IsNamed s e.position.parent y) × (e.position.port ≤ 12) = elim (cases_eq x r) [
       | inl same ↦ (let h = is.place.at_root same in ((r, life_named s r e.position.parent kept low h.0), let zero_port = h.1 in omega arith))
       | inr other ↦ (
@@ -437,7 +422,6 @@ member_shown s r e kept low (x, below, is) =
       level = distance_most (network s.wires) r e.position.level x (network_closed s.wires kept.wired) kept.wired.count below is.place.level;
       parent = up.0;
       port = up.1;
-      proposed = (omega arith, omega arith);
     }
 
 -- a component's entries, with their numbers
@@ -453,7 +437,7 @@ component_told s r es kept component =
     record {
       graph = graph;
       shown = shown;
-      numbers = numbers_are es graph.some graph.most (All-weaker (IsShown s) (λ e. (1 ≤ e.proposed) × (e.proposed ≤ 126)) (λ e is. is.proposed) es shown);
+      numbers = component_numbering s.wires r es kept.wired component graph;
     }
 
 -- THE FORMS OF LINES
