@@ -1,2 +1,9 @@
+pub mod OrderingLemmas
 pub mod OrderLaws
+pub mod LifeLemmas
+pub mod ListLemmas
+pub mod MemberLemmas
+pub mod PigeonLemmas
+pub mod TestLemmas
+pub mod WalkLemmas
 pub mod PlaceLaws

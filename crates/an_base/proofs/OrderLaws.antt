@@ -1,17 +1,12 @@
-use Rattle.std.proofs.Common.{◌≡◌, ◌∙◌, ap, ℕ, List, [], ◌∷◌, refl, Less, Equal, Greater, IsTrue}
-use Rattle.std.specs.declared.cmp.Ordering.{Ordering}
-use Rattle.std.specs.Ordering.{nat_cmp, ordering_then, ordering_reverse, is_le}
+-- The orders of lives, ends, links, positions and entries are total, and what is alike in them is one.
+use Rattle.std.proofs.Common.{◌≡◌, ◌∙◌, ap, ℕ, List, [], ◌∷◌, refl, Equal, IsTrue}
+use Rattle.std.specs.Ordering.{nat_cmp, is_le}
 use Rattle.std.specs.Cmp.{IsTotalOrder, then_total, on_total, nat_cmp_total}
 use Rattle.std.specs.Cmp.Lexicographic.{slice_cmp, lists_total}
 use Rattle.std.proofs.lemmas.Map.Lookups.{exact_unsigned}
 use Rattle.an_base.specs.Values.{LifeId, EndId, Place, PeerAt, EntryOf}
 use Rattle.an_base.specs.Order.{life_cmp, end_cmp, link_cmp, position_cmp, entry_cmp}
-
--- two comparisons of which neither tells apart
-pub then_equal : (a b : Ordering) → ordering_then a b ≡ Equal → (a ≡ Equal) × (b ≡ Equal)
-then_equal Less b e = absurd (cc)
-then_equal Equal b e = (refl, e)
-then_equal Greater b e = absurd (cc)
+use Rattle.an_base.proofs.OrderingLemmas.{tied, then_equal}
 
 pub nat_apart : (a b : ℕ) → nat_cmp a b ≡ Equal → a ≡ b
 nat_apart = exact_unsigned
@@ -25,25 +20,25 @@ life_apart a b e =
     let mk : ℕ → ℕ → LifeId = λ u n. record { uid = u; boot = n } in
     ap (λ (u : ℕ). mk u a.boot) (nat_apart a.uid b.uid f.0) ∙ ap (λ (n : ℕ). mk b.uid n) (nat_apart a.boot b.boot f.1)
 
-end_total : IsTotalOrder end_cmp
+pub end_total : IsTotalOrder end_cmp
 end_total = then_total (on_total (λ e. e.life) life_total) (on_total (λ e. e.port) nat_cmp_total)
 
-end_apart : (a b : EndId) → end_cmp a b ≡ Equal → a ≡ b
+pub end_apart : (a b : EndId) → end_cmp a b ≡ Equal → a ≡ b
 end_apart a b e =
     let f = then_equal (life_cmp a.life b.life) (nat_cmp a.port b.port) e in
     let mk : LifeId → ℕ → EndId = λ l p. record { life = l; port = p } in
     ap (λ (l : LifeId). mk l a.port) (life_apart a.life b.life f.0) ∙ ap (λ (p : ℕ). mk b.life p) (nat_apart a.port b.port f.1)
 
-link_total : IsTotalOrder link_cmp
+pub link_total : IsTotalOrder link_cmp
 link_total = then_total (on_total (λ l. l.port) nat_cmp_total) (on_total (λ l. l.peer) end_total)
 
-link_apart : (a b : PeerAt) → link_cmp a b ≡ Equal → a ≡ b
+pub link_apart : (a b : PeerAt) → link_cmp a b ≡ Equal → a ≡ b
 link_apart a b e =
     let f = then_equal (nat_cmp a.port b.port) (end_cmp a.peer b.peer) e in
     let mk : ℕ → EndId → PeerAt = λ p x. record { port = p; peer = x } in
     ap (λ (p : ℕ). mk p a.peer) (nat_apart a.port b.port f.0) ∙ ap (λ (x : EndId). mk b.port x) (end_apart a.peer b.peer f.1)
 
-links_apart : (xs ys : List PeerAt) → slice_cmp link_cmp xs ys ≡ Equal → xs ≡ ys
+pub links_apart : (xs ys : List PeerAt) → slice_cmp link_cmp xs ys ≡ Equal → xs ≡ ys
 links_apart [] [] e = refl
 links_apart [] (y ∷ ys) e = absurd (cc)
 links_apart (x ∷ xs) [] e = absurd (cc)
@@ -90,13 +85,6 @@ entry_apart a b life e =
     let mk : LifeId → Place → ℕ → List PeerAt → EntryOf = λ l p n k. record { life = l; position = p; proposed = n; links = k } in
     ap (λ (l : LifeId). mk l a.position a.proposed a.links) life ∙ ap (λ (p : Place). mk b.life p a.proposed a.links) position
     ∙ ap (λ (n : ℕ). mk b.life b.position n a.links) proposed ∙ ap (λ (k : List PeerAt). mk b.life b.position b.proposed k) links
-
-tied : (r s : Ordering) → r ≡ ordering_reverse s → IsTrue (is_le r) → IsTrue (is_le s) → r ≡ Equal
-tied Less Less e le ge = absurd (cc)
-tied Less Equal e le ge = absurd (cc)
-tied Less Greater e le ge = absurd (cc)
-tied Equal s e le ge = refl
-tied Greater s e le ge = absurd (cc)
 
 -- lives of which neither is above the other are one
 pub both_least : (a b : LifeId) → IsTrue (is_le (life_cmp a b)) → IsTrue (is_le (life_cmp b a)) → a ≡ b

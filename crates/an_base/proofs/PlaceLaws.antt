@@ -1,3 +1,4 @@
+-- A node has one place in a spanning tree.
 use Rattle.std.proofs.Common.{◌≡◌, ◌∙◌, sym, ap, subst, ℕ, arith, inl, inr, Some}
 use Rattle.std.proofs.lemmas.Bool.{cases_eq}
 use Rattle.an_base.specs.Values.{Place}

@@ -1,3 +1,4 @@
+-- What contracts see of a frame that carries a body.
 use Rattle.std.specs.Prelude.{ℕ}
 use Rattle.an_base.specs.Values.{EndId}
 use Rattle.an_base.specs.declared.body.Body.{Body}

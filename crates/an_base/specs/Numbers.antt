@@ -1,8 +1,10 @@
+-- The numbers of the entries of a topology.
 use Rattle.std.specs.Prelude.{◌≢◌, ℕ, ◌≤◌, List, length, All, AllPairs}
+use Rattle.an_base.specs.declared.limits.TheConstants.{MOST_NUMBER, MOST_SWITCHES}
 
--- 1 to 126 different numbers, each 1 to 126
+-- as many different numbers as a topology may have entries, and at least one
 pub record AreNumbers (numbers : List ℕ) : Type 0 where
   pub some : 1 ≤ length numbers
-  pub most : length numbers ≤ 126
-  pub within : All (λ n. (1 ≤ n) × (n ≤ 126)) numbers
-  pub apart : AllPairs (λ a b. a ≢ b) numbers
+  pub most : length numbers ≤ MOST_SWITCHES
+  pub within : All (λ number. (1 ≤ number) × (number ≤ MOST_NUMBER)) numbers
+  pub apart : AllPairs (λ one other. one ≢ other) numbers

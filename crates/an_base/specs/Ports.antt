@@ -1,3 +1,4 @@
+-- What contracts see of the ports of a switch, and of what it shows of itself.
 use Rattle.std.specs.Prelude.{ℕ, Bool, List, Option}
 use Rattle.an_base.specs.Values.{LifeId, EndId}
 use Rattle.an_base.specs.declared.port.PortState.{PortState}

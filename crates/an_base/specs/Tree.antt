@@ -1,52 +1,60 @@
+-- Networks, walks and distances in them, and the place of a node in the tree of shortest walks to a root.
 use Rattle.std.specs.Prelude.{◌≡◌, ◌≢◌, ℕ, zero, suc, ◌+◌, ◌<◌, ◌≤◌, Option, Some, IsTrue}
 use Rattle.std.specs.Ordering.{is_le}
 use Rattle.an_base.specs.Values.{LifeId, Place}
 use Rattle.an_base.specs.Order.{life_cmp}
 
--- A network: how many nodes there are, the life of each, and to which port of which other node a port of a node leads.
+-- A network: how many nodes there are, the life of each, and to which port of which other node a port
+-- of a node leads.
 pub record Network : Type 0 where
   pub count : ℕ
   pub life : ℕ → LifeId
   pub far : ℕ → ℕ → Option (ℕ × ℕ)
 
--- some port of x leads to y
+-- some port of the node leads to the other
 abbrev pub Neighbours : Network → ℕ → ℕ → Type 0
-Neighbours g x y = (p : ℕ) × (q : ℕ) × (g.far x p ≡ Some (y, q))
+Neighbours network node other = (port : ℕ) × (far_port : ℕ) × (network.far node port ≡ Some (other, far_port))
 
--- a walk of n links from x to y
+-- a walk of so many links from a node to another
 abbrev pub Walk : Network → ℕ → ℕ → ℕ → Type 0
-Walk g zero x y = x ≡ y
-Walk g (suc n) x y = (z : ℕ) × Neighbours g x z × Walk g n z y
+Walk network zero from to = from ≡ to
+Walk network (suc links) from to = (next : ℕ) × Neighbours network from next × Walk network links next to
 
--- n is the length of a shortest walk from x to y
-pub record IsDistance (g : Network) (x y n : ℕ) : Type 0 where
-  pub walk : Walk g n x y
-  pub least : (m : ℕ) → Walk g m x y → n ≤ m
+-- a shortest walk from a node to another has so many links
+pub record IsDistance (network : Network) (from to links : ℕ) : Type 0 where
+  pub walk : Walk network links from to
+  pub least : (others : ℕ) → Walk network others from to → links ≤ others
 
--- y is a neighbour of x that is one link nearer to the root than x, whose distance is n
-pub record IsNearer (g : Network) (r x n y : ℕ) : Type 0 where
-  pub neighbour : Neighbours g x y
-  pub nearer : (m : ℕ) × (m + 1 ≡ n) × IsDistance g y r m
+-- the other is a neighbour of a node at a distance from the top, and one link nearer to it
+pub record IsNearer (network : Network) (top node distance other : ℕ) : Type 0 where
+  pub neighbour : Neighbours network node other
+  pub nearer : (links : ℕ) × (links + 1 ≡ distance) × IsDistance network other top links
 
 -- Below the root the parent is the least of the neighbours that are one link nearer, by the least port to it.
-pub record IsBelowParent (g : Network) (r x y : ℕ) (p : Place) : Type 0 where
-  pub parent : p.parent ≡ g.life y
-  pub nearer : IsNearer g r x p.level y
-  pub least : (z : ℕ) → IsNearer g r x p.level z → IsTrue (is_le (life_cmp (g.life y) (g.life z)))
-  pub port : (q : ℕ) × (g.far x p.port ≡ Some (y, q))
-  pub least_port : (o q : ℕ) → g.far x o ≡ Some (y, q) → p.port ≤ o
+pub record IsBelowParent (network : Network) (top node above : ℕ) (place : Place) : Type 0 where
+  pub parent : place.parent ≡ network.life above
+  pub nearer : IsNearer network top node place.level above
+  pub least :
+      (other : ℕ) → IsNearer network top node place.level other
+      → IsTrue (is_le (life_cmp (network.life above) (network.life other)))
+  pub port : (far_port : ℕ) × (network.far node place.port ≡ Some (above, far_port))
+  pub least_port :
+      (own_port far_port : ℕ) → network.far node own_port ≡ Some (above, far_port) → place.port ≤ own_port
 
--- the place of x in the tree of shortest walks to the root
-pub record IsPlace (g : Network) (r x : ℕ) (p : Place) : Type 0 where
-  pub root : p.root ≡ g.life r
-  pub level : IsDistance g x r p.level
-  pub at_root : x ≡ r → (p.parent ≡ g.life r) × (p.port ≡ 0)
-  pub below : x ≢ r → (y : ℕ) × IsBelowParent g r x y p
+-- the place of a node in the tree of shortest walks to the node at its top
+pub record IsPlace (network : Network) (top node : ℕ) (place : Place) : Type 0 where
+  pub root : place.root ≡ network.life top
+  pub level : IsDistance network node top place.level
+  pub at_root : node ≡ top → (place.parent ≡ network.life top) × (place.port ≡ 0)
+  pub below : node ≢ top → (above : ℕ) × IsBelowParent network top node above place
 
 -- a port leads to a node that there is
 abbrev pub IsClosed : Network → Type 0
-IsClosed g = (x p y q : ℕ) → g.far x p ≡ Some (y, q) → y < g.count
+IsClosed network =
+    (node port other far_port : ℕ) → network.far node port ≡ Some (other, far_port) → other < network.count
 
 -- no two nodes that there are have one life
 abbrev pub HasLivesApart : Network → Type 0
-HasLivesApart g = (x y : ℕ) → x < g.count → y < g.count → g.life x ≡ g.life y → x ≡ y
+HasLivesApart network =
+    (node other : ℕ) → node < network.count → other < network.count
+    → network.life node ≡ network.life other → node ≡ other

@@ -1,3 +1,4 @@
+-- What contracts see of lives, ends of links, positions, entries and the bodies that lives exchange.
 use Rattle.std.specs.Prelude.{ℕ, Bool, List}
 
 -- a life: a switch's identifier and the number of its boot

@@ -1,4 +1,5 @@
 ghost use Rattle.std.specs.Prelude.{◌≡◌, ◌≤◌, length, IfOk};
+ghost use Rattle.an_base.specs.declared.limits.TheConstants.{MOST_LEVEL};
 
 use crate::entry::Entries;
 use crate::life::Life;
@@ -23,21 +24,24 @@ pub struct PosBody {
 impl Model for PosBody {
     ghost use Rattle.std.specs.Prelude.{◌≤◌};
     ghost use Rattle.an_base.specs.Values.{PosOf};
+    ghost use Rattle.an_base.specs.declared.limits.TheConstants.{MOST_LEVEL};
 
     ghost Value = { PosOf };
 
-    ghost view = { λ b. record { version = b.version; root = b.root; level = b.level; to_parent = b.to_parent } };
+    ghost view = { λ b.
+        record { version = b.version; root = b.root; level = b.level; to_parent = b.to_parent } };
 
-    ghost invariant = { λ b. (1 ≤ b.version) × (b.level ≤ 125) };
+    ghost invariant = { λ b. (1 ≤ b.version) × (b.level ≤ MOST_LEVEL) };
 
-    ghost inverse = { λ v. record { version = v.version; root = v.root; level = v.level; to_parent = v.to_parent } };
+    ghost inverse = { λ v.
+        record { version = v.version; root = v.root; level = v.level; to_parent = v.to_parent } };
 }
 
 impl PosBody {
     /// The body of these four parts.
     pub fn new(version: u32, root: Life, level: u8, to_parent: bool) -> Self
         requires version { 1 ≤ version }
-        requires level { level ≤ 125 }
+        requires level { level ≤ MOST_LEVEL }
         ensures { result ≡ record { version = version; root = root; level = level; to_parent = to_parent } }
     {
         PosBody {
@@ -66,7 +70,7 @@ impl PosBody {
     /// The level of the position, 0 to 125.
     pub fn level(self) -> u8
         ensures level { result ≡ self.level }
-        ensures most { self.level ≤ 125 }
+        ensures most { self.level ≤ MOST_LEVEL }
     {
         self.level
     }

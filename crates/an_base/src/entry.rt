@@ -1,4 +1,5 @@
 ghost use Rattle.std.specs.Prelude.{◌≡◌, ◌<◌, ◌≤◌, [], ◌∷◌, ◌++◌, length, All, IfOk, OnOk, OnErr};
+ghost use Rattle.an_base.specs.declared.limits.TheConstants.{LAST_PORT, MOST_NUMBER, MOST_SWITCHES};
 
 use crate::life::Life;
 use crate::links::Links;
@@ -7,9 +8,6 @@ use crate::position::Position;
 use std::alloc::Global;
 use std::cmp::Ordering;
 use std::marker::Model;
-
-/// The most lives in one topology, so the most entries.
-pub const MOST_ENTRIES: usize = 126;
 
 /// What is known of one life: where it stands, the number that it proposes for itself, 1 to 126,
 /// and its links by rising port.
@@ -28,12 +26,14 @@ pub struct Entry {
 impl Model for Entry {
     ghost use Rattle.std.specs.Prelude.{◌≤◌};
     ghost use Rattle.an_base.specs.Values.{EntryOf};
+    ghost use Rattle.an_base.specs.declared.limits.TheConstants.{MOST_NUMBER};
 
     ghost Value = { EntryOf };
 
-    ghost view = { λ e. record { life = e.life; position = e.position; proposed = e.proposed; links = e.links } };
+    ghost view = { λ e.
+        record { life = e.life; position = e.position; proposed = e.proposed; links = e.links } };
 
-    ghost invariant = { λ e. (1 ≤ e.proposed) × (e.proposed ≤ 126) };
+    ghost invariant = { λ e. (1 ≤ e.proposed) × (e.proposed ≤ MOST_NUMBER) };
 }
 
 impl Entry {
@@ -43,7 +43,7 @@ impl Entry {
     pub fn proposed(&self) -> u8
         ensures proposed { result ≡ self.now.proposed }
         ensures least { 1 ≤ self.now.proposed }
-        ensures most { self.now.proposed ≤ 126 }
+        ensures most { self.now.proposed ≤ MOST_NUMBER }
     {
         self.proposed
     }
@@ -82,12 +82,14 @@ impl Model for Entries {
     ghost use Rattle.std.specs.Prelude.{List, ◌≤◌, length};
     ghost use Rattle.an_base.specs.Values.{EntryOf};
     ghost use Rattle.an_base.specs.Order.{LivesRise};
+    ghost use Rattle.an_base.specs.declared.limits.TheConstants.{MOST_SWITCHES};
 
     ghost Value = { List EntryOf };
 
     ghost view = { λ e. e.items.items };
 
-    ghost invariant = { λ e. (1 ≤ length e.items.items) × (length e.items.items ≤ 126) × LivesRise e.items.items };
+    ghost invariant = { λ e.
+        (1 ≤ length e.items.items) × (length e.items.items ≤ MOST_SWITCHES) × LivesRise e.items.items };
 }
 
 impl Entries {
@@ -96,7 +98,7 @@ impl Entries {
     /// The entries of a vector, without taking memory.
     pub fn new(items: Vec<Entry>) -> Self
         requires some { 1 ≤ length items.items }
-        requires most { length items.items ≤ 126 }
+        requires most { length items.items ≤ MOST_SWITCHES }
         requires rising { LivesRise items.items }
         ensures { result ≡ items.items }
     {
@@ -123,7 +125,7 @@ impl Entries {
     pub fn as_slice(&self) -> &[Entry]
         ensures all { result.now ≡ self.now }
         ensures some { 1 ≤ length self.now }
-        ensures most { length self.now ≤ 126 }
+        ensures most { length self.now ≤ MOST_SWITCHES }
         ensures rising { LivesRise self.now }
     {
         &self.items
@@ -150,7 +152,7 @@ impl Entries {
     /// Adds an entry at the end. Its life is above those before it. Where no memory is found
     /// nothing is added.
     pub fn push(&mut self, entry: Entry) -> Result<(), OutOfMemory>
-        requires room { length self.old < 126 }
+        requires room { length self.old < MOST_SWITCHES }
         requires rising { All (λ e. IsBelow e.life entry.life) self.old }
         ensures ok { OnOk result (self.new ≡ self.old ++ entry ∷ []) }
         ensures err { OnErr result (self.new ≡ self.old) }
@@ -171,9 +173,9 @@ mod tests {
     fn entry_of(uid: u64, proposed: u8, port: u8) -> Entry
         requires uid { uid < 100 }
         requires least { 1 ≤ proposed }
-        requires most { proposed ≤ 126 }
+        requires most { proposed ≤ MOST_NUMBER }
         requires port_least { 1 ≤ port }
-        requires port_most { port ≤ 12 }
+        requires port_most { port ≤ LAST_PORT }
         ensures { result.life ≡ record { uid = uid; boot = 1 } }
     {
         let life = Life::new(uid, 1);

@@ -8,24 +8,26 @@ ghost use Rattle.an_base.specs.Tree.{Network, IsClosed, IsPlace, HasLivesApart};
 /// Lives are totally ordered, and no two different ones are alike.
 pub fn lives_are_ordered()
     ensures total { IsTotalOrder life_cmp }
-    ensures apart { (a b : LifeId) → life_cmp a b ≡ Equal → a ≡ b }
+    ensures apart { (one other : LifeId) → life_cmp one other ≡ Equal → one ≡ other }
 {}
 
 /// Positions are totally ordered, and no two different ones are alike.
 pub fn positions_are_ordered()
     ensures total { IsTotalOrder position_cmp }
-    ensures apart { (a b : Place) → position_cmp a b ≡ Equal → a ≡ b }
+    ensures apart { (one other : Place) → position_cmp one other ≡ Equal → one ≡ other }
 {}
 
 /// Entries are totally ordered, and two of one life that are alike are one.
 pub fn entries_are_ordered()
     ensures total { IsTotalOrder entry_cmp }
-    ensures apart { (a b : EntryOf) → a.life ≡ b.life → entry_cmp a b ≡ Equal → a ≡ b }
+    ensures apart { (one other : EntryOf)
+        → one.life ≡ other.life → entry_cmp one other ≡ Equal → one ≡ other }
 {}
 
 /// A node has one place in the spanning tree of a root, where ports lead to nodes that there are, no
 /// two of which have one life.
 pub fn one_place()
-    ensures { (g : Network) (r x : ℕ) (p q : Place) → IsClosed g → HasLivesApart g
-        → IsPlace g r x p → IsPlace g r x q → p ≡ q }
+    ensures { (network : Network) (top node : ℕ) (one other : Place)
+        → IsClosed network → HasLivesApart network
+        → IsPlace network top node one → IsPlace network top node other → one ≡ other }
 {}

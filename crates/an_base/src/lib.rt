@@ -12,6 +12,7 @@ pub mod event;
 pub mod frame;
 pub mod law;
 pub mod life;
+pub mod limits;
 pub mod links;
 pub mod memory;
 pub mod numbers;

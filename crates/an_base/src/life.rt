@@ -1,4 +1,5 @@
 ghost use Rattle.std.specs.Prelude.{◌≡◌, ◌≤◌, ◌<◌, ◌^◌};
+ghost use Rattle.an_base.specs.declared.limits.TheConstants.{LAST_PORT};
 
 use std::marker::Model;
 
@@ -64,12 +65,13 @@ pub struct End {
 impl Model for End {
     ghost use Rattle.std.specs.Prelude.{◌≤◌};
     ghost use Rattle.an_base.specs.Values.{EndId};
+    ghost use Rattle.an_base.specs.declared.limits.TheConstants.{LAST_PORT};
 
     ghost Value = { EndId };
 
     ghost view = { λ e. record { life = e.life; port = e.port } };
 
-    ghost invariant = { λ e. (1 ≤ e.port) × (e.port ≤ 12) };
+    ghost invariant = { λ e. (1 ≤ e.port) × (e.port ≤ LAST_PORT) };
 
     ghost inverse = { λ v. record { life = v.life; port = v.port } };
 }
@@ -78,7 +80,7 @@ impl End {
     /// The end at this port of this life.
     pub fn new(life: Life, port: u8) -> Self
         requires least { 1 ≤ port }
-        requires most { port ≤ 12 }
+        requires most { port ≤ LAST_PORT }
         ensures { result ≡ record { life = life; port = port } }
     {
         End { life, port }
@@ -95,7 +97,7 @@ impl End {
     pub fn port(self) -> u8
         ensures port { result ≡ self.port }
         ensures least { 1 ≤ self.port }
-        ensures most { self.port ≤ 12 }
+        ensures most { self.port ≤ LAST_PORT }
     {
         self.port
     }

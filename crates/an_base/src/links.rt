@@ -1,10 +1,9 @@
 ghost use Rattle.std.specs.Prelude.{◌≡◌, ◌==◌, ◌<◌, ◌≤◌, [], ◌∷◌, ◌++◌, length, All};
+ghost use Rattle.an_base.specs.declared.limits.TheConstants.{LAST_PORT, PORTS};
 
 use crate::life::{End, Life};
+use crate::limits::PORTS;
 use std::marker::Model;
-
-/// The most links that a switch has: one for each external port.
-pub const MOST_LINKS: usize = 12;
 
 /// A link as one of its ends names it: the own port, 1 to 12, and the other end.
 /// Such links are ordered by port, then by the other end.
@@ -19,12 +18,13 @@ pub struct PortLink {
 impl Model for PortLink {
     ghost use Rattle.std.specs.Prelude.{◌≤◌};
     ghost use Rattle.an_base.specs.Values.{PeerAt};
+    ghost use Rattle.an_base.specs.declared.limits.TheConstants.{LAST_PORT};
 
     ghost Value = { PeerAt };
 
     ghost view = { λ l. record { port = l.port; peer = l.peer } };
 
-    ghost invariant = { λ l. (1 ≤ l.port) × (l.port ≤ 12) };
+    ghost invariant = { λ l. (1 ≤ l.port) × (l.port ≤ LAST_PORT) };
 
     ghost inverse = { λ v. record { port = v.port; peer = v.peer } };
 }
@@ -33,7 +33,7 @@ impl PortLink {
     /// The link from this port to this other end.
     pub fn new(port: u8, peer: End) -> Self
         requires least { 1 ≤ port }
-        requires most { port ≤ 12 }
+        requires most { port ≤ LAST_PORT }
         ensures { result ≡ record { port = port; peer = peer } }
     {
         PortLink { port, peer }
@@ -43,7 +43,7 @@ impl PortLink {
     pub fn port(&self) -> u8
         ensures port { result ≡ self.now.port }
         ensures least { 1 ≤ self.now.port }
-        ensures most { self.now.port ≤ 12 }
+        ensures most { self.now.port ≤ LAST_PORT }
     {
         self.port
     }
@@ -59,7 +59,7 @@ impl PortLink {
 /// The links of a life by rising port, at most twelve, which contracts see as a list.
 #[derive(Debug, Drop)]
 pub struct Links {
-    items: [PortLink; 12],
+    items: [PortLink; PORTS],
     len: usize,
 }
 
@@ -67,12 +67,13 @@ impl Model for Links {
     ghost use Rattle.std.specs.Prelude.{List, take, ◌≤◌};
     ghost use Rattle.an_base.specs.Values.{PeerAt};
     ghost use Rattle.an_base.specs.Order.{PortsRise};
+    ghost use Rattle.an_base.specs.declared.limits.TheConstants.{PORTS};
 
     ghost Value = { List PeerAt };
 
     ghost view = { λ l. take l.len l.items };
 
-    ghost invariant = { λ l. (l.len ≤ 12) × PortsRise (take l.len l.items) };
+    ghost invariant = { λ l. (l.len ≤ PORTS) × PortsRise (take l.len l.items) };
 }
 
 impl Links {
@@ -85,7 +86,7 @@ impl Links {
     {
         let unused = PortLink::new(1, End::new(Life::new(0, 1), 1));
         Links {
-            items: [unused; MOST_LINKS],
+            items: [unused; PORTS],
             len: 0,
         }
     }
@@ -107,7 +108,7 @@ impl Links {
     /// The links by rising port.
     pub fn as_slice(&self) -> &[PortLink]
         ensures all { result.now ≡ self.now }
-        ensures most { length self.now ≤ 12 }
+        ensures most { length self.now ≤ PORTS }
         ensures rising { PortsRise self.now }
     {
         &self.items[..self.len]
@@ -125,7 +126,7 @@ impl Links {
 
     /// Adds a link at the end. Its port is above those of the links before it.
     pub fn push(&mut self, link: PortLink)
-        requires room { length self.old < 12 }
+        requires room { length self.old < PORTS }
         requires rising { All (λ l. l.port < link.port) self.old }
         ensures { self.new ≡ self.old ++ link ∷ [] }
     {

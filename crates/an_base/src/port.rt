@@ -1,12 +1,11 @@
 ghost use Rattle.std.specs.Prelude.{◌≡◌, ◌-◌, ◌≤◌, Some, None, length, slice_get, slice_set};
 ghost use Rattle.std.specs.Prelude.{replicate};
 ghost use Rattle.an_base.specs.declared.port.PortState.TheVariants.{Dead};
+ghost use Rattle.an_base.specs.declared.limits.TheConstants.{LAST_PORT, PORTS};
 
 use crate::life::{End, Life};
+use crate::limits::PORTS;
 use std::marker::Model;
-
-/// How many external ports a switch has.
-pub const PORTS: usize = 12;
 
 /// What a switch takes the other end of a port to be.
 #[derive(Clone, Copy, Debug, PartialEq, Eq)]
@@ -58,7 +57,7 @@ impl Model for PortView {
 /// The twelve ports of a switch from port 1, which contracts see as a list.
 #[derive(Debug, Drop)]
 pub struct Ports {
-    views: [PortView; 12],
+    views: [PortView; PORTS],
 }
 
 impl Model for Ports {
@@ -73,7 +72,7 @@ impl Model for Ports {
 impl Ports {
     /// Twelve dead ports.
     pub fn new() -> Self
-        ensures { result ≡ replicate 12 (record { state = Dead; peer = None }) }
+        ensures { result ≡ replicate PORTS (record { state = Dead; peer = None }) }
     {
         let unseen = PortView {
             state: PortState::Dead,
@@ -87,7 +86,7 @@ impl Ports {
     /// The twelve ports from port 1.
     pub fn as_slice(&self) -> &[PortView]
         ensures all { result.now ≡ self.now }
-        ensures twelve { length self.now ≡ 12 }
+        ensures twelve { length self.now ≡ PORTS }
     {
         &self.views
     }
@@ -95,7 +94,7 @@ impl Ports {
     /// A port, 1 to 12.
     pub fn get(&self, port: u8) -> PortView
         requires least { 1 ≤ port }
-        requires most { port ≤ 12 }
+        requires most { port ≤ LAST_PORT }
         ensures { Some result ≡ slice_get self.now (port - 1) }
     {
         self.views[usize::from(port - 1)]
@@ -104,7 +103,7 @@ impl Ports {
     /// Sets a port, 1 to 12, and leaves the others as they were.
     pub fn set(&mut self, port: u8, view: PortView)
         requires least { 1 ≤ port }
-        requires most { port ≤ 12 }
+        requires most { port ≤ LAST_PORT }
         ensures { self.new ≡ slice_set self.old (port - 1) view }
     {
         self.views[usize::from(port - 1)] = view;
@@ -139,7 +138,8 @@ impl Model for Note {
 
     ghost Value = { NoteOf };
 
-    ghost view = { λ n. record { life = n.life; epoch = n.epoch; ports = n.ports; load_due = n.load_due; unacked = n.unacked } };
+    ghost view = { λ n.
+        record { life = n.life; epoch = n.epoch; ports = n.ports; load_due = n.load_due; unacked = n.unacked } };
 }
 
 impl Note {

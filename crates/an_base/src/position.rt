@@ -1,4 +1,5 @@
 ghost use Rattle.std.specs.Prelude.{◌≡◌, ◌≤◌};
+ghost use Rattle.an_base.specs.declared.limits.TheConstants.{LAST_PORT, MOST_LEVEL};
 
 use crate::life::Life;
 use std::marker::Model;
@@ -19,12 +20,13 @@ pub struct Position {
 impl Model for Position {
     ghost use Rattle.std.specs.Prelude.{◌≤◌};
     ghost use Rattle.an_base.specs.Values.{Place};
+    ghost use Rattle.an_base.specs.declared.limits.TheConstants.{LAST_PORT, MOST_LEVEL};
 
     ghost Value = { Place };
 
     ghost view = { λ p. record { root = p.root; level = p.level; parent = p.parent; port = p.port } };
 
-    ghost invariant = { λ p. (p.level ≤ 125) × (p.port ≤ 12) };
+    ghost invariant = { λ p. (p.level ≤ MOST_LEVEL) × (p.port ≤ LAST_PORT) };
 
     ghost inverse = { λ v. record { root = v.root; level = v.level; parent = v.parent; port = v.port } };
 }
@@ -32,8 +34,8 @@ impl Model for Position {
 impl Position {
     /// The position of these four parts.
     pub fn new(root: Life, level: u8, parent: Life, port: u8) -> Self
-        requires level { level ≤ 125 }
-        requires port { port ≤ 12 }
+        requires level { level ≤ MOST_LEVEL }
+        requires port { port ≤ LAST_PORT }
         ensures { result ≡ record { root = root; level = level; parent = parent; port = port } }
     {
         Position {
@@ -54,7 +56,7 @@ impl Position {
     /// How many links it is to the root, 0 to 125.
     pub fn level(&self) -> u8
         ensures level { result ≡ self.now.level }
-        ensures most { self.now.level ≤ 125 }
+        ensures most { self.now.level ≤ MOST_LEVEL }
     {
         self.level
     }
@@ -69,7 +71,7 @@ impl Position {
     /// The holder's own port to its parent, 1 to 12; 0 at a root.
     pub fn port(&self) -> u8
         ensures port { result ≡ self.now.port }
-        ensures most { self.now.port ≤ 12 }
+        ensures most { self.now.port ≤ LAST_PORT }
     {
         self.port
     }

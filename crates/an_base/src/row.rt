@@ -1,24 +1,27 @@
 ghost use Rattle.std.specs.Prelude.{◌≡◌, ◌==◌, ◌<◌, ◌≤◌, [], ◌∷◌, ◌++◌, length, All};
+ghost use Rattle.an_base.specs.declared.limits.TheConstants.{LAST_PORT, PORTS};
 
-use crate::links::MOST_LINKS;
+use crate::limits::PORTS;
 use std::marker::Model;
 
 /// The ports, 1 to 12, by which a packet may leave, rising, which contracts see as a list.
 #[derive(Debug, Drop)]
 pub struct Exits {
-    ports: [u8; 12],
+    ports: [u8; PORTS],
     len: usize,
 }
 
 impl Model for Exits {
     ghost use Rattle.std.specs.Prelude.{List, ℕ, take, ◌≤◌};
     ghost use Rattle.an_base.specs.Rows.{ArePorts, ExitsRise};
+    ghost use Rattle.an_base.specs.declared.limits.TheConstants.{PORTS};
 
     ghost Value = { List ℕ };
 
     ghost view = { λ e. take e.len e.ports };
 
-    ghost invariant = { λ e. (e.len ≤ 12) × ArePorts (take e.len e.ports) × ExitsRise (take e.len e.ports) };
+    ghost invariant = { λ e.
+        (e.len ≤ PORTS) × ArePorts (take e.len e.ports) × ExitsRise (take e.len e.ports) };
 }
 
 impl Exits {
@@ -30,7 +33,7 @@ impl Exits {
         ensures { result ≡ [] }
     {
         Exits {
-            ports: [1; MOST_LINKS],
+            ports: [1; PORTS],
             len: 0,
         }
     }
@@ -52,7 +55,7 @@ impl Exits {
     /// The exits, rising.
     pub fn as_slice(&self) -> &[u8]
         ensures all { result.now ≡ self.now }
-        ensures most { length self.now ≤ 12 }
+        ensures most { length self.now ≤ PORTS }
         ensures ports { ArePorts self.now }
         ensures rising { ExitsRise self.now }
     {
@@ -71,9 +74,9 @@ impl Exits {
 
     /// Adds an exit at the end, 1 to 12 and above those before it.
     pub fn push(&mut self, port: u8)
-        requires room { length self.old < 12 }
+        requires room { length self.old < PORTS }
         requires least { 1 ≤ port }
-        requires most { port ≤ 12 }
+        requires most { port ≤ LAST_PORT }
         requires rising { All (λ p. p < port) self.old }
         ensures { self.new ≡ self.old ++ port ∷ [] }
     {

@@ -1,8 +1,19 @@
-ghost use Rattle.std.specs.Prelude.{◌≡◌, ◌==◌, length, IfOk};
+ghost use Rattle.std.specs.Prelude.{◌≡◌, ◌==◌, ◌++◌, length, IfOk, OnOk, OnErr};
+ghost use Rattle.std.specs.Fmt.{decimal};
 
 use crate::memory::OutOfMemory;
-use std::alloc::Global;
+use std::alloc::{AllocError, Global};
 use std::marker::Model;
+
+/// Appends a number in decimal. After want of memory the text is as it was. The error is that of
+/// std, so that `?` serves callers with either error.
+pub fn push_decimal(alloc: Global, text: &mut Vec<u8>, number: u64) -> Result<(), AllocError>
+    ensures ok { OnOk result (text.new.items ≡ text.old.items ++ decimal number) }
+    ensures err { OnErr result (text.new.items ≡ text.old.items) }
+{
+    let digits = format!(in alloc; "{number}")?;
+    text.extend_from_slice(digits.as_bytes())
+}
 
 /// Bytes on the heap, which contracts see as a list.
 #[derive(Debug, Drop)]
@@ -105,6 +116,15 @@ impl Word {
 mod tests {
     use super::*;
     use std::test::Fail;
+
+    #[test]
+    fn a_number_is_appended_in_decimal(rt: HostRuntime) -> Result<(), Fail> {
+        let mut text = Vec::from_slice(rt.alloc(), b"S")?;
+        push_decimal(rt.alloc(), &mut text, 0)?;
+        push_decimal(rt.alloc(), &mut text, u64::MAX)?;
+        assert_eq!(rt; text.as_slice(), b"S018446744073709551615".as_slice());
+        Ok(())
+    }
 
     #[test]
     fn a_word_is_its_bytes(rt: HostRuntime) -> Result<(), Fail> {

@@ -1,2 +1,6 @@
 pub mod Status
 pub mod Answer
+pub mod Expect
+pub mod Check
+pub mod Flood
+pub mod Words

@@ -1,3 +1,5 @@
+-- The number and the line of each status.
+
 use Rattle.std.specs.Prelude.{ℕ, List, [], ◌++◌, codes}
 use Rattle.std.specs.Fmt.{decimal}
 use Rattle.net_script.specs.Causes.{cause_text}
@@ -17,8 +19,9 @@ code_of OutOfMemory = 9
 -- the line of a status
 abbrev pub line_of : Status → List ℕ
 line_of Ok = []
-line_of Usage = codes "usage: autonet expect, run, replay, check or gen SEED N\n"
-line_of (ScriptRefused line cause) = codes "autonet: script line " ++ decimal line ++ codes ": " ++ cause_text cause ++ codes "\n"
+line_of Usage = codes "usage: autonet expect, run, replay, check, flow B, flood or gen SEED N\n"
+line_of (ScriptRefused line cause) =
+    codes "autonet: script line " ++ decimal line ++ codes ": " ++ cause_text cause ++ codes "\n"
 line_of ReadFault = codes "autonet: read fault\n"
 line_of WriteFault = codes "autonet: write fault\n"
 line_of TablesRefused = codes "autonet: tables refused\n"

@@ -1,51 +1,50 @@
-ghost use Rattle.std.specs.Prelude.{IfOk, IfErr};
-ghost use Rattle.net_script.specs.TableTexts.{IsFaultWith};
-ghost use Rattle.autonet.specs.Answer.{seen, streams, gives_judged, IsCause, IsCheckAnswer, IsInput, IsJudgedOf, IsStop};
+ghost use Rattle.std.specs.Prelude.{◌≡◌};
+ghost use Rattle.autonet.specs.Check.{gives_judged, refuses_tables, status_of};
+ghost use Rattle.autonet.specs.Answer.{streams};
+ghost use Rattle.autonet.specs.Words.{IsCheckAnswer};
 
-use crate::input::{INPUT_LIMIT, read_input, refused};
-use crate::status::{Status, finish};
-use net_script::table_reader::read_with_tables;
-use outside::all::write_all;
+use crate::command::{Command, Given, answer};
+use crate::input::refused;
+use crate::status::Status;
 use outside::sink::Sink;
 use outside::source::Source;
-use report::check::{Judgement, judge};
+use report::check::judge;
 use std::alloc::Global;
+use table_script::table_reader::read_with_tables;
 
-// What comes of checking the tables that the source gives, or why there is nothing.
-fn judged<S: Source>(alloc: Global, source: &mut S) -> Result<Judgement, Status>
-    ensures found { IfOk result (λ j. IsInput INPUT_LIMIT (IsJudgedOf j.passed j.text.items) (seen (S.left source.old) (S.faults source.old)) (seen (S.left source.new) (S.faults source.new))) }
-    ensures stopped { IfErr result (IsStop INPUT_LIMIT IsFaultWith (seen (S.left source.old) (S.faults source.old)) (seen (S.left source.new) (S.faults source.new))) }
+/// The command `check`: for a script with routing tables, the ranks of the channels and `ok`, or the
+/// line that says why the tables are refused.
+#[derive(Clone, Copy, Debug)]
+pub struct Check;
+
+// The status of tables that pass, and of those that do not.
+fn status_of(passed: bool) -> Status
+    ensures { result ≡ status_of passed }
 {
-    let bytes = read_input(alloc, source)?;
-    let (script, tables) = match read_with_tables(alloc, &bytes) {
-        Ok(read) => read,
-        Err(refusal) => return Err(refused(refusal)),
-    };
-    match judge(alloc, &script, &tables) {
-        Ok(judgement) => Ok(judgement),
-        Err(_memory) => Err(Status::OutOfMemory),
+    if passed {
+        Status::Ok
+    } else {
+        Status::TablesRefused
     }
 }
 
-// Writes the text, or answers why there is none.
-fn answer<S: Source, O: Sink>(alloc: Global, source: &mut S, out: &mut O) -> Status
-    ensures { IsCause INPUT_LIMIT gives_judged IsFaultWith
-        (seen (S.left source.old) (S.faults source.old)) (seen (S.left source.new) (S.faults source.new))
-        (seen (O.written out.old) (O.faults out.old)) (seen (O.written out.new) (O.faults out.new)) result }
-{
-    let judgement = match judged(alloc, source) {
-        Ok(judgement) => judgement,
-        Err(status) => return status,
-    };
-    match write_all(out, &judgement.text) {
-        Ok(()) => {
-            if judgement.passed {
-                Status::Ok
-            } else {
-                Status::TablesRefused
-            }
+impl Command for Check {
+    ghost gives = { λ _. gives_judged };
+
+    ghost refuses = { λ _. refuses_tables };
+
+    fn given(&self, alloc: Global, bytes: &[u8]) -> Result<Given, Status> {
+        let (script, tables) = match read_with_tables(alloc, bytes) {
+            Ok(read) => read,
+            Err(refusal) => return Err(refused(refusal)),
+        };
+        match judge(alloc, &script, &tables) {
+            Ok(judgement) => Ok(Given {
+                status: status_of(judgement.passed),
+                text: judgement.text,
+            }),
+            Err(_memory) => Err(Status::OutOfMemory),
         }
-        Err(_fault) => Status::WriteFault,
     }
 }
 
@@ -58,10 +57,9 @@ pub fn autonet_check<S: Source, O: Sink, E: Sink>(
     out: &mut O,
     err: &mut E,
 ) -> u8
-    ensures { IsCheckAnswer INPUT_LIMIT
-        (streams (seen (S.left source.old) (S.faults source.old)) (seen (O.written out.old) (O.faults out.old)) (seen (E.written err.old) (E.faults err.old)))
-        (streams (seen (S.left source.new) (S.faults source.new)) (seen (O.written out.new) (O.faults out.new)) (seen (E.written err.new) (E.faults err.new))) result }
+    ensures { IsCheckAnswer
+        (streams (S.seen source.old) (O.seen out.old) (E.seen err.old))
+        (streams (S.seen source.new) (O.seen out.new) (E.seen err.new)) result }
 {
-    let status = answer(alloc, source, out);
-    finish(alloc, err, status)
+    answer(&Check, alloc, source, out, err)
 }

@@ -6,7 +6,9 @@
 #![tactic(auto)]
 
 mod check;
+mod command;
 mod expect;
+mod flood;
 mod input;
 mod law;
 mod status;

@@ -1,9 +1,9 @@
-ghost use Rattle.std.specs.Prelude.{◌≡◌, ◌++◌, IfOk, OnOk};
-ghost use Rattle.std.specs.Fmt.{decimal};
+ghost use Rattle.std.specs.Prelude.{◌≡◌, IfOk};
 ghost use Rattle.autonet.specs.declared.status.Status.TheVariants.{ScriptRefused};
 ghost use Rattle.autonet.specs.Status.{code_of, line_of};
-ghost use Rattle.autonet.specs.Answer.{IsTold, IsToldOrWant, seen};
+ghost use Rattle.autonet.specs.Answer.{IsTold, IsToldOrWant};
 
+use an_base::text::push_decimal;
 use net_script::cause::ScriptCause;
 use outside::all::write_all;
 use outside::sink::Sink;
@@ -56,26 +56,18 @@ fn refusal(alloc: Global, line: u32, cause: ScriptCause) -> Result<Vec<u8>, Allo
 {
     let mut text = Vec::new(alloc);
     text.extend_from_slice(b"autonet: script line ")?;
-    push_number(alloc, &mut text, line)?;
+    push_decimal(alloc, &mut text, u64::from(line))?;
     text.extend_from_slice(b": ")?;
     text.extend_from_slice(cause.text().as_bytes())?;
     text.extend_from_slice(b"\n")?;
     Ok(text)
 }
 
-// Appends a number in decimal.
-fn push_number(alloc: Global, text: &mut Vec<u8>, n: u32) -> Result<(), AllocError>
-    ensures { OnOk result (text.new.items ≡ text.old.items ++ decimal n) }
-{
-    let number = format!(in alloc; "{n}")?;
-    text.extend_from_slice(number.as_bytes())
-}
-
 // Writes the line of a status to err, and answers the status' number, or that of a write fault where
 // err did not take the whole line.
 fn tell<E: Sink>(err: &mut E, status: Status, line: &[u8]) -> u8
     requires { line.now ≡ line_of status }
-    ensures { IsTold (seen (E.written err.old) (E.faults err.old)) (seen (E.written err.new) (E.faults err.new)) status result }
+    ensures { IsTold (E.seen err.old) (E.seen err.new) status result }
 {
     if status == Status::Ok {
         return status.code();
@@ -90,14 +82,14 @@ fn tell<E: Sink>(err: &mut E, status: Status, line: &[u8]) -> u8
 /// where err did not take the whole line. Where no memory is found for the line of a refused script,
 /// that is told in its place.
 pub fn finish<E: Sink>(alloc: Global, err: &mut E, status: Status) -> u8
-    ensures { IsToldOrWant (seen (E.written err.old) (E.faults err.old)) (seen (E.written err.new) (E.faults err.new)) status result }
+    ensures { IsToldOrWant (E.seen err.old) (E.seen err.new) status result }
 {
     match status {
         Status::Ok => tell(err, status, b""),
         Status::Usage => tell(
             err,
             status,
-            b"usage: autonet expect, run, replay, check or gen SEED N\n",
+            b"usage: autonet expect, run, replay, check, flow B, flood or gen SEED N\n",
         ),
         Status::ScriptRefused { line, cause } => match refusal(alloc, line, cause) {
             Ok(text) => tell(err, status, &text),

@@ -1,9 +1,10 @@
-ghost use Rattle.std.specs.Prelude.{◌≡◌, ◌≢◌, ◌≤◌, ◌↔◌, [], ◌∷◌, codes, IsTrue};
-ghost use Rattle.autonet.specs.Answer.{seen, streams, IsCheckAnswer, IsExpectAnswer, IsUsageAnswer};
+ghost use Rattle.std.specs.Prelude.{◌≡◌, ◌≤◌, ◌↔◌, [], ◌∷◌, IsTrue};
+ghost use Rattle.autonet.specs.Answer.{streams};
+ghost use Rattle.autonet.specs.Words.{IsAnswerTo};
 
 use crate::check::autonet_check;
 use crate::expect::autonet_expect;
-use crate::input::INPUT_LIMIT;
+use crate::flood::autonet_flood;
 use crate::status::{Status, finish};
 use an_base::text::Word;
 use outside::sink::Sink;
@@ -32,21 +33,18 @@ pub fn autonet<R: Threads + Wait + Sync, S: Source, O: Sink, E: Sink>(
     out: &mut O,
     err: &mut E,
 ) -> u8
-    ensures expect { words.now ≡ codes "expect" ∷ [] → IsExpectAnswer INPUT_LIMIT
-        (streams (seen (S.left source.old) (S.faults source.old)) (seen (O.written out.old) (O.faults out.old)) (seen (E.written err.old) (E.faults err.old)))
-        (streams (seen (S.left source.new) (S.faults source.new)) (seen (O.written out.new) (O.faults out.new)) (seen (E.written err.new) (E.faults err.new))) result }
-    ensures check { words.now ≡ codes "check" ∷ [] → IsCheckAnswer INPUT_LIMIT
-        (streams (seen (S.left source.old) (S.faults source.old)) (seen (O.written out.old) (O.faults out.old)) (seen (E.written err.old) (E.faults err.old)))
-        (streams (seen (S.left source.new) (S.faults source.new)) (seen (O.written out.new) (O.faults out.new)) (seen (E.written err.new) (E.faults err.new))) result }
-    ensures usage { words.now ≢ codes "expect" ∷ [] → words.now ≢ codes "check" ∷ [] → IsUsageAnswer
-        (streams (seen (S.left source.old) (S.faults source.old)) (seen (O.written out.old) (O.faults out.old)) (seen (E.written err.old) (E.faults err.old)))
-        (streams (seen (S.left source.new) (S.faults source.new)) (seen (O.written out.new) (O.faults out.new)) (seen (E.written err.new) (E.faults err.new))) result }
+    ensures { IsAnswerTo words.now
+        (streams (S.seen source.old) (O.seen out.old) (E.seen err.old))
+        (streams (S.seen source.new) (O.seen out.new) (E.seen err.new)) result }
 {
     if is_word(words, b"expect") {
         return autonet_expect(alloc, source, out, err);
     }
     if is_word(words, b"check") {
         return autonet_check(alloc, source, out, err);
+    }
+    if is_word(words, b"flood") {
+        return autonet_flood(alloc, source, out, err);
     }
     finish(alloc, err, Status::Usage)
 }
@@ -64,7 +62,25 @@ mod tests {
     const TWO_EXPECTED: &[u8] =
         b"component A members 2\nmember A level 0\nmember B level 1 parent A port 1\nnumber A 1\nnumber B 2\nrow A 0 2:1\nrow A 1 2:1\nrow B 0 1:1\nrow B 1 1:-\nend\n";
 
-    const USAGE: &[u8] = b"usage: autonet expect, run, replay, check or gen SEED N\n";
+    const TWO_FLOODED: &[u8] =
+        b"flood A\ndown A 1\ncopies 2\nflood B\nup B 1\ndown A 1\ncopies 2\nend\n";
+
+    const USAGE: &[u8] =
+        b"usage: autonet expect, run, replay, check, flow B, flood or gen SEED N\n";
+
+    // The ring of four with its tables, before and behind the exits of D for what came down from B to C.
+    const RING_BEFORE: &[u8] = b"autonet 1\nswitch A 000000000001\nswitch B 000000000002\n\
+        switch C 000000000003\nswitch D 000000000004\nlink A 1 B 1\nlink B 2 D 1\n\
+        link C 2 D 2\nlink A 2 C 1\nend\nnumber A 1\nnumber B 2\nnumber C 3\n\
+        number D 4\nrow A 0 2:1 3:2 4:1/2\nrow A 1 2:1 3:2 4:1/2\n\
+        row A 2 2:1 3:2 4:1/2\nrow B 0 1:1 3:1 4:2\nrow B 1 1:- 3:- 4:2\n\
+        row B 2 1:1 3:1 4:2\nrow C 0 1:1 2:1 4:2\nrow C 1 1:- 2:- 4:2\n\
+        row C 2 1:1 2:1 4:2\nrow D 0 1:1/2 2:1 3:2\nrow D 1 1:- 2:- 3:";
+
+    const RING_BEHIND: &[u8] = b"\nrow D 2 1:- 2:- 3:-\nend\n";
+
+    const RANKS: &[u8] = b"rank A 1 1\nrank A 2 1\nrank B 1 2\nrank B 2 0\nrank C 1 2\nrank C 2 0\n\
+        rank D 1 3\nrank D 2 3\nok\n";
 
     // The streams of a call: the input, how much one read gives, and the calls that fail.
     #[derive(Drop)]
@@ -119,10 +135,41 @@ mod tests {
     }
 
     #[test]
+    fn a_broadcast_goes_up_to_the_root_and_down(rt: HostRuntime) -> Result<(), Fail> {
+        let mut streams = Streams::new(rt.alloc(), TWO, 100)?;
+        assert_eq!(rt; answer(&rt, rt.alloc(), &[b"flood"], &mut streams)?, 0);
+        assert_eq!(rt; streams.out.bytes(), TWO_FLOODED);
+        assert_eq!(rt; streams.err.bytes(), b"".as_slice());
+        Ok(())
+    }
+
+    #[test]
     fn the_empty_network_has_no_component(rt: HostRuntime) -> Result<(), Fail> {
         let mut streams = Streams::new(rt.alloc(), b"autonet 1\nend\n", 100)?;
         assert_eq!(rt; answer(&rt, rt.alloc(), &[b"expect"], &mut streams)?, 0);
         assert_eq!(rt; streams.out.bytes(), b"end\n".as_slice());
+        Ok(())
+    }
+
+    #[test]
+    fn tables_pass_or_the_least_cycle_is_named(rt: HostRuntime) -> Result<(), Fail> {
+        for (exits, code, out, err) in [
+            (b"-".as_slice(), 0, RANKS, b"".as_slice()),
+            (
+                b"2".as_slice(),
+                8,
+                b"refused cycle A:1 B:2 D:2 C:1\n".as_slice(),
+                b"autonet: tables refused\n".as_slice(),
+            ),
+        ] {
+            let mut input = RING_BEFORE.to_vec(rt.alloc())?;
+            input.extend_from_slice(exits)?;
+            input.extend_from_slice(RING_BEHIND)?;
+            let mut streams = Streams::new(rt.alloc(), &input, 100)?;
+            assert_eq!(rt; answer(&rt, rt.alloc(), &[b"check"], &mut streams)?, code);
+            assert_eq!(rt; streams.out.bytes(), out);
+            assert_eq!(rt; streams.err.bytes(), err);
+        }
         Ok(())
     }
 

@@ -12,7 +12,7 @@ use Rattle.dep_check.specs.Search.{IsStepOf, Step, AreSteps, IsLinked, AreRanked
 use Rattle.dep_check.proofs.SpotLemmas.{option_cases, spot_true, spot_cases}
 use Rattle.dep_check.proofs.LevelLemmas.{step_spot}
 use Rattle.dep_check.proofs.RankLemmas.{late_cycle}
-use Rattle.dep_check.proofs.CycleLemmas.{from_spot}
+use Rattle.dep_check.proofs.CycleLemmas.{from_spot, from_linked, path_down, first_step}
 use Rattle.dep_check.proofs.BridgeLemmas.{wire_spot, step_leads, leads_step}
 
 -- the same walks by another relation
@@ -35,14 +35,6 @@ least_map R S there back (c ∷ cs) least = record {
   first = λ d ds cycle. least.first d ds (path_map S R back d ds d cycle);
 }
 
--- a channel that leads somewhere has a link
-from_linked_of : (wires : List (Option Channel)) (exits : List PortSet) (to : Option ℕ) (s : Channel) (e : ℕ) (b : Channel) → to ≡ None → IsStepOf wires exits to s e b → (far : Channel) × (wire_at wires s ≡ Some far)
-from_linked_of wires exits None s e b none is = (record { at = b.at; port = is.entry }, is.arrives)
-from_linked_of wires exits (Some to) s e b none is = absurd (cc)
-
-from_linked : (steps : Steps) (s b : Channel) → steps.to ≡ None → Step steps s b → IsLinked steps s
-from_linked steps s b none (e, is) = from_linked_of steps.wires.items steps.exits.items steps.to s e b none is
-
 module _ (wires : List (Option Channel)) (rows : List RowOf) (steps : Steps) (levels : List (Option ℕ)) (within : WiresAreWithin wires) (are : AreSteps wires rows None steps) (ranked : AreRanked steps levels) where
   -- where some channel has no rank there is a cycle
   pub some_cycle : (s : Channel) → IsSpot s → IsLinked steps s → level_at levels s ≡ None → (found : Option (List Channel)) → MatchOption found (HasNoCycle (Step steps)) (IsLeastCycle (Step steps)) → IsSome found
@@ -59,27 +51,13 @@ module _ (wires : List (Option Channel)) (rows : List RowOf) (steps : Steps) (le
       | inr some ↦ some
     ]
 
-    -- ranks fall along a path
-    path_down : (a : Channel) (cs : List Channel) (z : Channel) (n : ℕ) → IsSpot a → level_at levels a ≡ Some n → Path (Step steps) a cs z → (m : ℕ) × (level_at levels z ≡ Some m) × (m < n)
-    path_down a [] z n spot level step = (ranked.ranked a n spot level).above z step
-    path_down a (c ∷ cs) z n spot level (step, path) =
-        let down = (ranked.ranked a n spot level).above c step in
-        let rest = path_down c cs z down.0 (step_spot steps a c step) down.1 path in
-        let x = down.2 in
-        let y = rest.2 in
-        (rest.0, rest.1, omega arith)
-
-    first_step : (a : Channel) (cs : List Channel) (z : Channel) → Path (Step steps) a cs z → (b : Channel) × Step steps a b
-    first_step a [] z step = (z, step)
-    first_step a (c ∷ cs) z (step, path) = (c, step)
-
     -- so where all channels have ranks there is no cycle
     pub no_cycle : HasNoCycle (LeadsTo (wire_at wires) rows)
     no_cycle = no_cycle_map (LeadsTo (wire_at wires) rows) (Step steps) (leads_step wires rows steps within are) (λ c cs cycle.
-        let first = first_step c cs c cycle in
+        let first = first_step steps c cs c cycle in
         let spot = from_spot steps c first.0 are.to first.1 in
         let rank = rank_of c spot (from_linked steps c first.0 are.to first.1) in
-        let down = path_down c cs c rank.0 spot rank.1 cycle in
+        let down = path_down steps levels ranked c cs c rank.0 spot rank.1 cycle in
         let same : rank.0 ≡ down.0 = same_Some rank.0 down.0 (sym rank.1 ∙ down.1) in
         let less = down.2 in
         absurd (omega arith))

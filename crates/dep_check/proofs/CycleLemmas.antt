@@ -11,7 +11,7 @@ use Rattle.dep_check.specs.declared.exits.PortSet.{PortSet}
 use Rattle.dep_check.specs.declared.steps.Steps.{Steps}
 use Rattle.dep_check.specs.Cycles.{channel_cmp, Walk, Path, IsCycle, IsLeastFrom, IsLeastCycle, IsLeastCycleFrom}
 use Rattle.dep_check.specs.Tables.{IsSpot, place_of, level_at, wire_at}
-use Rattle.dep_check.specs.Search.{IsStepOf, IsStep, Step, AreNearest, IsNextAt, HasNextAt, IsLeastBehind, LeastBehind, Descends}
+use Rattle.dep_check.specs.Search.{IsStepOf, IsStep, Step, IsLinked, HasNoRank, AreRanked, AreNearest, IsNextAt, HasNextAt, IsLeastBehind, LeastBehind, Descends}
 use Rattle.dep_check.proofs.SpotLemmas.{option_cases, spot_cases}
 use Rattle.dep_check.proofs.StepLemmas.{step_low}
 use Rattle.dep_check.proofs.LevelLemmas.{step_spot}
@@ -84,6 +84,45 @@ next_found steps levels s b e n none is level before = record {
     | inr more ↦ order_of steps.wires.items steps.exits.items steps.to s b c e f none is step (omega arith)
   ];
 }
+
+-- a channel that leads somewhere has a link
+from_linked_of : (wires : List (Option Channel)) (exits : List PortSet) (to : Option ℕ) (s : Channel) (e : ℕ) (b : Channel) → to ≡ None → IsStepOf wires exits to s e b → (far : Channel) × (wire_at wires s ≡ Some far)
+from_linked_of wires exits None s e b none is = (record { at = b.at; port = is.entry }, is.arrives)
+from_linked_of wires exits (Some to) s e b none is = absurd (cc)
+
+pub from_linked : (steps : Steps) (s b : Channel) → steps.to ≡ None → Step steps s b → IsLinked steps s
+from_linked steps s b none (e, is) = from_linked_of steps.wires.items steps.exits.items steps.to s e b none is
+
+-- ranks fall along a path
+pub path_down : (steps : Steps) (levels : List (Option ℕ)) → AreRanked steps levels → (a : Channel) (cs : List Channel) (z : Channel) (n : ℕ) → IsSpot a → level_at levels a ≡ Some n → Path (Step steps) a cs z → (m : ℕ) × (level_at levels z ≡ Some m) × (m < n)
+path_down steps levels ranked a [] z n spot level step = (ranked.ranked a n spot level).above z step
+path_down steps levels ranked a (c ∷ cs) z n spot level (step, path) =
+    let down = (ranked.ranked a n spot level).above c step in
+    let rest = path_down steps levels ranked c cs z down.0 (step_spot steps a c step) down.1 path in
+    let x = down.2 in
+    let y = rest.2 in
+    (rest.0, rest.1, omega arith)
+
+pub first_step : (steps : Steps) (a : Channel) (cs : List Channel) (z : Channel) → Path (Step steps) a cs z → (b : Channel) × Step steps a b
+first_step steps a [] z step = (z, step)
+first_step steps a (c ∷ cs) z (step, path) = (c, step)
+
+-- what is on a cycle has a link and no rank
+pub cycle_rankless : (steps : Steps) (ranks : List (Option ℕ)) → steps.to ≡ None → AreRanked steps ranks → (c : Channel) (cs : List Channel) → IsCycle (Step steps) c cs → HasNoRank steps ranks c
+cycle_rankless steps ranks channels ranked c cs cycle =
+    let first = first_step steps c cs c cycle in
+    record {
+      link = from_linked steps c first.0 channels first.1;
+      none = elim (option_cases (level_at ranks c)) [
+        | inl none ↦ none
+        | inr rank ↦ (
+            let spot = from_spot steps c first.0 channels first.1 in
+            let down = path_down steps ranks ranked c cs c rank.0 spot rank.1 cycle in
+            let same : rank.0 ≡ down.0 = same_Some rank.0 down.0 (sym rank.1 ∙ down.1) in
+            let less = down.2 in
+            absurd (omega arith))
+      ];
+    }
 
 -- the least level, with one exit more
 pub behind_same : (steps : Steps) (levels : List (Option ℕ)) (s : Channel) (e : ℕ) (best : Option ℕ) → ((b : Channel) (m : ℕ) → IsStep steps s e b → level_at levels b ≡ Some m → ⊥) → LeastBehind steps levels s e best → LeastBehind steps levels s (e + 1) best

@@ -8,40 +8,20 @@ use Rattle.an_base.specs.Numbers.{AreNumbers}
 use Rattle.dep_check.specs.declared.channel.Channel.{Channel}
 use Rattle.dep_check.specs.declared.steps.Steps.{Steps}
 use Rattle.dep_check.specs.declared.gap.Pair.{Pair}
-use Rattle.dep_check.specs.Cycles.{Walk}
 use Rattle.dep_check.specs.Packets.{MeetsGap, AllAreJoined, IsLeastGap}
-use Rattle.dep_check.specs.Tables.{IsSpot, level_at, wire_at, WiresAreWithin}
-use Rattle.dep_check.specs.Search.{AreSteps, AreNearest, IsStuck, Step}
-use Rattle.dep_check.specs.Pairs.{IsStuckFrom, FirstStuck, IsParted, FirstOf, IsLeastParted, IsLeastPair, GetsStuck, IsLeastEnd}
-use Rattle.dep_check.proofs.SpotLemmas.{option_cases}
+use Rattle.dep_check.specs.Tables.{IsSpot, wire_at, WiresAreWithin}
+use Rattle.dep_check.specs.Search.{AreSteps}
+use Rattle.dep_check.specs.Walks.{IsClear, IsWalked}
+use Rattle.dep_check.specs.Pairs.{IsStuckFrom, StaysClear, FirstStuck, IsParted, FirstOf, IsLeastParted, IsLeastPair, IsLeastEnd}
 use Rattle.dep_check.proofs.BridgeLemmas.{stuck_meets, meets_stuck, number_low}
+use Rattle.dep_check.proofs.WalkLemmas.{clear_walked, clear_never}
 
 -- what a test of an option says
-pub not_some : {A : Type 0} (o p : Option A) (b : Bool) (x : A) → o ≡ p → b ≡ is_some o → b ≡ false → p ≡ Some x → ⊥
-not_some o p b x e s f h = absurd (let t : is_some o ≡ true = rw (e, h) refl in cc)
-
-pub yes_some : {A : Type 0} (o p : Option A) (b : Bool) → o ≡ p → b ≡ is_some o → b ≡ true → (x : A) × (p ≡ Some x)
-yes_some o p b e s t = elim (option_cases p) [
-  | inl none ↦ absurd (let f : is_some o ≡ false = rw (e, none) refl in cc)
-  | inr some ↦ some
-]
-
 pub not_none : {A : Type 0} (o p : Option A) (b : Bool) (x : A) → o ≡ p → is_some o ≡ not b → b ≡ true → p ≡ Some x → ⊥
 not_none o p b x e s t h = absurd (let f : is_some o ≡ true = rw (e, h) refl in let n : not b ≡ false = rw t refl in cc)
 
 pub yes_none : {A : Type 0} (o p : Option A) (b : Bool) → o ≡ p → is_some o ≡ not b → b ≡ false → p ≡ None → ⊥
 yes_none o p b e s f h = absurd (let t : is_some o ≡ false = rw (e, h) refl in let n : not b ≡ true = rw f refl in cc)
-
--- packets get stuck at an end that is reached
-pub gets_cases : (steps : Steps) (levels : List (Option ℕ)) (start end : Channel) (o : Option ℕ) (b : Bool) → AreNearest steps (λ s. s ≡ end) levels → IsSpot start → IsStuck steps end → o ≡ level_at levels start → b ≡ is_some o → MatchBool b (GetsStuck steps start end) (GetsStuck steps start end → ⊥)
-gets_cases steps levels start end o true nearest spot stuck same is =
-    let some = yes_some o (level_at levels start) true same is refl in
-    let r = nearest.reached start some.0 spot some.1 in
-    (some.0, subst (λ (x : Channel). Walk (Step steps) some.0 start x) r.2 r.1, stuck)
-gets_cases steps levels start end o false nearest spot stuck same is = λ (n, walk, end_stuck). elim (option_cases (level_at levels start)) [
-  | inl none ↦ nearest.none start n spot none (end, walk, refl)
-  | inr some ↦ not_some o (level_at levels start) false some.0 same is refl some.1
-]
 
 -- the switch at which packets start
 abbrev pub start_of : ℕ → Channel
@@ -50,27 +30,41 @@ start_of from = record { at = from; port = 0 }
 pub start_spot : (from : ℕ) → from < 127 → IsSpot (start_of from)
 start_spot from low = record { at = low; port = omega arith }
 
--- the first switch from which a level is reached is the first that is not joined
-module _ (wires : List (Option Channel)) (rows : List RowOf) (numbers : List ℕ) (to : ℕ) (steps : Steps) (levels : List (Option ℕ)) (within : WiresAreWithin wires) (are : AreSteps wires rows (Some to) steps) (named : AreNumbers numbers) (to_in : Contains numbers to) (nearest : AreNearest steps (IsStuck steps) levels) where
-  parted_stuck : (f : ℕ) → IsParted (wire_at wires) numbers rows f to → IsStuckFrom numbers levels to f × (f < 127)
+-- the first switch from which packets get stuck is the first that is not joined
+module _ (wires : List (Option Channel)) (rows : List RowOf) (numbers : List ℕ) (to : ℕ) (steps : Steps) (within : WiresAreWithin wires) (are : AreSteps wires rows (Some to) steps) (named : AreNumbers numbers) (to_in : Contains numbers to) where
+  parted_stuck : (f : ℕ) → IsParted (wire_at wires) numbers rows f to → IsStuckFrom numbers steps to f × (f < 127)
   parted_stuck f parted =
       let low = number_low numbers f named parted.from_in in
-      let stuck = meets_stuck wires rows to steps within are f parted.end low parted.meets in (
-        elim (option_cases (level_at levels (start_of f))) [
-          | inl none ↦ absurd (nearest.none (start_of f) stuck.0.0 (start_spot f low) none (parted.end, stuck.0.1, stuck.0.2))
-          | inr some ↦ record { from_in = parted.from_in; apart = parted.apart; level = some.0; has = some.1 }
-        ],
-        low,
-      )
+      let stuck = meets_stuck wires rows to steps within are f parted.end low parted.meets in
+      (record { from_in = parted.from_in; apart = parted.apart; end = parted.end; gets = stuck.0 }, low)
 
-  stuck_parted : (f : ℕ) → f < 127 → IsStuckFrom numbers levels to f → IsParted (wire_at wires) numbers rows f to
-  stuck_parted f low stuck =
-      let r = nearest.reached (start_of f) stuck.level (start_spot f low) stuck.has in
-      record { from_in = stuck.from_in; to_in = to_in; apart = stuck.apart; end = r.0; meets = (stuck_meets wires rows to steps within are f r.0 low (stuck.level, r.1, r.2)).0 }
+  stuck_parted : (f : ℕ) → f < 127 → IsStuckFrom numbers steps to f → IsParted (wire_at wires) numbers rows f to
+  stuck_parted f low stuck = record { from_in = stuck.from_in; to_in = to_in; apart = stuck.apart; end = stuck.end; meets = (stuck_meets wires rows to steps within are f stuck.end low stuck.gets).0 }
 
-  pub first_parted : (found : Option ℕ) → FirstStuck numbers levels to 127 found → FirstOf (wire_at wires) numbers rows to found
+  pub first_parted : (found : Option ℕ) → FirstStuck numbers steps to 127 found → FirstOf (wire_at wires) numbers rows to found
   first_parted None first = λ f parted. let s = parted_stuck f parted in first f s.1 s.0
   first_parted (Some from) first = (stuck_parted from first.0 first.1, λ f parted. let s = parted_stuck f parted in first.2 f s.1 s.0)
+
+-- no packets get stuck from what is clear
+pub clear_from : (numbers : List ℕ) (steps : Steps) (to from : ℕ) (had seen : List Bool) → from < 127 → IsClear steps had → IsWalked steps (start_of from) had seen false → StaysClear numbers steps to from seen
+clear_from numbers steps to from had seen low clear walked =
+    let now = clear_walked steps (start_of from) had seen clear walked in
+    record {
+      count = walked.count;
+      clear = now;
+      none = λ stuck. clear_never steps seen now stuck.gets.0 (start_of from) stuck.end (start_spot from low) walked.begun stuck.gets.1 stuck.gets.2;
+    }
+
+-- a walk that tells so finds where they do
+pub stuck_found : (numbers : List ℕ) (steps : Steps) (to from : ℕ) (had seen : List Bool) → Contains numbers from → (from ≡ to → ⊥) → IsWalked steps (start_of from) had seen true → IsStuckFrom numbers steps to from
+stuck_found numbers steps to from had seen from_in apart walked =
+    let end = walked.found refl in
+    record { from_in = from_in; apart = apart; end = end.0; gets = (end.2.0, end.2.1, end.3) }
+
+-- the walk from the switch says both
+pub walk_tells : (numbers : List ℕ) (steps : Steps) (to from : ℕ) (had seen : List Bool) (stuck : Bool) → Contains numbers from → (from ≡ to → ⊥) → from < 127 → IsClear steps had → IsWalked steps (start_of from) had seen stuck → MatchBool stuck (IsStuckFrom numbers steps to from) (StaysClear numbers steps to from seen)
+walk_tells numbers steps to from had seen true from_in apart low clear walked = stuck_found numbers steps to from had seen from_in apart walked
+walk_tells numbers steps to from had seen false from_in apart low clear walked = clear_from numbers steps to from had seen low clear walked
 
 -- a target that is no number parts nothing
 pub no_target : (far : Channel → Option Channel) (numbers : List ℕ) (rows : List RowOf) (to : ℕ) → (Contains numbers to → ⊥) → FirstOf far numbers rows to None

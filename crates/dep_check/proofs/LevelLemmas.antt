@@ -1,13 +1,16 @@
-use Rattle.std.proofs.Common.{◌≡◌, ◌∙◌, sym, ap, subst, refl, ℕ, zero, suc, ◌+◌, ◌<◌, ◌≤◌, List, Option, Some, None, true, false, arith, inl, inr}
-use Rattle.std.specs.Prelude.{is_some, Result, Ok, Err, IfOk}
+use Rattle.std.proofs.Common.{◌≡◌, ◌∙◌, sym, ap, subst, refl, ℕ, zero, suc, ◌+◌, ◌<◌, ◌≤◌, List, Option, Some, None, Bool, true, false, arith, length, get_or, inl, inr}
+use Rattle.std.proofs.lemmas.List.{get_or_default}
+use Rattle.std.specs.Prelude.{is_some}
 use Rattle.std.proofs.lemmas.Option.{same_Some}
+use Rattle.an_base.proofs.ListLemmas.{some_is}
 use Rattle.dep_check.specs.declared.channel.Channel.{Channel}
 use Rattle.dep_check.specs.declared.exits.PortSet.{PortSet}
 use Rattle.dep_check.specs.declared.steps.Steps.{Steps}
 use Rattle.dep_check.specs.declared.level.Rule.TheVariants.{Nearest}
 use Rattle.dep_check.specs.Cycles.{Walk}
 use Rattle.dep_check.specs.Tables.{IsSpot, place_of, level_at, WiresAreWithin}
-use Rattle.dep_check.specs.Search.{IsStepOf, Step, IsRaised, AreRaised, IsGoal, AreGoals, Reaches, AreNearest, AreNearestBelow}
+use Rattle.dep_check.specs.Search.{IsStepOf, Step, IsRaised, AreRaised, Reaches, AreNearest, AreNearestBelow}
+use Rattle.dep_check.specs.Rounds.{AreGoals}
 use Rattle.dep_check.proofs.Pigeons.{pigeons}
 use Rattle.dep_check.proofs.SpotLemmas.{option_cases, place_low, one_spot}
 
@@ -17,20 +20,28 @@ step_spot_of wires exits None s e b within is = record { at = (within s (record 
 step_spot_of wires exits (Some to) s e b within is = within (record { at = s.at; port = e }) b is.link
 
 pub step_spot : (steps : Steps) (s b : Channel) → Step steps s b → IsSpot b
-step_spot steps s b (e, is) = step_spot_of steps.wires.items steps.exits.items steps.to s e b steps.within is
+step_spot steps s b (e, is) = step_spot_of steps.wires.items steps.exits.items steps.to s e b steps.links.within is
 
 pub walk_spot : (steps : Steps) (n : ℕ) (s g : Channel) → IsSpot s → Walk (Step steps) n s g → IsSpot g
 walk_spot steps zero s g spot same = subst (λ (x : Channel). IsSpot x) same spot
 walk_spot steps (suc n) s g spot (c, step, walk) = walk_spot steps n c g (step_spot steps s c step) walk
 
--- what is some, and what is none
-pub some_is : (o : Option ℕ) → is_some o ≡ true → (n : ℕ) × (o ≡ Some n)
-some_is None e = absurd (cc)
-some_is (Some n) e = (n, refl)
-
 pub none_is : (o : Option ℕ) → is_some o ≡ false → o ≡ None
 none_is None e = refl
 none_is (Some n) e = absurd (cc)
+
+-- what a test of a level says
+pub none_told : (o p : Option ℕ) (b : Bool) → o ≡ p → b ≡ is_some o → b ≡ false → p ≡ None
+none_told None p b same is e = sym same
+none_told (Some n) p b same is e = absurd (cc)
+
+pub some_told : (o p : Option ℕ) (b : Bool) → o ≡ p → b ≡ is_some o → b ≡ true → (n : ℕ) × (p ≡ Some n)
+some_told None p b same is e = absurd (cc)
+some_told (Some n) p b same is e = (n, sym same)
+
+-- what is read of a table is the level
+pub level_read : (levels : List (Option ℕ)) (place : ℕ) (spot : Channel) (o : Option ℕ) → place ≡ place_of spot → place < length levels → o ≡ get_or levels place o → o ≡ level_at levels spot
+level_read levels place spot o at low is = is ∙ get_or_default levels place o None low ∙ ap (λ (k : ℕ). get_or levels k None) at
 
 -- the levels of a table go down by one, from each to one of the next
 module _ (L : Channel → Option ℕ) (chain : (s : Channel) (n : ℕ) → IsSpot s → L s ≡ Some (suc n) → (b : Channel) × IsSpot b × (L b ≡ Some n)) where
@@ -78,18 +89,18 @@ module _ (L : Channel → Option ℕ) (chain : (s : Channel) (n : ℕ) → IsSpo
       absurd (omega arith)
 
 -- the levels at first
-pub nearest_first : (steps : Steps) (goals : List (Option ℕ)) → ((s : Channel) (n : ℕ) → IsSpot s → level_at goals s ≡ Some n → n ≡ 0) → AreNearestBelow steps (IsGoal goals) 1 goals
-nearest_first steps goals zeros = record {
-  reached = λ s n spot e. let z = zeros s n spot e in (rw z (s, refl, e ∙ ap (λ (m : ℕ). Some m) z), omega arith);
-  least = λ s n m spot e reach. let z = zeros s n spot e in omega arith;
-  none = λ s m spot e reach. go s m e reach;
+pub nearest_first : (steps : Steps) (Goal : Channel → Type 0) (goals : List (Option ℕ)) → AreGoals Goal goals → AreNearestBelow steps Goal 1 goals
+nearest_first steps Goal goals are = record {
+  reached = λ s n spot e. let h = are.some s n spot e in (rw h.0 (s, refl, h.1), omega arith);
+  least = λ s n m spot e reach. let h = (are.some s n spot e).0 in omega arith;
+  none = λ s m spot e reach. go s m spot e reach;
   last = inl refl;
   positive = omega arith;
 }
   where
-    go : (s : Channel) (m : ℕ) → level_at goals s ≡ None → Reaches steps (IsGoal goals) m s → 1 ≤ m
-    go s zero e (g, same, goal) = absurd (let f : level_at goals s ≡ Some 0 = ap (level_at goals) same ∙ goal in cc)
-    go s (suc m) e reach = omega arith
+    go : (s : Channel) (m : ℕ) → IsSpot s → level_at goals s ≡ None → Reaches steps Goal m s → 1 ≤ m
+    go s zero spot e (g, same, goal) = absurd (are.none s spot e (subst (λ (x : Channel). Goal x) (sym same) goal))
+    go s (suc m) spot e reach = omega arith
 
 module _ (steps : Steps) (Goal : Channel → Type 0) (r : ℕ) (old new : List (Option ℕ)) (so_far : AreNearestBelow steps Goal r old) (raised : AreRaised Nearest steps old r 1651 new) where
   at : (s : Channel) → IsSpot s → IsRaised Nearest steps old r s (level_at new s)
@@ -195,27 +206,3 @@ nearest_few steps Goal r levels so_far many = elim so_far.last [
               let same : some.0 ≡ n = omega arith in
               (c, c_spot, some.1 ∙ ap (λ (m : ℕ). Some m) same))
         ]
-
--- goals by their levels
-pub nearest_goals : (steps : Steps) (Goal : Channel → Type 0) (goals levels : List (Option ℕ)) → AreGoals Goal 1651 goals → AreNearest steps (IsGoal goals) levels → AreNearest steps Goal levels
-nearest_goals steps Goal goals levels are nearest = record {
-  reached = λ s n spot e. let r = nearest.reached s n spot e in let g_spot = walk_spot steps n s r.0 spot r.1 in (r.0, r.1, (are.some r.0 0 g_spot (place_low r.0 g_spot) r.2).1);
-  least = λ s n m spot e reach. nearest.least s n m spot e (back s m spot reach);
-  none = λ s m spot e reach. nearest.none s m spot e (back s m spot reach);
-}
-  where
-    back : (s : Channel) (m : ℕ) → IsSpot s → Reaches steps Goal m s → Reaches steps (IsGoal goals) m s
-    back s m spot (g, walk, goal) =
-        let g_spot = walk_spot steps m s g spot walk in
-        let low = place_low g g_spot in (
-          g,
-          walk,
-          elim (option_cases (level_at goals g)) [
-            | inl none ↦ absurd (are.none g g_spot low none goal)
-            | inr some ↦ some.1 ∙ ap (λ (n : ℕ). Some n) (are.some g some.0 g_spot low some.1).0
-          ],
-        )
-
-pub nearest_if : {V E : Type 0} (items : V → List (Option ℕ)) (steps : Steps) (Goal : Channel → Type 0) (goals : List (Option ℕ)) (end : ℕ) (r : Result V E) → end ≡ 1651 → AreGoals Goal end goals → IfOk r (λ v. AreNearest steps (IsGoal goals) (items v)) → IfOk r (λ v. AreNearest steps Goal (items v))
-nearest_if items steps Goal goals end (Ok v) all are nearest = nearest_goals steps Goal goals (items v) (subst (λ (n : ℕ). AreGoals Goal n goals) all are) nearest
-nearest_if items steps Goal goals end (Err e) all are nearest = tt

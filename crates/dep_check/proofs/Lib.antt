@@ -5,6 +5,9 @@ pub mod PushLemmas
 pub mod ExitLemmas
 pub mod LevelLemmas
 pub mod RankLemmas
+pub mod RoundLemmas
+pub mod WalkLemmas
+pub mod TargetLemmas
 pub mod CycleLemmas
 pub mod BridgeLemmas
 pub mod GapLemmas
@@ -12,4 +15,5 @@ pub mod IllegalLemmas
 pub mod WireLemmas
 pub mod CheckLemmas
 pub mod TableLaws
+pub mod PacketLaws
 pub mod OneAnswer

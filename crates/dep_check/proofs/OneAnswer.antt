@@ -8,6 +8,7 @@ use Rattle.std.proofs.lemmas.Bool.Decides.{nat_tests}
 use Rattle.std.proofs.lemmas.Option.{same_Some}
 use Rattle.an_base.specs.Values.{EntryOf}
 use Rattle.an_base.specs.Rows.{RowOf}
+use Rattle.an_base.proofs.OrderingLemmas.{then_equal, tied}
 use Rattle.dep_check.specs.declared.channel.Channel.{Channel}
 use Rattle.dep_check.specs.declared.refusal.CheckRefusal.{CheckRefusal}
 use Rattle.dep_check.specs.declared.refusal.CheckRefusal.TheVariants.{Cycle, NotJoined, IllegalExit, OutOfMemory}
@@ -20,25 +21,11 @@ use Rattle.dep_check.proofs.SpotLemmas.{option_cases}
 use Rattle.dep_check.proofs.CycleLemmas.{channel_same}
 use Rattle.dep_check.proofs.IllegalLemmas.{four_total}
 
--- what is not after, either way round, is equal
-equal_from : (o p : Ordering) → o ≡ ordering_reverse p → is_le o ≡ true → is_le p ≡ true → o ≡ Equal
-equal_from Less Less e a b = absurd (cc)
-equal_from Less Equal e a b = absurd (cc)
-equal_from Less Greater e a b = absurd (cc)
-equal_from Equal p e a b = refl
-equal_from Greater p e a b = absurd (cc)
-
 both_equal : {K : Type 0} {R : K → K → Ordering} → IsTotalOrder R → (x y : K) → is_le (R x y) ≡ true → is_le (R y x) ≡ true → R x y ≡ Equal
-both_equal {R} total x y a b = equal_from (R x y) (R y x) (total.antisymm x y) a b
+both_equal {R} total x y a b = tied (R x y) (R y x) (total.antisymm x y) a b
 
 channel_total : IsTotalOrder channel_cmp
 channel_total = then_total (on_total (λ c. c.at) nat_cmp_total) (on_total (λ c. c.port) nat_cmp_total)
-
--- equal lists are one
-then_equal : (o p : Ordering) → ordering_then o p ≡ Equal → (o ≡ Equal) × (p ≡ Equal)
-then_equal Less p e = absurd (cc)
-then_equal Equal p e = (refl, e)
-then_equal Greater p e = absurd (cc)
 
 list_same : (cs ds : List Channel) → slice_cmp channel_cmp cs ds ≡ Equal → cs ≡ ds
 list_same [] [] e = refl

@@ -1,9 +1,16 @@
 use Rattle.std.proofs.Common.{◌≡◌, ◌∙◌, sym, ap, subst, refl, ℕ, ◌<◌, List, Option, Some, None, true}
+use Rattle.std.specs.Prelude.{IfSome}
 use Rattle.std.proofs.lemmas.Option.{same_Some}
 use Rattle.dep_check.specs.declared.channel.Channel.{Channel}
 use Rattle.dep_check.specs.declared.exits.PortSet.{PortSet}
-use Rattle.dep_check.specs.Tables.{wire_at, has_at}
-use Rattle.dep_check.specs.Search.{Depends, IsStepOf}
+use Rattle.dep_check.specs.declared.steps.Steps.{Steps}
+use Rattle.dep_check.specs.Tables.{IsSpot, wire_at, has_at}
+use Rattle.dep_check.specs.Search.{ComesIn, Depends, IsStepOf, Step}
+
+-- where each answer is a spot, the answer is one
+pub if_spot : (o : Option Channel) → ((b : Channel) → o ≡ Some b → IsSpot b) → IfSome o IsSpot
+if_spot None all = tt
+if_spot (Some b) all = all b refl
 
 -- the exit of a step is a port
 pub step_low : (wires : List (Option Channel)) (exits : List PortSet) (to : Option ℕ) (s : Channel) (e : ℕ) (b : Channel) → IsStepOf wires exits to s e b → e < 13
@@ -21,3 +28,32 @@ channel_found wires exits s far link e low is has there b = (
       let same : far ≡ record { at = b.at; port = d.entry } = same_Some far (record { at = b.at; port = d.entry }) (sym is ∙ d.arrives) in
       ap (λ (x : Channel). Some (exit_of x e)) same ∙ ap (λ (p : ℕ). Some (exit_of b p)) (sym d.port),
 )
+
+-- a channel leads to another by what comes in at an entry, where the entry's far side is the channel
+pub came_in : (steps : Steps) (a b : Channel) (entry : ℕ) → IsSpot b → ComesIn steps a b entry → IsStepOf steps.wires.items steps.exits.items None a b.port b
+came_in steps a b entry spot comes = record { low = spot.port; entry = entry; arrives = comes.arrives; port = refl; has = comes.has; far = comes.link.0; link = comes.link.1 }
+
+pub comes_in : (steps : Steps) (a b : Channel) (e : ℕ) → (step : IsStepOf steps.wires.items steps.exits.items None a e b) → ComesIn steps a b step.entry
+comes_in steps a b e step = record {
+  arrives = step.arrives;
+  has = subst (λ (p : ℕ). has_at steps.exits.items (record { at = b.at; port = step.entry }) p ≡ true) (sym step.port) step.has;
+  link = (step.far, step.link);
+}
+
+pub before_found : (steps : Steps) (a b near link : Channel) (o : Option Channel) → near ≡ record { at = b.at; port = near.port } → has_at steps.exits.items near b.port ≡ true → wire_at steps.wires.items b ≡ Some link → o ≡ wire_at steps.wires.items near → (o ≡ Some a → ComesIn steps a b near.port) × (ComesIn steps a b near.port → o ≡ Some a)
+before_found steps a b near link o is has linked same = (
+  λ e. record {
+    arrives = steps.links.back near a (sym same ∙ e) ∙ ap (λ (c : Channel). Some c) is;
+    has = subst (λ (c : Channel). has_at steps.exits.items c b.port ≡ true) is has;
+    link = (link, linked);
+  },
+  λ comes. same ∙ ap (wire_at steps.wires.items) is ∙ steps.links.back a (record { at = b.at; port = near.port }) comes.arrives,
+)
+
+-- a step of channels comes in by an entry
+entry_at : (steps : Steps) (a b : Channel) (e : ℕ) (to : Option ℕ) → to ≡ None → IsStepOf steps.wires.items steps.exits.items to a e b → (entry : ℕ) × (entry < 13) × ComesIn steps a b entry
+entry_at steps a b e None none step = (step.entry, (steps.links.within a (record { at = b.at; port = step.entry }) step.arrives).port, comes_in steps a b e step)
+entry_at steps a b e (Some to) none step = absurd (cc)
+
+pub entry_of : (steps : Steps) (a b : Channel) → steps.to ≡ None → Step steps a b → (entry : ℕ) × (entry < 13) × ComesIn steps a b entry
+entry_of steps a b none (e, step) = entry_at steps a b e steps.to none step

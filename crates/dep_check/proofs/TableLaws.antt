@@ -9,12 +9,13 @@ use Rattle.an_base.specs.Values.{EntryOf}
 use Rattle.an_base.specs.Rows.{RowOf}
 use Rattle.an_base.specs.Numbers.{AreNumbers}
 use Rattle.topo_graph.specs.Topology.{far_of, IsGraph, IsTree}
+use Rattle.topo_graph.proofs.FarLemmas.{far_back}
 use Rattle.updown.specs.Routes.{is_up_end}
 use Rattle.updown.proofs.RouteLemmas.{not_both_higher, down_first}
 use Rattle.table_build.specs.Exits.{LeadsTo as WayTo, Begins, IsEntry, may_go_up}
 use Rattle.table_build.specs.Laws.{LeadsOn, ChannelWalk}
 use Rattle.table_build.specs.Tables.{IsRow}
-use Rattle.table_build.proofs.WayLaws.{far_back, entry_up, way_far, way_next, shortest_exit}
+use Rattle.table_build.proofs.WayLaws.{entry_up, way_far, way_next, shortest_exit}
 use Rattle.table_build.proofs.TreeRoutes.{joined}
 use Rattle.table_build.proofs.ShortestLaws.{has_shortest}
 use Rattle.table_build.proofs.CycleLaws.{no_cycle}
@@ -26,6 +27,7 @@ use Rattle.dep_check.specs.Illegal.{LeadsUp, AllAreLegal}
 use Rattle.dep_check.specs.Laws.{AreTables}
 use Rattle.dep_check.proofs.SpotLemmas.{option_cases}
 use Rattle.dep_check.proofs.BridgeLemmas.{place_found}
+use Rattle.dep_check.proofs.WireLemmas.{far_by, by_far}
 
 -- what came down may not go up
 no_turn : (es : List EntryOf) (x entry w q : ℕ) → IsGraph es → far_of es x entry ≡ Some (w, q) → is_up_end es w x ≡ true → may_go_up es x entry ≡ false
@@ -42,26 +44,6 @@ module _ (es : List EntryOf) (numbers : List ℕ) (any : Bool) (rows : List RowO
   -- the place of a number is one
   one_place : (x y n : ℕ) → x < length es → slice_index numbers x ≡ n → place_in numbers n ≡ Some y → x ≡ y
   one_place x y n low is place = same_Some x y (sym (place_found numbers x n named (omega arith) is) ∙ place)
-
-  -- the far side by places
-  far_by : (x p z q n : ℕ) → place_in numbers n ≡ Some x → far_of es x p ≡ Some (z, q) → far_at es numbers (record { at = n; port = p }) ≡ Some (record { at = slice_index numbers z; port = q })
-  far_by x p z q n place e =
-      ap (λ (o : Option ℕ). option_and_then (λ y. option_map (by_number numbers) (far_of es y p)) o) place ∙ ap (λ (o : Option (ℕ × ℕ)). option_map (by_number numbers) o) e
-
-  -- and back
-  by_far : (c end : Channel) → far_at es numbers c ≡ Some end → (x z : ℕ) × (place_in numbers c.at ≡ Some x) × (far_of es x c.port ≡ Some (z, end.port)) × (z < length es) × (slice_index numbers z ≡ end.at)
-  by_far c end e = elim (option_cases (place_in numbers c.at)) [
-    | inl none ↦ absurd (let gone : far_at es numbers c ≡ None = ap (λ (o : Option ℕ). option_and_then (λ y. option_map (by_number numbers) (far_of es y c.port)) o) none in cc)
-    | inr place ↦ (
-        let there : far_at es numbers c ≡ option_map (by_number numbers) (far_of es place.0 c.port) = ap (λ (o : Option ℕ). option_and_then (λ y. option_map (by_number numbers) (far_of es y c.port)) o) place.1 in
-        elim (option_cases (far_of es place.0 c.port)) [
-          | inl none ↦ absurd (let gone : option_map (by_number numbers) (far_of es place.0 c.port) ≡ None = ap (option_map (by_number numbers)) none in cc)
-          | inr far ↦ (
-              let is : by_number numbers far.0 ≡ end = same_Some (by_number numbers far.0) end (sym (ap (option_map (by_number numbers)) far.1) ∙ sym there ∙ e) in
-              let port : far.0.1 ≡ end.port = ap (λ (b : Channel). b.port) is in
-              (place.0, far.0.0, place.1, far.1 ∙ ap (λ (q : ℕ). Some (far.0.0, q)) port, (graph.within place.0 c.port far.0 far.1).far_place, ap (λ (b : Channel). b.at) is))
-        ])
-  ]
 
   -- an exit of a row begins a way
   begins : (x at entry to p : ℕ) → place_in numbers at ≡ Some x → HasExit rows at entry to p → (y : ℕ) × (y < length es) × (slice_index numbers y ≡ to) × Begins es any (may_go_up es x entry) x y p
@@ -86,7 +68,7 @@ module _ (es : List EntryOf) (numbers : List ℕ) (any : Bool) (rows : List RowO
       let b = begins mine.0 at entry to exit place h in
       let far = way_far es (may_go_up es mine.0 entry) mine.0 b.0 exit b.3.rest b.3.way in
       elim illegal.bad [
-        | inl gone ↦ absurd (let there = far_by mine.0 exit far.0 far.1 at place far.2 in cc)
+        | inl gone ↦ absurd (let there = far_by es numbers mine.0 exit far.0 far.1 at place far.2 in cc)
         | inr turns ↦ (
             let same : turns.place ≡ mine.0 = same_Some turns.place mine.0 (sym turns.is ∙ place) in
             let down : LeadsUp es mine.0 entry = subst (λ (n : ℕ). LeadsUp es n entry) same turns.came_down in
@@ -101,7 +83,7 @@ module _ (es : List EntryOf) (numbers : List ℕ) (any : Bool) (rows : List RowO
   -- a channel that leads to another one leads on by places
   leads_on : (a b : Channel) (x : ℕ) → place_in numbers a.at ≡ Some x → LeadsTo (far_at es numbers) rows a b → (y : ℕ) × (place_in numbers b.at ≡ Some y) × LeadsOn es any (x, a.port) (y, b.port)
   leads_on a b x place l =
-      let far = by_far a (record { at = b.at; port = l.entry }) l.arrives in
+      let far = by_far es numbers graph a (record { at = b.at; port = l.entry }) l.arrives in
       let same : far.0 ≡ x = same_Some far.0 x (sym far.2 ∙ place) in
       let there : far_of es x a.port ≡ Some (far.1, l.entry) = subst (λ (n : ℕ). far_of es n a.port ≡ Some (far.1, l.entry)) same far.3 in
       let at = place_found numbers far.1 b.at named (let low = far.4 in omega arith) far.5 in
@@ -116,8 +98,8 @@ module _ (es : List EntryOf) (numbers : List ℕ) (any : Bool) (rows : List RowO
       (rest.0, rest.1, suc rest.2, ((on.0, c.port), on.2, rest.3))
 
   first_place : (a : Channel) (cs : List Channel) (z : Channel) → Path (LeadsTo (far_at es numbers) rows) a cs z → (x : ℕ) × (place_in numbers a.at ≡ Some x)
-  first_place a [] z step = let far = by_far a (record { at = z.at; port = step.entry }) step.arrives in (far.0, far.2)
-  first_place a (c ∷ cs) z (step, path) = let far = by_far a (record { at = c.at; port = step.entry }) step.arrives in (far.0, far.2)
+  first_place a [] z step = let far = by_far es numbers graph a (record { at = z.at; port = step.entry }) step.arrives in (far.0, far.2)
+  first_place a (c ∷ cs) z (step, path) = let far = by_far es numbers graph a (record { at = c.at; port = step.entry }) step.arrives in (far.0, far.2)
 
   -- so there is no cycle
   pub tables_no_cycle : HasNoCycle (LeadsTo (far_at es numbers) rows)
@@ -141,7 +123,7 @@ module _ (es : List EntryOf) (numbers : List ℕ) (any : Bool) (rows : List RowO
       let place = place_found numbers on.place a.at named (let low = on.low in omega arith) on.is in
       let begin = begins on.place a.at a.port to g.exit place g.has in
       let target : begin.0 ≡ y = one_place begin.0 y to begin.1 begin.2 (place_found numbers y to named (omega arith) y_is) in
-      let far = by_far (record { at = a.at; port = g.exit }) b g.link in
+      let far = by_far es numbers graph (record { at = a.at; port = g.exit }) b g.link in
       let same : far.0 ≡ on.place = same_Some far.0 on.place (sym far.2 ∙ place) in
       let there : far_of es on.place g.exit ≡ Some (far.1, b.port) = subst (λ (n : ℕ). far_of es n g.exit ≡ Some (far.1, b.port)) same far.3 in
       let next = (way_next es (may_go_up es on.place a.port) on.place begin.0 g.exit far.1 b.port begin.3.rest there begin.3.way).0 in
@@ -169,7 +151,7 @@ module _ (es : List EntryOf) (numbers : List ℕ) (any : Bool) (rows : List RowO
         | inr (exit, has, gone) ↦ absurd (
             let begin = begins on.place a.at a.port to exit place has in
             let far = way_far es up on.place begin.0 exit begin.3.rest begin.3.way in
-            let there = far_by on.place exit far.0 far.1 a.at place far.2 in
+            let there = far_by es numbers on.place exit far.0 far.1 a.at place far.2 in
             cc)
         | inl bare ↦ (
             let shortest = has_shortest es up on.place y on.ports graph on.way in

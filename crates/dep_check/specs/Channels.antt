@@ -1,3 +1,4 @@
+-- Channels of a topology whose switches have numbers, and which of them rows lead to from which.
 use Rattle.std.specs.Prelude.{◌≡◌, ◌==◌, ℕ, List, Option, Some, Any, Contains, position, slice_index}
 use Rattle.std.specs.Option.{option_and_then, option_map}
 use Rattle.an_base.specs.Values.{EntryOf}
@@ -7,28 +8,36 @@ use Rattle.dep_check.specs.declared.channel.Channel.{Channel}
 
 -- the place of the switch that has a number
 abbrev pub place_in : List ℕ → ℕ → Option ℕ
-place_in numbers n = position (λ m. m == n) numbers
+place_in numbers number = position (λ other. other == number) numbers
 
 -- a place and a port, with the number in place of the place
 abbrev pub by_number : List ℕ → (ℕ × ℕ) → Channel
 by_number numbers far = record { at = slice_index numbers far.0; port = far.1 }
 
--- the number and the port at the far side of a port of the switch that has a number, if the graph has a link there
+-- the number and the port at the far side of a port of the switch that has a number, if the graph has a link
+-- there
 abbrev pub far_at : List EntryOf → List ℕ → Channel → Option Channel
-far_at es numbers c = option_and_then (λ x. option_map (by_number numbers) (far_of es x c.port)) (place_in numbers c.at)
+far_at entries numbers channel =
+    option_and_then
+    (λ place. option_map (by_number numbers) (far_of entries place channel.port))
+    (place_in numbers channel.at)
 
--- A channel: a switch, by its number, and a port that has a link. This and what follows is for any far sides of ports.
+-- A channel: a switch, by its number, and a port that has a link. This and what follows is for any far sides
+-- of ports.
 abbrev pub IsChannel : (Channel → Option Channel) → Channel → Type 0
-IsChannel far c = (end : Channel) × (far c ≡ Some end)
+IsChannel far channel = (end : Channel) × (far channel ≡ Some end)
 
 -- some row of the switch, for what comes in at the entry and goes to the number, has the exit
 abbrev pub HasExit : List RowOf → ℕ → ℕ → ℕ → ℕ → Type 0
-HasExit rows at entry to exit = Any (λ r. (r.at ≡ at) × (r.entry ≡ entry) × (r.to ≡ to) × Contains r.exits exit) rows
+HasExit rows at entry to exit =
+    Any (λ row. (row.at ≡ at) × (row.entry ≡ entry) × (row.to ≡ to) × Contains row.exits exit) rows
 
--- A channel leads to the next where some row, at the switch and for the entry at which the first arrives, has the port of the second, whatever the row's number.
-pub record LeadsTo (far : Channel → Option Channel) (rows : List RowOf) (a b : Channel) : Type 0 where
+-- A channel leads to the next where some row, at the switch and for the entry at which the first arrives, has
+-- the port of the second, whatever the row's number.
+pub record LeadsTo (far : Channel → Option Channel) (rows : List RowOf) (channel next : Channel)
+    : Type 0 where
   pub entry : ℕ
-  pub arrives : far a ≡ Some (record { at = b.at; port = entry })
+  pub arrives : far channel ≡ Some (record { at = next.at; port = entry })
   pub to : ℕ
-  pub exit : HasExit rows b.at entry to b.port
-  pub link : IsChannel far b
+  pub exit : HasExit rows next.at entry to next.port
+  pub link : IsChannel far next

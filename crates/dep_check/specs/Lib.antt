@@ -1,10 +1,15 @@
+-- what public contracts cite
 pub mod Channels
 pub mod Cycles
 pub mod Packets
 pub mod Illegal
 pub mod Answer
-pub mod Tables
-pub mod Worst
-pub mod Pairs
-pub mod Search
 pub mod Laws
+-- what private functions cite
+pub mod Tables
+pub mod Search
+pub mod Rounds
+pub mod Walks
+pub mod Targets
+pub mod Pairs
+pub mod Worst

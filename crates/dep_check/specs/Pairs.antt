@@ -1,4 +1,5 @@
-use Rattle.std.specs.Prelude.{◌≡◌, ◌≢◌, ◌<◌, ◌≤◌, ℕ, List, Option, Some, None, Contains, IsTrue}
+-- Pairs that are not joined. Only private functions cite this.
+use Rattle.std.specs.Prelude.{◌≡◌, ◌≢◌, ◌<◌, ◌≤◌, ℕ, List, length, Option, Some, None, Bool, Contains, IsTrue}
 use Rattle.std.specs.Ordering.{is_le}
 use Rattle.an_base.specs.Rows.{RowOf}
 use Rattle.dep_check.specs.declared.channel.Channel.{Channel}
@@ -6,23 +7,37 @@ use Rattle.dep_check.specs.declared.steps.Steps.{Steps}
 use Rattle.dep_check.specs.declared.gap.Pair.{Pair}
 use Rattle.dep_check.specs.Cycles.{Walk, channel_cmp}
 use Rattle.dep_check.specs.Packets.{MeetsGap}
-use Rattle.dep_check.specs.Tables.{IsSpot, level_at}
+use Rattle.dep_check.specs.Tables.{IsSpot}
 use Rattle.dep_check.specs.Search.{IsStuck, Step}
+use Rattle.dep_check.specs.Walks.{IsClear}
 
--- a switch of the topology, other than the target, from entry 0 of which a level is reached
-pub record IsStuckFrom (numbers : List ℕ) (levels : List (Option ℕ)) (to from : ℕ) : Type 0 where
+-- packets from one spot get stuck at another
+abbrev pub GetsStuck : Steps → Channel → Channel → Type 0
+GetsStuck steps start end = (n : ℕ) × Walk (Step steps) n start end × IsStuck steps end
+
+-- a switch of the topology, other than the target, from entry 0 of which packets get stuck
+pub record IsStuckFrom (numbers : List ℕ) (steps : Steps) (to from : ℕ) : Type 0 where
   pub from_in : Contains numbers from
   pub apart : from ≢ to
-  pub level : ℕ
-  pub has : level_at levels (record { at = from; port = 0 }) ≡ Some level
+  pub end : Channel
+  pub gets : GetsStuck steps (record { at = from; port = 0 }) end
+
+-- it is none, and what is seen stays clear
+pub record StaysClear (numbers : List ℕ) (steps : Steps) (to from : ℕ) (seen : List Bool) : Type 0 where
+  pub count : length seen ≡ 1651
+  pub clear : IsClear steps seen
+  pub none : IsStuckFrom numbers steps to from → ⊥
 
 -- the first such below end
-abbrev pub FirstStuck : List ℕ → List (Option ℕ) → ℕ → ℕ → Option ℕ → Type 0
-FirstStuck numbers levels to end None = (f : ℕ) → f < end → IsStuckFrom numbers levels to f → ⊥
-FirstStuck numbers levels to end (Some from) = (from < end) × IsStuckFrom numbers levels to from × ((f : ℕ) → f < end → IsStuckFrom numbers levels to f → from ≤ f)
+abbrev pub FirstStuck : List ℕ → Steps → ℕ → ℕ → Option ℕ → Type 0
+FirstStuck numbers steps to end None = (f : ℕ) → f < end → IsStuckFrom numbers steps to f → ⊥
+FirstStuck numbers steps to end (Some from) =
+    (from < end) × IsStuckFrom numbers steps to from
+    × ((f : ℕ) → f < end → IsStuckFrom numbers steps to f → from ≤ f)
 
 -- a pair of different switches of the topology that is not joined
-pub record IsParted (far : Channel → Option Channel) (numbers : List ℕ) (rows : List RowOf) (from to : ℕ) : Type 0 where
+pub record IsParted (far : Channel → Option Channel) (numbers : List ℕ) (rows : List RowOf) (from to : ℕ)
+    : Type 0 where
   pub from_in : Contains numbers from
   pub to_in : Contains numbers to
   pub apart : from ≢ to
@@ -32,14 +47,16 @@ pub record IsParted (far : Channel → Option Channel) (numbers : List ℕ) (row
 -- the first switch that is not joined to the target
 abbrev pub FirstOf : (Channel → Option Channel) → List ℕ → List RowOf → ℕ → Option ℕ → Type 0
 FirstOf far numbers rows to None = (f : ℕ) → IsParted far numbers rows f to → ⊥
-FirstOf far numbers rows to (Some from) = IsParted far numbers rows from to × ((f : ℕ) → IsParted far numbers rows f to → from ≤ f)
+FirstOf far numbers rows to (Some from) =
+    IsParted far numbers rows from to × ((f : ℕ) → IsParted far numbers rows f to → from ≤ f)
 
 -- a pair is not after another
 abbrev pub IsPairUpTo : ℕ → ℕ → ℕ → ℕ → Type 0
 IsPairUpTo a b c d = (a ≤ c) × (a ≡ c → b ≤ d)
 
 -- the least pair that is not joined, of the targets below end
-pub record IsLeastParted (far : Channel → Option Channel) (numbers : List ℕ) (rows : List RowOf) (end : ℕ) (pair : Pair) : Type 0 where
+pub record IsLeastParted (far : Channel → Option Channel) (numbers : List ℕ) (rows : List RowOf) (end : ℕ)
+    (pair : Pair) : Type 0 where
   pub parted : IsParted far numbers rows pair.from pair.to
   pub below : pair.to < end
   pub least : (f t : ℕ) → t < end → IsParted far numbers rows f t → IsPairUpTo pair.from pair.to f t
@@ -48,11 +65,9 @@ abbrev pub IsLeastPair : (Channel → Option Channel) → List ℕ → List RowO
 IsLeastPair far numbers rows end None = (f t : ℕ) → t < end → IsParted far numbers rows f t → ⊥
 IsLeastPair far numbers rows end (Some pair) = IsLeastParted far numbers rows end pair
 
--- packets from one spot get stuck at another
-abbrev pub GetsStuck : Steps → Channel → Channel → Type 0
-GetsStuck steps start end = (n : ℕ) × Walk (Step steps) n start end × IsStuck steps end
-
--- the least spot where they do
+-- the least spot where packets from one get stuck
 abbrev pub IsLeastEnd : Steps → Channel → Option Channel → Type 0
 IsLeastEnd steps start None = (e : Channel) → IsSpot e → GetsStuck steps start e → ⊥
-IsLeastEnd steps start (Some end) = IsSpot end × GetsStuck steps start end × ((e : Channel) → IsSpot e → GetsStuck steps start e → IsTrue (is_le (channel_cmp end e)))
+IsLeastEnd steps start (Some end) =
+    IsSpot end × GetsStuck steps start end
+    × ((e : Channel) → IsSpot e → GetsStuck steps start e → IsTrue (is_le (channel_cmp end e)))

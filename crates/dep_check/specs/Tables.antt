@@ -1,4 +1,6 @@
-use Rattle.std.specs.Prelude.{◌≡◌, ◌*◌, ◌+◌, ◌<◌, ◌↔◌, ℕ, List, [], length, Option, Some, None, Bool, true, false, Contains, slice_index_or, nat_lt, ◌&&◌, if◌then◌else◌}
+-- Tables over all spots: far sides, exits and levels. Of it public contracts cite `rank_at` alone.
+use Rattle.std.specs.Prelude.{◌≡◌, ◌*◌, ◌+◌, ◌<◌, ◌↔◌, ℕ, List, [], length, Option, Some, None, Bool, true}
+use Rattle.std.specs.Prelude.{false, Contains, slice_index_or, nat_lt, ◌&&◌, if◌then◌else◌}
 use Rattle.an_base.specs.Rows.{RowOf}
 use Rattle.dep_check.specs.declared.channel.Channel.{Channel}
 use Rattle.dep_check.specs.declared.exits.PortSet.{PortSet}
@@ -31,16 +33,24 @@ wire_at wires s = if is_spot s then slice_index_or wires (place_of s) None else 
 abbrev pub WiresAreWithin : List (Option Channel) → Type 0
 WiresAreWithin wires = (s far : Channel) → wire_at wires s ≡ Some far → IsSpot far
 
--- the table has the far side of each port, and each is a spot
+-- and the far side of a far side is where it came from
+pub record AreLinks (wires : List (Option Channel)) : Type 0 where
+  pub within : WiresAreWithin wires
+  pub back : (s far : Channel) → wire_at wires s ≡ Some far → wire_at wires far ≡ Some s
+
+-- the table has the far side of each port, over links
 pub record AreWires (far : Channel → Option Channel) (wires : List (Option Channel)) : Type 0 where
   pub each : (s : Channel) → wire_at wires s ≡ far s
-  pub within : WiresAreWithin wires
+  pub links : AreLinks wires
 
 -- the table has the far sides of the first spots
-pub record AreWiresBelow (far : Channel → Option Channel) (end : ℕ) (wires : List (Option Channel)) : Type 0 where
+pub record AreWiresBelow (far : Channel → Option Channel) (end : ℕ) (wires : List (Option Channel))
+    : Type 0 where
   pub count : length wires ≡ end
   pub each : (s : Channel) → IsSpot s → place_of s < end → slice_index_or wires (place_of s) None ≡ far s
-  pub within : (s b : Channel) → IsSpot s → place_of s < end → slice_index_or wires (place_of s) None ≡ Some b → IsSpot b
+  pub within :
+      (s b : Channel) → IsSpot s → place_of s < end → slice_index_or wires (place_of s) None ≡ Some b
+      → IsSpot b
 
 -- whether a set has a port
 abbrev pub has_port : PortSet → ℕ → Bool
@@ -75,4 +85,5 @@ pub record HasBelow (rows : List RowOf) (to : Option ℕ) (end : ℕ) (s : Chann
 pub record AreExitsBelow (rows : List RowOf) (to : Option ℕ) (end : ℕ) (table : List PortSet) : Type 0 where
   pub count : length table ≡ 1651
   pub ports : (s : Channel) (p : ℕ) → IsSpot s → HasBelow rows to end s p → p < 13
-  pub each : (s : Channel) (p : ℕ) → IsSpot s → p < 13 → ((has_at table s p ≡ true) ↔ HasBelow rows to end s p)
+  pub each :
+      (s : Channel) (p : ℕ) → IsSpot s → p < 13 → ((has_at table s p ≡ true) ↔ HasBelow rows to end s p)

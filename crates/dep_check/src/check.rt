@@ -53,7 +53,8 @@ impl Ranks {
 
 // Whether each channel has a rank.
 fn are_all_ranked(steps: &Steps, levels: &[Option<u16>]) -> bool
-    ensures { MatchBool result ((s : Channel) → IsSpot s → IsLinked steps.now s → level_at levels.now s ≡ None → ⊥)
+    ensures { MatchBool result
+        ((s : Channel) → IsSpot s → IsLinked steps.now s → level_at levels.now s ≡ None → ⊥)
         ((s : Channel) × IsSpot s × IsLinked steps.now s × (level_at levels.now s ≡ None)) }
 {
     'spots: for place in 0..SPOTS {
@@ -86,10 +87,10 @@ pub fn check(
     ensures refused { IfErr result (IsRefusal graph.now numbers.now rows.now) }
 {
     let wires = wires_of(alloc, graph, numbers)?;
-    let steps = Steps::of(alloc, &wires, rows, None)?;
+    let steps = Steps::of(alloc, &wires, rows)?;
     let levels = ranks_of(alloc, &steps)?;
     if !are_all_ranked(&steps, &levels) {
-        let channels = least_cycle(alloc, &steps)?.unwrap();
+        let channels = least_cycle(alloc, &steps, &levels)?.unwrap();
         return Err(CheckRefusal::Cycle { channels });
     }
     if let Some(gap) = least_gap(alloc, &wires, numbers, rows)? {

@@ -1,7 +1,8 @@
-ghost use Rattle.std.specs.Prelude.{◌≡◌, ◌<◌, ◌+◌, IfOk, MatchOption, IfSome, Some, None, ◌∷◌};
+ghost use Rattle.std.specs.Prelude.{◌≡◌, ◌<◌, ◌+◌, ◌↔◌, IfOk, IsTrue, MatchOption, IfSome, Some, None, ◌∷◌};
 ghost use Rattle.dep_check.specs.Cycles.{HasNoCycle, IsLeastCycle, IsLeastCycleFrom};
 ghost use Rattle.dep_check.specs.Tables.{IsSpot};
-ghost use Rattle.dep_check.specs.Search.{AreNearest, HasNextAt, IsNextAt, LeastBehind, Step};
+ghost use Rattle.dep_check.specs.Search.{AreNearest, AreRanked, HasNextAt, HasNoRank, IsNextAt, LeastBehind};
+ghost use Rattle.dep_check.specs.Search.{Step};
 
 use crate::channel::{Channel, Channels};
 use crate::level::{level_of, nearest_to};
@@ -14,7 +15,8 @@ use std::alloc::Global;
 fn next_at(steps: &Steps, levels: &[Option<u16>], channel: Channel, level: u16) -> Option<Channel>
     requires spot { IsSpot channel }
     requires channels { steps.now.to ≡ None }
-    ensures next { MatchOption result (HasNextAt steps.now levels.now channel level → ⊥) (IsNextAt steps.now levels.now channel level) }
+    ensures next { MatchOption result (HasNextAt steps.now levels.now channel level → ⊥)
+        (IsNextAt steps.now levels.now channel level) }
     ensures spot { IfSome result IsSpot }
 {
     'exits: for exit in 0..13u8 {
@@ -90,16 +92,33 @@ fn cycle_from(
     Ok(Channels::new(channels))
 }
 
-/// The least cycle, where there is one.
-pub fn least_cycle(alloc: Global, steps: &Steps) -> Result<Option<Channels>, OutOfMemory>
-    requires { steps.now.to ≡ None }
-    ensures { IfOk result (λ found. MatchOption found (HasNoCycle (Step steps.now)) (IsLeastCycle (Step steps.now))) }
+// Whether a spot may be on a cycle: it is a channel without a rank.
+fn may_be_on_cycle(steps: &Steps, ranks: &[Option<u16>], spot: Channel) -> bool
+    requires { IsSpot spot }
+    ensures { IsTrue result ↔ HasNoRank steps.now ranks.now spot }
+{
+    steps.far(spot).is_some() && level_of(ranks, spot).is_none()
+}
+
+/// The least cycle, where there is one. For each channel without a rank up to its least one it looks
+/// at each step a few times.
+pub fn least_cycle(
+    alloc: Global,
+    steps: &Steps,
+    ranks: &[Option<u16>],
+) -> Result<Option<Channels>, OutOfMemory>
+    requires channels { steps.now.to ≡ None }
+    requires ranks { AreRanked steps.now ranks.now }
+    ensures { IfOk result (λ found. MatchOption found (HasNoCycle (Step steps.now))
+        (IsLeastCycle (Step steps.now))) }
 {
     'spots: for place in 0..SPOTS {
         let start = spot_at(place);
-        let levels = nearest_to(alloc, steps, start)?;
-        if let Some(length) = least_behind(steps, &levels, start) {
-            return Ok(Some(cycle_from(alloc, steps, &levels, start, length)?));
+        if may_be_on_cycle(steps, ranks, start) {
+            let levels = nearest_to(alloc, steps, start)?;
+            if let Some(length) = least_behind(steps, &levels, start) {
+                return Ok(Some(cycle_from(alloc, steps, &levels, start, length)?));
+            }
         }
     }
     Ok(None)

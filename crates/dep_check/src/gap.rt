@@ -1,15 +1,18 @@
-ghost use Rattle.std.specs.Prelude.{◌≡◌, ◌≢◌, ◌<◌, ◌+◌, ℕ, List, Option, MatchBool, IfOk, MatchOption, Some, None, Contains, length};
+ghost use Rattle.std.specs.Prelude.{◌≡◌, ◌<◌, ◌+◌, ℕ, List, Option, length, IfOk, MatchBool, MatchOption};
 ghost use Rattle.an_base.specs.Rows.{RowOf};
 ghost use Rattle.dep_check.specs.declared.channel.Channel.{Channel};
-ghost use Rattle.dep_check.specs.Tables.{IsSpot, level_at, WiresAreWithin, wire_at};
-ghost use Rattle.dep_check.specs.Packets.{AllAreJoined, IsLeastGap, MeetsGap};
-ghost use Rattle.dep_check.specs.Search.{IsStuck, Reaches};
-ghost use Rattle.dep_check.specs.Pairs.{FirstOf, FirstStuck, GetsStuck, IsLeastEnd, IsLeastPair, IsStuckFrom};
+ghost use Rattle.dep_check.specs.Tables.{AreLinks, IsSpot, wire_at};
+ghost use Rattle.dep_check.specs.Targets.{AreByTarget};
+ghost use Rattle.dep_check.specs.Packets.{AllAreJoined, IsLeastGap};
+ghost use Rattle.dep_check.specs.Pairs.{FirstOf, FirstStuck, IsLeastEnd, IsLeastPair, IsStuckFrom};
+ghost use Rattle.dep_check.specs.Pairs.{StaysClear};
+ghost use Rattle.dep_check.specs.Walks.{IsClear};
 
 use crate::channel::Channel;
-use crate::level::{level_of, nearest_end, nearest_to};
 use crate::spot::{SPOTS, spot_at};
 use crate::steps::Steps;
+use crate::targets::RowsByTarget;
+use crate::walk::{is_seen, none_seen, walk};
 use crate::wires::place_in;
 use an_base::memory::OutOfMemory;
 use an_base::numbers::Numbers;
@@ -36,17 +39,48 @@ struct Pair {
     to: u8,
 }
 
-// The least other switch from which packets may get stuck.
-fn first_stuck(numbers: &Numbers, levels: &[Option<u16>], to: u8) -> Option<u8>
-    ensures { FirstStuck numbers.now levels.now to 127 result }
+// Whether packets may get stuck that start at the switch that has a number, if it is another one. No
+// packets get stuck at what was seen before, and else at none of what is seen now.
+fn is_stuck_from(
+    alloc: Global,
+    steps: &Steps,
+    numbers: &Numbers,
+    seen: &mut Vec<bool>,
+    to: u8,
+    from: u8,
+) -> Result<bool, OutOfMemory>
+    requires count { length seen.old.items ≡ 1651 }
+    requires clear { IsClear steps.now seen.old.items }
+    requires from { from < 127 }
+    ensures { IfOk result (λ stuck. MatchBool stuck (IsStuckFrom numbers.now steps.now to from)
+        (StaysClear numbers.now steps.now to from seen.new.items)) }
 {
+    if from == to {
+        return Ok(false);
+    }
+    if place_in(numbers, from).is_none() {
+        return Ok(false);
+    }
+    let stuck = walk(alloc, steps, seen, Channel { at: from, port: 0 })?;
+    Ok(stuck)
+}
+
+// The least other switch from which packets may get stuck.
+fn first_stuck(
+    alloc: Global,
+    steps: &Steps,
+    numbers: &Numbers,
+    to: u8,
+) -> Result<Option<u8>, OutOfMemory>
+    ensures { IfOk result (FirstStuck numbers.now steps.now to 127) }
+{
+    let mut seen = none_seen(alloc)?;
     'numbers: for from in 0..127u8 {
-        let start = Channel { at: from, port: 0 };
-        if from != to && place_in(numbers, from).is_some() && level_of(levels, start).is_some() {
-            return Some(from);
+        if is_stuck_from(alloc, steps, numbers, &mut seen, to, from)? {
+            return Ok(Some(from));
         }
     }
-    None
+    Ok(None)
 }
 
 // The least other switch from which packets to a number may get stuck.
@@ -55,17 +89,19 @@ fn stuck_towards(
     wires: &[Option<Channel>],
     numbers: &Numbers,
     rows: &[Row],
+    by_target: &RowsByTarget,
     to: u8,
 ) -> Result<Option<u8>, OutOfMemory>
-    requires { WiresAreWithin wires.now }
+    requires wires { AreLinks wires.now }
+    requires rows { AreByTarget rows.now by_target.now }
     ensures { IfOk result (FirstOf (wire_at wires.now) numbers.now rows.now to) }
 {
     if place_in(numbers, to).is_none() {
         return Ok(None);
     }
-    let steps = Steps::of(alloc, wires, rows, Some(to))?;
-    let levels = nearest_end(alloc, &steps)?;
-    Ok(first_stuck(numbers, &levels, to))
+    let steps = Steps::to(alloc, wires, rows, by_target, to)?;
+    let first = first_stuck(alloc, &steps, numbers, to)?;
+    Ok(first)
 }
 
 // The lesser of the best pair so far and of one with a later target.
@@ -89,34 +125,18 @@ fn least_pair(
     wires: &[Option<Channel>],
     numbers: &Numbers,
     rows: &[Row],
+    by_target: &RowsByTarget,
 ) -> Result<Option<Pair>, OutOfMemory>
-    requires { WiresAreWithin wires.now }
+    requires wires { AreLinks wires.now }
+    requires rows { AreByTarget rows.now by_target.now }
     ensures { IfOk result (IsLeastPair (wire_at wires.now) numbers.now rows.now 127) }
 {
     let mut best = None;
     'numbers: for to in 0..127u8 {
-        let from = stuck_towards(alloc, wires, numbers, rows, to)?;
+        let from = stuck_towards(alloc, wires, numbers, rows, by_target, to)?;
         best = lesser(best, from, to);
     }
     Ok(best)
-}
-
-// Whether packets from one spot may get stuck at another.
-fn gets_stuck(
-    alloc: Global,
-    steps: &Steps,
-    start: Channel,
-    end: Channel,
-) -> Result<bool, OutOfMemory>
-    requires start { IsSpot start }
-    requires end { IsSpot end }
-    ensures { IfOk result (λ stuck. MatchBool stuck (GetsStuck steps.now start end) (GetsStuck steps.now start end → ⊥)) }
-{
-    if !steps.is_stuck(end) {
-        return Ok(false);
-    }
-    let levels = nearest_to(alloc, steps, end)?;
-    Ok(level_of(&levels, start).is_some())
 }
 
 // The least spot where packets from one may get stuck.
@@ -124,9 +144,11 @@ fn least_end(alloc: Global, steps: &Steps, start: Channel) -> Result<Option<Chan
     requires { IsSpot start }
     ensures { IfOk result (IsLeastEnd steps.now start) }
 {
+    let mut seen = none_seen(alloc)?;
+    walk(alloc, steps, &mut seen, start)?;
     'spots: for place in 0..SPOTS {
         let end = spot_at(place);
-        if gets_stuck(alloc, steps, start, end)? {
+        if is_seen(&seen, end) && steps.is_stuck(end) {
             return Ok(Some(end));
         }
     }
@@ -140,15 +162,16 @@ pub fn least_gap(
     numbers: &Numbers,
     rows: &[Row],
 ) -> Result<Option<Gap>, OutOfMemory>
-    requires { WiresAreWithin wires.now }
+    requires { AreLinks wires.now }
     ensures { IfOk result (λ gap. MatchOption gap (AllAreJoined (wire_at wires.now) numbers.now rows.now)
         (λ g. IsLeastGap (wire_at wires.now) numbers.now rows.now g.from g.to g.at g.entry)) }
 {
     let _names = numbers.as_slice();
-    let Some(pair) = least_pair(alloc, wires, numbers, rows)? else {
+    let by_target = RowsByTarget::of(alloc, rows)?;
+    let Some(pair) = least_pair(alloc, wires, numbers, rows, &by_target)? else {
         return Ok(None);
     };
-    let steps = Steps::of(alloc, wires, rows, Some(pair.to))?;
+    let steps = Steps::to(alloc, wires, rows, &by_target, pair.to)?;
     let start = Channel {
         at: pair.from,
         port: 0,

@@ -1,4 +1,5 @@
-ghost use Rattle.std.specs.Prelude.{◌≡◌, ◌<◌, ◌↔◌, ◌+◌, ℕ, List, Option, IsTrue, MatchBool, MatchOption, Some, None, length};
+ghost use Rattle.std.specs.Prelude.{◌≡◌, ◌<◌, ◌↔◌, ◌+◌, ℕ, List, Option, IsTrue, MatchBool, MatchOption};
+ghost use Rattle.std.specs.Prelude.{Some, None, length};
 ghost use Rattle.an_base.specs.Rows.{RowOf};
 ghost use Rattle.an_base.specs.Values.{EntryOf};
 ghost use Rattle.dep_check.specs.Illegal.{AllAreLegal, IsBad, IsLeastIllegal, LeadsUp};
@@ -37,7 +38,8 @@ fn leads_up(graph: &Graph, x: u8, port: u8) -> bool
 // Whether an exit for what came in at an entry of the switch that has a number is illegal.
 fn is_illegal(graph: &Graph, numbers: &Numbers, at: u8, entry: u8, exit: u8) -> bool
     requires { length numbers.now ≡ length graph.now }
-    ensures { MatchBool result (IsBad graph.now numbers.now at entry exit) (IsBad graph.now numbers.now at entry exit → ⊥) }
+    ensures { MatchBool result (IsBad graph.now numbers.now at entry exit)
+        (IsBad graph.now numbers.now at entry exit → ⊥) }
 {
     let Some(x) = place_in(numbers, at) else {
         return true;

@@ -1,13 +1,13 @@
-ghost use Rattle.std.specs.Prelude.{◌≡◌, ◌⊎◌, ℕ, List, Option, Bool, length};
+ghost use Rattle.std.specs.Prelude.{◌≡◌, ◌⊎◌, ◌≤◌, ℕ, suc, List, Option, Some, Bool, length};
 ghost use Rattle.an_base.specs.Values.{EntryOf};
 ghost use Rattle.an_base.specs.Rows.{RowOf};
 ghost use Rattle.an_base.specs.Numbers.{AreNumbers};
 ghost use Rattle.topo_graph.specs.Topology.{IsGraph, IsTree};
-ghost use Rattle.dep_check.specs.Channels.{far_at, LeadsTo};
-ghost use Rattle.dep_check.specs.Cycles.{HasNoCycle};
-ghost use Rattle.dep_check.specs.Packets.{AllAreJoined};
+ghost use Rattle.dep_check.specs.Channels.{far_at, HasExit, LeadsTo};
+ghost use Rattle.dep_check.specs.Cycles.{HasNoCycle, Walk};
+ghost use Rattle.dep_check.specs.Packets.{AllAreJoined, GoesOn};
 ghost use Rattle.dep_check.specs.Illegal.{AllAreLegal};
-ghost use Rattle.dep_check.specs.Laws.{AreTables};
+ghost use Rattle.dep_check.specs.Laws.{AreTables, GoesBetween};
 ghost use Rattle.dep_check.specs.Answer.{IsRefusal, Passes};
 ghost use Rattle.dep_check.specs.Tables.{rank_at};
 ghost use Rattle.dep_check.specs.declared.channel.Channel.{Channel};
@@ -20,7 +20,8 @@ pub fn tables_are_never_refused()
     ensures no_cycle { (es : List EntryOf) (numbers : List ℕ) (any : Bool) (rows : List RowOf) → IsGraph es
         → AreNumbers numbers → length numbers ≡ length es → AreTables es numbers any rows
         → HasNoCycle (LeadsTo (far_at es numbers) rows) }
-    ensures joined { (es : List EntryOf) (numbers : List ℕ) (any : Bool) (rows : List RowOf) → IsGraph es → IsTree es
+    ensures joined { (es : List EntryOf) (numbers : List ℕ) (any : Bool) (rows : List RowOf) → IsGraph es
+        → IsTree es
         → AreNumbers numbers → length numbers ≡ length es → AreTables es numbers any rows
         → AllAreJoined (far_at es numbers) numbers rows }
     ensures legal { (es : List EntryOf) (numbers : List ℕ) (any : Bool) (rows : List RowOf) → IsGraph es
@@ -31,10 +32,37 @@ pub fn tables_are_never_refused()
 /// Rows have one answer, but for want of memory: what passes is not refused, a refusal is one, and
 /// the ranks are.
 pub fn one_answer()
-    ensures passed { (es : List EntryOf) (numbers : List ℕ) (rows : List RowOf) (ranks : List (Option ℕ)) (refusal : CheckRefusal)
+    ensures passed { (es : List EntryOf) (numbers : List ℕ) (rows : List RowOf) (ranks : List (Option ℕ))
+        (refusal : CheckRefusal)
         → Passes es numbers rows ranks → IsRefusal es numbers rows refusal → refusal ≡ OutOfMemory }
     ensures refused { (es : List EntryOf) (numbers : List ℕ) (rows : List RowOf) (a b : CheckRefusal)
-        → IsRefusal es numbers rows a → IsRefusal es numbers rows b → (a ≡ b) ⊎ (a ≡ OutOfMemory) ⊎ (b ≡ OutOfMemory) }
-    ensures ranked { (es : List EntryOf) (numbers : List ℕ) (rows : List RowOf) (ranks others : List (Option ℕ)) (c : Channel)
-        → Passes es numbers rows ranks → Passes es numbers rows others → rank_at ranks c ≡ rank_at others c }
+        → IsRefusal es numbers rows a → IsRefusal es numbers rows b
+        → (a ≡ b) ⊎ (a ≡ OutOfMemory) ⊎ (b ≡ OutOfMemory) }
+    ensures ranked { (es : List EntryOf) (numbers : List ℕ) (rows : List RowOf)
+        (ranks others : List (Option ℕ)) (channel : Channel)
+        → Passes es numbers rows ranks → Passes es numbers rows others
+        → rank_at ranks channel ≡ rank_at others channel }
+{}
+
+/// Rows that pass, from wherever they are, bring each packet to its target. What goes on for more
+/// than so many links leaves by an exit whose channel has at least that rank; so each following of
+/// the rows ends. Where a following from one switch to another cannot go on, it is at its target;
+/// and from wherever it is, it goes on to there.
+pub fn packets_reach_their_targets()
+    ensures bounded { (es : List EntryOf) (numbers : List ℕ) (rows : List RowOf) (ranks : List (Option ℕ))
+        (to links : ℕ) (start end : Channel)
+        → Passes es numbers rows ranks → Walk (GoesOn (far_at es numbers) rows to) (suc links) start end
+        → (exit rank : ℕ) × HasExit rows start.at start.port to exit
+        × (rank_at ranks (record { at = start.at; port = exit }) ≡ Some rank) × (links ≤ rank) }
+    ensures ended { (es : List EntryOf) (numbers : List ℕ) (rows : List RowOf) (ranks : List (Option ℕ))
+        (from to links : ℕ) (end : Channel)
+        → Passes es numbers rows ranks → GoesBetween numbers from to
+        → Walk (GoesOn (far_at es numbers) rows to) links (record { at = from; port = 0 }) end
+        → ((next : Channel) → ¬ GoesOn (far_at es numbers) rows to end next) → end.at ≡ to }
+    ensures reached { (es : List EntryOf) (numbers : List ℕ) (rows : List RowOf) (ranks : List (Option ℕ))
+        (from to links : ℕ) (there : Channel)
+        → Passes es numbers rows ranks → GoesBetween numbers from to
+        → Walk (GoesOn (far_at es numbers) rows to) links (record { at = from; port = 0 }) there
+        → (more : ℕ) × (end : Channel) × Walk (GoesOn (far_at es numbers) rows to) more there end
+        × (end.at ≡ to) }
 {}

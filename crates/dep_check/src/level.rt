@@ -1,7 +1,9 @@
-ghost use Rattle.std.specs.Prelude.{◌≡◌, ◌<◌, ◌↔◌, ℕ, length, Some, None, IsTrue, Contains, IfOk, MatchBool};
+ghost use Rattle.std.specs.Prelude.{◌≡◌, ◌<◌, ◌↔◌, ◌++◌, ℕ, List, Option, [], ◌∷◌, length, None, IsTrue};
+ghost use Rattle.std.specs.Prelude.{Contains, IfOk, OnOk, MatchBool};
 ghost use Rattle.dep_check.specs.declared.channel.Channel.{Channel};
 ghost use Rattle.dep_check.specs.Tables.{IsSpot, level_at};
-ghost use Rattle.dep_check.specs.Search.{AreNearest, AreRaised, AreRanked, HasNext, IsDue, IsGoal, IsHeld, IsRaised, IsStuck};
+ghost use Rattle.dep_check.specs.Search.{AreNearest, AreRanked, ComesIn, HasNext, IsDue, IsHeld, Step};
+ghost use Rattle.dep_check.specs.Rounds.{AddsDue, AreDue, AreGoals, IsRaisedTo, LeadsToOne};
 
 use crate::channel::Channel;
 use crate::spot::{SPOTS, place_of, spot_at};
@@ -44,7 +46,8 @@ fn has_next(steps: &Steps, levels: &[Option<u16>], spot: Channel, has: bool) -> 
 // Whether a spot gets a level.
 fn is_due(rule: Rule, steps: &Steps, levels: &[Option<u16>], spot: Channel) -> bool
     requires { IsSpot spot }
-    ensures { MatchBool result (IsDue rule steps.now levels.now spot) (IsHeld rule steps.now levels.now spot) }
+    ensures { MatchBool result (IsDue rule steps.now levels.now spot)
+        (IsHeld rule steps.now levels.now spot) }
 {
     match rule {
         Rule::Nearest => has_next(steps, levels, spot, true),
@@ -57,54 +60,148 @@ fn is_due(rule: Rule, steps: &Steps, levels: &[Option<u16>], spot: Channel) -> b
     }
 }
 
-// The level of a spot after a round.
-fn raised(
+// Adds a spot, where it gets a level next.
+fn add_due(
     rule: Rule,
     steps: &Steps,
     levels: &[Option<u16>],
-    round: u16,
+    due: &mut Vec<Channel>,
     spot: Channel,
-) -> Option<u16>
+) -> Result<(), OutOfMemory>
     requires { IsSpot spot }
-    ensures { IsRaised rule steps.now levels.now round spot result }
+    ensures { OnOk result (AddsDue rule steps.now levels.now (λ s. s ≡ spot) due.old.items due.new.items) }
 {
-    if let Some(level) = level_of(levels, spot) {
-        return Some(level);
+    if level_of(levels, spot).is_some() {
+        return Ok(());
     }
-    if is_due(rule, steps, levels, spot) {
-        Some(round)
-    } else {
-        None
+    if !is_due(rule, steps, levels, spot) {
+        return Ok(());
     }
+    due.push(spot)?;
+    Ok(())
 }
 
-// The levels after a round, in which each spot that is due gets this one.
-fn round_of(
+// Adds the channel that leads to this one by what comes in at an entry, where it gets a level next.
+fn add_before(
+    rule: Rule,
+    steps: &Steps,
+    levels: &[Option<u16>],
+    due: &mut Vec<Channel>,
+    spot: Channel,
+    entry: u8,
+) -> Result<(), OutOfMemory>
+    requires channels { steps.now.to ≡ None }
+    requires spot { IsSpot spot }
+    requires entry { entry < 13 }
+    ensures { OnOk result (AddsDue rule steps.now levels.now (λ s. ComesIn steps.now s spot entry)
+        due.old.items due.new.items) }
+{
+    let Some(before) = steps.before(spot, entry) else {
+        return Ok(());
+    };
+    add_due(rule, steps, levels, due, before)
+}
+
+// Adds those channels that lead to this one and get a level next.
+fn add_all_before(
+    rule: Rule,
+    steps: &Steps,
+    levels: &[Option<u16>],
+    due: &mut Vec<Channel>,
+    spot: Channel,
+) -> Result<(), OutOfMemory>
+    requires channels { steps.now.to ≡ None }
+    requires spot { IsSpot spot }
+    ensures { OnOk result (AddsDue rule steps.now levels.now (λ s. Step steps.now s spot)
+        due.old.items due.new.items) }
+{
+    'entries: for entry in 0..13u8 {
+        add_before(rule, steps, levels, due, spot, entry)?;
+    }
+    Ok(())
+}
+
+// The channels that get a level next, once or more, of those that lead to one of the last.
+fn due_before(
     alloc: Global,
     rule: Rule,
     steps: &Steps,
     levels: &[Option<u16>],
-    round: u16,
-) -> Result<Vec<Option<u16>>, OutOfMemory>
-    ensures { IfOk result (λ new. AreRaised rule steps.now levels.now round 1651 new.items) }
+    last: &[Channel],
+) -> Result<Vec<Channel>, OutOfMemory>
+    requires channels { steps.now.to ≡ None }
+    requires spots { (s : Channel) → Contains last.now s → IsSpot s }
+    ensures { IfOk result (λ due. AddsDue rule steps.now levels.now
+        (LeadsToOne steps.now last.now) [] due.items) }
 {
-    let mut new = Vec::with_capacity(alloc, usize::from(SPOTS))?;
-    'spots: for place in 0..SPOTS {
-        new.push(raised(rule, steps, levels, round, spot_at(place)))?;
+    let mut due = Vec::new(alloc);
+    'last: for spot in last {
+        add_all_before(rule, steps, levels, &mut due, *spot)?;
     }
-    Ok(new)
+    Ok(due)
 }
 
-// Whether some spot has this level.
-fn is_level(levels: &[Option<u16>], level: u16) -> bool
-    ensures { IsTrue result ↔ Contains levels.now (Some level) }
+// The spots that get a level next.
+fn all_due(
+    alloc: Global,
+    rule: Rule,
+    steps: &Steps,
+    levels: &[Option<u16>],
+) -> Result<Vec<Channel>, OutOfMemory>
+    ensures { IfOk result (λ due. AreDue rule steps.now levels.now due.items) }
 {
-    levels.contains(&Some(level))
+    let mut due = Vec::new(alloc);
+    'spots: for place in 0..SPOTS {
+        add_due(rule, steps, levels, &mut due, spot_at(place))?;
+    }
+    Ok(due)
+}
+
+// Gives this level to a spot that has none, and adds it to those that were raised.
+fn raise_one(
+    levels: &mut Vec<Option<u16>>,
+    raised: &mut Vec<Channel>,
+    spot: Channel,
+    level: u16,
+) -> Result<(), OutOfMemory>
+    requires count { length levels.old.items ≡ 1651 }
+    requires spot { IsSpot spot }
+    ensures { OnOk result ((had : List (Option ℕ)) (due : List Channel)
+        → IsRaisedTo level had due levels.old.items raised.old.items
+        → IsRaisedTo level had (due ++ spot ∷ []) levels.new.items raised.new.items) }
+{
+    let place = place_of(spot);
+    if levels[place].is_some() {
+        return Ok(());
+    }
+    levels[place] = Some(level);
+    raised.push(spot)?;
+    Ok(())
+}
+
+// Gives this level to those of the spots that have none, and answers them, each once.
+fn raise(
+    alloc: Global,
+    levels: &mut Vec<Option<u16>>,
+    due: &[Channel],
+    level: u16,
+) -> Result<Vec<Channel>, OutOfMemory>
+    requires count { length levels.old.items ≡ 1651 }
+    requires spots { (s : Channel) → Contains due.now s → IsSpot s }
+    ensures { IfOk result (λ raised. IsRaisedTo level levels.old.items due.now
+        levels.new.items raised.items) }
+{
+    let mut raised = Vec::new(alloc);
+    'due: for spot in due {
+        raise_one(levels, &mut raised, *spot, level)?;
+    }
+    Ok(raised)
 }
 
 // No levels.
 fn no_levels(alloc: Global) -> Result<Vec<Option<u16>>, OutOfMemory>
-    ensures { IfOk result (λ levels. (s : Channel) → level_at levels.items s ≡ None) }
+    ensures none { IfOk result (λ levels. (s : Channel) → level_at levels.items s ≡ None) }
+    ensures count { IfOk result (λ levels. length levels.items ≡ 1651) }
 {
     let mut levels = Vec::with_capacity(alloc, usize::from(SPOTS))?;
     'spots: for _ in 0..SPOTS {
@@ -114,66 +211,51 @@ fn no_levels(alloc: Global) -> Result<Vec<Option<u16>>, OutOfMemory>
 }
 
 /// The ranks of channels: 0 where one leads nowhere, else one more than the greatest that it leads
-/// to; none for those that lead for ever to others without one.
+/// to; none for those that lead for ever to others without one. It looks at each step a few times.
 pub fn ranks_of(alloc: Global, steps: &Steps) -> Result<Vec<Option<u16>>, OutOfMemory>
+    requires { steps.now.to ≡ None }
     ensures { IfOk result (λ levels. AreRanked steps.now levels.items) }
 {
     let mut levels = no_levels(alloc)?;
+    let mut due = all_due(alloc, Rule::Rank, steps, &levels)?;
     'rounds: for round in 0..SPOTS + 1 {
-        let new = round_of(alloc, Rule::Rank, steps, &levels, round)?;
-        if !is_level(&new, round) {
-            return Ok(new);
+        let raised = raise(alloc, &mut levels, &due, round)?;
+        if raised.as_slice().is_empty() {
+            return Ok(levels);
         }
-        levels = new;
+        due = due_before(alloc, Rule::Rank, steps, &levels, &raised)?;
     }
     unreachable!()
 }
 
-// The least number of steps from each spot to a goal, from the level 0 of each goal.
-fn nearest(
-    alloc: Global,
-    steps: &Steps,
-    goals: Vec<Option<u16>>,
-) -> Result<Vec<Option<u16>>, OutOfMemory>
-    requires { (s : Channel) (n : ℕ) → IsSpot s → level_at goals.items s ≡ Some n → n ≡ 0 }
-    ensures { IfOk result (λ levels. AreNearest steps.now (IsGoal goals.items) levels.items) }
+// The level 0 at one spot, and no other level.
+fn goal_level(alloc: Global, goal: Channel) -> Result<Vec<Option<u16>>, OutOfMemory>
+    requires { IsSpot goal }
+    ensures { IfOk result (λ levels. AreGoals (λ s. s ≡ goal) levels.items) }
 {
-    let mut levels = goals;
-    'rounds: for round in 1..SPOTS + 1 {
-        let new = round_of(alloc, Rule::Nearest, steps, &levels, round)?;
-        if !is_level(&new, round) {
-            return Ok(new);
-        }
-        levels = new;
-    }
-    unreachable!()
+    let mut levels = no_levels(alloc)?;
+    levels[place_of(goal)] = Some(0);
+    Ok(levels)
 }
 
-/// The least number of steps from each spot to one where packets get stuck.
-pub fn nearest_end(alloc: Global, steps: &Steps) -> Result<Vec<Option<u16>>, OutOfMemory>
-    ensures { IfOk result (λ levels. AreNearest steps.now (IsStuck steps.now) levels.items) }
-{
-    let mut goals = Vec::with_capacity(alloc, usize::from(SPOTS))?;
-    'spots: for place in 0..SPOTS {
-        let stuck = steps.is_stuck(spot_at(place));
-        goals.push(if stuck { Some(0) } else { None })?;
-    }
-    nearest(alloc, steps, goals)
-}
-
-/// The least number of steps from each spot to one of them.
+/// The least number of steps from each channel to one of them. It looks at each step a few times.
 pub fn nearest_to(
     alloc: Global,
     steps: &Steps,
     goal: Channel,
 ) -> Result<Vec<Option<u16>>, OutOfMemory>
-    requires { IsSpot goal }
+    requires channels { steps.now.to ≡ None }
+    requires goal { IsSpot goal }
     ensures { IfOk result (λ levels. AreNearest steps.now (λ s. s ≡ goal) levels.items) }
 {
-    let mut goals = Vec::with_capacity(alloc, usize::from(SPOTS))?;
-    'spots: for place in 0..SPOTS {
-        let is_goal = spot_at(place) == goal;
-        goals.push(if is_goal { Some(0) } else { None })?;
+    let mut levels = goal_level(alloc, goal)?;
+    let mut due = due_before(alloc, Rule::Nearest, steps, &levels, &[goal])?;
+    'rounds: for round in 1..SPOTS + 1 {
+        let raised = raise(alloc, &mut levels, &due, round)?;
+        if raised.as_slice().is_empty() {
+            return Ok(levels);
+        }
+        due = due_before(alloc, Rule::Nearest, steps, &levels, &raised)?;
     }
-    nearest(alloc, steps, goals)
+    unreachable!()
 }

@@ -18,4 +18,6 @@ mod level;
 pub mod refusal;
 mod spot;
 mod steps;
+mod targets;
+mod walk;
 mod wires;

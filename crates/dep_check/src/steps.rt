@@ -1,10 +1,12 @@
-ghost use Rattle.std.specs.Prelude.{◌≡◌, ◌≢◌, ◌<◌, ◌↔◌, length, Some, None, IsTrue, IfOk, IfSome};
+ghost use Rattle.std.specs.Prelude.{◌≡◌, ◌≢◌, ◌<◌, ◌↔◌, Some, None, IsTrue, IfOk, IfSome};
 ghost use Rattle.dep_check.specs.declared.channel.Channel.{Channel};
-ghost use Rattle.dep_check.specs.Tables.{IsSpot, WiresAreWithin, wire_at};
+ghost use Rattle.dep_check.specs.Tables.{AreLinks, IsSpot, wire_at};
+ghost use Rattle.dep_check.specs.Targets.{AreByTarget};
 
 use crate::channel::Channel;
-use crate::exits::{PortSet, exits_of, has_exit};
+use crate::exits::{PortSet, all_exits, exits_to, has_exit};
 use crate::spot::place_of;
+use crate::targets::RowsByTarget;
 use an_base::memory::OutOfMemory;
 use an_base::row::Row;
 use std::alloc::Global;
@@ -19,32 +21,52 @@ pub struct Steps {
     pub exits: Vec<PortSet>,
     /// The number to which packets go, None for channels.
     pub to: Option<u8>,
-    ghost within: { WiresAreWithin wires.items },
+    ghost links: { AreLinks wires.items },
 }
 
 impl Steps {
-    ghost use Rattle.dep_check.specs.Search.{AreSteps, Depends, GoesBy, IsEnd, IsStep, IsStuck};
+    ghost use Rattle.dep_check.specs.Search.{AreSteps, ComesIn, Depends, GoesBy, IsEnd, IsStep, IsStuck};
 
-    /// The steps by these rows.
-    pub fn of(
+    /// The steps of channels, by these rows.
+    pub fn of(alloc: Global, wires: &[Option<Channel>], rows: &[Row]) -> Result<Steps, OutOfMemory>
+        requires { AreLinks wires.now }
+        ensures { IfOk result (AreSteps wires.now rows.now None) }
+    {
+        let wires = Vec::from_slice(alloc, wires)?;
+        let exits = all_exits(alloc, rows)?;
+        Ok(Steps {
+            wires,
+            exits,
+            to: None,
+        })
+    }
+
+    /// The steps of packets to a number, by these rows.
+    pub fn to(
         alloc: Global,
         wires: &[Option<Channel>],
         rows: &[Row],
-        to: Option<u8>,
+        by_target: &RowsByTarget,
+        to: u8,
     ) -> Result<Steps, OutOfMemory>
-        requires { WiresAreWithin wires.now }
-        ensures { IfOk result (AreSteps wires.now rows.now to) }
+        requires wires { AreLinks wires.now }
+        requires rows { AreByTarget rows.now by_target.now }
+        ensures { IfOk result (AreSteps wires.now rows.now (Some to)) }
     {
         let wires = Vec::from_slice(alloc, wires)?;
-        let exits = exits_of(alloc, rows, to)?;
-        Ok(Steps { wires, exits, to })
+        let exits = exits_to(alloc, rows, by_target, to)?;
+        Ok(Steps {
+            wires,
+            exits,
+            to: Some(to),
+        })
     }
 
     /// The far side of a spot, if a link is there.
     pub fn far(&self, spot: Channel) -> Option<Channel>
         requires { IsSpot spot }
         ensures far { result ≡ wire_at self.now.wires.items spot }
-        ensures within { WiresAreWithin self.now.wires.items }
+        ensures links { AreLinks self.now.wires.items }
     {
         self.wires.get(place_of(spot)).copied().flatten()
     }
@@ -53,7 +75,8 @@ impl Steps {
     fn next_channel(&self, channel: Channel, exit: u8) -> Option<Channel>
         requires spot { IsSpot channel }
         requires exit { exit < 13 }
-        ensures { (b : Channel) → ((result ≡ Some b) ↔ Depends self.now.wires.items self.now.exits.items channel exit b) }
+        ensures { (b : Channel)
+            → ((result ≡ Some b) ↔ Depends self.now.wires.items self.now.exits.items channel exit b) }
     {
         let far = self.far(channel)?;
         if !has_exit(&self.exits, far, exit) {
@@ -71,7 +94,8 @@ impl Steps {
     fn next_entry(&self, to: u8, spot: Channel, exit: u8) -> Option<Channel>
         requires spot { IsSpot spot }
         requires exit { exit < 13 }
-        ensures { (b : Channel) → ((result ≡ Some b) ↔ GoesBy self.now.wires.items self.now.exits.items to spot exit b) }
+        ensures { (b : Channel)
+            → ((result ≡ Some b) ↔ GoesBy self.now.wires.items self.now.exits.items to spot exit b) }
     {
         if spot.at == to || !has_exit(&self.exits, spot, exit) {
             return None;
@@ -93,6 +117,25 @@ impl Steps {
             None => self.next_channel(spot, exit),
             Some(to) => self.next_entry(to, spot, exit),
         }
+    }
+
+    /// The channel that leads to this one by what comes in at an entry of its switch, if there is one.
+    pub fn before(&self, channel: Channel, entry: u8) -> Option<Channel>
+        requires spot { IsSpot channel }
+        requires entry { entry < 13 }
+        requires channels { self.now.to ≡ None }
+        ensures before { (a : Channel) → ((result ≡ Some a) ↔ ComesIn self.now a channel entry) }
+        ensures spot { IfSome result IsSpot }
+    {
+        let near = Channel {
+            at: channel.at,
+            port: entry,
+        };
+        if !has_exit(&self.exits, near, channel.port) {
+            return None;
+        }
+        let _link = self.far(channel)?;
+        self.far(near)
     }
 
     // Whether packets get stuck at a spot.

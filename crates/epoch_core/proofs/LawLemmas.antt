@@ -8,7 +8,7 @@ use Rattle.an_base.specs.Order.{PortsRise}
 use Rattle.an_base.specs.declared.body.Body.{Body}
 use Rattle.an_base.specs.declared.body.Body.TheVariants.{Pos, Answer, Stable, Topo}
 use Rattle.epoch_core.specs.Log.{CardOf, OnPort, Log, on_port, is_claimed}
-use Rattle.epoch_core.specs.Epoch.{version, position, report, is_stable, is_root, has_moved, is_named, finish, pos_at, positions_of, told, answer_to, answers, sent_up, sent_down, topo_down, claiming, passed_on, adds, sent}
+use Rattle.epoch_core.specs.Epoch.{version, position, report, is_stable, is_root, has_moved, is_named, finish, pos_at, positions_of, told, answer_to, answers, sent_up, sent_down, topo_down, claiming, passed_on, adds, sent, went_out}
 use Rattle.epoch_core.specs.Laws.{moves, topos}
 use Rattle.epoch_core.proofs.AcceptLemmas.{adds-topo, finish-topo, finish-finished}
 
@@ -74,6 +74,14 @@ append_if false x xs ys zs is = is
 pub on_port-append : (q : ℕ) (xs ys : List OnPort) → on_port q (xs ++ ys) ≡ on_port q xs ++ on_port q ys
 on_port-append q [] ys = refl
 on_port-append q (x ∷ xs) ys = append_if (x.port == q) x.body (on_port q xs) (on_port q ys) (on_port q (xs ++ ys)) (on_port-append q xs ys)
+
+-- all that went out, taken on a port and read from the last, is what was sent there
+pub sent-went_out : (c : CardOf) (q : ℕ) (log : Log) → sent c q log ≡ reverse (on_port q (went_out c log))
+sent-went_out c q [] = refl
+sent-went_out c q (x ∷ log) =
+    ap (λ (bs : List Body). reverse (on_port q (adds c (x ∷ log))) ++ bs) (sent-went_out c q log)
+    ∙ sym (reverse-append (on_port q (went_out c log)) (on_port q (adds c (x ∷ log))))
+    ∙ ap reverse (sym (on_port-append q (went_out c log) (adds c (x ∷ log))))
 
 -- no topology goes out on a port with positions, answers and reports
 abbrev count : ℕ → List OnPort → ℕ

@@ -1,3 +1,5 @@
+-- What is kept of the bodies on each port.
+
 use Rattle.std.specs.Prelude.{◌≡◌, ℕ, List, [], None, is_some, slice_index_or}
 use Rattle.an_base.specs.declared.body.Body.{Body}
 use Rattle.epoch_core.specs.declared.ports.Heard.{Heard}
@@ -6,9 +8,13 @@ use Rattle.epoch_core.specs.Log.{Log, on_port, is_claimed, answered, last_report
 
 -- what is kept of the bodies on a port, the newest first, but for the last report
 abbrev pub heard_of : List Body → Heard
-heard_of bs = record { answered = answered bs; is_claimed = is_claimed bs; is_fresh = is_some (fresh_report bs) }
+heard_of bodies = record {
+  answered = answered bodies;
+  is_claimed = is_claimed bodies;
+  is_fresh = is_some (fresh_report bodies);
+}
 
 -- what is kept on each port is that of the bodies that the log has there
 pub record HasHeard (ports : Ports) (log : Log) : Type 0 where
-  pub heard : (p : ℕ) → slice_index_or ports.heard p (heard_of []) ≡ heard_of (on_port p log)
-  pub reports : (p : ℕ) → slice_index_or ports.reports p None ≡ last_report (on_port p log)
+  pub heard : (port : ℕ) → slice_index_or ports.heard port (heard_of []) ≡ heard_of (on_port port log)
+  pub reports : (port : ℕ) → slice_index_or ports.reports port None ≡ last_report (on_port port log)

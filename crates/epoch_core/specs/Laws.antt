@@ -1,3 +1,5 @@
+-- What the laws of one epoch at one life speak of.
+
 use Rattle.std.specs.Prelude.{◌≡◌, ◌<◌, ℕ, suc, ⊤, List, [], ◌∷◌, Option, Some, None, if◌then◌else◌, IsTrue}
 use Rattle.std.specs.Ordering.{nat_cmp, ordering_then, is_le}
 use Rattle.an_base.specs.Values.{Place, PosOf}
@@ -9,40 +11,41 @@ use Rattle.epoch_core.specs.Epoch.{position, version, has_moved, is_stable}
 
 -- how many items changed the position
 abbrev pub moves : CardOf → Log → ℕ
-moves c [] = 0
-moves c (x ∷ log) = if has_moved c x log then suc (moves c log) else moves c log
+moves card [] = 0
+moves card (item ∷ log) = if has_moved card item log then suc (moves card log) else moves card log
 
 -- how many topologies there are among bodies
 abbrev pub topos : List Body → ℕ
 topos [] = 0
-topos (Pos b ∷ bs) = topos bs
-topos (Answer b ∷ bs) = topos bs
-topos (Stable es ∷ bs) = topos bs
-topos (Topo t ∷ bs) = suc (topos bs)
+topos (Pos pos ∷ bodies) = topos bodies
+topos (Answer answer ∷ bodies) = topos bodies
+topos (Stable entries ∷ bodies) = topos bodies
+topos (Topo topo ∷ bodies) = suc (topos bodies)
 
 -- the item changes neither the position, nor the version, nor whether the life is stable
-pub record IsSteady (c : CardOf) (x : OnPort) (log : Log) : Type 0 where
-  pub position : position c (x ∷ log) ≡ position c log
-  pub version : version c (x ∷ log) ≡ version c log
-  pub stable : is_stable c (x ∷ log) ≡ is_stable c log
+pub record IsSteady (card : CardOf) (item : OnPort) (log : Log) : Type 0 where
+  pub position : position card (item ∷ log) ≡ position card log
+  pub version : version card (item ∷ log) ≡ version card log
+  pub stable : is_stable card (item ∷ log) ≡ is_stable card log
 
--- p is no greater than q
+-- one place is no greater than another
 abbrev pub IsAtMost : Place → Place → Type 0
-IsAtMost p q = IsTrue (is_le (position_cmp p q))
+IsAtMost one other = IsTrue (is_le (position_cmp one other))
 
--- a later position told on a port offers no more than the one before: by root and then by level, and where that one gave a place it gives one
+-- a later position told on a port offers no more than the one before: by root and then by level, and where
+-- that one gave a place it gives one
 pub record OffersLess (old new : PosOf) : Type 0 where
   pub offer : IsTrue (is_le (ordering_then (life_cmp new.root old.root) (nat_cmp new.level old.level)))
   pub gives : old.level < 125 → new.level < 125
 
 abbrev pub Lowers : Option PosOf → Body → Type 0
-Lowers None b = ⊤
+Lowers None body = ⊤
 Lowers (Some old) (Pos new) = OffersLess old new
-Lowers (Some old) (Answer b) = ⊤
-Lowers (Some old) (Stable es) = ⊤
-Lowers (Some old) (Topo t) = ⊤
+Lowers (Some old) (Answer answer) = ⊤
+Lowers (Some old) (Stable entries) = ⊤
+Lowers (Some old) (Topo topo) = ⊤
 
 -- on each port the offers only get less along the log
 abbrev pub OnlyLowers : Log → Type 0
 OnlyLowers [] = ⊤
-OnlyLowers (x ∷ log) = Lowers (last_pos (on_port x.port log)) x.body × OnlyLowers log
+OnlyLowers (item ∷ log) = Lowers (last_pos (on_port item.port log)) item.body × OnlyLowers log

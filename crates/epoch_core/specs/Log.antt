@@ -1,9 +1,12 @@
+-- What a life accepted in an epoch, and what the bodies on one port say.
+
 use Rattle.std.specs.Prelude.{◌==◌, ℕ, List, [], ◌∷◌, Option, Some, None, Bool, false, if◌then◌else◌}
 use Rattle.an_base.specs.Values.{LifeId, PeerAt, EntryOf, PosOf}
 use Rattle.an_base.specs.declared.body.Body.{Body}
 use Rattle.an_base.specs.declared.body.Body.TheVariants.{Pos, Answer, Stable, Topo}
 
--- what is fixed when a life joins an epoch: the life, the number that it proposes for itself, and its links by rising port
+-- what is fixed when a life joins an epoch: the life, the number that it proposes for itself, and its links
+-- by rising port
 pub record CardOf : Type 0 where
   pub me : LifeId
   pub proposed : ℕ
@@ -20,46 +23,46 @@ Log = List OnPort
 
 -- the bodies on one port, in the list's order
 abbrev pub on_port : ℕ → List OnPort → List Body
-on_port p [] = []
-on_port p (x ∷ xs) = if x.port == p then x.body ∷ on_port p xs else on_port p xs
+on_port port [] = []
+on_port port (item ∷ items) = if item.port == port then item.body ∷ on_port port items else on_port port items
 
 -- Of the bodies on one port, the newest first:
 -- the last position
 abbrev pub last_pos : List Body → Option PosOf
 last_pos [] = None
-last_pos (Pos b ∷ bs) = Some b
-last_pos (Answer b ∷ bs) = last_pos bs
-last_pos (Stable es ∷ bs) = last_pos bs
-last_pos (Topo t ∷ bs) = last_pos bs
+last_pos (Pos pos ∷ bodies) = Some pos
+last_pos (Answer answer ∷ bodies) = last_pos bodies
+last_pos (Stable entries ∷ bodies) = last_pos bodies
+last_pos (Topo topo ∷ bodies) = last_pos bodies
 
 -- whether the last position or answer says that the link is its sender's link to its parent
 abbrev pub is_claimed : List Body → Bool
 is_claimed [] = false
-is_claimed (Pos b ∷ bs) = b.to_parent
-is_claimed (Answer b ∷ bs) = b.to_parent
-is_claimed (Stable es ∷ bs) = is_claimed bs
-is_claimed (Topo t ∷ bs) = is_claimed bs
+is_claimed (Pos pos ∷ bodies) = pos.to_parent
+is_claimed (Answer answer ∷ bodies) = answer.to_parent
+is_claimed (Stable entries ∷ bodies) = is_claimed bodies
+is_claimed (Topo topo ∷ bodies) = is_claimed bodies
 
 -- the version that the last answer names
 abbrev pub answered : List Body → Option ℕ
 answered [] = None
-answered (Pos b ∷ bs) = answered bs
-answered (Answer b ∷ bs) = Some b.version
-answered (Stable es ∷ bs) = answered bs
-answered (Topo t ∷ bs) = answered bs
+answered (Pos pos ∷ bodies) = answered bodies
+answered (Answer answer ∷ bodies) = Some answer.version
+answered (Stable entries ∷ bodies) = answered bodies
+answered (Topo topo ∷ bodies) = answered bodies
 
 -- the last report
 abbrev pub last_report : List Body → Option (List EntryOf)
 last_report [] = None
-last_report (Pos b ∷ bs) = last_report bs
-last_report (Answer b ∷ bs) = last_report bs
-last_report (Stable es ∷ bs) = Some es
-last_report (Topo t ∷ bs) = last_report bs
+last_report (Pos pos ∷ bodies) = last_report bodies
+last_report (Answer answer ∷ bodies) = last_report bodies
+last_report (Stable entries ∷ bodies) = Some entries
+last_report (Topo topo ∷ bodies) = last_report bodies
 
 -- the last report, if it stands after the last position
 abbrev pub fresh_report : List Body → Option (List EntryOf)
 fresh_report [] = None
-fresh_report (Pos b ∷ bs) = None
-fresh_report (Answer b ∷ bs) = fresh_report bs
-fresh_report (Stable es ∷ bs) = Some es
-fresh_report (Topo t ∷ bs) = fresh_report bs
+fresh_report (Pos pos ∷ bodies) = None
+fresh_report (Answer answer ∷ bodies) = fresh_report bodies
+fresh_report (Stable entries ∷ bodies) = Some entries
+fresh_report (Topo topo ∷ bodies) = fresh_report bodies

@@ -1,3 +1,5 @@
+-- What is kept of an epoch stands for the bodies that were accepted in it.
+
 use Rattle.std.specs.Prelude.{◌≡◌, ℕ, ◌+◌, ◌≤◌, List, ◌∷◌, ◌++◌, map, Option, Bool}
 use Rattle.an_base.specs.Values.{Place, TopoOf}
 use Rattle.tree_position.specs.Position.{OffersOf}
@@ -19,7 +21,7 @@ pub record CoreOf : Type 0 where
 
 -- the last offer on each link
 abbrev pub offers_of : CardOf → Log → OffersOf
-offers_of c log = record { me = c.me; links = c.links; offered = map (offer_on log) c.links }
+offers_of card log = record { me = card.me; links = card.links; offered = map (offer_on log) card.links }
 
 -- what is kept is what the log gives
 pub record StandsFor (core : CoreOf) (log : Log) : Type 0 where
@@ -30,10 +32,11 @@ pub record StandsFor (core : CoreOf) (log : Log) : Type 0 where
   pub stable : core.is_stable ≡ is_stable core.card log
   pub finish : core.finish ≡ finish core.card log
 
--- whatever the old core stood for, the new one stands for that with one more item, and what goes out gained what the item adds
-pub record Accepts (old new : CoreOf) (x : OnPort) (before after : List OnPort) : Type 0 where
+-- whatever the old core stood for, the new one stands for that with one more item, and what goes out gained
+-- what the item adds
+pub record Accepts (old new : CoreOf) (item : OnPort) (before after : List OnPort) : Type 0 where
   pub card : new.card ≡ old.card
   pub epoch : new.epoch ≡ old.epoch
   pub version : new.version ≤ old.version + 1
-  pub stands : (log : Log) → StandsFor old log → StandsFor new (x ∷ log)
-  pub sends : (log : Log) → StandsFor old log → after ≡ before ++ adds old.card (x ∷ log)
+  pub stands : (log : Log) → StandsFor old log → StandsFor new (item ∷ log)
+  pub sends : (log : Log) → StandsFor old log → after ≡ before ++ adds old.card (item ∷ log)

@@ -1,3 +1,5 @@
+-- What one more body does to what is kept of an epoch, part by part: the private functions of the core.
+
 use Rattle.std.specs.Prelude.{◌≡◌, suc, ⊤, List, [], ◌∷◌, ◌++◌, map, Option, Some, None, Bool, not, if◌then◌else◌}
 use Rattle.std.specs.List.{flat_map}
 use Rattle.an_base.specs.Values.{Place, TopoOf, EntryOf}
@@ -10,21 +12,22 @@ use Rattle.epoch_core.specs.Epoch.{position, version, is_same, is_stable, finish
 use Rattle.epoch_core.specs.Heard.{HasHeard}
 use Rattle.epoch_core.specs.StandsFor.{CoreOf, StandsFor, offers_of}
 
--- once one more item is noted and the position follows it: whether the life is stable, and its finish, are still those of before
-pub record HasNoted (core : CoreOf) (x : OnPort) (log : Log) : Type 0 where
-  pub offers : core.offers ≡ offers_of core.card (x ∷ log)
-  pub ports : HasHeard core.ports (x ∷ log)
-  pub position : core.position ≡ position core.card (x ∷ log)
-  pub version : core.version ≡ version core.card (x ∷ log)
+-- once one more item is noted and the position follows it: whether the life is stable, and its finish, are
+-- still those of before
+pub record HasNoted (core : CoreOf) (item : OnPort) (log : Log) : Type 0 where
+  pub offers : core.offers ≡ offers_of core.card (item ∷ log)
+  pub ports : HasHeard core.ports (item ∷ log)
+  pub position : core.position ≡ position core.card (item ∷ log)
+  pub version : core.version ≡ version core.card (item ∷ log)
   pub stable : core.is_stable ≡ is_stable core.card log
   pub finish : core.finish ≡ finish core.card log
 
 -- the body is no topology
 abbrev pub IsNoTopo : Body → Type 0
-IsNoTopo (Pos b) = ⊤
-IsNoTopo (Answer b) = ⊤
-IsNoTopo (Stable es) = ⊤
-IsNoTopo (Topo t) = ⊥
+IsNoTopo (Pos pos) = ⊤
+IsNoTopo (Answer answer) = ⊤
+IsNoTopo (Stable entries) = ⊤
+IsNoTopo (Topo topo) = ⊥
 
 -- the position that the offers give, and whether it is another than the one kept
 abbrev pub best_of : CoreOf → Place
@@ -35,36 +38,53 @@ is_moved core = not (is_same (best_of core) core.position)
 
 -- the position follows the offers
 abbrev pub repositioned : CoreOf → CoreOf
-repositioned core = record core { position = best_of core; version = if is_moved core then suc core.version else core.version }
+repositioned core = record core {
+  position = best_of core;
+  version = if is_moved core then suc core.version else core.version;
+}
 
 abbrev pub told_by : CoreOf → List OnPort
 told_by core = if is_moved core then positions_of (suc core.version) (best_of core) core.card.links else []
 
--- whatever item was noted, but a topology, the new core stands for the log with it, and what goes out gained what comes of being stable
+-- whatever item was noted, but a topology, the new core stands for the log with it, and what goes out gained
+-- what comes of being stable
 pub record Settles (old new : CoreOf) (before after : List OnPort) : Type 0 where
   pub card : new.card ≡ old.card
   pub epoch : new.epoch ≡ old.epoch
   pub version : new.version ≡ old.version
-  pub stands : (x : OnPort) (log : Log) → IsNoTopo x.body → HasNoted old x log → StandsFor new (x ∷ log)
-  pub sends : (x : OnPort) (log : Log) → IsNoTopo x.body → HasNoted old x log → after ≡ before ++ (sent_up old.card x log ++ sent_down old.card x log)
+  pub stands : (item : OnPort) (log : Log) → IsNoTopo item.body → HasNoted old item log
+      → StandsFor new (item ∷ log)
+  pub sends : (item : OnPort) (log : Log) → IsNoTopo item.body → HasNoted old item log
+      → after ≡ before ++ (sent_up old.card item log ++ sent_down old.card item log)
 
 -- the entry of a life that stands at the kept position
 abbrev pub entry_of : CoreOf → EntryOf
-entry_of core = record { life = core.card.me; position = core.position; proposed = core.card.proposed; links = core.card.links }
+entry_of core = record {
+  life = core.card.me;
+  position = core.position;
+  proposed = core.card.proposed;
+  links = core.card.links;
+}
 
 -- the report and the numbering of what was kept of a log
 abbrev pub topology_by : CoreOf → Log → TopoOf
-topology_by core log = topology_of (report_of core.card.me (entry_of core ∷ flat_map (reported_on log) (claiming_among core.card.links log)))
+topology_by core log =
+    topology_of
+    (report_of core.card.me (entry_of core ∷ flat_map (reported_on log) (claiming_among core.card.links log)))
 
--- a finish stays, and where there is none it becomes the report and its numbering, which goes to the links that claim
+-- a finish stays, and where there is none it becomes the report and its numbering, which goes to the links
+-- that claim
 abbrev pub finish_or : CoreOf → Log → Option TopoOf
 finish_or core log = or_else core.finish (Some (topology_by core log))
 
 abbrev pub unless_finished : Option TopoOf → List OnPort → List OnPort
 unless_finished None down = down
-unless_finished (Some t) down = []
+unless_finished (Some topo) down = []
 
 pub record FinishesAsRoot (old new : CoreOf) (before after : List OnPort) : Type 0 where
   pub rest : new ≡ record old { finish = new.finish }
   pub finish : (log : Log) → HasHeard old.ports log → new.finish ≡ finish_or old log
-  pub sends : (log : Log) → HasHeard old.ports log → after ≡ before ++ unless_finished old.finish (map (passed_on (topology_by old log)) (claiming_among old.card.links log))
+  pub sends : (log : Log) → HasHeard old.ports log
+      → after ≡ before
+      ++ unless_finished old.finish
+      (map (passed_on (topology_by old log)) (claiming_among old.card.links log))

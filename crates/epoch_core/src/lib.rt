@@ -12,7 +12,5 @@ pub mod epoch;
 pub mod law;
 #[cfg(test)]
 mod networks;
-#[cfg(test)]
-mod plain;
 mod ports;
 pub mod sends;

@@ -1,10 +1,8 @@
-//! Small networks driven one body at a time, and each core beside a plain body that computes from the
-//! whole list of what came.
+//! Small networks of cores, driven one body at a time.
 ghost use Rattle.std.specs.Prelude.{◌+◌, ◌<◌, ◌≤◌, length, All};
 
 use crate::epoch::{Core, MOST_VERSION};
-use crate::plain;
-use crate::sends::{Outgoing, Sends};
+use crate::sends::Sends;
 use an_base::body::Body;
 use an_base::life::{End, Life};
 use an_base::links::{Links, PortLink};
@@ -33,17 +31,9 @@ struct Delivery {
 }
 
 #[derive(Drop)]
-struct Switch {
-    core: Core,
-    links: Links,
-    // What came, the oldest first.
-    log: Vec<Outgoing>,
-}
-
-#[derive(Drop)]
 struct Network {
     cables: Vec<Cable>,
-    switches: Vec<Switch>,
+    cores: Vec<Core>,
     under_way: Vec<Delivery>,
 }
 
@@ -106,15 +96,14 @@ impl Network {
     fn join(alloc: Global, cables: Vec<Cable>, count: usize) -> Result<Network, Fail> {
         let mut network = Network {
             cables,
-            switches: Vec::new(alloc),
+            cores: Vec::new(alloc),
             under_way: Vec::new(alloc),
         };
         for place in 0..count {
             let links = links_of(&network.cables, place);
             let mut sends = Sends::new(alloc);
             let core = Core::join(alloc, life(place), 7, 1, &links, &mut sends)?;
-            let log = Vec::new(alloc);
-            network.switches.push(Switch { core, links, log })?;
+            network.cores.push(core)?;
             network.carry(place, sends)?;
         }
         Ok(network)
@@ -177,18 +166,14 @@ impl Network {
     }
 
     fn accept(&mut self, alloc: Global, to: Plug, body: Body) -> Result<Sends, Fail> {
-        let Some(switch) = self.switches.get_mut(to.place) else {
+        let Some(core) = self.cores.get_mut(to.place) else {
             return Err(Fail::from("no such switch"));
         };
-        switch.log.push(Outgoing {
-            port: to.port,
-            body: body.copy(alloc)?,
-        })?;
         let mut sends = Sends::new(alloc);
-        if to.port > 12 || switch.core.version() > MOST_VERSION {
+        if to.port > 12 || core.version() > MOST_VERSION {
             return Err(Fail::from("out of range"));
         }
-        switch.core.accept(to.port, body, &mut sends)?;
+        core.accept(to.port, body, &mut sends)?;
         Ok(sends)
     }
 
@@ -205,11 +190,11 @@ impl Network {
 
     // Whether each switch has finished with these positions, by rising life.
     fn has_finished(&self, places: &[Position]) -> bool {
-        for switch in &self.switches {
-            let Some(topo) = switch.core.finish() else {
+        for core in &self.cores {
+            let Some(topo) = core.finish() else {
                 return false;
             };
-            if !switch.core.stable() || topo.entries().len() != places.len() {
+            if !core.stable() || topo.entries().len() != places.len() {
                 return false;
             }
             for (entry, place) in topo.entries().as_slice().iter().zip(places) {
@@ -241,9 +226,9 @@ fn a_ring_of_four_finishes_with_one_topology(rt: HostRuntime) -> Result<(), Fail
         Position::new(a, 2, life(1), 1),
     ];
     assert!(rt; network.has_finished(&places));
-    for switch in &network.switches {
-        assert_eq!(rt; switch.core.epoch(), 7);
-        if let Some(topo) = switch.core.finish() {
+    for core in &network.cores {
+        assert_eq!(rt; core.epoch(), 7);
+        if let Some(topo) = core.finish() {
             assert_eq!(rt; topo.numbers().as_slice(), [1, 2, 3, 4].as_slice());
         }
     }
@@ -266,9 +251,9 @@ fn a_life_that_moved_is_reported_once(rt: HostRuntime) -> Result<(), Fail> {
     let a = life(0);
     let held = Plug { place: 1, port: 1 };
     network.run(alloc, Some(held))?;
-    if let Some(d) = network.switches.get(3) {
-        assert!(rt; d.core.stable());
-        assert_eq!(rt; *d.core.position(), Position::new(a, 2, life(2), 2));
+    if let Some(d) = network.cores.get(3) {
+        assert!(rt; d.stable());
+        assert_eq!(rt; *d.position(), Position::new(a, 2, life(2), 2));
     }
     network.run(alloc, None)?;
     let places = [
@@ -279,73 +264,5 @@ fn a_life_that_moved_is_reported_once(rt: HostRuntime) -> Result<(), Fail> {
         Position::new(a, 1, a, 1),
     ];
     assert!(rt; network.has_finished(&places));
-    Ok(())
-}
-
-// A number below this one, at least 1, by a simple generator.
-fn random(seed: &mut u64, below: usize) -> usize {
-    *seed = seed
-        .wrapping_mul(6_364_136_223_846_793_005)
-        .wrapping_add(1_442_695_040_888_963_407);
-    (*seed >> 33) as usize % below.max(1)
-}
-
-fn random_plug(seed: &mut u64, count: usize) -> Plug {
-    let ports = [1, 2, 3];
-    Plug {
-        place: random(seed, count),
-        port: ports[random(seed, 3) % 3],
-    }
-}
-
-fn random_cables(alloc: Global, seed: &mut u64, count: usize) -> Result<Vec<Cable>, Fail> {
-    let mut cables = Vec::new(alloc);
-    for _ in 0..2 * (count % 100) {
-        let one = random_plug(seed, count);
-        let other = random_plug(seed, count);
-        let is_free = far(&cables, one).is_none() && far(&cables, other).is_none();
-        if is_free && one.place != other.place {
-            cables.push(Cable { one, other })?;
-        }
-    }
-    Ok(cables)
-}
-
-// Delivers one body, and tells whether the core and the plain body agree.
-fn agree_after(alloc: Global, network: &mut Network, to: Plug) -> Result<bool, Fail> {
-    let Some(body) = network.take(to) else {
-        return Ok(false);
-    };
-    let sends = network.accept(alloc, to, body)?;
-    let mut agree = false;
-    if let Some(switch) = network.switches.get(to.place) {
-        let member = plain::Member {
-            me: life(to.place),
-            links: &switch.links,
-        };
-        agree = plain::agree(alloc, &member, &switch.log, &switch.core, &sends)?;
-    }
-    network.carry(to.place, sends)?;
-    Ok(agree)
-}
-
-#[test]
-fn cores_do_what_the_whole_list_says(rt: HostRuntime) -> Result<(), Fail> {
-    let alloc = rt.alloc();
-    let mut seed = 1;
-    for round in 0..60 {
-        let count = 2 + round % 4;
-        let cables = random_cables(alloc, &mut seed, count)?;
-        let mut network = Network::join(alloc, cables, count)?;
-        for _ in 0..2_000 {
-            let left = network.under_way.len();
-            let Some(delivery) = network.under_way.get(random(&mut seed, left)) else {
-                break;
-            };
-            let to = delivery.to;
-            assert!(rt; agree_after(alloc, &mut network, to)?, "in round {round}");
-        }
-        assert!(rt; network.under_way.is_empty());
-    }
     Ok(())
 }

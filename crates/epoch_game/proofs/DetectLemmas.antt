@@ -26,7 +26,7 @@ use Rattle.epoch_game.proofs.ImproveLemmas.{no_offers, only_improves}
 use Rattle.epoch_game.proofs.EpochLaws.{EpochLaws}
 use Rattle.epoch_game.proofs.LeavingLemmas.{own_root, lasting_state, never_state, stable_last}
 use Rattle.epoch_game.proofs.MemberLemmas.{Reach, start as Reach-start, next as Reach-next, Detected, members, offers_present, had_root, report_holds}
-use Rattle.epoch_game.proofs.StateLemmas.{node, node_is, Linked, me_is, mom, joined, stable_on, plain, gives_at, gives_is, laws}
+use Rattle.epoch_game.proofs.StateLemmas.{node, node_is, Linked, me_is, mom, joined, stable_on, plain, gives_at, gives_is, Content, laws}
 use Rattle.epoch_game.proofs.ContentLemmas.{link_on, content, all_true}
 
 -- a state in which r was once a stable root
@@ -88,15 +88,15 @@ member lives s r _ d (next x z p q n h sx named) =
 pub reached_next : (lives : List LifeId) (s : Slice) (r x : LifeId) (d : Rooted lives s r) → Reached s r x → s x ≡ Some (node s x) → (p : ℕ) (z : LifeId) (q : ℕ) → Linked s x p z q → Reached s r z
 reached_next lives s r x d h sx p z q l = next x z p q (node s x) h sx l.there
 
-reached : (lives : List LifeId) (s : Slice) (r : LifeId) (d : Rooted lives s r) (x : LifeId) → Reach (state lives s r d) r x → Reached s r x
-reached lives s r d _ Reach-start = start
-reached lives s r d _ (Reach-next x p z q h l) = next x z p q (node s x) (reached lives s r d x h) (joined s x p z q l.there) l.there
+pub reached : (lives : List LifeId) (s : Slice) (few : length lives ≤ 126) (run : Run lives nobody s) (reports : Content s) (r x : LifeId) → Reach (laws lives s few run reports) r x → Reached s r x
+reached lives s few run reports r _ Reach-start = start
+reached lives s few run reports r _ (Reach-next x p z q h l) = next x z p q (node s x) (reached lives s few run reports r x h) (joined s x p z q l.there) l.there
 
 -- who ever had the root is reached
 pub had_reached : (lives : List LifeId) (s : Slice) (r y : LifeId) (d : Rooted lives s r) (h : Log) → Earlier h (node s y).log → (position (node s y).card h).root ≡ r → Reached s r y
 had_reached lives s r y d h e root =
     let k = number h (node s y).log e in
-    reached lives s r d y
+    reached lives s d.few d.run (content lives s d.few d.run) r y
     (had_root (state lives s r d) r (suc (position (node s y).card (mom s y (length h))).level) y (length h) (omega arith) k.0 (ap (λ (a : Log). (position (node s y).card a).root) k.1 ∙ root))
 
 -- The equations between a member's position and those of its neighbours.

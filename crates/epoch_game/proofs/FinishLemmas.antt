@@ -6,6 +6,7 @@ use Rattle.an_base.specs.Values.{LifeId, Place, PeerAt, EntryOf, TopoOf}
 use Rattle.an_base.specs.Order.{life_cmp}
 use Rattle.an_base.specs.declared.body.Body.{Body}
 use Rattle.an_base.specs.declared.body.Body.TheVariants.{Pos, Answer, Stable, Topo}
+use Rattle.an_base.proofs.LifeLemmas.{same_life}
 use Rattle.tree_position.specs.Position.{self_root}
 use Rattle.topo_report.proofs.Members.{In, in_from, contains_from}
 use Rattle.topo_report.proofs.ReportLaws.{report_is_report}
@@ -19,7 +20,7 @@ use Rattle.epoch_game.specs.Detection.{Reached, start, next, IsNextTo, WalkTo, I
 use Rattle.epoch_game.proofs.Lists.{earlier_itself, earlier_trans}
 use Rattle.epoch_game.proofs.ViewLemmas.{is_same-eq, finish_stays, shown}
 use Rattle.epoch_game.proofs.Basics.{some_same, none_some, number_itself}
-use Rattle.epoch_game.proofs.Nodes.{life_eq, decide_life, node_here, node_cases, has_link}
+use Rattle.epoch_game.proofs.Nodes.{decide_life, node_here, node_cases, has_link}
 use Rattle.epoch_game.proofs.StreamLemmas.{nodes, shows_far, has_grown}
 use Rattle.epoch_game.proofs.Orders.{antisym, given, same_at_most}
 use Rattle.epoch_game.proofs.ImproveLemmas.{only_improves}
@@ -241,7 +242,7 @@ named_entry me [] e = absurd (true≢false (sym e))
 named_entry me (f ∷ es) e = by (is_eq (life_cmp f.life me)) refl e (λ g. named_entry me es g)
   where
     by : (b : Bool) → is_eq (life_cmp f.life me) ≡ b → Rattle.std.specs.Prelude.◌||◌ b (list_any (λ e. is_eq (life_cmp e.life me)) es) ≡ true → (list_any (λ e. is_eq (life_cmp e.life me)) es ≡ true → HasEntry me es) → HasEntry me (f ∷ es)
-    by true is h rest = record { entry = f; among = inl refl; life = life_eq f.life me is }
+    by true is h rest = record { entry = f; among = inl refl; life = same_life f.life me is }
     by false is h rest = let r = rest h in record { entry = r.entry; among = inr r.among; life = r.life }
 
 -- a topology given by a body is that of the body, and names the life
@@ -395,6 +396,10 @@ finished_under lives s few run x n t sx done = record {
     life : f.life ≡ x
     life = sym (nodes lives s run f.life f.node f.joined).0.me ∙ ap (λ (a : EntryOf). a.life) (sym f.is) ∙ o.life
 
+-- the root of a finish was a stable root
+pub root_was : (s : Slice) (x : LifeId) (t : TopoOf) (u : FinishedUnder s x t) → WasStableRoot s u.root
+root_was s x t u = record { node = u.node; joined = u.joined; moment = u.moment; earlier = u.earlier; stable = u.stable; root = u.is_root }
+
 -- all that finish among the members of r hold its report
 same_report : (lives : List LifeId) (s : Slice) (r : LifeId) (d : Rooted lives s r) (h : Log) → Earlier h (node s r).log → is_stable (node s r).card h ≡ true
     → (y : LifeId) → y ≡ r → (k : Node) → s y ≡ Some k → (g : Log) → Earlier g k.log → is_stable k.card g ≡ true → report k.card g ≡ report (node s r).card h
@@ -407,7 +412,7 @@ pub one_topology : (lives : List LifeId) (s : Slice) (r : LifeId) (d : Rooted li
     → (z : LifeId) (k : Node) (t : TopoOf) → Reached s r z → s z ≡ Some k → finish k.card k.log ≡ Some t → t ≡ topology_of (report (node s r).card h)
 one_topology lives s r d h e st z k t hz sz done =
     let u = finished_under lives s d.few d.run z k t sz done in
-    let d0 : Rooted lives s u.root = record { few = d.few; run = d.run; was = record { node = u.node; joined = u.joined; moment = u.moment; earlier = u.earlier; stable = u.stable; root = u.is_root } } in
+    let d0 : Rooted lives s u.root = record { few = d.few; run = d.run; was = root_was s z t u } in
     let same : u.root ≡ r = sym (member lives s u.root z d0 u.reached).root ∙ (member lives s r z d hz).root in
     u.topology ∙ ap topology_of (same_report lives s r d h e st u.root same u.node u.joined u.moment u.earlier u.stable)
 
@@ -496,7 +501,7 @@ one_root lives s r1 r2 x few run was1 was2 h1 h2 =
 entry_root : (lives : List LifeId) (s : Slice) → length lives ≤ 126 → Run lives nobody s → (x : LifeId) (t : TopoOf) (u : FinishedUnder s x t) (e : EntryOf) → Contains t.entries e → e.position.root ≡ u.root
 entry_root lives s few run x t u e i =
     let f = (u.entries e).0 i in
-    let d : Rooted lives s u.root = record { few = few; run = run; was = record { node = u.node; joined = u.joined; moment = u.moment; earlier = u.earlier; stable = u.stable; root = u.is_root } } in
+    let d : Rooted lives s u.root = record { few = few; run = run; was = root_was s x t u } in
     ap (λ (a : EntryOf). a.position.root) f.is ∙ ap (λ (a : Node). (position a.card a.log).root) (sym (node_is s f.life f.node f.joined)) ∙ (member lives s u.root f.life d f.reached).root
 
 -- two that finished under one root hold one topology
@@ -511,7 +516,7 @@ finished_alike lives s x y n m t u e f few run sx sy dx dy i j same = a.topology
     b = finished_under lives s few run y m u sy dy
 
     d : Rooted lives s b.root
-    d = record { few = few; run = run; was = record { node = b.node; joined = b.joined; moment = b.moment; earlier = b.earlier; stable = b.stable; root = b.is_root } }
+    d = record { few = few; run = run; was = root_was s y u b }
 
     is : node s b.root ≡ b.node
     is = node_is s b.root b.node b.joined

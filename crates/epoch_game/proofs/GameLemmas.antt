@@ -4,13 +4,14 @@ use Rattle.std.specs.Ordering.{is_eq}
 use Rattle.an_base.specs.Values.{LifeId, TopoOf}
 use Rattle.an_base.specs.Order.{life_cmp}
 use Rattle.an_base.specs.declared.body.Body.{Body}
+use Rattle.an_base.proofs.LifeLemmas.{life_passes, same_life}
 use Rattle.epoch_core.specs.Log.{CardOf, on_port}
 use Rattle.epoch_core.specs.Epoch.{finish, sent}
 use Rattle.epoch_game.specs.Slice.{Earlier, Node, Slice, nobody, with_node, Names, IsCardOf, Run, none as Run-none, joins as Run-joins, accepts as Run-accepts}
 use Rattle.epoch_game.specs.Leaving.{WasStableRoot}
 use Rattle.epoch_game.specs.Game.{Game, slice, begins, with_node_in, with_present, with_loaded, after_join, after_accept, after_load, MayJoin, Play, none, joins, accepts, loads, HasFinished, IsDetectedIn}
 use Rattle.epoch_game.proofs.Basics.{number_same, none_some, bool_cases}
-use Rattle.epoch_game.proofs.Nodes.{life_eq, eq_life, node_cases}
+use Rattle.epoch_game.proofs.Nodes.{node_cases}
 use Rattle.epoch_game.proofs.StreamLemmas.{has_grown}
 use Rattle.epoch_game.proofs.FinishLemmas.{is_detected, finish_earlier}
 
@@ -26,13 +27,13 @@ present_kept : (g : Game) (x y : LifeId) (e f : ℕ) → g.present x ≤ e → f
 present_kept g x y e f up low =
     ⊎_elim
     (λ (is : is_eq (life_cmp x y) ≡ true).
-    let at_y = ap g.present (life_eq x y is) in
+    let at_y = ap g.present (same_life x y is) in
     subst (λ (b : Bool). f ≤ cond b e (g.present y)) (sym is) (omega (arith, up, low, at_y)))
     (λ (is : is_eq (life_cmp x y) ≡ false). subst (λ (b : Bool). f ≤ cond b e (g.present y)) (sym is) low)
     (bool_cases (is_eq (life_cmp x y)))
 
 present_joined : (g : Game) (x y : LifeId) (e f : ℕ) → x ≡ y → e ≡ f → f ≤ with_present g x e y
-present_joined g x y e f at is = subst (λ (b : Bool). f ≤ cond b e (g.present y)) (sym (eq_life x y at)) (omega (arith, is))
+present_joined g x y e f at is = subst (λ (b : Bool). f ≤ cond b e (g.present y)) (sym (life_passes x y at)) (omega (arith, is))
 
 -- a node after one was put in an epoch: the new one, or one of before
 node_in : (g : Game) (e : ℕ) (x : LifeId) (n : Node) (y : LifeId) (f : ℕ) (m : Node) → with_node_in g e x n y f ≡ Some m → ((e ≡ f) × (x ≡ y) × (n ≡ m)) ⊎ (g.nodes y f ≡ Some m)
@@ -105,6 +106,10 @@ epoch_run lives g _ f ahead (loads h x n t play sx done fresh) = epoch_run lives
 start_ahead : (first : LifeId → ℕ) → NoneAhead (begins first)
 start_ahead first x e n is = absurd (none_some is)
 
+-- so no life has joined an epoch above its present one
+pub nothing_ahead : (lives : List LifeId) (first : LifeId → ℕ) (g : Game) → Play lives (begins first) g → NoneAhead g
+nothing_ahead lives first g play = none_ahead lives (begins first) g play (start_ahead first)
+
 pub play_run : (lives : List LifeId) (first : LifeId → ℕ) (g : Game) (e : ℕ) → Play lives (begins first) g → Run lives nobody (slice e g)
 play_run lives first g e play = epoch_run lives (begins first) g e (start_ahead first) play
 
@@ -144,7 +149,7 @@ loaded_cases g x e y f is = by (is_eq (life_cmp x y)) refl is
     by_epoch false a at b = inr b
 
     by : (c : Bool) → is_eq (life_cmp x y) ≡ c → cond c (cond (e == f) true (g.loaded y f)) (g.loaded y f) ≡ true → ((x ≡ y) × (e ≡ f)) ⊎ (g.loaded y f ≡ true)
-    by true a b = by_epoch (e == f) refl (life_eq x y a) b
+    by true a b = by_epoch (e == f) refl (same_life x y a) b
     by false a b = inr b
 
 loads_kept : (lives : List LifeId) (g : Game) (x : LifeId) (n : Node) (t : TopoOf) → g.nodes x (g.present x) ≡ Some n → finish n.card n.log ≡ Some t → LoadsAreFinished g → LoadsAreFinished (after_load g x)

@@ -5,6 +5,7 @@ use Rattle.an_base.specs.Order.{life_cmp, IsBelow}
 use Rattle.an_base.specs.declared.body.Body.{Body}
 use Rattle.an_base.specs.declared.body.Body.TheVariants.{Pos, Answer, Stable, Topo}
 use Rattle.an_base.proofs.OrderLaws.{life_total}
+use Rattle.an_base.proofs.LifeLemmas.{below_same}
 use Rattle.tree_position.specs.Position.{self_root, lesser}
 use Rattle.epoch_core.specs.Log.{CardOf, OnPort, Log, on_port, is_claimed, answered, fresh_report}
 use Rattle.epoch_core.specs.Epoch.{version, position, is_stable, sent}
@@ -17,7 +18,7 @@ use Rattle.epoch_game.proofs.Lists.{earlier_itself}
 use Rattle.epoch_game.proofs.Moments.{version_grows, at, at_cases, at_earlier, at_grows, at_whole, number}
 use Rattle.epoch_game.proofs.Nodes.{decide_life, node_here, node_else, node_cases, not_own, has_link}
 use Rattle.epoch_game.proofs.StreamLemmas.{nodes}
-use Rattle.epoch_game.proofs.Orders.{Before, LifeAtMost, lesser_cases, le_or_lt, lt_not_le, le_lt_trans, le_itself, root_at_most, level_at_most}
+use Rattle.epoch_game.proofs.Orders.{Before, LifeAtMost, lesser_cases, le_or_lt, le_lt_trans, root_at_most, level_at_most}
 use Rattle.epoch_game.proofs.OfferLemmas.{behind, FromLink, position_is, at_most_self}
 use Rattle.epoch_game.proofs.ImproveLemmas.{best, best_with, improving, next_pos}
 use Rattle.epoch_game.proofs.HandshakeLemmas.{Lasting, IsLast, lasting_step, life_antisym}
@@ -182,15 +183,12 @@ record SomeWitness (s : Slice) (r : LifeId) : Type 0 where
 abbrev Never : Slice → Type 0
 Never s = (r y : LifeId) (j : ℕ) → LeaverIn (node s y) r j → SomeWitness s r
 
-below_itself : (a b : LifeId) → a ≡ b → IsBelow a b → ⊥
-below_itself a b e low = lt_not_le life_cmp life_total a b low (subst (λ (c : LifeId). LifeAtMost c a) e (le_itself life_cmp life_total a))
-
 -- an empty list left nothing
 no_leaver : (n : Node) (r : LifeId) (j : ℕ) → n.log ≡ [] → LeaverIn n r j → ⊥
 no_leaver n r j e h =
     let a : (position n.card []).root ≡ r = ap (λ l. (position n.card l).root) (sym (ap (λ l. at l j) e)) ∙ h.last.root in
     let b : IsBelow (position n.card []).root r = subst (λ l. IsBelow (position n.card l).root r) e h.left in
-    below_itself (position n.card []).root r a b
+    below_same (position n.card []).root r a b
 
 -- with one more item the moments before are the same
 at_older : (x : OnPort) (l : Log) (i : ℕ) → i ≤ length l → at (x ∷ l) i ≡ at l i
@@ -205,14 +203,14 @@ older_last c x l r j less h = record {
     last : (k : ℕ) → k ≤ length (x ∷ l) → (position c (at (x ∷ l) k)).root ≡ r → k ≤ j
     last k hk e =
         ⊎_elim
-        (λ (w : (length l < k) × (at (x ∷ l) k ≡ x ∷ l)). absurd (below_itself (position c (x ∷ l)).root r (ap (λ a. (position c a).root) (sym w.1) ∙ e) less))
+        (λ (w : (length l < k) × (at (x ∷ l) k ≡ x ∷ l)). absurd (below_same (position c (x ∷ l)).root r (ap (λ a. (position c a).root) (sym w.1) ∙ e) less))
         (λ (w : (k ≤ length l) × (at (x ∷ l) k ≡ at l k)). h.most k w.0 (ap (λ a. (position c a).root) (sym w.1) ∙ e))
         (at_cases x l k)
 
 newer_last : (c : CardOf) (x : OnPort) (l : Log) (r : LifeId) (j : ℕ) → LeaverIn (record { card = c; log = x ∷ l }) r j → LastIn (record { card = c; log = l }) r j
 newer_last c x l r j h =
     ⊎_elim
-    (λ (w : (length l < j) × (at (x ∷ l) j ≡ x ∷ l)). absurd (below_itself (position c (x ∷ l)).root r (ap (λ a. (position c a).root) (sym w.1) ∙ h.last.root) h.left))
+    (λ (w : (length l < j) × (at (x ∷ l) j ≡ x ∷ l)). absurd (below_same (position c (x ∷ l)).root r (ap (λ a. (position c a).root) (sym w.1) ∙ h.last.root) h.left))
     (λ (w : (j ≤ length l) × (at (x ∷ l) j ≡ at l j)). record {
       within = w.0;
       root = ap (λ a. (position c a).root) (sym w.1) ∙ h.last.root;
@@ -247,7 +245,7 @@ brought lives t x z p q n m b few run sx sz lx lz next less = by_body b refl
     was_best = (improving lives t few run).0 x n sx n.log (earlier_itself n.log)
 
     unmoved : position n.card log ≡ position n.card n.log → Brought m (position n.card n.log).root
-    unmoved e = absurd (below_itself (position n.card log).root (position n.card n.log).root (ap (λ (a : Place). a.root) e) less)
+    unmoved e = absurd (below_same (position n.card log).root (position n.card n.log).root (ap (λ (a : Place). a.root) e) less)
 
     with_body : (y : Body) → y ≡ b → position n.card log ≡ best_with y (link_at p n.card.links) p (best n.card n.log)
     with_body y e = is_best ∙ ap (λ (a : Body). best_with a (link_at p n.card.links) p (best n.card n.log)) (sym e)

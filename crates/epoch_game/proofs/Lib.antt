@@ -1,10 +1,10 @@
-mod Basics
-mod Lists
+pub mod Basics
+pub mod Lists
 mod SentLemmas
 mod ViewLemmas
-mod Moments
-mod Nodes
-mod StreamLemmas
+pub mod Moments
+pub mod Nodes
+pub mod StreamLemmas
 mod Orders
 mod OfferLemmas
 mod ImproveLemmas
@@ -16,6 +16,9 @@ mod LeavingLemmas
 mod MemberLemmas
 mod ContentLemmas
 mod DetectLemmas
-mod FinishLemmas
-mod TopologyLemmas
-mod GameLemmas
+pub mod FinishLemmas
+pub mod TopologyLemmas
+mod WholeLemmas
+mod MomentStates
+pub mod DeliveredLemmas
+pub mod GameLemmas

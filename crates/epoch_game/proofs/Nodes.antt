@@ -1,10 +1,9 @@
-use Rattle.std.proofs.Common.{◌≡◌, ◌⊎◌, inl, inr, ℕ, ◌<◌, ◌≤◌, List, [], ◌∷◌, length, get_or, Option, Some, None, Bool, true, false, true≢false, cond, refl, sym, ap, ◌∙◌, subst, ⊎_elim, arith, Contains}
+use Rattle.std.proofs.Common.{◌≡◌, ◌⊎◌, inl, inr, ℕ, List, [], ◌∷◌, Some, Bool, true, false, true≢false, cond, refl, sym, ap, ◌∙◌, subst, ⊎_elim, arith}
 use Rattle.std.specs.Prelude.{◌==◌, ◌≢◌, All}
 use Rattle.std.specs.Ordering.{is_eq}
-use Rattle.std.specs.Cmp.{Equal-is, tied_itself}
 use Rattle.an_base.specs.Values.{LifeId, EndId, PeerAt}
 use Rattle.an_base.specs.Order.{life_cmp}
-use Rattle.an_base.proofs.OrderLaws.{life_total, life_apart}
+use Rattle.an_base.proofs.LifeLemmas.{life_passes, same_life}
 use Rattle.topo_report.proofs.Members.{In, contains_from}
 use Rattle.epoch_core.specs.Log.{CardOf}
 use Rattle.epoch_game.specs.Slice.{Node, Slice, with_node, link_at, Names, IsCardOf}
@@ -12,32 +11,25 @@ use Rattle.epoch_game.proofs.Basics.{bool_cases, some_same, number_same}
 use Rattle.epoch_game.proofs.SentLemmas.{RiseFrom, rise_from}
 use Rattle.epoch_game.proofs.ViewLemmas.{HasLink}
 
--- lives by test
-pub life_eq : (x y : LifeId) → is_eq (life_cmp x y) ≡ true → x ≡ y
-life_eq x y e = life_apart x y ((Equal-is (life_cmp x y)).0 e)
-
-pub eq_life : (x y : LifeId) → x ≡ y → is_eq (life_cmp x y) ≡ true
-eq_life x y e = (Equal-is (life_cmp x y)).1 (subst (λ (z : LifeId). life_cmp x z ≡ Rattle.std.proofs.Common.Equal) e (tied_itself life_total x))
-
 pub life_ne : (x y : LifeId) → is_eq (life_cmp x y) ≡ false → x ≡ y → ⊥
-life_ne x y f e = true≢false (sym (eq_life x y e) ∙ f)
+life_ne x y f e = true≢false (sym (life_passes x y e) ∙ f)
 
 pub decide_life : (x y : LifeId) → (x ≡ y → ⊥) ⊎ (x ≡ y)
-decide_life x y = ⊎_elim (λ (t : is_eq (life_cmp x y) ≡ true). inr (life_eq x y t)) (λ (f : is_eq (life_cmp x y) ≡ false). inl (life_ne x y f)) (bool_cases (is_eq (life_cmp x y)))
+decide_life x y = ⊎_elim (λ (t : is_eq (life_cmp x y) ≡ true). inr (same_life x y t)) (λ (f : is_eq (life_cmp x y) ≡ false). inl (life_ne x y f)) (bool_cases (is_eq (life_cmp x y)))
 
 -- the node of a life, and of another
 pub node_here : (s : Slice) (x : LifeId) (n : Node) → with_node s x n x ≡ Some n
-node_here s x n = ap (λ (g : Bool). cond g (Some n) (s x)) (eq_life x x refl)
+node_here s x n = ap (λ (g : Bool). cond g (Some n) (s x)) (life_passes x x refl)
 
 pub node_else : (s : Slice) (x y : LifeId) (n : Node) → (x ≡ y → ⊥) → with_node s x n y ≡ s y
 node_else s x y n ne =
-    ⊎_elim (λ (e : is_eq (life_cmp x y) ≡ true). absurd (ne (life_eq x y e))) (λ (e : is_eq (life_cmp x y) ≡ false). ap (λ (g : Bool). cond g (Some n) (s y)) e)
+    ⊎_elim (λ (e : is_eq (life_cmp x y) ≡ true). absurd (ne (same_life x y e))) (λ (e : is_eq (life_cmp x y) ≡ false). ap (λ (g : Bool). cond g (Some n) (s y)) e)
     (bool_cases (is_eq (life_cmp x y)))
 
 pub node_cases : (s : Slice) (x y : LifeId) (n m : Node) → with_node s x n y ≡ Some m → ((x ≡ y) × (n ≡ m)) ⊎ ((x ≡ y → ⊥) × (s y ≡ Some m))
 node_cases s x y n m e =
     ⊎_elim
-    (λ (t : is_eq (life_cmp x y) ≡ true). inl (life_eq x y t, some_same n m (sym (ap (λ (g : Bool). cond g (Some n) (s y)) t) ∙ e)))
+    (λ (t : is_eq (life_cmp x y) ≡ true). inl (same_life x y t, some_same n m (sym (ap (λ (g : Bool). cond g (Some n) (s y)) t) ∙ e)))
     (λ (f : is_eq (life_cmp x y) ≡ false). inr (life_ne x y f, sym (ap (λ (g : Bool). cond g (Some n) (s y)) f) ∙ e))
     (bool_cases (is_eq (life_cmp x y)))
 

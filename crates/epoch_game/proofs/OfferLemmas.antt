@@ -1,5 +1,5 @@
 use Rattle.std.proofs.Common.{◌≡◌, ◌∙◌, ◌⊎◌, inl, inr, sym, ap, refl, subst, ⊎_elim, ℕ, ◌<◌, ◌≤◌, List, [], ◌∷◌, Option, Some, None, Bool, true, false, cond, map, arith}
-use Rattle.std.specs.Prelude.{nat_lt}
+use Rattle.std.specs.Prelude.{◌==◌, nat_lt}
 use Rattle.std.proofs.lemmas.Bool.{cases_lt}
 use Rattle.std.proofs.lemmas.Bool.Decides.{nat_tests}
 use Rattle.an_base.specs.Values.{Place, PeerAt, PosOf}
@@ -10,7 +10,8 @@ use Rattle.epoch_core.specs.Log.{CardOf, Log, on_port, last_pos}
 use Rattle.epoch_core.specs.Epoch.{offer_of, offer_on, position}
 use Rattle.epoch_core.specs.Laws.{IsAtMost}
 use Rattle.epoch_core.proofs.LessLemmas.{at_most_trans}
-use Rattle.epoch_game.proofs.Basics.{some_same}
+use Rattle.epoch_game.specs.Slice.{link_at}
+use Rattle.epoch_game.proofs.Basics.{some_same, number_itself}
 use Rattle.epoch_game.proofs.SentLemmas.{RiseFrom}
 use Rattle.epoch_game.proofs.Orders.{Before, antisym, not_both, is_lesser, lt_le}
 
@@ -178,3 +179,17 @@ one_port low (i ∷ is) k j rise (inr a) (inl b) e =
     let y : j.port ≡ i.port = ap (λ (t : PeerAt). t.port) b in
     absurd (omega (arith, x, y, e))
 one_port low (i ∷ is) k j rise (inr a) (inr b) e = one_port i.port is k j rise.1 a b e
+
+-- so the link at the port of a link is that link
+same_port : (a b : ℕ) → (a == b) ≡ true → a < b → ⊥
+same_port a b e lt = grind (arith, nat_tests)
+
+pub find_link : (low : ℕ) (ks : List PeerAt) (k : PeerAt) → RiseFrom low ks → In k ks → link_at k.port ks ≡ Some k.peer
+find_link low [] k rise i = absurd i
+find_link low (j ∷ ks) k rise (inl is) =
+    ap (λ (g : Bool). cond g (Some j.peer) (link_at k.port ks)) (ap (λ (a : PeerAt). j.port == a.port) is ∙ number_itself j.port) ∙ ap (λ (a : PeerAt). Some a.peer) (sym is)
+find_link low (j ∷ ks) k rise (inr i) = by (j.port == k.port) refl (find_link j.port ks k rise.1 i)
+  where
+    by : (b : Bool) → (j.port == k.port) ≡ b → link_at k.port ks ≡ Some k.peer → cond b (Some j.peer) (link_at k.port ks) ≡ Some k.peer
+    by true e rest = absurd (same_port j.port k.port e (above j.port ks k rise.1 i))
+    by false e rest = rest

@@ -1,36 +1,15 @@
 use Rattle.std.proofs.Common.{◌≡◌, ◌∙◌, ◌⊎◌, inl, inr, sym, ap, refl, subst, ⊎_elim, ℕ, ◌+◌, ◌≤◌, Bool, true, false, cond, IsTrue, Less, Equal, Greater, arith}
 use Rattle.std.specs.declared.cmp.Ordering.{Ordering}
-use Rattle.std.specs.Ordering.{is_lt, is_le, is_gt, nat_cmp, ordering_then, ordering_reverse}
+use Rattle.std.specs.Ordering.{is_lt, is_le, nat_cmp, ordering_then, ordering_reverse}
 use Rattle.std.specs.Cmp.{IsTotalOrder, upto, tied_itself}
 use Rattle.std.proofs.lemmas.Bool.Decides.{nat_tests}
 use Rattle.an_base.specs.Values.{LifeId, Place, PeerAt}
 use Rattle.an_base.specs.Order.{life_cmp, position_cmp}
 use Rattle.an_base.proofs.OrderLaws.{life_total, position_total, position_apart}
+use Rattle.an_base.proofs.OrderingLemmas.{at_most, less_is, not_above, tied}
 use Rattle.tree_position.specs.Position.{below_offer, lesser}
 use Rattle.epoch_core.specs.Laws.{IsAtMost}
 use Rattle.epoch_core.proofs.LessLemmas.{below_less}
-
-not_above : (o : Ordering) → IsTrue (is_le o) → is_gt o ≡ false
-not_above Less le = refl
-not_above Equal le = refl
-not_above Greater le = absurd (cc)
-
-at_most : (o : Ordering) → is_gt o ≡ false → IsTrue (is_le o)
-at_most Less low = refl
-at_most Equal low = refl
-at_most Greater low = absurd (cc)
-
-less_is : (o : Ordering) → IsTrue (is_lt o) → o ≡ Less
-less_is Less low = refl
-less_is Equal low = absurd (cc)
-less_is Greater low = absurd (cc)
-
-tied : (r s : Ordering) → r ≡ ordering_reverse s → IsTrue (is_le r) → IsTrue (is_le s) → r ≡ Equal
-tied Less Less is le ge = absurd (cc)
-tied Less Equal is le ge = absurd (cc)
-tied Less Greater is le ge = absurd (cc)
-tied Equal s is le ge = refl
-tied Greater s is le ge = absurd (cc)
 
 -- Any total order, by its comparison.
 abbrev pub Le : {K : Type 0} → (K → K → Ordering) → K → K → Type 0

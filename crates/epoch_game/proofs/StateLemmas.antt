@@ -5,6 +5,7 @@ use Rattle.std.proofs.lemmas.Bool.{cases_lt, lt-ltb, le-ltb}
 use Rattle.std.proofs.lemmas.Bool.Decides.{nat_tests}
 use Rattle.an_base.specs.Values.{LifeId, Place, PeerAt, EntryOf, PosOf}
 use Rattle.an_base.specs.declared.body.Body.{Body}
+use Rattle.an_base.proofs.ListLemmas.{some_is}
 use Rattle.tree_position.specs.Position.{self_root}
 use Rattle.topo_report.proofs.Members.{In}
 use Rattle.epoch_core.specs.Log.{CardOf, Log, on_port, last_pos, is_claimed, answered, fresh_report}
@@ -325,10 +326,6 @@ law_stable lives s run x p z q l h e st =
     let a = stable_on s x p z q h l.there st in
     sym (names_its_number lives s x (node s x) p h (version (node s x).card h) run (joined s x p z q l.there) e a.answered).number
 
-pub some_of : {A : Type 0} (o : Option A) → is_some o ≡ true → (a : A) × (o ≡ Some a)
-some_of None e = absurd (true≢false (sym e))
-some_of (Some a) e = (a, refl)
-
 -- the report that a stable life has of a child was made at a stable moment of the version heard of
 pub record ReportOn (s : Slice) (z : LifeId) (q seen : ℕ) (heard : List Body) : Type 0 where
   pub moment : Log
@@ -339,7 +336,7 @@ pub record ReportOn (s : Slice) (z : LifeId) (q seen : ℕ) (heard : List Body) 
 
 pub law_report : (lives : List LifeId) (s : Slice) → Run lives nobody s → (x : LifeId) (p : ℕ) (z : LifeId) (q : ℕ) → Linked s x p z q → (h : Log) → Earlier h (node s x).log → is_stable (node s x).card h ≡ true → is_claimed (on_port p h) ≡ true
     → ReportOn s z q (positions_in (on_port p h)) (on_port p h)
-law_report lives s run x p z q l h e st f = by (some_of (fresh_report (on_port p h)) ((stable_on s x p z q h l.there st).reported f)) (view lives s run x p z q l h e)
+law_report lives s run x p z q l h e st f = by (some_is (fresh_report (on_port p h)) ((stable_on s x p z q h l.there st).reported f)) (view lives s run x p z q l h e)
   where
     by : (es : List EntryOf) × (fresh_report (on_port p h) ≡ Some es) → (on_port p h ≡ []) ⊎ View (node s z) q (on_port p h) → ReportOn s z q (positions_in (on_port p h)) (on_port p h)
     by es (inl nil) = absurd (none_some (sym (ap fresh_report nil) ∙ es.1))

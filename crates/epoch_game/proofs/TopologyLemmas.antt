@@ -1,12 +1,10 @@
-use Rattle.std.proofs.Common.{◌≡◌, inl, inr, ℕ, zero, suc, ◌+◌, ◌≤◌, ◌<◌, List, [], ◌∷◌, length, get_or, map, Some, Bool, true, false, cond, refl, sym, ap, ◌∙◌, subst, ⊎_elim, arith, Contains}
-use Rattle.std.specs.Prelude.{◌==◌}
+use Rattle.std.proofs.Common.{◌≡◌, inl, inr, ℕ, zero, suc, ◌+◌, ◌≤◌, ◌<◌, List, [], ◌∷◌, length, get_or, map, Some, refl, sym, ap, ◌∙◌, subst, ⊎_elim, arith, Contains}
 use Rattle.std.proofs.lemmas.Bool.{cases_lt}
 use Rattle.std.proofs.lemmas.List.{get_or_default}
-use Rattle.std.proofs.lemmas.Bool.Decides.{nat_tests}
 use Rattle.std.proofs.lemmas.List.Elements.{Contains-get_or}
 use Rattle.an_base.specs.Values.{LifeId, Place, PeerAt, EntryOf, TopoOf}
 use Rattle.an_base.specs.Order.{LivesRise, PortsRise}
-use Rattle.topo_report.proofs.LifeLaws.{below_same}
+use Rattle.an_base.proofs.LifeLemmas.{below_same}
 use Rattle.topo_report.proofs.Members.{In, Rises, in_from, contains_from, rises_from}
 use Rattle.topo_report.proofs.DistinctLemmas.{AreApart, length-le_from_apart}
 use Rattle.topo_report.proofs.ReportLaws.{report_is_report}
@@ -15,13 +13,12 @@ use Rattle.topo_graph.specs.Stands.{IsAfter, IsNextBelow, Stands}
 use Rattle.topo_graph.proofs.FarLemmas.{one_place, far_is_link, link_is_far}
 use Rattle.topo_graph.proofs.TreeLemmas.{places_le, stand_tree}
 use Rattle.epoch_core.specs.Epoch.{own_entry, reported, finish}
-use Rattle.epoch_game.specs.Slice.{Node, Slice, nobody, link_at, Names, IsCardOf, Run}
+use Rattle.epoch_game.specs.Slice.{Node, Slice, nobody, Names, IsCardOf, Run}
 use Rattle.epoch_game.specs.Detection.{Reached, start, IsMemberEntry, FinishedUnder}
-use Rattle.epoch_game.proofs.Basics.{number_same}
 use Rattle.epoch_game.proofs.Nodes.{all_in, not_own, rises}
-use Rattle.epoch_game.proofs.SentLemmas.{RiseFrom}
 use Rattle.epoch_game.proofs.StreamLemmas.{nodes}
 use Rattle.epoch_game.proofs.Orders.{LifeAtMost, given}
+use Rattle.epoch_game.proofs.OfferLemmas.{find_link}
 use Rattle.epoch_game.proofs.StateLemmas.{node, node_is, Linked, link_of, plain}
 use Rattle.epoch_game.proofs.DetectLemmas.{Rooted, place, Member, member, at_own, at_most_next, FromParent, from_parent, parent_least, level_next, root_least}
 use Rattle.epoch_game.proofs.FinishLemmas.{finished_under}
@@ -64,27 +61,6 @@ place_for lives s r es m x h =
     record { at = c.0; low = c.1; life = ap (λ (a : EntryOf). a.life) there ∙ own_life lives s r es m x h }
 
 -- Links of the entries are the links of the members.
-find_link : (low : ℕ) (ks : List PeerAt) (k : PeerAt) → RiseFrom low ks → In k ks → link_at k.port ks ≡ Some k.peer
-find_link low [] k rise i = absurd i
-find_link low (j ∷ ks) k rise i = by (j.port == k.port) refl i (λ h. find_link j.port ks k rise.1 h)
-  where
-    above : (low : ℕ) (ks : List PeerAt) → RiseFrom low ks → In k ks → low < k.port
-    above low [] rise i = absurd i
-    above low (h ∷ hs) rise (inl e) = subst (λ (a : PeerAt). low < a.port) (sym e) rise.0
-    above low (h ∷ hs) rise (inr i) = let x = rise.0 in let y = above h.port hs rise.1 i in omega (arith, x, y)
-
-    apart : (a b : ℕ) → (a == b) ≡ true → a < b → ⊥
-    apart a b e lt = let is = number_same a b e in omega (arith, is, lt)
-
-    differ : (a b : ℕ) → a ≡ b → (a == b) ≡ false → ⊥
-    differ a b e f = grind (arith, nat_tests)
-
-    by : (b : Bool) → (j.port == k.port) ≡ b → In k (j ∷ ks) → (In k ks → link_at k.port ks ≡ Some k.peer) → cond b (Some j.peer) (link_at k.port ks) ≡ Some k.peer
-    by true e (inl is) rest = ap (λ (a : PeerAt). Some a.peer) (sym is)
-    by true e (inr h) rest = absurd (apart j.port k.port e (above j.port ks rise.1 h))
-    by false e (inl is) rest = absurd (differ j.port k.port (ap (λ (a : PeerAt). a.port) (sym is)) e)
-    by false e (inr h) rest = rest h
-
 card_of : (lives : List LifeId) (s : Slice) (r : LifeId) (es : List EntryOf) (m : MemberEntries lives s r es) (x : LifeId) → Reached s r x → IsCardOf x (node s x).card
 card_of lives s r es m x h = (nodes lives s m.rooted.run x (node s x) (member lives s r x m.rooted h).joined).0
 

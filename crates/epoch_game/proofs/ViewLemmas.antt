@@ -296,7 +296,7 @@ one_for_each true q p (Answer b) r heard e = e
 one_for_each true q p (Stable es) r heard e = e
 one_for_each true q p (Topo t) r heard e = e
 
-answers_sent : (c : CardOf) (q : ℕ) (l : Log) → HasLink c q → answers_in (sent c q l) ≡ positions_in (on_port q l)
+pub answers_sent : (c : CardOf) (q : ℕ) (l : Log) → HasLink c q → answers_in (sent c q l) ≡ positions_in (on_port q l)
 answers_sent c q [] k = ap answers_in (sent_is_first c q k)
 answers_sent c q (x ∷ l) k =
     ap answers_in (sent_is c q x l k)
@@ -399,3 +399,9 @@ shown c q link k r e =
     (λ (w : (h : Log) × (Earlier h k) × (All_shown c q h r)).
     inr (w.0, w.1, record { count = w.2.0.0; place = w.2.0.1; claimed = w.2.0.2; report = w.2.1; answer = w.2.2; topology = λ t i. w.2.3 t (in_from (Topo t) r i) }))
     (views c q (All_shown c q) link (all_staged c q link) k r e)
+
+-- and all that was sent shows it as it is
+pub shown_whole : (c : CardOf) (q : ℕ) → HasLink c q → (l : Log) → Shows c q l (sent c q l)
+shown_whole c q link l =
+    let w = whole c q (All_shown c q) link (all_staged c q link) l in
+    record { count = w.0.0; place = w.0.1; claimed = w.0.2; report = w.1; answer = w.2; topology = λ t i. w.3 t (in_from (Topo t) (sent c q l) i) }

@@ -1,3 +1,5 @@
+-- What the reports of lives that are stable hold.
+
 use Rattle.std.specs.Prelude.{◌≡◌, ℕ, Some, true, Contains}
 use Rattle.an_base.specs.Values.{LifeId, EntryOf}
 use Rattle.an_base.specs.Order.{LivesRise}
@@ -18,7 +20,8 @@ pub record WasEntry (s : Slice) (r : LifeId) (e : EntryOf) : Type 0 where
 -- the present positions lead from y to z, from parent to parent
 pub data LeadsTo (s : Slice) : LifeId → LifeId → Type 0 where
   here : (z : LifeId) → LeadsTo s z z
-  via : (z w y : LifeId) (q : ℕ) (n : Node) → s w ≡ Some n → Names n.card (position n.card n.log).port z q → LeadsTo s w y
+  via : (z w y : LifeId) (q : ℕ) (n : Node) → s w ≡ Some n → Names n.card (position n.card n.log).port z q
+      → LeadsTo s w y
       → LeadsTo s z y
 
 -- What holds of the reports of a life x that has joined, at each of its moments at which it is stable:
@@ -30,7 +33,8 @@ pub record ReportsAreTrue (s : Slice) : Type 0 where
   pub own : (x : LifeId) (n : Node) (h : Log) → s x ≡ Some n → Earlier h n.log → is_stable n.card h ≡ true
       → Contains (report n.card h) (own_entry n.card h)
   -- each of its entries is one that its life had, under the root of x
-  pub had : (x : LifeId) (n : Node) (h : Log) (e : EntryOf) → s x ≡ Some n → Earlier h n.log → is_stable n.card h ≡ true
+  pub had : (x : LifeId) (n : Node) (h : Log) (e : EntryOf) → s x ≡ Some n → Earlier h n.log
+      → is_stable n.card h ≡ true
       → Contains (report n.card h) e → WasEntry s (position n.card h).root e
   -- in the present version it has the present entry of each life whose positions lead to x
   pub below : (x : LifeId) (n : Node) (h : Log) (y : LifeId) (m : Node) → s x ≡ Some n → Earlier h n.log

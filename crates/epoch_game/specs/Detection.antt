@@ -1,3 +1,6 @@
+-- What holds once a life is stable with itself as root: each life that is reached has its place in the tree
+-- of shortest walks for good, and the report of the root says exactly that.
+
 use Rattle.std.specs.Prelude.{◌≡◌, ◌≢◌, ◌+◌, ◌≤◌, ◌↔◌, ℕ, zero, suc, List, Some, true, IsTrue, Contains}
 use Rattle.std.specs.Ordering.{is_le}
 use Rattle.an_base.specs.Values.{LifeId, Place, EntryOf, TopoOf}
@@ -10,7 +13,8 @@ use Rattle.epoch_game.specs.Slice.{Earlier, Node, Slice, Names, Run}
 -- r, and the lives that are reached from it by walks on which each life names the next one among its links
 pub data Reached (s : Slice) (r : LifeId) : LifeId → Type 0 where
   start : Reached s r r
-  next : (x z : LifeId) (p q : ℕ) (n : Node) → Reached s r x → s x ≡ Some n → Names n.card p z q → Reached s r z
+  next : (x z : LifeId) (p q : ℕ) (n : Node) → Reached s r x → s x ≡ Some n → Names n.card p z q
+      → Reached s r z
 
 -- x has joined, and its port p leads to z
 pub record IsNextTo (s : Slice) (x : LifeId) (p : ℕ) (z : LifeId) : Type 0 where
@@ -36,8 +40,8 @@ pub record IsNearer (s : Slice) (r x : LifeId) (from o : ℕ) (z : LifeId) : Typ
   pub distance : IsDistance s z r far
   pub level : far + 1 ≡ from
 
--- the place of x in the tree of shortest walks to r: below r the parent is the least of the neighbours that are one link
--- nearer, by the least port to it
+-- the place of x in the tree of shortest walks to r: below r the parent is the least of the neighbours that
+-- are one link nearer, by the least port to it
 pub record IsTreePlace (s : Slice) (r x : LifeId) (p : Place) : Type 0 where
   pub root : p.root ≡ r
   pub level : IsDistance s x r p.level
@@ -46,12 +50,13 @@ pub record IsTreePlace (s : Slice) (r x : LifeId) (p : Place) : Type 0 where
   pub least : (o : ℕ) (z : LifeId) → x ≢ r → IsNearer s r x p.level o z
       → IsTrue (is_le (life_cmp p.parent z)) × (p.parent ≡ z → p.port ≤ o)
 
--- each link of the life is named at both ends
+-- z has joined and names port p of x at its port q
 pub record IsNamedBack (s : Slice) (x : LifeId) (z : LifeId) (p q : ℕ) : Type 0 where
   pub node : Node
   pub joined : s z ≡ Some node
   pub named : Names node.card q x p
 
+-- x has joined, and each of its links is named at both ends
 pub record IsJoined (s : Slice) (x : LifeId) : Type 0 where
   pub node : Node
   pub joined : s x ≡ Some node
@@ -61,8 +66,10 @@ pub record IsJoined (s : Slice) (x : LifeId) : Type 0 where
 pub record IsSettled (lives : List LifeId) (s : Slice) (r x : LifeId) (n : Node) : Type 0 where
   pub place : IsTreePlace s r x (position n.card n.log)
   pub stable : is_stable n.card n.log ≡ true
-  pub version : (t : Slice) (m : Node) → Run lives s t → t x ≡ Some m → version m.card m.log ≡ version n.card n.log
-  pub stays : (t : Slice) (m : Node) → Run lives s t → t x ≡ Some m → position m.card m.log ≡ position n.card n.log
+  pub version : (t : Slice) (m : Node) → Run lives s t → t x ≡ Some m
+      → version m.card m.log ≡ version n.card n.log
+  pub stays : (t : Slice) (m : Node) → Run lives s t → t x ≡ Some m
+      → position m.card m.log ≡ position n.card n.log
 
 -- e is the present entry of a life that is reached
 pub record IsMemberEntry (s : Slice) (r : LifeId) (e : EntryOf) : Type 0 where
@@ -83,20 +90,23 @@ pub record IsDetected (lives : List LifeId) (s : Slice) (r : LifeId) : Type 0 wh
   -- the same lives are reached ever after
   pub members : (t : Slice) (x : LifeId) → Run lives s t → (Reached t r x) ↔ (Reached s r x)
   -- the report of r, whenever it was stable, has the entry of each of them and no other, by rising life
-  pub entries : (n : Node) (h : Log) → s r ≡ Some n → Earlier h n.log → is_stable n.card h ≡ true → (e : EntryOf)
+  pub entries : (n : Node) (h : Log) → s r ≡ Some n → Earlier h n.log → is_stable n.card h ≡ true
+      → (e : EntryOf)
       → (Contains (report n.card h) e) ↔ (IsMemberEntry s r e)
   pub rising : (n : Node) (h : Log) → s r ≡ Some n → Earlier h n.log → is_stable n.card h ≡ true
       → LivesRise (report n.card h)
   -- each topology that one of them has accepted, or that was sent to it, is that report with its numbering
-  pub accepted : (x : LifeId) (m : Node) (p : ℕ) (t : TopoOf) (n : Node) (h : Log) → Reached s r x → s x ≡ Some m
+  pub accepted : (x : LifeId) (m : Node) (p : ℕ) (t : TopoOf) (n : Node) (h : Log) → Reached s r x
+      → s x ≡ Some m
       → Contains m.log (record { port = p; body = Topo t })
       → s r ≡ Some n → Earlier h n.log → is_stable n.card h ≡ true → t ≡ topology_of (report n.card h)
-  pub sent : (x z : LifeId) (m k : Node) (p q : ℕ) (t : TopoOf) (n : Node) (h : Log) → Reached s r x → s x ≡ Some m
+  pub sent : (x z : LifeId) (m k : Node) (p q : ℕ) (t : TopoOf) (n : Node) (h : Log) → Reached s r x
+      → s x ≡ Some m
       → Names m.card p z q → s z ≡ Some k → Contains (sent k.card q k.log) (Topo t)
       → s r ≡ Some n → Earlier h n.log → is_stable n.card h ≡ true → t ≡ topology_of (report n.card h)
 
--- x has finished with the report of a life that was stable with itself as root, and from which it is reached; its entries
--- are those of the lives that are reached from there
+-- x has finished with the report of a life that was stable with itself as root, and from which it is reached;
+-- its entries are those of the lives that are reached from there
 pub record FinishedUnder (s : Slice) (x : LifeId) (t : TopoOf) : Type 0 where
   pub root : LifeId
   pub node : Node

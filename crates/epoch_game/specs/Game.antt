@@ -1,3 +1,5 @@
+-- The game of all lives and all epochs, and its moves.
+
 use Rattle.std.specs.Prelude.{◌≡◌, ◌≢◌, ◌==◌, ◌+◌, ◌<◌, ◌⊎◌, ◌↔◌, ℕ, List, [], ◌∷◌, Option, Some, None, Bool, true, false, if◌then◌else◌, Contains}
 use Rattle.std.specs.Ordering.{is_eq}
 use Rattle.an_base.specs.Values.{LifeId, TopoOf}
@@ -8,8 +10,8 @@ use Rattle.epoch_core.specs.Epoch.{version, position, finish, sent}
 use Rattle.epoch_game.specs.Slice.{Earlier, Node, Slice, with_node, Names, IsCardOf}
 use Rattle.epoch_game.specs.Detection.{Reached, IsDetected}
 
--- The game of all epochs: the epoch in which each life is now, its node in each epoch that it joined, and whether it loaded
--- there. It has left each epoch that it joined but its present one.
+-- The game of all epochs: the epoch in which each life is now, its node in each epoch that it joined, and
+-- whether it loaded there. It has left each epoch that it joined but its present one.
 pub record Game : Type 0 where
   pub present : LifeId → ℕ
   pub nodes : LifeId → ℕ → Option Node
@@ -36,7 +38,11 @@ with_loaded g x e y f = if is_eq (life_cmp x y) then (if e == f then true else g
 -- x joins epoch e, in which it has this card
 abbrev pub after_join : Game → LifeId → ℕ → CardOf → Game
 after_join g x e c =
-    record { present = with_present g x e; nodes = with_node_in g e x (record { card = c; log = [] }); loaded = g.loaded }
+    record {
+      present = with_present g x e;
+      nodes = with_node_in g e x (record { card = c; log = [] });
+      loaded = g.loaded;
+    }
 
 -- x accepts a body on a port in its present epoch
 abbrev pub after_accept : Game → LifeId → Node → ℕ → Body → Game
@@ -61,16 +67,17 @@ pub record MayJoin (g : Game) (x : LifeId) (e : ℕ) : Type 0 where
   pub greater : g.present x < e
   pub known : (e ≡ g.present x + 1) ⊎ HasSent g e
 
--- The moves: a life joins a greater epoch and leaves its present one; a life accepts in its present epoch, on port p, the
--- next body of what z sent on q, where each names the other, even if z has left; a life that has finished loads in its
--- present epoch, once.
+-- The moves: a life joins a greater epoch and leaves its present one; a life accepts in its present epoch, on
+-- port p, the next body of what z sent on q, where each names the other, even if z has left; a life that has
+-- finished loads in its present epoch, once.
 pub data Play (lives : List LifeId) (g : Game) : Game → Type 0 where
   none : Play lives g g
   joins : (h : Game) (x : LifeId) (e : ℕ) (c : CardOf) → Play lives g h
       → MayJoin h x e → Contains lives x → IsCardOf x c
       → Play lives g (after_join h x e c)
   accepts : (h : Game) (x z : LifeId) (p q : ℕ) (n m : Node) (b : Body) → Play lives g h
-      → h.nodes x (h.present x) ≡ Some n → h.nodes z (h.present x) ≡ Some m → Names n.card p z q → Names m.card q x p
+      → h.nodes x (h.present x) ≡ Some n → h.nodes z (h.present x) ≡ Some m → Names n.card p z q
+      → Names m.card q x p
       → Earlier (b ∷ on_port p n.log) (sent m.card q m.log)
       → Play lives g (after_accept h x n p b)
   loads : (h : Game) (x : LifeId) (n : Node) (t : TopoOf) → Play lives g h
@@ -84,14 +91,17 @@ pub record HasFinished (g : Game) (x : LifeId) (e : ℕ) : Type 0 where
   pub topology : TopoOf
   pub finish : finish node.card node.log ≡ Some topology
 
--- What holds of an epoch in which r was stable at some moment with itself as root, now and in all that the game may still
--- do:
+-- What holds of an epoch in which r was stable at some moment with itself as root, now and in all that the
+-- game may still do:
 pub record IsDetectedIn (lives : List LifeId) (g : Game) (e : ℕ) (r : LifeId) : Type 0 where
   pub detected : IsDetected lives (slice e g) r
   -- the same lives are reached from r in that epoch ever after
-  pub members : (h : Game) (x : LifeId) → Play lives g h → (Reached (slice e h) r x) ↔ (Reached (slice e g) r x)
+  pub members : (h : Game) (x : LifeId) → Play lives g h
+      → (Reached (slice e h) r x) ↔ (Reached (slice e g) r x)
   -- and each keeps its version and its position there
-  pub version : (x : LifeId) (n m : Node) (h : Game) → Reached (slice e g) r x → g.nodes x e ≡ Some n → Play lives g h
+  pub version : (x : LifeId) (n m : Node) (h : Game) → Reached (slice e g) r x → g.nodes x e ≡ Some n
+      → Play lives g h
       → h.nodes x e ≡ Some m → version m.card m.log ≡ version n.card n.log
-  pub position : (x : LifeId) (n m : Node) (h : Game) → Reached (slice e g) r x → g.nodes x e ≡ Some n → Play lives g h
+  pub position : (x : LifeId) (n m : Node) (h : Game) → Reached (slice e g) r x → g.nodes x e ≡ Some n
+      → Play lives g h
       → h.nodes x e ≡ Some m → position m.card m.log ≡ position n.card n.log

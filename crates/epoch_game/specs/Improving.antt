@@ -1,3 +1,5 @@
+-- How positions change in a run: they only get less, and none is taken again.
+
 use Rattle.std.specs.Prelude.{◌≡◌, ◌≢◌, ◌+◌, ◌≤◌, ℕ, suc, List, Some, length, AllPairs, Contains}
 use Rattle.an_base.specs.Values.{LifeId, Place, PosOf}
 use Rattle.epoch_core.specs.Log.{Log, on_port, last_pos}
@@ -30,9 +32,12 @@ pub record OnlyImproves (s : Slice) : Type 0 where
   -- later positions are no greater
   pub improving : (x : LifeId) (n : Node) (h g : Log) → s x ≡ Some n → Earlier h g → Earlier g n.log
       → IsAtMost (position n.card g) (position n.card h)
-  -- none is above what the last offer on a link gives: the bound on levels takes away no candidate that would be the least
-  pub uncut : (x : LifeId) (n : Node) (h : Log) (p : ℕ) (z : LifeId) (q : ℕ) (told : PosOf) → s x ≡ Some n → Earlier h n.log
-      → Names n.card p z q → last_pos (on_port p h) ≡ Some told → IsAtMost (position n.card h) (behind_link told z p)
+  -- none is above what the last offer on a link gives: the bound on levels takes away no candidate that would
+  -- be the least
+  pub uncut : (x : LifeId) (n : Node) (h : Log) (p : ℕ) (z : LifeId) (q : ℕ) (told : PosOf) → s x ≡ Some n
+      → Earlier h n.log
+      → Names n.card p z q → last_pos (on_port p h) ≡ Some told
+      → IsAtMost (position n.card h) (behind_link told z p)
   -- a later version has no greater position
   pub later : (x : LifeId) (n : Node) (h g : Log) → s x ≡ Some n → Earlier h n.log → Earlier g n.log
       → version n.card h ≤ version n.card g → IsAtMost (position n.card g) (position n.card h)
@@ -40,4 +45,5 @@ pub record OnlyImproves (s : Slice) : Type 0 where
   pub once : (x : LifeId) (n : Node) (h g : Log) → s x ≡ Some n → Earlier h n.log → Earlier g n.log
       → position n.card h ≡ position n.card g → version n.card h ≡ version n.card g
   -- as many lives as its level says came before it at its root
-  pub shared : (x : LifeId) (n : Node) (h : Log) → s x ≡ Some n → Earlier h n.log → IsShared s (position n.card h)
+  pub shared : (x : LifeId) (n : Node) (h : Log) → s x ≡ Some n → Earlier h n.log
+      → IsShared s (position n.card h)

@@ -1,3 +1,5 @@
+-- Who leaves a root, and that nobody leaves one that was stable.
+
 use Rattle.std.specs.Prelude.{◌≡◌, Some, true, false}
 use Rattle.an_base.specs.Values.{LifeId}
 use Rattle.an_base.specs.Order.{IsBelow}

@@ -4,4 +4,5 @@ pub mod Improving
 pub mod Leaving
 pub mod Content
 pub mod Detection
+pub mod Delivered
 pub mod Game

@@ -1,3 +1,5 @@
+-- One epoch of the game: which lives joined it with which links, what each accepted, and the moves.
+
 use Rattle.std.specs.Prelude.{◌≡◌, ◌≢◌, ◌==◌, ◌≤◌, ◌⊎◌, ℕ, List, [], ◌∷◌, Option, Some, None, if◌then◌else◌, All, Contains}
 use Rattle.std.specs.Ordering.{is_eq}
 use Rattle.an_base.specs.Values.{LifeId, EndId, PeerAt}
@@ -16,7 +18,8 @@ pub record Node : Type 0 where
   pub card : CardOf
   pub log : Log
 
--- one epoch of the game: the node of each life that joined it. One that has not joined has neither links nor a list.
+-- one epoch of the game: the node of each life that joined it. One that has not joined has neither links nor
+-- a list.
 abbrev pub Slice : Type 0
 Slice = LifeId → Option Node
 
@@ -37,8 +40,8 @@ link_at p (k ∷ ks) = if k.port == p then Some k.peer else link_at p ks
 abbrev pub Names : CardOf → ℕ → LifeId → ℕ → Type 0
 Names c p z q = link_at p c.links ≡ Some (record { life = z; port = q })
 
--- what x may join with: its links by rising port, 1 to 12, and none to itself. The ends that they name need not exist, nor
--- name x.
+-- what x may join with: its links by rising port, 1 to 12, and none to itself. The ends that they name need
+-- not exist, nor name x.
 pub record IsCardOf (x : LifeId) (c : CardOf) : Type 0 where
   pub me : c.me ≡ x
   pub ports : PortsRise c.links
@@ -46,8 +49,8 @@ pub record IsCardOf (x : LifeId) (c : CardOf) : Type 0 where
   pub most : All (λ k. k.port ≤ 12) c.links
   pub others : All (λ k. k.peer.life ≢ x) c.links
 
--- The lives and moves of an epoch: one of the lives joins with a card of its own, or accepts on port p the next body of what
--- z sent on q, where each names the other. A life that leaves only makes no more moves.
+-- The lives and moves of an epoch: one of the lives joins with a card of its own, or accepts on port p the
+-- next body of what z sent on q, where each names the other. A life that leaves only makes no more moves.
 pub data Run (lives : List LifeId) (s : Slice) : Slice → Type 0 where
   none : Run lives s s
   joins : (t : Slice) (x : LifeId) (c : CardOf) → Run lives s t

@@ -1,3 +1,6 @@
+-- What was accepted on a port is a beginning of what the far end sent there, and shows the far end as it was
+-- at some moment.
+
 use Rattle.std.specs.Prelude.{◌≡◌, ◌==◌, ◌≤◌, ◌⊎◌, ℕ, suc, List, [], ◌∷◌, Some, None, true, Contains}
 use Rattle.an_base.specs.Values.{LifeId, Place, EntryOf, PosOf, TopoOf}
 use Rattle.an_base.specs.declared.body.Body.{Body}
@@ -34,8 +37,8 @@ pub record ReportsFrom (d : CardOf) (q : ℕ) (j : Log) (es : List EntryOf) : Ty
   pub report : es ≡ report d moment
   pub port : (position d moment).port ≡ q
 
--- the last answer is to the position that z had last heard on q at a moment up to j, and there are as many answers as z had
--- heard positions there then
+-- the last answer is to the position that z had last heard on q at a moment up to j, and there are as many
+-- answers as z had heard positions there then
 pub record AnswersFrom (d : CardOf) (q : ℕ) (j : Log) (heard : List Body) : Type 0 where
   pub moment : Log
   pub told : PosOf
@@ -62,8 +65,8 @@ pub record Shows (d : CardOf) (q : ℕ) (j : Log) (heard : List Body) : Type 0 w
   -- a topology is what z finished with
   pub topology : (t : TopoOf) → Contains heard (Topo t) → finish d j ≡ Some t
 
--- what x accepted on a port was sent: the far end has joined, each names the other, and what was accepted is the beginning
--- of what the far end sent there
+-- what x accepted on a port was sent: the far end has joined, each names the other, and what was accepted is
+-- the beginning of what the far end sent there
 pub record WasSent (s : Slice) (x : LifeId) (n : Node) (p : ℕ) (heard : List Body) : Type 0 where
   pub far : LifeId
   pub port : ℕ

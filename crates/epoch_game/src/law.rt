@@ -1,3 +1,5 @@
+//! What holds in every state of the game, of each epoch of it, and of all that it may still do.
+
 ghost use Rattle.std.specs.Prelude.{◌≡◌, ◌≤◌, ℕ, List, Some, true, length, Contains};
 ghost use Rattle.an_base.specs.Values.{LifeId, EntryOf, TopoOf};
 ghost use Rattle.topo_graph.specs.Topology.{IsGraph, IsTree};
@@ -8,6 +10,7 @@ ghost use Rattle.epoch_game.specs.Improving.{OnlyImproves};
 ghost use Rattle.epoch_game.specs.Leaving.{WasStableRoot, NobodyLeaves};
 ghost use Rattle.epoch_game.specs.Content.{ReportsAreTrue};
 ghost use Rattle.epoch_game.specs.Detection.{Reached, IsDetected, FinishedUnder};
+ghost use Rattle.epoch_game.specs.Delivered.{IsDelivered, HasEnded};
 ghost use Rattle.epoch_game.specs.Game.{Game, slice, begins, Play, HasFinished, IsDetectedIn};
 
 /// In every run of an epoch each life that has joined has a card of its own, and what it has accepted
@@ -25,9 +28,9 @@ pub fn lists_only_grow()
         → Run lives s t → s x ≡ Some n → HasGrown t x n }
 {}
 
-/// In every run of at most 126 lives the position of a life only gets less, is never above what an
-/// offer on a link gives, of whatever level, and is never taken again once left; and at each root at
-/// least as many lives had their places as the level says.
+/// In every run of at most 126 lives the position of a life only gets less, is never above what the last
+/// offer on a link gives, of whatever level, and is never taken again once left; and one life more than
+/// its level says had its root at that level or a lesser one.
 pub fn positions_only_improve()
     ensures { (lives : List LifeId) (s : Slice)
         → length lives ≤ 126 → Run lives nobody s → OnlyImproves s }
@@ -94,8 +97,17 @@ pub fn a_finish_is_a_tree()
         → s x ≡ Some n → finish n.card n.log ≡ Some t → IsGraph t.entries × IsTree t.entries }
 {}
 
-/// What the game of all epochs does is a run of each epoch, for lives that have left it too. So the
-/// laws of an epoch hold in each epoch of every state of the game, and from each such state on.
+/// In every run of at most 126 lives, where each life that is reached from x over links has joined, with
+/// each of its links named at both ends, and has accepted all that was sent to it: one of them is
+/// stable with itself as root, all are stable in their places in the tree of shortest walks to it, and
+/// each has finished with one topology, whose entries are those of these lives and no other.
+pub fn a_delivered_component_has_finished()
+    ensures { (lives : List LifeId) (s : Slice) (x : LifeId)
+        → length lives ≤ 126 → Run lives nobody s → IsDelivered s x → HasEnded lives s x }
+{}
+
+/// What the game of all epochs does is a run of each epoch, in which a life that has left makes no more
+/// moves. So the laws of an epoch hold in each epoch of every state of the game, and from each such state on.
 pub fn each_epoch_is_a_run()
     ensures reached { (lives : List LifeId) (first : LifeId → ℕ) (g : Game) (e : ℕ)
         → Play lives (begins first) g → Run lives nobody (slice e g) }
@@ -103,9 +115,9 @@ pub fn each_epoch_is_a_run()
         → Play lives (begins first) g → Play lives g h → Run lives (slice e g) (slice e h) }
 {}
 
-/// In every state of the game of at most 126 lives, and in each epoch: once a life is stable with
-/// itself as root, the end of the epoch is detected, and nothing that the game still does changes which
-/// lives are reached from it there, nor the version or the position of one of them.
+/// In every state of the game of at most 126 lives, and in each epoch: once a life is stable with itself
+/// as root, all that is said above of the lives reached from it holds, and nothing that the game still
+/// does changes which lives these are, nor the version or the position of one of them.
 pub fn termination_is_detected()
     ensures { (lives : List LifeId) (first : LifeId → ℕ) (g : Game) (e : ℕ) (r : LifeId)
         → length lives ≤ 126 → Play lives (begins first) g → WasStableRoot (slice e g) r
@@ -116,4 +128,10 @@ pub fn termination_is_detected()
 pub fn who_has_loaded_has_finished()
     ensures { (lives : List LifeId) (first : LifeId → ℕ) (g : Game) (x : LifeId) (e : ℕ)
         → Play lives (begins first) g → g.loaded x e ≡ true → HasFinished g x e }
+{}
+
+/// In every state of the game no life has joined an epoch above its present one.
+pub fn no_life_has_joined_an_epoch_ahead()
+    ensures { (lives : List LifeId) (first : LifeId → ℕ) (g : Game) (x : LifeId) (e : ℕ) (n : Node)
+        → Play lives (begins first) g → g.nodes x e ≡ Some n → e ≤ g.present x }
 {}

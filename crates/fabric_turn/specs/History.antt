@@ -6,18 +6,18 @@ abbrev pub Extends : {E : Type 0} → List E → List E → Type 0
 Extends {E} before after = (more : List E) × (after ≡ before ++ more)
 
 module _ {E : Type 0} (owner : E → ℕ) where
-  -- the entries of caller c in the history h, in their order
+  -- the entries of a caller in a history, in their order
   abbrev pub own_entries : List E → ℕ → List E
-  own_entries h c = filter (λ e. owner e == c) h
+  own_entries history caller = filter (λ entry. owner entry == caller) history
 
-  -- the history has no entry of caller c
+  -- the history has no entry of the caller
   abbrev pub NoneOf : ℕ → List E → Type 0
-  NoneOf c h = own_entries h c ≡ []
+  NoneOf caller history = own_entries history caller ≡ []
 
-  -- nothing, or one entry of caller c
+  -- nothing, or one entry of the caller
   abbrev pub Adds : ℕ → List E → Type 0
-  Adds c added = (added ≡ []) ⊎ ((e : E) × (added ≡ e ∷ []) × (owner e ≡ c))
+  Adds caller added = (added ≡ []) ⊎ ((entry : E) × (added ≡ entry ∷ []) × (owner entry ≡ caller))
 
-  -- nothing was appended, or one entry of caller c
+  -- nothing was appended, or one entry of the caller
   abbrev pub AppendsAtMostOne : ℕ → List E → List E → Type 0
-  AppendsAtMostOne c before after = (added : List E) × Adds c added × (after ≡ before ++ added)
+  AppendsAtMostOne caller before after = (added : List E) × Adds caller added × (after ≡ before ++ added)

@@ -1,5 +1,7 @@
--- The rule of the turn lock. Word 0 has the tickets drawn and word 1 the turns served, both modulo 2^64. The slot has the value.
-use Rattle.std.specs.Prelude.{◌≡◌, ℕ, ◌+◌, ◌-◌, ◌%◌, ◌^◌, ◌<◌, ◌≤◌, Bool, true, false, List, [], ◌∷◌, ◌++◌, ◌⊎◌, length, slice_index, Some}
+-- The rule of the turn lock. Word 0 has the tickets drawn and word 1 the turns served, both modulo 2^64. The
+-- slot has the value. Of what stands here only `first_view` and `HasNumber` are cited by public calls.
+use Rattle.std.specs.Prelude.{◌≡◌, ℕ, ◌+◌, ◌-◌, ◌%◌, ◌^◌, ◌<◌, ◌≤◌, Bool, true, false, List, [], ◌∷◌, ◌++◌}
+use Rattle.std.specs.Prelude.{◌⊎◌, length, slice_index, Some}
 use mathlib.Core.Option.{some}
 use lib.ListN.{get_elem?}
 use Rattle.atomic_table.specs.Table.{State}
@@ -9,7 +11,7 @@ use Rattle.fabric_turn.specs.declared.view.Stage.{Stage}
 use Rattle.fabric_turn.specs.declared.view.Stage.TheVariants.{Spent, Idle, Waits, Serves}
 use Rattle.fabric_turn.specs.History.{own_entries}
 
--- the sum of f over a list
+-- the sum of a function over a list
 abbrev pub total_by : {A : Type 0} → (A → ℕ) → List A → ℕ
 total_by f [] = 0
 total_by f (x ∷ xs) = f x + total_by f xs
@@ -58,9 +60,11 @@ module _ {E D : Type 0} where
     heard = [];
   }
 
-  -- the number n is the view's own, one that it may give, or an ended one's
+  -- the number is the view's own, one that it may give, or an ended one's
   abbrev pub HasNumber : View E D → ℕ → Type 0
-  HasNumber v n = (n ≡ v.number) ⊎ (v.next ≤ n) ⊎ ((k : ℕ) × (x : Ended E) × (get_elem? v.ended k ≡ some x) × (x.number ≡ n))
+  HasNumber view number =
+      (number ≡ view.number) ⊎ (view.next ≤ number)
+      ⊎ ((k : ℕ) × (ended : Ended E) × (get_elem? view.ended k ≡ some ended) × (ended.number ≡ number))
 
 -- The roles of a caller's number: a seat's own, one that a seat may give, and ended
 abbrev pub acting : ℕ
@@ -73,7 +77,8 @@ abbrev pub over : ℕ
 over = 2
 
 module _ {E : Type 0} (drawn served : ℕ) (log : List E) (holder : ℕ → ℕ) (i : ℕ) (seen : List E) where
-  -- A ticket that view i has is one from the served up to the drawn, and no other view's. At the turn it is the one that is served, and all of the history was seen
+  -- A ticket that a view has is one from the served up to the drawn, and no other view's. At the turn it is the
+  -- one that is served, and all of the history was seen.
   abbrev pub HoldsTicket : Stage → Type 0
   HoldsTicket Spent = Unit {0}
   HoldsTicket Idle = Unit {0}
@@ -81,7 +86,8 @@ module _ {E : Type 0} (drawn served : ℕ) (log : List E) (holder : ℕ → ℕ)
   HoldsTicket (Serves t) = (t ≡ served) × (t < drawn) × (holder t ≡ i) × (seen ≡ log)
 
 module _ {S E D : Type 0} (history : S → List E) (start_of : S → D) (owner : E → ℕ) (callers : ℕ) (start : D) where
-  -- What is so of view i, where it is not spent. `log` is the history, and `place` says of each caller's number which view has it, and in what role
+  -- What is so of view i, where it is not spent. `log` is the history, and `place` says of each caller's number
+  -- which view has it, and in what role.
   pub record IsSeated (log : List E) (place : ℕ → ℕ × ℕ) (i : ℕ) (v : View E D) : Type 0 where
     pub begun : v.start ≡ Some start
     pub bound : v.callers ≡ callers
@@ -90,7 +96,9 @@ module _ {S E D : Type 0} (history : S → List E) (start_of : S → D) (owner :
     -- its numbers are its alone
     pub acts : place v.number ≡ (i, acting)
     pub spares : (n : ℕ) → v.next ≤ n → n < callers → place n ≡ (i, spare)
-    pub ends : (k : ℕ) (x : Ended E) → get_elem? v.ended k ≡ some x → (place x.number ≡ (i, over)) × (own_entries owner log x.number ≡ x.mine)
+    pub ends :
+        (k : ℕ) (x : Ended E) → get_elem? v.ended k ≡ some x
+        → (place x.number ≡ (i, over)) × (own_entries owner log x.number ≡ x.mine)
     -- all that its caller added it has seen
     pub made : own_entries owner log v.number ≡ v.mine
     pub saw : own_entries owner v.seen v.number ≡ v.mine
@@ -118,11 +126,18 @@ module _ {S E D : Type 0} (history : S → List E) (start_of : S → D) (owner :
     -- a number that was not given has no entry, and neither has one that is none
     pub fresh : (n : ℕ) → (place n).1 ≡ spare → own_entries owner log n ≡ []
     pub beyond : (n : ℕ) → callers ≤ n → own_entries owner log n ≡ []
-    pub seated : (i : ℕ) (v : View E D) → get_elem? s.views i ≡ some v → is_live v.stage ≡ true → IsSeated log place i v
-    pub ticketed : (i : ℕ) (v : View E D) → get_elem? s.views i ≡ some v → HoldsTicket drawn served log holder i v.seen v.stage
+    pub seated :
+        (i : ℕ) (v : View E D) → get_elem? s.views i ≡ some v → is_live v.stage ≡ true → IsSeated log place i v
+    pub ticketed :
+        (i : ℕ) (v : View E D) → get_elem? s.views i ≡ some v
+        → HoldsTicket drawn served log holder i v.seen v.stage
     -- each number is some view's, and some view has seen all of the history
-    pub covers : (n : ℕ) → n < callers → (i : ℕ) × (v : View E D) × (get_elem? s.views i ≡ some v) × (is_live v.stage ≡ true) × HasNumber v n
-    pub latest : (i : ℕ) × (v : View E D) × (get_elem? s.views i ≡ some v) × (is_live v.stage ≡ true) × ((v.seen ≡ log) ⊎ (v.heard ≡ log))
+    pub covers :
+        (n : ℕ) → n < callers
+        → (i : ℕ) × (v : View E D) × (get_elem? s.views i ≡ some v) × (is_live v.stage ≡ true) × HasNumber v n
+    pub latest :
+        (i : ℕ) × (v : View E D) × (get_elem? s.views i ≡ some v) × (is_live v.stage ≡ true)
+        × ((v.seen ≡ log) ⊎ (v.heard ≡ log))
     -- the value is at home and stands for the history, or a view has the turn
     pub slot : ((b : S) × (get_elem? s.homes 0 ≡ some (some b)) × (history b ≡ log) × (start_of b ≡ start))
         ⊎ ((i : ℕ) × (v : View E D) × (t : ℕ) × (get_elem? s.views i ≡ some v) × (v.stage ≡ Serves t))

@@ -7,50 +7,56 @@ use Rattle.fabric_turn.specs.declared.view.Stage.TheVariants.{Spent, Idle}
 module _ {E : Type 0} where
   -- the longer of two histories
   abbrev pub longer_of : List E → List E → List E
-  longer_of xs ys = if nat_lt (length xs) (length ys) then ys else xs
+  longer_of one other = if nat_lt (length one) (length other) then other else one
 
+  -- a caller whose number was ended, with its entries
   abbrev pub ended_caller : ℕ → List E → Ended E
-  ended_caller n mine = record { number = n; mine = mine }
+  ended_caller number mine = record { number = number; mine = mine }
 
-  -- the k numbers from n on, which no caller had
+  -- so many numbers from one on, which no caller had
   abbrev pub unused_callers : ℕ → ℕ → List (Ended E)
-  unused_callers n zero = []
-  unused_callers n (suc k) = ended_caller n [] ∷ unused_callers (suc n) k
+  unused_callers from zero = []
+  unused_callers from (suc count) = ended_caller from [] ∷ unused_callers (suc from) count
 
 module _ {E D : Type 0} where
   -- what the given seat of a split goes on with: it has given its next number
   abbrev pub remaining_view : View E D → View E D
-  remaining_view v = record v { next = v.next + 1 }
+  remaining_view view = record view { next = view.next + 1 }
 
-  -- what the new caller of a split knows: it has that number, no entry of its own and no number to give, and has seen what the given seat has
+  -- what the new caller of a split knows: it has that number, no entry of its own and no number to give, and has
+  -- seen what the given seat has
   abbrev pub new_view : View E D → View E D
-  new_view v = record {
+  new_view view = record {
     stage = Idle;
-    number = v.next;
-    next = v.callers;
-    callers = v.callers;
-    start = v.start;
-    seen = v.seen;
+    number = view.next;
+    next = view.callers;
+    callers = view.callers;
+    start = view.start;
+    seen = view.seen;
     mine = [];
     ended = [];
     heard = [];
   }
 
-  -- whom the first view of a join has ended after it: those that it had, the caller of the second, those that this had, and the numbers that it never gave
+  -- whom the first view of a join has ended after it: those that it had, the caller of the second, those that
+  -- this had, and the numbers that it never gave
   abbrev pub ended_after_join : View E D → View E D → List (Ended E)
-  ended_after_join v w = v.ended ++ ended_caller w.number w.mine ∷ (w.ended ++ unused_callers w.next (w.callers - w.next))
+  ended_after_join one other =
+      one.ended ++ ended_caller other.number other.mine
+      ∷ (other.ended ++ unused_callers other.next (other.callers - other.next))
 
   -- what the seat knows to which another was joined
   abbrev pub joined_view : View E D → View E D → View E D
-  joined_view v w = record v { seen = longer_of v.seen w.seen; ended = ended_after_join v w }
+  joined_view one other =
+      record one { seen = longer_of one.seen other.seen; ended = ended_after_join one other }
 
   -- the same before the two histories were compared
   abbrev pub merged_view : View E D → View E D → View E D
-  merged_view v w = record v { ended = ended_after_join v w; heard = w.seen }
+  merged_view one other = record one { ended = ended_after_join one other; heard = other.seen }
 
   -- the same seat after the comparison
   abbrev pub compared_view : View E D → View E D
-  compared_view v = record v { seen = longer_of v.seen v.heard; heard = [] }
+  compared_view view = record view { seen = longer_of view.seen view.heard; heard = [] }
 
   -- what a join leaves of the second seat
   abbrev pub spent_view : View E D
@@ -68,8 +74,8 @@ module _ {E D : Type 0} where
 
   -- each number is the view's own, one that it may give, or an ended caller's: as many as there are in all
   abbrev pub HasAllNumbers : View E D → Type 0
-  HasAllNumbers v = 1 + (v.callers - v.next) + length v.ended ≡ v.callers
+  HasAllNumbers view = 1 + (view.callers - view.next) + length view.ended ≡ view.callers
 
-  -- the view has its own number and no other, of n in all
+  -- the view has its own number and no other, of so many in all
   abbrev pub HasOneNumber : ℕ → View E D → Type 0
-  HasOneNumber n v = (v.callers ≡ n) × (v.next ≡ n) × (v.ended ≡ [])
+  HasOneNumber callers view = (view.callers ≡ callers) × (view.next ≡ callers) × (view.ended ≡ [])

@@ -15,6 +15,7 @@ mod staged;
 mod tests;
 mod turnstile;
 mod view;
+mod waiting;
 
 pub use seat::Seat;
 pub use staged::Staged;

@@ -25,5 +25,6 @@ impl<B: Staged> Model for Seat<B> {
 
     ghost view = { λ s. (s.place.table_id, s.place.me.0) };
 
-    ghost invariant = { λ s. IsAtRest s.place.me × (s.number ≡ s.place.me.0.number) × (s.next ≡ s.place.me.0.next) × (s.callers ≡ s.place.me.0.callers) };
+    ghost invariant = { λ s. IsAtRest s.place.me × (s.number ≡ s.place.me.0.number)
+        × (s.next ≡ s.place.me.0.next) × (s.callers ≡ s.place.me.0.callers) };
 }

@@ -42,5 +42,7 @@ pub trait Staged: Drop {
         ensures answers { answers (start self.old) (history self.old) caller ask result (history self.new) };
 
     /// An ask that is fit stays fit when entries of other callers are appended.
-    ghost stays_fit: { (s : Self.Start) (h : List Self.Entry) (c : ℕ) (ask : Self.Ask) (more : List Self.Entry) → fit s h c ask → NoneOf owner c more → fit s (h ++ more) c ask };
+    ghost stays_fit: { (start : Self.Start) (history : List Self.Entry) (caller : ℕ) (ask : Self.Ask)
+        (more : List Self.Entry) → fit start history caller ask → NoneOf owner caller more
+        → fit start (history ++ more) caller ask };
 }

@@ -7,6 +7,7 @@ ghost use Rattle.fabric_turn.specs.Calls.{DifferByCalls};
 use crate::seat::Seat;
 use crate::staged::Staged;
 use crate::turnstile::Turnstile;
+use crate::waiting::{Patience, USUAL};
 use an_base::memory::OutOfMemory;
 use std::alloc::Global;
 use std::sync::Wait;
@@ -156,10 +157,16 @@ fn tally_of<R: Threads + Wait + Sync>(
     rt: &R,
     alloc: Global,
     callers: u32,
+    patience: Patience,
 ) -> Result<Tally, OutOfMemory>
     requires { 0 < callers }
 {
-    let (turnstile, seat) = Turnstile::new(alloc, Tally::new(alloc, CALLS), callers)?;
+    let (turnstile, seat) = Turnstile::with_patience(
+        alloc,
+        Tally::new(alloc, CALLS),
+        callers,
+        patience,
+    )?;
     let mut all = seats(&turnstile, alloc, seat, callers - 1)?;
     work_all(rt, &turnstile, callers, all.as_mut_slice());
     let seat = joined(&turnstile, callers, all);
@@ -169,7 +176,9 @@ fn tally_of<R: Threads + Wait + Sync>(
 #[test]
 fn threads_add_all_lines_in_order(rt: HostRuntime) -> Result<(), Fail> {
     for callers in [1u32, 2, 4, 16] {
-        let tally = tally_of(&rt, rt.alloc(), callers).ok().ok_or("memory")?;
+        let tally = tally_of(&rt, rt.alloc(), callers, USUAL)
+            .ok()
+            .ok_or("memory")?;
         let mut next = [0u64; 16];
         for line in &tally.lines {
             let caller = line.caller as usize;
@@ -181,6 +190,23 @@ fn threads_add_all_lines_in_order(rt: HostRuntime) -> Result<(), Fail> {
             let calls = if caller < callers as usize { CALLS } else { 0 };
             assert_eq!(rt; *count, calls, "by caller {caller} of {callers}");
         }
+    }
+    Ok(())
+}
+
+// Each caller sleeps as soon as it looks in vain, so that a turn that wakes nobody who waits for it
+// would keep this test from ending.
+#[test]
+fn callers_that_sleep_at_once_are_woken(rt: HostRuntime) -> Result<(), Fail> {
+    let asleep = Patience { spins: 0, looks: 0 };
+    for callers in [2u32, 3, 8] {
+        let tally = tally_of(&rt, rt.alloc(), callers, asleep)
+            .ok()
+            .ok_or("memory")?;
+        assert!(rt;
+            tally.lines.len() as u64 == CALLS * u64::from(callers),
+            "{callers}"
+        );
     }
     Ok(())
 }

@@ -9,6 +9,7 @@ ghost use Rattle.fabric_turn.specs.Seats.{HasAllNumbers, joined_view, new_view, 
 use crate::order::{Compare, Draw, Fork, Look, Merge, Opening, Order, Pass, Views};
 use crate::seat::Seat;
 use crate::staged::Staged;
+use crate::waiting::{Patience, Pause, USUAL, has_sleepers, low_bits};
 use an_base::memory::OutOfMemory;
 use atomic_table::{Refused, Table};
 use std::alloc::Global;
@@ -26,12 +27,6 @@ const TICKETS: usize = 0;
 // The word that has the number of turns passed on, which is the ticket that is served.
 const SERVING: usize = 1;
 
-// How often a caller that is the next looks again at once.
-const SPINS: u32 = 256;
-
-// How often a caller looks again, after it gave way to other threads, before it sleeps.
-const YIELDS: u32 = 2048;
-
 /// A value behind a ticket lock. Callers share it by reference, and each call goes through a
 /// `Seat` of this turnstile.
 ///
@@ -43,6 +38,7 @@ pub struct Turnstile<B: Staged> {
     // How many callers sleep or are about to. A caller counts itself before it looks whether the
     // turn was passed on since, and who passes it on looks at the count afterwards.
     sleepers: AtomicU64,
+    patience: Patience,
     ghost sized: { (table.shared.table_id.words ≡ 2) × (table.shared.table_id.slots ≡ 1) },
 }
 
@@ -53,6 +49,20 @@ impl<B: Staged> Turnstile<B> {
     /// numbers 1 to `callers - 1`, and has seen an empty history. `callers` is at least 1, and
     /// `book` stands for the empty history. Where memory runs out `book` is dropped.
     pub fn new(alloc: Global, book: B, callers: u32) -> Result<(Turnstile<B>, Seat<B>), OutOfMemory>
+        requires callers { 0 < callers }
+        requires empty { B.history book ≡ [] }
+        ensures { IfOk result (λ t. t.1 ≡ (turnstile_id t.0, first_view callers (B.start book))) }
+    {
+        Turnstile::with_patience(alloc, book, callers, USUAL)
+    }
+
+    // The same with callers that look so often before they sleep.
+    pub(crate) fn with_patience(
+        alloc: Global,
+        book: B,
+        callers: u32,
+        patience: Patience,
+    ) -> Result<(Turnstile<B>, Seat<B>), OutOfMemory>
         requires callers { 0 < callers }
         requires empty { B.history book ≡ [] }
         ensures { IfOk result (λ t. t.1 ≡ (turnstile_id t.0, first_view callers (B.start book))) }
@@ -74,6 +84,7 @@ impl<B: Staged> Turnstile<B> {
                 let turnstile = Turnstile {
                     table,
                     sleepers: AtomicU64::new(0),
+                    patience,
                 };
                 Ok((turnstile, seat))
             }
@@ -96,26 +107,27 @@ impl<B: Staged> Turnstile<B> {
             if serving == ticket {
                 return;
             }
-            self.back_off(rt, serving, ticket, looks);
+            let is_next = ticket.wrapping_sub(serving) == 1;
+            self.pause(rt, serving, self.patience.pause_after(looks, is_next));
             looks = looks.saturating_add(1);
         }
         unreachable!()
     }
 
-    // What a caller does after a look in vain, having made so many before: it looks again at once
-    // where its turn is the next, else it gives way to other threads, and after many looks it
-    // sleeps until a turn is passed on.
-    fn back_off<R: Wait>(&self, rt: &R, serving: u64, ticket: u64, looks: u32) {
-        if looks < SPINS && ticket.wrapping_sub(serving) == 1 {
-            spin_loop();
-        } else if looks < SPINS + YIELDS {
-            yield_now();
-        } else {
-            self.sleepers.fetch_add(1, Ordering::SeqCst);
-            let low_bits = (serving % (1 << 32)) as u32;
-            self.table.shared.park(rt, SERVING, low_bits);
-            self.sleepers.fetch_sub(1, Ordering::SeqCst);
+    // Pauses after a look in vain, which found that this number is served.
+    fn pause<R: Wait>(&self, rt: &R, serving: u64, pause: Pause) {
+        match pause {
+            Pause::Spin => spin_loop(),
+            Pause::Yield => yield_now(),
+            Pause::Sleep => self.sleep(rt, low_bits(serving)),
         }
+    }
+
+    // Sleeps while the number that is served has these low bits, or for a shorter time.
+    fn sleep<R: Wait>(&self, rt: &R, low_bits: u32) {
+        self.sleepers.fetch_add(1, Ordering::SeqCst);
+        self.table.shared.park(rt, SERVING, low_bits);
+        self.sleepers.fetch_sub(1, Ordering::SeqCst);
     }
 
     // Runs one ask on the value, which is out with the seat.
@@ -124,7 +136,9 @@ impl<B: Staged> Turnstile<B> {
         requires held { (b : B) × HasOut b place.old.me × B.fit (B.start b) (B.history b) number ask }
         ensures turnstile { place.new.table_id ≡ place.old.table_id }
         ensures view { place.new.me.0 ≡ place.old.me.0 }
-        ensures held { (b : B) × (c : B) × HasOut b place.old.me × HasOut c place.new.me × (B.start c ≡ B.start b) × AppendsAtMostOne B.owner number (B.history b) (B.history c) × B.answers (B.start b) (B.history b) number ask result (B.history c) }
+        ensures held { (b : B) × (c : B) × HasOut b place.old.me × HasOut c place.new.me
+            × (B.start c ≡ B.start b) × AppendsAtMostOne B.owner number (B.history b) (B.history c)
+            × B.answers (B.start b) (B.history b) number ask result (B.history c) }
     {
         place.slot_mut(&self.table.shared, 0).act(number, ask)
     }
@@ -138,7 +152,7 @@ impl<B: Staged> Turnstile<B> {
     {
         let shared = &self.table.shared;
         shared.fetch_add::<Pass<B>>(place, SERVING, 1);
-        if self.sleepers.load(Ordering::SeqCst) > 0 {
+        if has_sleepers(self.sleepers.load(Ordering::SeqCst)) {
             shared.wake_all(SERVING);
         }
     }
@@ -248,7 +262,8 @@ impl<B: Staged> Turnstile<B> {
 
         // Of each number below `callers` the history has what the seat has of it.
         ensures mine { own_entries B.owner seat.1.seen seat.1.number ≡ seat.1.mine }
-        ensures ended { (k : ℕ) (x : _) → get_elem? seat.1.ended k ≡ some x → own_entries B.owner seat.1.seen x.number ≡ x.mine }
+        ensures ended { (k : ℕ) (x : _) → get_elem? seat.1.ended k ≡ some x
+            → own_entries B.owner seat.1.seen x.number ≡ x.mine }
         ensures spare { (n : ℕ) → seat.1.next ≤ n → own_entries B.owner seat.1.seen n ≡ [] }
         ensures covers { (n : ℕ) → n < seat.1.callers → HasNumber seat.1 n }
     {
@@ -258,7 +273,11 @@ impl<B: Staged> Turnstile<B> {
             next: _,
             callers: _,
         } = seat;
-        let Turnstile { table, sleepers: _ } = self;
+        let Turnstile {
+            table,
+            sleepers: _,
+            patience: _,
+        } = self;
         let mut closed = table.close_with(place);
         let book = closed.take(0);
         closed.free();

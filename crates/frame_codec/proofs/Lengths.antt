@@ -11,7 +11,7 @@ use Rattle.an_base.specs.declared.frame.Frame.{Frame}
 use Rattle.an_base.specs.declared.frame.Frame.TheVariants.{Carry, Ack, Probe, Reply}
 use Rattle.frame_codec.specs.Spelling.{number_bytes, life_bytes, end_bytes, truth_bytes, position_bytes, link_bytes, links_bytes, entry_bytes, entries_bytes, body_bytes, spelling}
 use Rattle.frame_codec.specs.Frames.{IsEntry, AreEntries, IsBody, IsFrame}
-use Rattle.frame_codec.proofs.Turns.{all_tail, all_head}
+use Rattle.std.proofs.lemmas.List.Elements.{All-head, All-tail}
 
 number_length : (n x : ℕ) → length (number_bytes n x) ≡ n
 unfolding number_bytes
@@ -43,7 +43,7 @@ entry_length e h = omega (arith, h.links.most, links_length e.links, life_length
 
 each_length : (es : List EntryOf) → All IsEntry es → length (flat_map entry_bytes es) ≤ 178 * length es
 each_length [] h = omega arith
-each_length (e ∷ es) h = omega (arith, entry_length e (all_head IsEntry e es h), each_length es (all_tail IsEntry e es h), length-append (entry_bytes e) (flat_map entry_bytes es))
+each_length (e ∷ es) h = omega (arith, entry_length e (All-head IsEntry e es h), each_length es (All-tail IsEntry e es h), length-append (entry_bytes e) (flat_map entry_bytes es))
 
 entries_length : (es : List EntryOf) → AreEntries es → length (entries_bytes es) ≤ 22429
 entries_length es h = omega (arith, h.count.1, each_length es h.each)

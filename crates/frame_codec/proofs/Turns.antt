@@ -1,35 +1,22 @@
 -- What is above the one before it, each, is in order as a list.
-use Rattle.std.proofs.Common.{◌≡◌, ◌≢◌, ℕ, suc, ◌+◌, ◌<◌, ◌==◌, ◌&&◌, ◌||◌, Bool, true, false, not, nat_lt, List, [], ◌∷◌, ◌++◌, length, get_or, Option, Some, None, refl, sym, ap, subst, append_assoc, arith, IsTrue, Less, Equal, Greater}
+use Rattle.std.proofs.Common.{◌≡◌, ◌≢◌, ℕ, suc, ◌+◌, ◌<◌, ◌==◌, ◌&&◌, true, false, not, nat_lt, List, [], ◌∷◌, ◌++◌, length, get_or, Option, Some, None, refl, sym, subst, append_assoc, arith}
 use Rattle.std.specs.Prelude.{All, AllPairs}
-use Rattle.std.specs.declared.cmp.Ordering.{Ordering}
-use Rattle.std.specs.Ordering.{is_lt}
-use Rattle.an_base.proofs.OrderLaws.{life_total}
-use Rattle.std.proofs.lemmas.List.Elements.{All-nil, All-cons, All-append}
+use Rattle.an_base.proofs.LifeLemmas.{below_trans}
+use Rattle.an_base.proofs.ListLemmas.{AllPairs-head, AllPairs-tail}
+use Rattle.std.proofs.lemmas.Bool.{not-true, and_parts, or_parts}
+use Rattle.std.proofs.lemmas.List.Elements.{All-nil, All-cons, All-append, All-head, All-tail}
 use Rattle.std.proofs.lemmas.List.Quantifiers.{all_pairs_push}
 use Rattle.std.proofs.lemmas.List.{append-nil, length-append, get_or_append_left}
 use Rattle.std.proofs.Math.Seq.{get_or-append_seam}
 use Rattle.std.proofs.lemmas.List.Kept.{AllPairs-cons}
 use Rattle.an_base.specs.Values.{LifeId, PeerAt, EntryOf}
-use Rattle.an_base.specs.Order.{life_cmp, IsBelow, PortsRise, LivesRise}
+use Rattle.an_base.specs.Order.{IsBelow, PortsRise, LivesRise}
 use Rattle.frame_codec.specs.Frames.{IsWithin, IsEnd, IsLink, AreLinks, IsEntry, AreEntries}
 use Rattle.an_base.specs.Numbers.{AreNumbers}
 use Rattle.std.specs.List.{list_any}
 use Rattle.std.proofs.lemmas.Bool.Decides.{nat_tests}
 use Rattle.frame_codec.specs.Reading.{is_above, is_new, are_new, are_numbers}
 use Rattle.frame_codec.proofs.Readers.{AreInTurn}
-
--- the first of a list that keeps an order, and those after it
-pub all_tail : {X : Type 0} (P : X → Type 0) (x : X) (xs : List X) → All P (x ∷ xs) → All P xs
-all_tail P x xs h k d lt = h (suc k) d (omega (arith, lt))
-
-pub all_head : {X : Type 0} (P : X → Type 0) (x : X) (xs : List X) → All P (x ∷ xs) → P x
-all_head P x xs h = h 0 x (omega arith)
-
-pairs_tail : {X : Type 0} (R : X → X → Type 0) (x : X) (xs : List X) → AllPairs R (x ∷ xs) → AllPairs R xs
-pairs_tail R x xs h i j d lt le = h (suc i) (suc j) d (omega (arith, lt)) (omega (arith, le))
-
-pairs_head : {X : Type 0} (R : X → X → Type 0) (x : X) (xs : List X) → AllPairs R (x ∷ xs) → All (R x) xs
-pairs_head R x xs h k d lt = h 0 (suc k) d (omega arith) (omega (arith, lt))
 
 all_with : {X : Type 0} (P Q : X → Type 0) (xs : List X) → ((x : X) → P x → Q x) → All P xs → All Q xs
 all_with P Q xs f h k d lt = f _ (h k d lt)
@@ -57,9 +44,9 @@ links_rise ks n h = let t = links_are 0 ks h in record { most = n.1; each = t.0;
 links_turn : (above : ℕ) (ks : List PeerAt) → All IsLink ks → All (λ k. above < k.port) ks → PortsRise ks → AreInTurn LinkAbove (λ k. k.port) above ks
 links_turn above [] is low rise = tt
 links_turn above (k ∷ ks) is low rise =
-    let one = all_head IsLink k ks is in
-    let m = all_head (λ l. above < l.port) k ks low in
-    (record { port = (omega (arith, m), one.port.1); peer = one.peer }, links_turn k.port ks (all_tail IsLink k ks is) (pairs_head (λ a b. a.port < b.port) k ks rise) (pairs_tail (λ a b. a.port < b.port) k ks rise))
+    let one = All-head IsLink k ks is in
+    let m = All-head (λ l. above < l.port) k ks low in
+    (record { port = (omega (arith, m), one.port.1); peer = one.peer }, links_turn k.port ks (All-tail IsLink k ks is) (AllPairs-head (λ a b. a.port < b.port) k ks rise) (AllPairs-tail (λ a b. a.port < b.port) k ks rise))
 
 pub links_in_turn : (ks : List PeerAt) → AreLinks ks → AreInTurn LinkAbove (λ k. k.port) 0 ks
 links_in_turn ks h = links_turn 0 ks h.each (all_with IsLink (λ k. 0 < k.port) ks (λ k l. omega (arith, l.port.0)) h.each) h.rising
@@ -70,17 +57,6 @@ links_in_turn ks h = links_turn 0 ks h.each (all_with IsLink (λ k. 0 < k.port) 
 pub record EntryAbove (above : Option LifeId) (e : EntryOf) : Type 0 where
   pub entry : IsEntry e
   pub low : is_above above e.life ≡ true
-
-less_is : (o : Ordering) → IsTrue (is_lt o) → o ≡ Less
-less_is Less low = refl
-less_is Equal low = absurd (cc)
-less_is Greater low = absurd (cc)
-
-below_cmp : (a b : LifeId) → IsBelow a b → life_cmp a b ≡ Less
-below_cmp a b low = less_is (life_cmp a b) low
-
-below_trans : (a b c : LifeId) → IsBelow a b → IsBelow b c → IsBelow a c
-below_trans a b c low high = ap is_lt (life_total.trans a b c (below_cmp a b low) (below_cmp b c high))
 
 above_trans : (above : Option LifeId) (b c : LifeId) → is_above above b ≡ true → IsBelow b c → is_above above c ≡ true
 above_trans None b c h k = refl
@@ -111,8 +87,8 @@ lives_rise es n h = let t = entries_low None es h in record { count = n; each = 
 entries_turn : (above : Option LifeId) (es : List EntryOf) → All IsEntry es → All (λ e. is_above above e.life ≡ true) es → LivesRise es → AreInTurn EntryAbove (λ e. Some e.life) above es
 entries_turn above [] is low rise = tt
 entries_turn above (e ∷ es) is low rise = (
-  record { entry = all_head IsEntry e es is; low = all_head (λ f. is_above above f.life ≡ true) e es low },
-  entries_turn (Some e.life) es (all_tail IsEntry e es is) (pairs_head (λ a b. IsBelow a.life b.life) e es rise) (pairs_tail (λ a b. IsBelow a.life b.life) e es rise),
+  record { entry = All-head IsEntry e es is; low = All-head (λ f. is_above above f.life ≡ true) e es low },
+  entries_turn (Some e.life) es (All-tail IsEntry e es is) (AllPairs-head (λ a b. IsBelow a.life b.life) e es rise) (AllPairs-tail (λ a b. IsBelow a.life b.life) e es rise),
 )
 
 pub entries_in_turn : (es : List EntryOf) → AreEntries es → AreInTurn EntryAbove (λ e. Some e.life) None es
@@ -124,36 +100,24 @@ entries_in_turn es h = entries_turn None es h.each (λ k d lt. refl) h.rising
 abbrev pub IsNumber : ℕ → Type 0
 IsNumber n = IsWithin 1 126 n
 
-or_false : (a b : Bool) → (a || b) ≡ false → (a ≡ false) × (b ≡ false)
-or_false false b h = (refl, h)
-or_false true b h = absurd cc
-
-and_true : (a b : Bool) → (a && b) ≡ true → (a ≡ true) × (b ≡ true)
-and_true true b h = (refl, h)
-and_true false b h = absurd cc
-
-not_true : (b : Bool) → not b ≡ true → b ≡ false
-not_true false h = refl
-not_true true h = absurd cc
-
 -- no number before is this one
 differs : (before : List ℕ) (n : ℕ) → list_any (λ m. m == n) before ≡ false → All (λ m. m ≢ n) before
 differs [] n h = All-nil (λ m. m ≢ n)
 differs (m ∷ before) n h =
-    let p = or_false (m == n) (list_any (λ k. k == n) before) h in
+    let p = or_parts (m == n) (list_any (λ k. k == n) before) h in
     All-cons (λ k. k ≢ n) m before (grind (arith, nat_tests)) (differs before n p.1)
 
 differs_again : (before : List ℕ) (n : ℕ) → All (λ m. m ≢ n) before → list_any (λ m. m == n) before ≡ false
 differs_again [] n h = refl
 differs_again (m ∷ before) n h =
-    let one : (m == n) ≡ false = let d = all_head (λ k. k ≢ n) m before h in grind (arith, nat_tests) in
-    rw (one, differs_again before n (all_tail (λ k. k ≢ n) m before h)) refl
+    let one : (m == n) ≡ false = let d = All-head (λ k. k ≢ n) m before h in grind (arith, nat_tests) in
+    rw (one, differs_again before n (All-tail (λ k. k ≢ n) m before h)) refl
 
 new_holds : (before : List ℕ) (n : ℕ) → is_new before n ≡ true → IsNumber n × All (λ m. m ≢ n) before
 new_holds before n h =
-    let p = and_true (not (nat_lt n 1) && not (nat_lt 126 n)) (not (list_any (λ m. m == n) before)) h in
-    let q = and_true (not (nat_lt n 1)) (not (nat_lt 126 n)) p.0 in
-    ((grind (arith, nat_tests, q.0), grind (arith, nat_tests, q.1)), differs before n (not_true _ p.1))
+    let p = and_parts (not (nat_lt n 1) && not (nat_lt 126 n)) (not (list_any (λ m. m == n) before)) h in
+    let q = and_parts (not (nat_lt n 1)) (not (nat_lt 126 n)) p.0 in
+    ((grind (arith, nat_tests, q.0), grind (arith, nat_tests, q.1)), differs before n (not-true _ p.1))
 
 new_passes : (before : List ℕ) (n : ℕ) → IsNumber n → All (λ m. m ≢ n) before → is_new before n ≡ true
 new_passes before n h d =
@@ -165,7 +129,7 @@ are_new_hold : (before ns : List ℕ) → are_new before ns ≡ true → All IsN
 unfolding are_new
 are_new_hold before [] t h d = (subst (All IsNumber) (sym (append-nil before)) h, subst (AllPairs (λ a b. a ≢ b)) (sym (append-nil before)) d)
 are_new_hold before (n ∷ ns) t h d =
-    let p = and_true (is_new before n) (are_new (before ++ n ∷ []) ns) t in
+    let p = and_parts (is_new before n) (are_new (before ++ n ∷ []) ns) t in
     let one = new_holds before n p.0 in
     let more = are_new_hold (before ++ n ∷ []) ns p.1 (All-append IsNumber before (n ∷ []) h (All-cons IsNumber n [] one.0 (All-nil IsNumber))) (all_pairs_push (λ a b. a ≢ b) before n d one.1) in
     let e = append_assoc before (n ∷ []) ns in

@@ -8,82 +8,84 @@ use Rattle.an_base.specs.declared.body.Body.{Body}
 use Rattle.an_base.specs.declared.body.Body.TheVariants.{Pos, Answer, Stable, Topo}
 use Rattle.an_base.specs.declared.frame.Frame.{Frame}
 use Rattle.an_base.specs.declared.frame.Frame.TheVariants.{Carry, Ack, Probe, Reply}
+use Rattle.an_base.specs.declared.limits.TheConstants.{PORTS, LAST_PORT, MOST_LEVEL, MOST_NUMBER}
+use Rattle.an_base.specs.declared.limits.TheConstants.{MOST_SWITCHES}
 use Rattle.frame_codec.specs.Spelling.{spelling}
 
--- n is one of the numbers from least to most
+-- a number from least to most
 abbrev pub IsWithin : ℕ → ℕ → ℕ → Type 0
-IsWithin least most n = (least ≤ n) × (n ≤ most)
+IsWithin least most number = (least ≤ number) × (number ≤ most)
 
--- n is one of the numbers from 1 that four bytes hold
+-- a number from 1 that four bytes hold
 abbrev pub IsCounted : ℕ → Type 0
-IsCounted n = (1 ≤ n) × (n < 2 ^ 32)
+IsCounted number = (1 ≤ number) × (number < 2 ^ 32)
 
-pub record IsLife (l : LifeId) : Type 0 where
-  pub uid : l.uid < 2 ^ 48
-  pub boot : IsCounted l.boot
+pub record IsLife (life : LifeId) : Type 0 where
+  pub uid : life.uid < 2 ^ 48
+  pub boot : IsCounted life.boot
 
-pub record IsEnd (e : EndId) : Type 0 where
-  pub life : IsLife e.life
-  pub port : IsWithin 1 12 e.port
+pub record IsEnd (end : EndId) : Type 0 where
+  pub life : IsLife end.life
+  pub port : IsWithin 1 LAST_PORT end.port
 
-pub record IsPosition (p : Place) : Type 0 where
-  pub root : IsLife p.root
-  pub level : IsWithin 0 125 p.level
-  pub parent : IsLife p.parent
-  pub port : IsWithin 0 12 p.port
+pub record IsPosition (place : Place) : Type 0 where
+  pub root : IsLife place.root
+  pub level : IsWithin 0 MOST_LEVEL place.level
+  pub parent : IsLife place.parent
+  pub port : IsWithin 0 LAST_PORT place.port
 
-pub record IsLink (k : PeerAt) : Type 0 where
-  pub port : IsWithin 1 12 k.port
-  pub peer : IsEnd k.peer
+pub record IsLink (link : PeerAt) : Type 0 where
+  pub port : IsWithin 1 LAST_PORT link.port
+  pub peer : IsEnd link.peer
 
--- at most 12 links by rising port
+-- no more links than ports, by rising port
 pub record AreLinks (links : List PeerAt) : Type 0 where
-  pub most : length links ≤ 12
+  pub most : length links ≤ PORTS
   pub each : All IsLink links
   pub rising : PortsRise links
 
-pub record IsEntry (e : EntryOf) : Type 0 where
-  pub life : IsLife e.life
-  pub position : IsPosition e.position
-  pub proposed : IsWithin 1 126 e.proposed
-  pub links : AreLinks e.links
+pub record IsEntry (entry : EntryOf) : Type 0 where
+  pub life : IsLife entry.life
+  pub position : IsPosition entry.position
+  pub proposed : IsWithin 1 MOST_NUMBER entry.proposed
+  pub links : AreLinks entry.links
 
--- 1 to 126 entries by rising life
+-- some entries, no more than one network has, by rising life
 pub record AreEntries (entries : List EntryOf) : Type 0 where
-  pub count : IsWithin 1 126 (length entries)
+  pub count : IsWithin 1 MOST_SWITCHES (length entries)
   pub each : All IsEntry entries
   pub rising : LivesRise entries
 
-pub record IsPos (b : PosOf) : Type 0 where
-  pub version : IsCounted b.version
-  pub root : IsLife b.root
-  pub level : IsWithin 0 125 b.level
+pub record IsPos (told : PosOf) : Type 0 where
+  pub version : IsCounted told.version
+  pub root : IsLife told.root
+  pub level : IsWithin 0 MOST_LEVEL told.level
 
 -- entries, and as many different numbers
-pub record IsTopo (b : TopoOf) : Type 0 where
-  pub entries : AreEntries b.entries
-  pub numbers : AreNumbers b.numbers
-  pub as_many : length b.entries ≡ length b.numbers
+pub record IsTopo (topo : TopoOf) : Type 0 where
+  pub entries : AreEntries topo.entries
+  pub numbers : AreNumbers topo.numbers
+  pub as_many : length topo.entries ≡ length topo.numbers
 
 abbrev pub IsBody : Body → Type 0
-IsBody (Pos b) = IsPos b
-IsBody (Answer b) = IsCounted b.version
+IsBody (Pos told) = IsPos told
+IsBody (Answer answer) = IsCounted answer.version
 IsBody (Stable entries) = AreEntries entries
-IsBody (Topo b) = IsTopo b
+IsBody (Topo topo) = IsTopo topo
 
-pub record IsCarry (f : CarryOf) : Type 0 where
-  pub epoch : f.epoch < 2 ^ 64
-  pub from : IsEnd f.from
-  pub to : IsEnd f.to
-  pub k : IsCounted f.k
-  pub body : IsBody f.body
+pub record IsCarry (carry : CarryOf) : Type 0 where
+  pub epoch : carry.epoch < 2 ^ 64
+  pub from : IsEnd carry.from
+  pub to : IsEnd carry.to
+  pub k : IsCounted carry.k
+  pub body : IsBody carry.body
 
 abbrev pub IsFrame : Frame → Type 0
-IsFrame (Carry f) = IsCarry f
-IsFrame (Ack epoch from to n) = (epoch < 2 ^ 64) × IsEnd from × IsEnd to × (n < 2 ^ 32)
+IsFrame (Carry carry) = IsCarry carry
+IsFrame (Ack epoch from to accepted) = (epoch < 2 ^ 64) × IsEnd from × IsEnd to × (accepted < 2 ^ 32)
 IsFrame (Probe from nonce) = IsEnd from × (nonce < 2 ^ 64)
 IsFrame (Reply from to nonce) = IsEnd from × IsEnd to × (nonce < 2 ^ 64)
 
 -- no frame has this spelling
 abbrev pub IsNoFrame : List ℕ → Type 0
-IsNoFrame bytes = (f : Frame) → IsFrame f → spelling f ≢ bytes
+IsNoFrame bytes = (frame : Frame) → IsFrame frame → spelling frame ≢ bytes

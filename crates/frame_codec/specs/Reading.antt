@@ -1,5 +1,7 @@
--- Reading from left to right: what stands at the front of bytes, and the bytes after it.
-use Rattle.std.specs.Prelude.{◌≡◌, ◌==◌, ◌&&◌, ℕ, zero, suc, ◌+◌, List, [], ◌∷◌, ◌++◌, length, take, drop, Option, Some, None, Bool, true, not, nat_lt, if◌then◌else◌, ⊤}
+-- Reading from left to right: what stands at the front of bytes, and the bytes after it. Only functions
+-- inside this crate cite what stands here, but for `frame_of`, the frame that bytes spell.
+use Rattle.std.specs.Prelude.{◌≡◌, ◌==◌, ◌&&◌, ℕ, zero, suc, ◌+◌, List, [], ◌∷◌, ◌++◌, length, take, drop}
+use Rattle.std.specs.Prelude.{Option, Some, None, Bool, true, not, nat_lt, if◌then◌else◌, ⊤}
 use Rattle.std.specs.List.{list_any}
 use Rattle.std.specs.Ordering.{is_lt}
 use Rattle.std.specs.declared.result.Result.{Result}
@@ -8,6 +10,7 @@ use Rattle.byteorder.specs.Endian.{big_number}
 use Rattle.an_base.specs.Values.{LifeId, EndId, Place, PeerAt, EntryOf, PosOf, AnswerOf, TopoOf}
 use Rattle.an_base.specs.Order.{life_cmp}
 use Rattle.an_base.specs.Frames.{CarryOf}
+use Rattle.an_base.specs.declared.limits.TheConstants.{LAST_PORT, MOST_LEVEL, MOST_NUMBER}
 use Rattle.an_base.specs.declared.body.Body.{Body}
 use Rattle.an_base.specs.declared.body.Body.TheVariants.{Pos, Answer, Stable, Topo}
 use Rattle.an_base.specs.declared.frame.Frame.{Frame}
@@ -88,20 +91,21 @@ abbrev pub end_of : LifeId × ℕ → EndId
 end_of p = record { life = p.0; port = p.1 }
 
 unfoldable pub end_at : At EndId
-end_at = made end_of (both life_at (within_at 1 12))
+end_at = made end_of (both life_at (within_at 1 LAST_PORT))
 
 abbrev pub position_of : ((LifeId × ℕ) × LifeId) × ℕ → Place
 position_of p = record { root = p.0.0.0; level = p.0.0.1; parent = p.0.1; port = p.1 }
 
 unfoldable pub position_at : At Place
-position_at = made position_of (both (both (both life_at (within_at 0 125)) life_at) (within_at 0 12))
+position_at =
+    made position_of (both (both (both life_at (within_at 0 MOST_LEVEL)) life_at) (within_at 0 LAST_PORT))
 
 abbrev pub link_of : ℕ × EndId → PeerAt
 link_of p = record { port = p.0; peer = p.1 }
 
 -- a link whose port is above this one
 unfoldable pub link_above_at : ℕ → At PeerAt
-link_above_at above = made link_of (both (within_at (above + 1) 12) end_at)
+link_above_at above = made link_of (both (within_at (above + 1) LAST_PORT) end_at)
 
 -- so many links by rising port, all above this one
 abbrev pub links_from : ℕ → ℕ → At (List PeerAt)
@@ -109,14 +113,14 @@ links_from = list_at link_above_at (λ k. k.port)
 
 unfoldable pub links_at : At (List PeerAt)
 links_at bytes = do
-  count ← within_at 0 12 bytes
+  count ← within_at 0 LAST_PORT bytes
   links_from 0 count.0 count.1
 
 abbrev pub entry_of : ((LifeId × Place) × ℕ) × List PeerAt → EntryOf
 entry_of p = record { life = p.0.0.0; position = p.0.0.1; proposed = p.0.1; links = p.1 }
 
 unfoldable pub entry_at : At EntryOf
-entry_at = made entry_of (both (both (both life_at position_at) (within_at 1 126)) links_at)
+entry_at = made entry_of (both (both (both life_at position_at) (within_at 1 MOST_NUMBER)) links_at)
 
 -- whether the life is above this one, where there is one
 abbrev pub is_above : Option LifeId → LifeId → Bool
@@ -133,12 +137,12 @@ entries_from = list_at entry_above_at (λ e. Some e.life)
 
 unfoldable pub entries_at : At (List EntryOf)
 entries_at bytes = do
-  count ← within_at 1 126 bytes
+  count ← within_at 1 MOST_NUMBER bytes
   entries_from None count.0 count.1
 
--- whether each number is 1 to 126 and differs from those before it
+-- whether a number is one that there is and differs from those before it
 abbrev pub is_new : List ℕ → ℕ → Bool
-is_new before n = not (nat_lt n 1) && not (nat_lt 126 n) && not (list_any (λ m. m == n) before)
+is_new before n = not (nat_lt n 1) && not (nat_lt MOST_NUMBER n) && not (list_any (λ m. m == n) before)
 
 unfoldable pub are_new : List ℕ → List ℕ → Bool
 are_new before [] = true
@@ -158,7 +162,7 @@ abbrev pub pos_of : ((ℕ × LifeId) × ℕ) × Bool → PosOf
 pos_of p = record { version = p.0.0.0; root = p.0.0.1; level = p.0.1; to_parent = p.1 }
 
 unfoldable pub pos_at : At PosOf
-pos_at = made pos_of (both (both (both counted_at life_at) (within_at 0 125)) truth_at)
+pos_at = made pos_of (both (both (both counted_at life_at) (within_at 0 MOST_LEVEL)) truth_at)
 
 abbrev pub answer_of : ℕ × Bool → AnswerOf
 answer_of p = record { version = p.0; to_parent = p.1 }
@@ -223,7 +227,7 @@ frame_of_kind kind bytes =
 unfoldable pub frame_at : At Frame
 frame_at bytes = byte_at bytes >>= λ kind. frame_of_kind kind.0 kind.1
 
--- all of the bytes
+-- the frame that all of the bytes spell, if they spell one
 unfoldable pub frame_of : List ℕ → Option Frame
 frame_of bytes = do
   f ← frame_at bytes

@@ -9,17 +9,17 @@ use Rattle.an_base.specs.declared.body.Body.TheVariants.{Pos, Answer, Stable, To
 use Rattle.an_base.specs.declared.frame.Frame.{Frame}
 use Rattle.an_base.specs.declared.frame.Frame.TheVariants.{Carry, Ack, Probe, Reply}
 
--- the lowest n bytes of x, highest first
+-- so many of the lowest bytes of a number, highest first
 unfoldable pub number_bytes : ℕ → ℕ → List ℕ
-number_bytes n x = big_bytes n x
+number_bytes count number = big_bytes count number
 
 -- a life is 10 bytes: identifier 6, boot 4
 abbrev pub life_bytes : LifeId → List ℕ
-life_bytes l = number_bytes 6 l.uid ++ number_bytes 4 l.boot
+life_bytes life = number_bytes 6 life.uid ++ number_bytes 4 life.boot
 
 -- an end is a life and a port byte
 abbrev pub end_bytes : EndId → List ℕ
-end_bytes e = life_bytes e.life ++ e.port ∷ []
+end_bytes end = life_bytes end.life ++ end.port ∷ []
 
 -- a truth value is 01 or 00
 abbrev pub truth_bytes : Bool → List ℕ
@@ -28,11 +28,12 @@ truth_bytes false = 0 ∷ []
 
 -- root 10, level 1, parent 10, parent port 1
 abbrev pub position_bytes : Place → List ℕ
-position_bytes p = life_bytes p.root ++ (p.level ∷ []) ++ life_bytes p.parent ++ p.port ∷ []
+position_bytes place =
+    life_bytes place.root ++ (place.level ∷ []) ++ life_bytes place.parent ++ place.port ∷ []
 
 -- port 1, peer life 10, peer port 1
 abbrev pub link_bytes : PeerAt → List ℕ
-link_bytes k = (k.port ∷ []) ++ end_bytes k.peer
+link_bytes link = (link.port ∷ []) ++ end_bytes link.peer
 
 -- a count and that many links
 abbrev pub links_bytes : List PeerAt → List ℕ
@@ -40,7 +41,8 @@ links_bytes links = length links ∷ flat_map link_bytes links
 
 -- life 10, position 22, proposed number 1, links
 abbrev pub entry_bytes : EntryOf → List ℕ
-entry_bytes e = life_bytes e.life ++ position_bytes e.position ++ (e.proposed ∷ []) ++ links_bytes e.links
+entry_bytes entry =
+    life_bytes entry.life ++ position_bytes entry.position ++ (entry.proposed ∷ []) ++ links_bytes entry.links
 
 -- a count and that many entries
 abbrev pub entries_bytes : List EntryOf → List ℕ
@@ -48,40 +50,46 @@ entries_bytes entries = length entries ∷ flat_map entry_bytes entries
 
 -- version 4, root 10, level 1, to_parent 1
 abbrev pub pos_bytes : PosOf → List ℕ
-pos_bytes b = number_bytes 4 b.version ++ life_bytes b.root ++ (b.level ∷ []) ++ truth_bytes b.to_parent
+pos_bytes told =
+    number_bytes 4 told.version ++ life_bytes told.root ++ (told.level ∷ []) ++ truth_bytes told.to_parent
 
 -- version 4, to_parent 1
 abbrev pub answer_bytes : AnswerOf → List ℕ
-answer_bytes b = number_bytes 4 b.version ++ truth_bytes b.to_parent
+answer_bytes answer = number_bytes 4 answer.version ++ truth_bytes answer.to_parent
 
 -- entries, and a byte for the number of each
 abbrev pub topo_bytes : TopoOf → List ℕ
-topo_bytes b = entries_bytes b.entries ++ b.numbers
+topo_bytes topo = entries_bytes topo.entries ++ topo.numbers
 
 -- a kind byte, and what this kind holds
 abbrev pub body_bytes : Body → List ℕ
-body_bytes (Pos b) = 1 ∷ pos_bytes b
-body_bytes (Answer b) = 2 ∷ answer_bytes b
+body_bytes (Pos told) = 1 ∷ pos_bytes told
+body_bytes (Answer answer) = 2 ∷ answer_bytes answer
 body_bytes (Stable entries) = 3 ∷ entries_bytes entries
-body_bytes (Topo b) = 4 ∷ topo_bytes b
+body_bytes (Topo topo) = 4 ∷ topo_bytes topo
 
--- what stands before a body in the frame that carries it: the epoch and the ends of its session, and its number there
+-- what stands before a body in the frame that carries it: the epoch and the ends of its session, and its
+-- number there
 pub record CarryHeadOf : Type 0 where
   pub epoch : ℕ
   pub from : EndId
   pub to : EndId
   pub k : ℕ
 
+-- a body with what stands before it
 abbrev pub carried : CarryHeadOf → Body → CarryOf
-carried h body = record { epoch = h.epoch; from = h.from; to = h.to; k = h.k; body = body }
+carried head body = record { epoch = head.epoch; from = head.from; to = head.to; k = head.k; body = body }
 
 -- epoch 8, from 11, to 11, k 4, body
 abbrev pub carry_bytes : CarryOf → List ℕ
-carry_bytes f = number_bytes 8 f.epoch ++ end_bytes f.from ++ end_bytes f.to ++ number_bytes 4 f.k ++ body_bytes f.body
+carry_bytes carry =
+    number_bytes 8 carry.epoch ++ end_bytes carry.from ++ end_bytes carry.to
+    ++ number_bytes 4 carry.k ++ body_bytes carry.body
 
 -- a kind byte, and what this kind holds; nothing follows
 abbrev pub spelling : Frame → List ℕ
-spelling (Carry f) = 1 ∷ carry_bytes f
-spelling (Ack epoch from to n) = 2 ∷ number_bytes 8 epoch ++ end_bytes from ++ end_bytes to ++ number_bytes 4 n
+spelling (Carry carry) = 1 ∷ carry_bytes carry
+spelling (Ack epoch from to accepted) =
+    2 ∷ number_bytes 8 epoch ++ end_bytes from ++ end_bytes to ++ number_bytes 4 accepted
 spelling (Probe from nonce) = 3 ∷ end_bytes from ++ number_bytes 8 nonce
 spelling (Reply from to nonce) = 4 ∷ end_bytes from ++ end_bytes to ++ number_bytes 8 nonce

@@ -1,19 +1,34 @@
-ghost use Rattle.std.specs.Prelude.{◌≡◌, ◌≤◌, ◌++◌, List, ℕ, length, []};
+ghost use Rattle.std.specs.Prelude.{◌≡◌, ◌<◌, ◌≤◌, ◌++◌, List, ℕ, All, Some, length, []};
 ghost use Rattle.an_base.specs.declared.frame.Frame.{Frame};
+ghost use Rattle.frame_region.specs.declared.buffer.TheConstants.{MOST_FRAME};
 ghost use Rattle.frame_codec.specs.Frames.{IsFrame};
+ghost use Rattle.frame_codec.specs.Reading.{frame_of};
 ghost use Rattle.frame_codec.specs.Spelling.{spelling};
 
 /// No two frames have the same spelling.
 pub fn a_spelling_is_of_one_frame()
-    ensures { (f g : Frame) → IsFrame f → IsFrame g → spelling f ≡ spelling g → f ≡ g }
+    ensures { (one other : Frame)
+        → IsFrame one → IsFrame other → spelling one ≡ spelling other → one ≡ other }
 {}
 
 /// No spelling is a proper prefix of another.
 pub fn no_spelling_begins_another()
-    ensures { (f g : Frame) (more : List ℕ) → IsFrame f → IsFrame g → spelling f ++ more ≡ spelling g → more ≡ [] }
+    ensures { (one other : Frame) (more : List ℕ)
+        → IsFrame one → IsFrame other → spelling one ++ more ≡ spelling other → more ≡ [] }
 {}
 
 /// No spelling is longer than 22,591 bytes.
 pub fn a_spelling_has_at_most_22591_bytes()
-    ensures { (f : Frame) → IsFrame f → length (spelling f) ≤ 22591 }
+    ensures { (frame : Frame) → IsFrame frame → length (spelling frame) ≤ MOST_FRAME }
+{}
+
+/// From the spelling of a frame that frame is read.
+pub fn a_frame_is_read_from_its_spelling()
+    ensures { (frame : Frame) → IsFrame frame → frame_of (spelling frame) ≡ Some frame }
+{}
+
+/// What is read from bytes is a frame, and the bytes are its spelling.
+pub fn what_is_read_is_spelled()
+    ensures { (bytes : List ℕ) (frame : Frame) → All (λ byte. byte < 256) bytes
+        → frame_of bytes ≡ Some frame → IsFrame frame × (bytes ≡ spelling frame) }
 {}

@@ -1,6 +1,11 @@
 ghost use Rattle.std.specs.Prelude.{◌≡◌, ◌==◌, ◌≤◌, None, ◌<◌, ◌^◌, ◌+◌, ◌++◌, List, ℕ, length, IfOk};
+ghost use Rattle.an_base.specs.declared.limits.TheConstants.{LAST_PORT, MOST_NUMBER};
 ghost use Rattle.frame_codec.specs.Frames.{IsWithin};
-ghost use Rattle.frame_codec.specs.Reading.{Reads, ReadsAs, byte_at, number_at, within_at, counted_at, truth_at, life_at, end_at, position_at, link_above_at, links_from, links_at, entry_at, entry_above_at, entries_from, entries_at, numbers_at, pos_at, answer_at, topo_at, body_at, carry_at, ack_at, probe_at, reply_at, frame_at};
+ghost use Rattle.frame_codec.specs.Reading.{Reads, ReadsAs, byte_at, number_at, within_at, counted_at};
+ghost use Rattle.frame_codec.specs.Reading.{truth_at, life_at, end_at, position_at, link_above_at};
+ghost use Rattle.frame_codec.specs.Reading.{links_from, links_at, entry_at, entry_above_at, entries_from};
+ghost use Rattle.frame_codec.specs.Reading.{entries_at, numbers_at, pos_at, answer_at, topo_at, body_at};
+ghost use Rattle.frame_codec.specs.Reading.{carry_at, ack_at, probe_at, reply_at, frame_at};
 
 use crate::order::are_numbers;
 use crate::reading::DecodeRefusal;
@@ -8,6 +13,7 @@ use an_base::body::{AnswerBody, Body, PosBody, TopoBody};
 use an_base::entry::{Entries, Entry};
 use an_base::frame::{CarryFrame, Frame};
 use an_base::life::{End, Life};
+use an_base::limits::{LAST_PORT, MOST_LEVEL, MOST_NUMBER};
 use an_base::links::{Links, PortLink};
 use an_base::numbers::Numbers;
 use an_base::position::Position;
@@ -141,7 +147,7 @@ impl<'a> Reader<'a> {
         ensures { Reads end_at result self.old self.new }
     {
         let life = self.life()?;
-        let port = self.within(1, 12)?;
+        let port = self.within(1, LAST_PORT)?;
         Ok(End::new(life, port))
     }
 
@@ -150,27 +156,27 @@ impl<'a> Reader<'a> {
         ensures { Reads position_at result self.old self.new }
     {
         let root = self.life()?;
-        let level = self.within(0, 125)?;
+        let level = self.within(0, MOST_LEVEL)?;
         let parent = self.life()?;
-        let port = self.within(0, 12)?;
+        let port = self.within(0, LAST_PORT)?;
         Ok(Position::new(root, level, parent, port))
     }
 
     // A link whose port is above this one.
     #[tactic(auto, unfolding(crate::specs::Reading::link_above_at))]
     fn link(&mut self, above: u8) -> Result<PortLink, DecodeRefusal>
-        requires { above ≤ 12 }
+        requires { above ≤ LAST_PORT }
         ensures reads { Reads (link_above_at above) result self.old self.new }
-        ensures above { IfOk result (λ k. IsWithin (above + 1) 12 k.port) }
+        ensures above { IfOk result (λ k. IsWithin (above + 1) LAST_PORT k.port) }
     {
-        let port = self.within(above + 1, 12)?;
+        let port = self.within(above + 1, LAST_PORT)?;
         let peer = self.end()?;
         Ok(PortLink::new(port, peer))
     }
 
     // So many links by rising port.
     fn links_of(&mut self, count: u8) -> Result<Links, DecodeRefusal>
-        requires { count ≤ 12 }
+        requires { count ≤ LAST_PORT }
         ensures { Reads (links_from 0 count) result self.old self.new }
     {
         let mut links = Links::new();
@@ -187,7 +193,7 @@ impl<'a> Reader<'a> {
     fn links(&mut self) -> Result<Links, DecodeRefusal>
         ensures { Reads links_at result self.old self.new }
     {
-        let count = self.within(0, 12)?;
+        let count = self.within(0, LAST_PORT)?;
         self.links_of(count)
     }
 
@@ -197,7 +203,7 @@ impl<'a> Reader<'a> {
     {
         let life = self.life()?;
         let position = self.position()?;
-        let proposed = self.within(1, 126)?;
+        let proposed = self.within(1, MOST_NUMBER)?;
         let links = self.links()?;
         Ok(Entry {
             life,
@@ -239,14 +245,14 @@ impl<'a> Reader<'a> {
     fn entries(&mut self, alloc: Global) -> Result<Entries, DecodeRefusal>
         ensures { Reads entries_at result self.old self.new }
     {
-        let count = self.within(1, 126)?;
+        let count = self.within(1, MOST_NUMBER)?;
         let entries = self.entries_of(alloc, count)?;
         Ok(Entries::new(entries))
     }
 
     #[tactic(auto, unfolding(crate::specs::Reading::numbers_at))]
     fn numbers(&mut self, alloc: Global, count: usize) -> Result<Numbers, DecodeRefusal>
-        requires { IsWithin 1 126 count }
+        requires { IsWithin 1 MOST_NUMBER count }
         ensures reads { Reads (numbers_at count) result self.old self.new }
         ensures as_many { IfOk result (λ numbers. length numbers ≡ count) }
     {
@@ -267,7 +273,7 @@ impl<'a> Reader<'a> {
     {
         let version = self.counted()?;
         let root = self.life()?;
-        let level = self.within(0, 125)?;
+        let level = self.within(0, MOST_LEVEL)?;
         let to_parent = self.truth()?;
         Ok(PosBody::new(version, root, level, to_parent))
     }

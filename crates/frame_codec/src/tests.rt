@@ -68,27 +68,38 @@ fn push_entry(bytes: &mut Vec<u8>, uid: u8) -> Result<(), AllocError> {
     Ok(())
 }
 
-// The spelling of a topology of 126 entries with twelve links each.
-fn greatest(alloc: Global) -> Result<Vec<u8>, AllocError> {
+// The spelling of a topology of so many entries with twelve links each.
+fn topology(alloc: Global, entries: u8) -> Result<Vec<u8>, AllocError> {
     let mut bytes = Vec::new(alloc);
     bytes.extend_from_slice(&CARRY[..35])?;
-    bytes.extend_from_slice(&[4, 126])?;
-    'entries: for uid in 0..126 {
+    bytes.extend_from_slice(&[4, entries])?;
+    'entries: for uid in 0..entries {
         push_entry(&mut bytes, uid)?;
     }
-    'numbers: for number in 1..127 {
-        bytes.push(number)?;
+    'numbers: for below in 0..entries {
+        bytes.push(below.saturating_add(1))?;
     }
     Ok(bytes)
 }
 
 #[test]
 fn the_greatest_frame_has_22591_bytes(rt: HostRuntime) -> Result<(), Fail> {
-    let bytes = greatest(rt.alloc())?;
+    let bytes = topology(rt.alloc(), 126)?;
     assert_eq!(rt; bytes.len(), 22_591);
     let frame = decode(rt.alloc(), &bytes).map_err(|_error| "no frame")?;
     let mut out = FrameBuf::new(rt.alloc()).map_err(|_error| "memory")?;
     encode(&frame, &mut out);
     assert_eq!(rt; out.bytes(), bytes.as_slice());
+    Ok(())
+}
+
+#[test]
+fn no_front_of_a_topology_is_a_frame(rt: HostRuntime) -> Result<(), Fail> {
+    let bytes = topology(rt.alloc(), 3)?;
+    assert!(rt; decode(rt.alloc(), &bytes).is_ok());
+    'fronts: for len in 0..bytes.len() {
+        let front = decode(rt.alloc(), &bytes[..len]);
+        assert!(rt; matches!(front, Err(DecodeRefusal::NotAFrame)));
+    }
     Ok(())
 }

@@ -1,8 +1,13 @@
 ghost use Rattle.std.specs.Prelude.{◌≡◌, ◌≤◌, ◌<◌, ◌^◌, ◌+◌, ◌*◌, [], ◌∷◌, ◌++◌, length, All};
 ghost use Rattle.std.specs.List.{flat_map};
-ghost use Rattle.frame_codec.specs.Spelling.{number_bytes, life_bytes, end_bytes, truth_bytes, position_bytes, link_bytes, links_bytes, entry_bytes, entries_bytes, pos_bytes, answer_bytes, topo_bytes, body_bytes, carry_bytes, carried, spelling};
+ghost use Rattle.frame_codec.specs.Spelling.{number_bytes, life_bytes, end_bytes, truth_bytes};
+ghost use Rattle.frame_codec.specs.Spelling.{position_bytes, link_bytes, links_bytes, entry_bytes};
+ghost use Rattle.frame_codec.specs.Spelling.{entries_bytes, pos_bytes, answer_bytes, topo_bytes, body_bytes};
+ghost use Rattle.frame_codec.specs.Spelling.{carry_bytes, carried, spelling};
 ghost use Rattle.an_base.specs.declared.frame.Frame.TheVariants.{Carry};
-ghost use Rattle.frame_codec.specs.Frames.{IsLife, IsEnd, IsPosition, IsLink, AreLinks, IsEntry, AreEntries, IsPos, IsCounted, IsTopo, IsBody, IsCarry, IsFrame};
+ghost use Rattle.frame_codec.specs.Frames.{IsLife, IsEnd, IsPosition, IsLink, AreLinks, IsEntry, AreEntries};
+ghost use Rattle.frame_codec.specs.Frames.{IsPos, IsCounted, IsTopo, IsBody, IsCarry, IsFrame};
+ghost use Rattle.frame_region.specs.declared.buffer.TheConstants.{MOST_FRAME};
 
 use an_base::body::{AnswerBody, Body, PosBody, TopoBody};
 use an_base::entry::{Entries, Entry};
@@ -16,7 +21,7 @@ use std::marker::Model;
 
 #[tactic(auto, unfolding(crate::specs::Spelling::number_bytes))]
 fn put_number_32(out: &mut FrameBuf, number: u32)
-    requires { length out.old + 4 ≤ 22591 }
+    requires { length out.old + 4 ≤ MOST_FRAME }
     ensures spelled { out.new ≡ out.old ++ number_bytes 4 number }
     ensures longer { length out.new ≡ length out.old + 4 }
 {
@@ -27,7 +32,7 @@ fn put_number_32(out: &mut FrameBuf, number: u32)
 
 #[tactic(auto, unfolding(crate::specs::Spelling::number_bytes))]
 fn put_number_64(out: &mut FrameBuf, number: u64)
-    requires { length out.old + 8 ≤ 22591 }
+    requires { length out.old + 8 ≤ MOST_FRAME }
     ensures spelled { out.new ≡ out.old ++ number_bytes 8 number }
     ensures longer { length out.new ≡ length out.old + 8 }
 {
@@ -37,7 +42,7 @@ fn put_number_64(out: &mut FrameBuf, number: u64)
 }
 
 fn put_truth(out: &mut FrameBuf, truth: bool)
-    requires { length out.old + 1 ≤ 22591 }
+    requires { length out.old + 1 ≤ MOST_FRAME }
     ensures spelled { out.new ≡ out.old ++ truth_bytes truth }
     ensures longer { length out.new ≡ length out.old + 1 }
 {
@@ -50,7 +55,7 @@ fn put_truth(out: &mut FrameBuf, truth: bool)
 
 #[tactic(auto, unfolding(crate::specs::Spelling::number_bytes))]
 fn put_life(out: &mut FrameBuf, life: Life)
-    requires { length out.old + 10 ≤ 22591 }
+    requires { length out.old + 10 ≤ MOST_FRAME }
     ensures spelled { out.new ≡ out.old ++ life_bytes life }
     ensures within { IsLife life }
     ensures longer { length out.new ≡ length out.old + 10 }
@@ -62,7 +67,7 @@ fn put_life(out: &mut FrameBuf, life: Life)
 }
 
 fn put_end(out: &mut FrameBuf, end: End)
-    requires { length out.old + 11 ≤ 22591 }
+    requires { length out.old + 11 ≤ MOST_FRAME }
     ensures spelled { out.new ≡ out.old ++ end_bytes end }
     ensures within { IsEnd end }
     ensures longer { length out.new ≡ length out.old + 11 }
@@ -72,7 +77,7 @@ fn put_end(out: &mut FrameBuf, end: End)
 }
 
 fn put_position(out: &mut FrameBuf, position: &Position)
-    requires { length out.old + 22 ≤ 22591 }
+    requires { length out.old + 22 ≤ MOST_FRAME }
     ensures spelled { out.new ≡ out.old ++ position_bytes position.now }
     ensures within { IsPosition position.now }
     ensures longer { length out.new ≡ length out.old + 22 }
@@ -84,7 +89,7 @@ fn put_position(out: &mut FrameBuf, position: &Position)
 }
 
 fn put_link(out: &mut FrameBuf, link: &PortLink)
-    requires { length out.old + 12 ≤ 22591 }
+    requires { length out.old + 12 ≤ MOST_FRAME }
     ensures spelled { out.new ≡ out.old ++ link_bytes link.now }
     ensures within { IsLink link.now }
     ensures longer { length out.new ≡ length out.old + 12 }
@@ -95,7 +100,7 @@ fn put_link(out: &mut FrameBuf, link: &PortLink)
 
 // The links after their count.
 fn put_each_link(out: &mut FrameBuf, links: &[PortLink])
-    requires { length out.old + 12 * length links.now ≤ 22591 }
+    requires { length out.old + 12 * length links.now ≤ MOST_FRAME }
     ensures spelled { out.new ≡ out.old ++ flat_map link_bytes links.now }
     ensures within { All IsLink links.now }
     ensures longer { length out.new ≤ length out.old + 12 * length links.now }
@@ -106,7 +111,7 @@ fn put_each_link(out: &mut FrameBuf, links: &[PortLink])
 }
 
 fn put_links(out: &mut FrameBuf, links: &Links)
-    requires { length out.old + 145 ≤ 22591 }
+    requires { length out.old + 145 ≤ MOST_FRAME }
     ensures spelled { out.new ≡ out.old ++ links_bytes links.now }
     ensures within { AreLinks links.now }
     ensures longer { length out.new ≤ length out.old + 145 }
@@ -117,7 +122,7 @@ fn put_links(out: &mut FrameBuf, links: &Links)
 }
 
 fn put_entry(out: &mut FrameBuf, entry: &Entry)
-    requires { length out.old + 178 ≤ 22591 }
+    requires { length out.old + 178 ≤ MOST_FRAME }
     ensures spelled { out.new ≡ out.old ++ entry_bytes entry.now }
     ensures within { IsEntry entry.now }
     ensures longer { length out.new ≤ length out.old + 178 }
@@ -130,7 +135,7 @@ fn put_entry(out: &mut FrameBuf, entry: &Entry)
 
 // The entries after their count.
 fn put_each_entry(out: &mut FrameBuf, entries: &[Entry])
-    requires { length out.old + 178 * length entries.now ≤ 22591 }
+    requires { length out.old + 178 * length entries.now ≤ MOST_FRAME }
     ensures spelled { out.new ≡ out.old ++ flat_map entry_bytes entries.now }
     ensures within { All IsEntry entries.now }
     ensures longer { length out.new ≤ length out.old + 178 * length entries.now }
@@ -141,7 +146,7 @@ fn put_each_entry(out: &mut FrameBuf, entries: &[Entry])
 }
 
 fn put_entries(out: &mut FrameBuf, entries: &Entries)
-    requires { length out.old + 22429 ≤ 22591 }
+    requires { length out.old + 22429 ≤ MOST_FRAME }
     ensures spelled { out.new ≡ out.old ++ entries_bytes entries.now }
     ensures within { AreEntries entries.now }
     ensures longer { length out.new ≤ length out.old + 22429 }
@@ -152,7 +157,7 @@ fn put_entries(out: &mut FrameBuf, entries: &Entries)
 }
 
 fn put_pos(out: &mut FrameBuf, body: PosBody)
-    requires { length out.old + 16 ≤ 22591 }
+    requires { length out.old + 16 ≤ MOST_FRAME }
     ensures spelled { out.new ≡ out.old ++ pos_bytes body }
     ensures within { IsPos body }
 {
@@ -163,7 +168,7 @@ fn put_pos(out: &mut FrameBuf, body: PosBody)
 }
 
 fn put_answer(out: &mut FrameBuf, body: AnswerBody)
-    requires { length out.old + 5 ≤ 22591 }
+    requires { length out.old + 5 ≤ MOST_FRAME }
     ensures spelled { out.new ≡ out.old ++ answer_bytes body }
     ensures within { IsCounted body.version }
 {
@@ -172,7 +177,7 @@ fn put_answer(out: &mut FrameBuf, body: AnswerBody)
 }
 
 fn put_topo(out: &mut FrameBuf, body: &TopoBody)
-    requires { length out.old + 22555 ≤ 22591 }
+    requires { length out.old + 22555 ≤ MOST_FRAME }
     ensures spelled { out.new ≡ out.old ++ topo_bytes body.now }
     ensures within { IsTopo body.now }
 {
@@ -181,7 +186,7 @@ fn put_topo(out: &mut FrameBuf, body: &TopoBody)
 }
 
 fn put_body(out: &mut FrameBuf, body: &Body)
-    requires { length out.old + 22556 ≤ 22591 }
+    requires { length out.old + 22556 ≤ MOST_FRAME }
     ensures spelled { out.new ≡ out.old ++ body_bytes body.now }
     ensures within { IsBody body.now }
 {
@@ -206,7 +211,7 @@ fn put_body(out: &mut FrameBuf, body: &Body)
 }
 
 fn put_carry(out: &mut FrameBuf, head: &CarryHead, body: &Body)
-    requires { length out.old + 22590 ≤ 22591 }
+    requires { length out.old + 22590 ≤ MOST_FRAME }
     ensures spelled { out.new ≡ out.old ++ carry_bytes (carried head.now body.now) }
     ensures within { IsCarry (carried head.now body.now) }
 {

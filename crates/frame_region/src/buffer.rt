@@ -1,4 +1,5 @@
 ghost use Rattle.std.specs.Prelude.{◌≡◌, ◌+◌, ◌≤◌, ◌++◌, [], length, IfOk};
+ghost use Rattle.frame_region.specs.declared.buffer.TheConstants.{MOST_FRAME};
 
 use an_base::memory::OutOfMemory;
 use std::alloc::Global;
@@ -15,18 +16,19 @@ pub struct FrameBuf {
 
 impl Model for FrameBuf {
     ghost use Rattle.std.specs.Prelude.{List, ℕ, ◌≤◌, length, vec_capacity};
+    ghost use Rattle.frame_region.specs.declared.buffer.TheConstants.{MOST_FRAME};
 
     ghost Value = { List ℕ };
 
     ghost view = { λ b. b.bytes.items };
 
-    ghost invariant = { λ b. (length b.bytes.items ≤ 22591) × (22591 ≤ vec_capacity b.bytes) };
+    ghost invariant = { λ b. (length b.bytes.items ≤ MOST_FRAME) × (MOST_FRAME ≤ vec_capacity b.bytes) };
 }
 
 impl FrameBuf {
     /// No bytes, and memory for the most that a frame has.
     pub fn new(alloc: Global) -> Result<Self, OutOfMemory>
-        ensures { IfOk result (λ b. b ≡ []) }
+        ensures { IfOk result (λ buffer. buffer ≡ []) }
     {
         Ok(FrameBuf {
             bytes: Vec::with_capacity(alloc, MOST_FRAME)?,
@@ -36,7 +38,7 @@ impl FrameBuf {
     /// The bytes.
     pub fn bytes(&self) -> &[u8]
         ensures all { result.now ≡ self.now }
-        ensures most { length self.now ≤ 22591 }
+        ensures most { length self.now ≤ MOST_FRAME }
     {
         &self.bytes
     }
@@ -50,7 +52,7 @@ impl FrameBuf {
 
     /// Adds bytes at the end, without taking memory.
     pub fn add(&mut self, bytes: &[u8])
-        requires { length self.old + length bytes.now ≤ 22591 }
+        requires { length self.old + length bytes.now ≤ MOST_FRAME }
         ensures { self.new ≡ self.old ++ bytes.now }
     {
         let _added = self.bytes.extend_from_slice(bytes);

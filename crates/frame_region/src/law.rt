@@ -4,5 +4,6 @@ ghost use Rattle.frame_region.specs.Regions.{blocks_of, piece_of};
 
 /// The pieces of bytes in order, one for each block that they need, are the bytes.
 pub fn pieces_are_the_bytes()
-    ensures { (bytes : List ℕ) → flat_map (λ i. piece_of i bytes) (range_with_len 0 (blocks_of bytes)) ≡ bytes }
+    ensures { (bytes : List ℕ)
+        → flat_map (λ number. piece_of number bytes) (range_with_len 0 (blocks_of bytes)) ≡ bytes }
 {}

@@ -1,5 +1,9 @@
-ghost use Rattle.std.specs.Prelude.{◌≡◌, ◌≢◌, min, ◌+◌, ◌-◌, ◌*◌, ◌<◌, ◌≤◌, ℕ, length, take, drop, replicate, None, IfOk, IfErr, OnOk, OnErr, IsSome, slice_index_or};
-ghost use Rattle.frame_region.specs.Blocks.{needed, block, chain_bytes, IsWritten};
+ghost use Rattle.std.specs.Prelude.{◌≡◌, ◌≢◌, min, ◌+◌, ◌-◌, ◌*◌, ◌<◌, ◌≤◌, ℕ, length, take, drop, replicate};
+ghost use Rattle.std.specs.Prelude.{None, IfOk, IfErr, OnOk, OnErr, IsSome, slice_index_or};
+ghost use Rattle.frame_region.specs.declared.buffer.TheConstants.{MOST_FRAME};
+ghost use Rattle.frame_region.specs.declared.region.TheConstants.{MOST_BLOCKS};
+ghost use Rattle.frame_region.specs.Blocks.{needed, block, chain_bytes};
+ghost use Rattle.frame_region.specs.Inside.{IsWritten};
 ghost use Rattle.frame_region.specs.Regions.{blocks_of, bytes_at, held_at, piece_of, with_put, without};
 
 use crate::buffer::FrameBuf;
@@ -70,7 +74,7 @@ impl Model for Region {
 
 // How many blocks so many bytes need.
 fn needed(len: usize) -> u32
-    requires { len ≤ 22591 }
+    requires { len ≤ MOST_FRAME }
     ensures { result ≡ needed len }
 {
     ((len + 63) / BLOCK) as u32
@@ -81,8 +85,10 @@ fn write(bytes: &mut [u8], block: u32, piece: &[u8])
     requires most { length piece.now ≤ 64 }
     requires room { 64 * block + 64 ≤ length bytes.old }
     ensures count { length bytes.new ≡ length bytes.old }
-    ensures piece { (m : ℕ) → m < length piece.now → slice_index_or bytes.new (64 * block + m) 0 ≡ slice_index_or piece.now m 0 }
-    ensures others { (b m : ℕ) → m < 64 → b ≢ block → slice_index_or bytes.new (64 * b + m) 0 ≡ slice_index_or bytes.old (64 * b + m) 0 }
+    ensures piece { (m : ℕ) → m < length piece.now
+        → slice_index_or bytes.new (64 * block + m) 0 ≡ slice_index_or piece.now m 0 }
+    ensures others { (b m : ℕ) → m < 64 → b ≢ block
+        → slice_index_or bytes.new (64 * b + m) 0 ≡ slice_index_or bytes.old (64 * b + m) 0 }
 {
     let start = BLOCK * block as usize;
     bytes[start..start + piece.len()].copy_from_slice(piece);
@@ -92,7 +98,8 @@ fn write(bytes: &mut [u8], block: u32, piece: &[u8])
 fn piece_of(frame: &[u8], k: usize) -> &[u8]
     requires { 64 * k < length frame.now }
     ensures length { length result.now ≡ min 64 (length frame.now - 64 * k) }
-    ensures bytes { (m : ℕ) → m < length result.now → slice_index_or result.now m 0 ≡ slice_index_or frame.now (64 * k + m) 0 }
+    ensures bytes { (m : ℕ) → m < length result.now
+        → slice_index_or result.now m 0 ≡ slice_index_or frame.now (64 * k + m) 0 }
 {
     let rest = &frame[BLOCK * k..];
     &rest[..rest.len().min(BLOCK)]
@@ -102,7 +109,8 @@ fn piece_of(frame: &[u8], k: usize) -> &[u8]
 fn front_of(bytes: &[u8], block: u32, left: usize) -> &[u8]
     requires { 64 * block + 64 ≤ length bytes.now }
     ensures length { length result.now ≡ min 64 left }
-    ensures bytes { (m : ℕ) → m < length result.now → slice_index_or result.now m 0 ≡ slice_index_or bytes.now (64 * block + m) 0 }
+    ensures bytes { (m : ℕ) → m < length result.now
+        → slice_index_or result.now m 0 ≡ slice_index_or bytes.now (64 * block + m) 0 }
 {
     let start = BLOCK * block as usize;
     &bytes[start..start + left.min(BLOCK)]
@@ -122,10 +130,11 @@ fn block_after(next: &[u32], first: u32, count: u32) -> u32
 
 // Writes a frame into the blocks of a chain, and answers the block after them.
 fn fill(bytes: &mut [u8], next: &[u32], first: u32, frame: &[u8]) -> u32
-    requires most { length frame.now ≤ 22591 }
+    requires most { length frame.now ≤ MOST_FRAME }
     requires room { length bytes.old ≡ 64 * length next.now }
     requires within { (k : ℕ) → k < needed (length frame.now) → block next.now first k < length next.now }
-    requires apart { (i j : ℕ) → i < needed (length frame.now) → j < needed (length frame.now) → block next.now first i ≡ block next.now first j → i ≡ j }
+    requires apart { (i j : ℕ) → i < needed (length frame.now) → j < needed (length frame.now)
+        → block next.now first i ≡ block next.now first j → i ≡ j }
     ensures end { result ≡ block next.now first (needed (length frame.now)) }
     ensures written { IsWritten next.now first frame.now bytes.old bytes.new }
 {
@@ -139,7 +148,7 @@ fn fill(bytes: &mut [u8], next: &[u32], first: u32, frame: &[u8]) -> u32
 
 // Sets the buffer to so many bytes of a chain.
 fn gather(bytes: &[u8], next: &[u32], first: u32, len: usize, out: &mut FrameBuf)
-    requires most { len ≤ 22591 }
+    requires most { len ≤ MOST_FRAME }
     requires room { length bytes.now ≡ 64 * length next.now }
     requires within { (k : ℕ) → k < needed len → block next.now first k < length next.now }
     ensures { out.new ≡ chain_bytes bytes.now next.now first len }
@@ -154,7 +163,7 @@ fn gather(bytes: &[u8], next: &[u32], first: u32, len: usize, out: &mut FrameBuf
 
 // For each of so many blocks the next one.
 fn following(alloc: Global, blocks: u32) -> Result<Vec<u32>, OutOfMemory>
-    requires { blocks ≤ 1048576 }
+    requires { blocks ≤ MOST_BLOCKS }
     ensures count { IfOk result (λ next. length next.items ≡ blocks) }
     ensures next { IfOk result (λ next. (b : ℕ) → b < blocks → slice_index_or next.items b 0 ≡ b + 1) }
 {
@@ -166,11 +175,10 @@ fn following(alloc: Global, blocks: u32) -> Result<Vec<u32>, OutOfMemory>
 }
 
 impl Region {
-    /// So many blocks, 1 to 1,048,576, all of them free.
+    /// So many blocks, at most 1,048,576, all of them free.
     pub fn new(alloc: Global, blocks: u32) -> Result<Self, OutOfMemory>
-        requires least { 1 ≤ blocks }
-        requires most { blocks ≤ 1048576 }
-        ensures { IfOk result (λ r. r ≡ record { held = replicate blocks None; free = blocks }) }
+        requires { blocks ≤ MOST_BLOCKS }
+        ensures { IfOk result (λ region. region ≡ record { held = replicate blocks None; free = blocks }) }
     {
         let next = following(alloc, blocks)?;
         let lens = vec![in alloc; 0u16; blocks as usize]?;
@@ -196,11 +204,12 @@ impl Region {
     /// no room exactly where fewer blocks are free, and then nothing changes.
     pub fn put(&mut self, bytes: &[u8]) -> Result<Slip, NoRoom>
         requires least { 1 ≤ length bytes.now }
-        requires most { length bytes.now ≤ 22591 }
+        requires most { length bytes.now ≤ MOST_FRAME }
         ensures put { IfOk result (λ slip. self.new ≡ with_put slip bytes.now self.old) }
         ensures new { IfOk result (λ slip. (slip < length self.old.held) × (held_at self.old slip ≡ None)) }
         ensures room { OnOk result (blocks_of bytes.now ≤ self.old.free) }
-        ensures refused { IfErr result (λ r. r ≡ record { need = blocks_of bytes.now; free = self.old.free }) }
+        ensures refused { IfErr result (λ refusal.
+            refusal ≡ record { need = blocks_of bytes.now; free = self.old.free }) }
         ensures no_room { OnErr result (self.old.free < blocks_of bytes.now) }
         ensures err { OnErr result (self.new ≡ self.old) }
     {
@@ -223,7 +232,7 @@ impl Region {
         requires { IsSome (held_at self.now slip.now) }
         ensures len { result ≡ length (bytes_at self.now slip.now) }
         ensures least { 1 ≤ result }
-        ensures most { result ≤ 22591 }
+        ensures most { result ≤ MOST_FRAME }
     {
         usize::from(self.lens[slip.first as usize])
     }
@@ -280,8 +289,7 @@ mod tests {
 
     // A region of so many blocks.
     fn region_of(alloc: Global, blocks: u32) -> Result<Region, OutOfMemory>
-        requires least { 1 ≤ blocks }
-        requires most { blocks ≤ 1048576 }
+        requires { blocks ≤ MOST_BLOCKS }
     {
         Region::new(alloc, blocks)
     }
@@ -290,7 +298,7 @@ mod tests {
     fn put_more(region: &mut Region, slip: &Slip, bytes: &[u8]) -> Option<NoRoom>
         requires has { IsSome (held_at region.old slip.now) }
         requires least { 1 ≤ length bytes.now }
-        requires most { length bytes.now ≤ 22591 }
+        requires most { length bytes.now ≤ MOST_FRAME }
         ensures { IsSome (held_at region.new slip.now) }
     {
         match region.put(bytes) {

@@ -14,14 +14,15 @@ use Rattle.an_base.specs.declared.event.Event.{Event}
 use Rattle.an_base.specs.declared.event.Event.TheVariants.{Tick, Send, Move}
 use Rattle.net_script.specs.declared.command.WireChange.{WireChange}
 use Rattle.net_script.specs.declared.command.WireChange.TheVariants as wire
-use Rattle.net_script.specs.Commands.{wire_event, most_count, wire_word}
-use Rattle.net_script.specs.Lines.{line_text}
-use Rattle.net_script.specs.Names.{place_of}
+use Rattle.net_script.specs.Commands.{IsPort, wire_event, most_count, wire_word}
+use Rattle.text_lines.specs.Lines.{line_text}
+use Rattle.text_lines.specs.Names.{place_of}
 use Rattle.net_script.specs.Scripts.{ScriptOf, IsScript}
-use Rattle.net_script.specs.Words.{is_number, is_number_in, number_value}
-use Rattle.net_script.proofs.FormOf.{branch, mapped, word_is, wire_of, wire_is}
-use Rattle.net_script.proofs.KeptLemmas.{some_is}
-use Rattle.net_script.proofs.NameLemmas.{place_found}
+use Rattle.text_lines.specs.Words.{is_number, is_number_in, number_value}
+use Rattle.text_lines.proofs.ChoiceLemmas.{branch, mapped, word_is}
+use Rattle.net_script.proofs.FormOf.{wire_of, wire_is}
+use Rattle.an_base.proofs.ListLemmas.{some_is}
+use Rattle.text_lines.proofs.NameLemmas.{place_found}
 use Rattle.journal.specs.declared.cause.JournalCause.{JournalCause}
 use Rattle.journal.specs.declared.cause.JournalCause.TheVariants.{BadHeader, UnknownWord, BadNumber, NoSuchName, NoEnd}
 use Rattle.journal.specs.declared.kind.SwitchEvent.{SwitchEvent}
@@ -29,9 +30,10 @@ use Rattle.journal.specs.declared.kind.SwitchEvent.TheVariants as switch
 use Rattle.journal.specs.declared.kind.PortEvent.{PortEvent}
 use Rattle.journal.specs.declared.kind.PortEvent.TheVariants as port
 use Rattle.journal.specs.Kinds.{switch_event, port_event}
-use Rattle.journal.specs.Words.{unless, words_of, is_shaped}
+use Rattle.journal.specs.Words.{words_of, is_shaped}
+use Rattle.text_lines.proofs.FaultLemmas.{holds, no_first}
 use Rattle.journal.specs.Lines.{Line, Ticks, Moves, OnSwitch, OnPort, OnWire, Sends, line_words, switch_word, port_word}
-use Rattle.journal.specs.Events.{CanSpell, IsPort, IsCount, event_words, switch_name, host_name, first_words}
+use Rattle.journal.specs.Events.{CanSpell, IsCount, event_words, switch_name, host_name, first_words}
 use Rattle.journal.specs.Rules.{name_cause, number_cause, line_cause}
 use Rattle.journal.specs.Texts.{IsJournal, IsFirstLine, IsWrongLine, IsFaultyRest, IsFault, HasNoForm}
 use Rattle.journal.proofs.JournalLemmas.{switch_of, port_of, line_of, line_back}
@@ -73,15 +75,6 @@ line_is (a ∷ b ∷ c ∷ d ∷ e ∷ more) f found = absurd (cc)
 no_line : (words : List (List ℕ)) → line_of words ≡ None → HasNoForm words
 no_line words none form same = let h : ◌≡◌ {A = Option Line} None (Some form) = sym none ∙ ap line_of same ∙ line_back form in absurd (cc)
 
--- what is asked for holds where its cause does not come
-holds : (b : Bool) (c : JournalCause) → unless b c ≡ None → b ≡ true
-holds true c none = refl
-holds false c none = absurd (cc)
-
-no_first : (a b : Option JournalCause) → option_or a b ≡ None → (a ≡ None) × (b ≡ None)
-no_first None b none = (refl, none)
-no_first (Some c) b none = absurd (cc)
-
 -- a name that is known
 known : (names : List (List ℕ)) (word : List ℕ) → name_cause names word ≡ None → (x : ℕ) × (x < length names) × (word ≡ get_or names x [])
 known names word good =
@@ -111,7 +104,7 @@ switch_says s switch.Handle x low = record { event = switch_event switch.Handle 
 switch_says s switch.Load x low = record { event = switch_event switch.Load x; can = low; spells = refl }
 switch_says s switch.Restart x low = record { event = switch_event switch.Restart x; can = low; spells = refl }
 
-port_says : (s : ScriptOf) (k : PortEvent) (x p : ℕ) → IsPort s x p → Says s (port_word k ∷ switch_name s x ∷ decimal p ∷ [])
+port_says : (s : ScriptOf) (k : PortEvent) (x p : ℕ) → IsPort s.wires x p → Says s (port_word k ∷ switch_name s x ∷ decimal p ∷ [])
 port_says s port.Take x p at = record { event = port_event port.Take x p; can = at; spells = refl }
 port_says s port.Fail x p at = record { event = port_event port.Fail x p; can = at; spells = refl }
 port_says s port.Repair x p at = record { event = port_event port.Repair x p; can = at; spells = refl }
@@ -159,14 +152,14 @@ form_says s kept (OnPort event name p) good =
     let parts = no_first (name_cause s.switch_names name) (number_cause 1 12 p) good in
     let x = known s.switch_names name parts.0 in
     let n = number 1 12 p (omega arith) parts.1 in
-    two_as (Says s) (port_word event) name (switch_name s x.0) p (decimal n.0) x.2 n.1 (port_says s event x.0 n.0 (record { switch = (let h = x.1 in omega (arith, kept.switch_count)); least = n.2; most = n.3 }))
+    two_as (Says s) (port_word event) name (switch_name s x.0) p (decimal n.0) x.2 n.1 (port_says s event x.0 n.0 (record { switch = (let h = x.1 in omega (arith, kept.switch_count)); port_least = n.2; port_most = n.3 }))
 form_says s kept (OnWire change name p m) good =
     let parts = no_first (name_cause s.switch_names name) (option_or (number_cause 1 12 p) (number_cause 1 (most_count change) m)) good in
     let more = no_first (number_cause 1 12 p) (number_cause 1 (most_count change) m) parts.1 in
     let x = known s.switch_names name parts.0 in
     let n = number 1 12 p (omega arith) more.0 in
     let k = number 1 (most_count change) m (most_fits change) more.1 in
-    three_as (Says s) (wire_word change) name (switch_name s x.0) p (decimal n.0) m (decimal k.0) x.2 n.1 k.1 (wire_says s change x.0 n.0 k.0 (record { port = record { switch = (let h = x.1 in omega (arith, kept.switch_count)); least = n.2; most = n.3 }; count_least = k.2; count_most = k.3 }))
+    three_as (Says s) (wire_word change) name (switch_name s x.0) p (decimal n.0) m (decimal k.0) x.2 n.1 k.1 (wire_says s change x.0 n.0 k.0 (record { port = record { switch = (let h = x.1 in omega (arith, kept.switch_count)); port_least = n.2; port_most = n.3 }; count_least = k.2; count_most = k.3 }))
 form_says s kept (Sends host to) good =
     let parts = no_first (name_cause s.names_of_hosts host) (name_cause s.names_of_hosts to) good in
     let x = known s.names_of_hosts host parts.0 in
@@ -206,7 +199,7 @@ wrong_rest s bytes rest events line c read wrong = inr (line, c, inr (inr (recor
 
 unended : (s : ScriptOf) (bytes rest : List ℕ) (events : List Event) (line : ℕ) → IsRead s bytes rest events line → All (λ c. c ≢ 10) rest → Either s bytes
 unended s bytes [] events line read free = wrong_rest s bytes [] events line NoEnd read (inl (refl, refl))
-unended s bytes (b ∷ bs) events line read free = wrong_rest s bytes (b ∷ bs) events line UnknownWord read (inr (inl (record { some = λ same. absurd (cc); no_feed = free; cause = refl })))
+unended s bytes (b ∷ bs) events line read free = wrong_rest s bytes (b ∷ bs) events line UnknownWord read (inr (inl (record { some = λ same. absurd (cc); no_feed = free; cause_is = refl })))
 
 -- what stands after a line is shorter
 after_short : (rest : List ℕ) (i n : ℕ) → i < length rest → length rest < suc n → length (take (length rest - (i + 1)) (drop (i + 1) rest)) < n
@@ -249,6 +242,6 @@ journal_or_fault s (b ∷ bs) kept = header (bytes_eq (take 10 bytes) (line_text
         none = (λ rest same. let front : take 10 bytes ≡ line_text first_words = ap (take 10) same ∙ take-append_seam (line_text first_words) rest in
             let yes : bytes_eq (take 10 bytes) (line_text first_words) ≡ true = (bytes_eq-Decides (take 10 bytes) (line_text first_words)).1 front in absurd (cc));
         number = refl;
-        cause = refl;
+        cause_is = refl;
       })),
     )

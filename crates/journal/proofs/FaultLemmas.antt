@@ -7,16 +7,19 @@ use Rattle.std.proofs.lemmas.List.{get_or_at}
 use Rattle.std.proofs.lemmas.List.Elements.{All-head, All-tail}
 use Rattle.an_base.specs.declared.event.Event.{Event}
 use Rattle.an_base.specs.declared.event.Event.TheVariants.{Tick, Clock, Take, Handle, Load, Fail, Repair, Lose, Again, Swap, Noise, Send, Move, Restart}
-use Rattle.net_script.specs.Lines.{line_text}
-use Rattle.net_script.specs.Names.{place_of}
+use Rattle.text_lines.specs.Lines.{line_text}
+use Rattle.text_lines.specs.Names.{place_of}
+use Rattle.net_script.specs.Commands.{IsPort}
 use Rattle.net_script.specs.Scripts.{ScriptOf, IsScript}
-use Rattle.net_script.specs.Words.{is_number, number_value}
-use Rattle.net_script.proofs.SpellLemmas.{IsLineByte, IsWord, decimal_number, decimal_value, line_bytes, line_short, nonempty, test_from_all}
+use Rattle.text_lines.proofs.SpellLemmas.{IsLineByte, IsWord, decimal_good, line_bytes, line_short, nonempty, test_from_all}
 use Rattle.journal.specs.declared.cause.JournalCause.{JournalCause}
-use Rattle.journal.specs.declared.cause.JournalCause.TheVariants.{BadNumber, NoSuchName}
-use Rattle.journal.specs.Words.{unless, words_of, is_shaped, is_line_byte, has_words}
+use Rattle.journal.specs.declared.cause.JournalCause.TheVariants.{UnknownWord, BadNumber, NoSuchName}
+use Rattle.journal.specs.Words.{words_of, is_shaped, is_line_byte, has_words}
+use Rattle.text_lines.specs.Faults.{unless}
+use Rattle.text_lines.proofs.FaultLemmas.{first_good}
+use Rattle.text_lines.proofs.GrammarLaws.{form_one_cause}
 use Rattle.journal.specs.Lines.{Line, Ticks, Moves, OnSwitch, OnPort, OnWire, Sends, line_words}
-use Rattle.journal.specs.Events.{CanSpell, IsPort, IsCount, event_line, event_words, switch_name, host_name, first_words, last_words, events_text, journal_text}
+use Rattle.journal.specs.Events.{CanSpell, IsCount, event_line, event_words, switch_name, host_name, first_words, last_words, events_text, journal_text}
 use Rattle.journal.specs.Rules.{name_cause, number_cause, line_cause}
 use Rattle.journal.specs.Texts.{IsJournal, IsFault, IsFaultyRest, IsWrongLine, AreWrong}
 use Rattle.journal.proofs.JournalLemmas.{switch_found, host_found, one_line, not_last, words_are, cut_row, feed_free, cut_once, cut_front, rows_once, last_are, some_words}
@@ -57,36 +60,19 @@ few_words (Sends h g) = omega arith
 name_good : (names : List (List ℕ)) (name : List ℕ) (x : ℕ) → place_of names name ≡ Some x → name_cause names name ≡ None
 name_good names name x at = ap (λ (o : Option ℕ). unless (is_some o) NoSuchName) at
 
-ranged : (a b c : Bool) → a ≡ true → b ≡ true → c ≡ true → unless (a && (b && c)) BadNumber ≡ None
-ranged a b c p q r = rw (p, q, r) refl
-
-le_test : (a b c : ℕ) → b ≡ c → a ≤ c → leb a b ≡ true
-le_test a b c same le = grind (arith, nat_tests)
-
-ge_test : (a b c : ℕ) → a ≡ c → c ≤ b → leb a b ≡ true
-ge_test a b c same le = grind (arith, nat_tests)
-
-number_good : (least most n : ℕ) → n < 2 ^ 64 → least ≤ n → n ≤ most → number_cause least most (decimal n) ≡ None
-number_good least most n low least_ok most_ok =
-    let v = decimal_value n low in
-    ranged (is_number (decimal n)) (leb least (number_value (decimal n))) (leb (number_value (decimal n)) most) (decimal_number n low) (le_test least (number_value (decimal n)) n v least_ok) (ge_test (number_value (decimal n)) most n v most_ok)
-
-then_good : (a b : Option JournalCause) → a ≡ None → b ≡ None → option_or a b ≡ None
-then_good a b p q = rw (p, q) refl
-
 switch_good : (s : ScriptOf) → IsScript s → (x : ℕ) → x < length s.wires.switches → name_cause s.switch_names (switch_name s x) ≡ None
 switch_good s kept x low = name_good s.switch_names (switch_name s x) x (switch_found s kept x low)
 
 host_good : (s : ScriptOf) → IsScript s → (h : ℕ) → h < length s.wires.hosts → name_cause s.names_of_hosts (host_name s h) ≡ None
 host_good s kept h low = name_good s.names_of_hosts (host_name s h) h (host_found s kept h low)
 
-port_good : (s : ScriptOf) → IsScript s → (x p : ℕ) → IsPort s x p → option_or (name_cause s.switch_names (switch_name s x)) (number_cause 1 12 (decimal p)) ≡ None
-port_good s kept x p is = then_good (name_cause s.switch_names (switch_name s x)) (number_cause 1 12 (decimal p)) (switch_good s kept x is.switch) (number_good 1 12 p (let h = is.most in omega arith) is.least is.most)
+port_good : (s : ScriptOf) → IsScript s → (x p : ℕ) → IsPort s.wires x p → option_or (name_cause s.switch_names (switch_name s x)) (number_cause 1 12 (decimal p)) ≡ None
+port_good s kept x p is = first_good (name_cause s.switch_names (switch_name s x)) (number_cause 1 12 (decimal p)) (switch_good s kept x is.switch) (decimal_good BadNumber 1 12 p (let h = is.port_most in omega arith) is.port_least is.port_most)
 
 count_good : (s : ScriptOf) → IsScript s → (x p n most : ℕ) → most ≤ 1000000 → IsCount s x p n most → option_or (name_cause s.switch_names (switch_name s x)) (option_or (number_cause 1 12 (decimal p)) (number_cause 1 most (decimal n))) ≡ None
 count_good s kept x p n most fits is =
-    then_good (name_cause s.switch_names (switch_name s x)) _ (switch_good s kept x is.port.switch)
-    (then_good (number_cause 1 12 (decimal p)) (number_cause 1 most (decimal n)) (number_good 1 12 p (let h = is.port.most in omega arith) is.port.least is.port.most) (number_good 1 most n (let h = is.count_most in omega arith) is.count_least is.count_most))
+    first_good (name_cause s.switch_names (switch_name s x)) _ (switch_good s kept x is.port.switch)
+    (first_good (number_cause 1 12 (decimal p)) (number_cause 1 most (decimal n)) (decimal_good BadNumber 1 12 p (let h = is.port.port_most in omega arith) is.port.port_least is.port.port_most) (decimal_good BadNumber 1 most n (let h = is.count_most in omega arith) is.count_least is.count_most))
 
 event_good : (s : ScriptOf) → IsScript s → (e : Event) → CanSpell s e → line_cause s (event_line s e) ≡ None
 event_good s kept Tick can = refl
@@ -100,8 +86,8 @@ event_good s kept (Lose x p n) can = count_good s kept x p n 1000000 (omega arit
 event_good s kept (Again x p n) can = count_good s kept x p n 1000000 (omega arith) can
 event_good s kept (Swap x p n) can = count_good s kept x p n 1000000 (omega arith) can
 event_good s kept (Noise x p n) can = count_good s kept x p n 64 (omega arith) can
-event_good s kept (Send h g) can = then_good (name_cause s.names_of_hosts (host_name s h)) (name_cause s.names_of_hosts (host_name s g)) (host_good s kept h can.0) (host_good s kept g can.1)
-event_good s kept (Move k) can = number_good 1 (2 ^ 32 - 1) k (let h = can.1 in omega arith) can.0 (let h = can.1 in omega arith)
+event_good s kept (Send h g) can = first_good (name_cause s.names_of_hosts (host_name s h)) (name_cause s.names_of_hosts (host_name s g)) (host_good s kept h can.0) (host_good s kept g can.1)
+event_good s kept (Move k) can = decimal_good BadNumber 1 (2 ^ 32 - 1) k (let h = can.1 in omega arith) can.0 (let h = can.1 in omega arith)
 event_good s kept (Restart x) can = switch_good s kept x can
 
 -- the words of an event are not wrong
@@ -172,17 +158,7 @@ no_fault s bytes events line c kept is fault =
 
 -- a line has one cause
 words_one_cause : (s : ScriptOf) (words : List (List ℕ)) (c d : JournalCause) → AreWrong s words c → AreWrong s words d → c ≡ d
-words_one_cause s words c d one other = elim one [
-  | inl none ↦ elim other [
-    | inl none' ↦ none.1 ∙ sym none'.1
-    | inr bad ↦ absurd (none.0 bad.form bad.line)
-  ]
-  | inr bad ↦ elim other [
-    | inl none ↦ absurd (none.0 bad.form bad.line)
-    | inr bad' ↦ (let same = one_line bad.form bad'.form (sym bad.line ∙ bad'.line) in
-        let both : Some c ≡ Some d = sym bad.wrong ∙ ap (line_cause s) same ∙ bad'.wrong in cc)
-  ]
-]
+words_one_cause = form_one_cause line_words line_cause one_line UnknownWord
 
 line_one_cause : (s : ScriptOf) (line : List ℕ) (c d : JournalCause) → IsWrongLine s line c → IsWrongLine s line d → c ≡ d
 line_one_cause s line c d one other = elim one [
@@ -217,7 +193,7 @@ rest_one_cause s rest c d one other = elim one [
     | inl unended ↦ elim other [
       | inl none ↦ absurd (unended.some none.0)
       | inr more' ↦ elim more' [
-        | inl unended' ↦ unended.cause ∙ sym unended'.cause
+        | inl unended' ↦ unended.cause_is ∙ sym unended'.cause_is
         | inr bad ↦ absurd (has_feed rest bad.line bad.after bad.first.parts unended.no_feed)
       ]
     ]
@@ -258,7 +234,7 @@ one_fault s bytes line other c d kept one two = elim one [
     | inl header ↦ elim two [
       | inl none ↦ absurd (header.some none.0)
       | inr more' ↦ elim more' [
-        | inl header' ↦ (header.number ∙ sym header'.number, header.cause ∙ sym header'.cause)
+        | inl header' ↦ (header.number ∙ sym header'.number, header.cause_is ∙ sym header'.cause_is)
         | inr later ↦ absurd (header.none (events_text s later.events ++ later.rest) later.parts)
       ]
     ]

@@ -11,13 +11,13 @@ use Rattle.std.proofs.lemmas.Fmt.{decimal-digits_value}
 use Rattle.std.proofs.lemmas.List.{get_or_default}
 use Rattle.std.proofs.lemmas.List.Quantifiers.{position-Some}
 use Rattle.std.proofs.lemmas.Slice.Eq.{bytes_eq-Decides}
-use Rattle.net_script.specs.Words.{is_number, is_number_in, number_value}
-use Rattle.net_script.specs.Names.{place_of}
-use Rattle.net_script.proofs.WordLemmas.{own}
+use Rattle.text_lines.specs.Words.{is_number, is_number_in, number_value}
+use Rattle.text_lines.specs.Names.{place_of}
+use Rattle.text_lines.proofs.WordLemmas.{own}
 use Rattle.journal.specs.declared.cause.JournalCause.TheVariants.{BadNumber, NoSuchName}
-use Rattle.journal.specs.Words.{unless}
+use Rattle.text_lines.specs.Faults.{unless}
 use Rattle.journal.specs.Rules.{name_cause, number_cause}
-use Rattle.journal.specs.Steps.{IsField}
+use Rattle.text_lines.specs.Faults.{IsGoodField}
 
 -- the name at a place that was found
 place_found : (names : List (List ℕ)) (name : List ℕ) (x : ℕ) → place_of names name ≡ Some x → name ≡ get_or names x []
@@ -42,7 +42,7 @@ spelled w is low =
     sym (decimal-digits_value own w one.0 some (zero_alone w two.1) low)
 
 -- what was found as a number of a range is the field's value
-pub number_field : (w : List ℕ) (least most : ℕ) (o : Option ℕ) → most < 2 ^ 64 → MatchOption o (is_number_in least most w ≡ false) (λ n. (is_number_in least most w ≡ true) × (n ≡ number_value w)) → IfSome o (λ n. (least ≤ n) × (n ≤ most)) → IsField (ok_or o BadNumber) (number_cause least most w) (λ n. (w ≡ decimal n) × (least ≤ n) × (n ≤ most))
+pub number_field : (w : List ℕ) (least most : ℕ) (o : Option ℕ) → most < 2 ^ 64 → MatchOption o (is_number_in least most w ≡ false) (λ n. (is_number_in least most w ≡ true) × (n ≡ number_value w)) → IfSome o (λ n. (least ≤ n) × (n ≤ most)) → IsGoodField (ok_or o BadNumber) (number_cause least most w) (λ n. (w ≡ decimal n) × (least ≤ n) × (n ≤ most))
 unfolding number_value
 number_field w least most None low none range = ap (λ (b : Bool). unless b BadNumber) none
 number_field w least most (Some n) low some range = (

@@ -10,23 +10,24 @@ use Rattle.an_base.specs.declared.event.Event.{Event}
 use Rattle.an_base.specs.declared.event.Event.TheVariants.{Tick, Clock, Take, Handle, Load, Fail, Repair, Lose, Again, Swap, Noise, Send, Move, Restart}
 use Rattle.net_graph.proofs.ListLemmas.{AllPairs-front}
 use Rattle.net_script.specs.declared.command.WireChange.TheVariants as wire
-use Rattle.net_script.specs.Commands.{wire_event}
-use Rattle.net_script.specs.Lines.{line_text}
-use Rattle.net_script.specs.Names.{place_of}
+use Rattle.net_script.specs.Commands.{IsPort, wire_event}
+use Rattle.text_lines.specs.Lines.{line_text}
+use Rattle.text_lines.specs.Names.{place_of}
 use Rattle.net_script.specs.Rules.{place}
 use Rattle.net_script.specs.Scripts.{ScriptOf, IsScript}
-use Rattle.net_script.specs.Words.{IsName, number_value}
+use Rattle.text_lines.specs.Words.{IsName, number_value}
 use Rattle.net_script.proofs.FormOf.{wire_of}
-use Rattle.net_script.proofs.NameLemmas.{place_at, apart_back}
-use Rattle.net_script.proofs.SpellLemmas.{IsPrinted, IsLineByte, IsWord, decimal_value, decimal_word, line_bytes, name_word, split_words}
-use Rattle.net_script.proofs.ChainLemmas.{fixed_word, words_cons, words_nil}
+use Rattle.text_lines.proofs.NameLemmas.{place_at}
+use Rattle.script_text.proofs.ChainLemmas.{apart_back}
+use Rattle.text_lines.proofs.SpellLemmas.{IsPrinted, IsLineByte, IsWord, decimal_value, decimal_word, line_bytes, name_word, split_words}
+use Rattle.text_lines.proofs.SpellLemmas.{fixed_word, words_cons, words_nil}
 use Rattle.journal.specs.declared.kind.SwitchEvent.{SwitchEvent}
 use Rattle.journal.specs.declared.kind.SwitchEvent.TheVariants as switch
 use Rattle.journal.specs.declared.kind.PortEvent.{PortEvent}
 use Rattle.journal.specs.declared.kind.PortEvent.TheVariants as port
 use Rattle.journal.specs.Kinds.{switch_event, port_event}
 use Rattle.journal.specs.Lines.{Line, Ticks, Moves, OnSwitch, OnPort, OnWire, Sends, line_words}
-use Rattle.journal.specs.Events.{CanSpell, IsPort, IsCount, event_line, event_words, switch_name, host_name, first_words, last_words, events_text, journal_text}
+use Rattle.journal.specs.Events.{CanSpell, IsCount, event_line, event_words, switch_name, host_name, first_words, last_words, events_text, journal_text}
 use Rattle.journal.specs.Texts.{IsJournal}
 
 -- the event of a line
@@ -50,10 +51,10 @@ switch_is s kept x low = ap (λ (o : Option ℕ). unwrap_or o 0) (switch_found s
 host_is : (s : ScriptOf) → IsScript s → (h : ℕ) → h < length s.wires.hosts → place s.names_of_hosts (host_name s h) ≡ h
 host_is s kept h low = ap (λ (o : Option ℕ). unwrap_or o 0) (host_found s kept h low)
 
-port_back : (s : ScriptOf) → IsScript s → (x p : ℕ) → IsPort s x p → (f : ℕ → ℕ → Event) → f (place s.switch_names (switch_name s x)) (number_value (decimal p)) ≡ f x p
+port_back : (s : ScriptOf) → IsScript s → (x p : ℕ) → IsPort s.wires x p → (f : ℕ → ℕ → Event) → f (place s.switch_names (switch_name s x)) (number_value (decimal p)) ≡ f x p
 port_back s kept x p is f =
     ap (λ (y : ℕ). f y (number_value (decimal p))) (switch_is s kept x is.switch)
-    ∙ ap (λ (q : ℕ). f x q) (decimal_value p (let h = is.most in omega arith))
+    ∙ ap (λ (q : ℕ). f x q) (decimal_value p (let h = is.port_most in omega arith))
 
 count_back : (s : ScriptOf) → IsScript s → (x p n most : ℕ) → IsCount s x p n most → most ≤ 1000000 → (f : ℕ → ℕ → ℕ → Event) → f (place s.switch_names (switch_name s x)) (number_value (decimal p)) (number_value (decimal n)) ≡ f x p n
 count_back s kept x p n most is fits f =
@@ -134,11 +135,11 @@ host_name_word s kept h low = name_word (host_name s h) (All-get_or IsName s.nam
 one_word : (s : ScriptOf) → IsScript s → (w : List ℕ) → IsWord w → (x : ℕ) → x < length s.wires.switches → All IsWord (w ∷ switch_name s x ∷ [])
 one_word s kept w is x low = words_cons w (switch_name s x ∷ []) is (words_cons (switch_name s x) [] (switch_name_word s kept x low) words_nil)
 
-port_words : (s : ScriptOf) → IsScript s → (w : List ℕ) → IsWord w → (x p : ℕ) → IsPort s x p → All IsWord (w ∷ switch_name s x ∷ decimal p ∷ [])
-port_words s kept w is x p at = words_cons w (switch_name s x ∷ decimal p ∷ []) is (words_cons (switch_name s x) (decimal p ∷ []) (switch_name_word s kept x at.switch) (words_cons (decimal p) [] (decimal_word p (let h = at.most in omega arith)) words_nil))
+port_words : (s : ScriptOf) → IsScript s → (w : List ℕ) → IsWord w → (x p : ℕ) → IsPort s.wires x p → All IsWord (w ∷ switch_name s x ∷ decimal p ∷ [])
+port_words s kept w is x p at = words_cons w (switch_name s x ∷ decimal p ∷ []) is (words_cons (switch_name s x) (decimal p ∷ []) (switch_name_word s kept x at.switch) (words_cons (decimal p) [] (decimal_word p (let h = at.port_most in omega arith)) words_nil))
 
 count_words : (s : ScriptOf) → IsScript s → (w : List ℕ) → IsWord w → (x p n most : ℕ) → most ≤ 1000000 → IsCount s x p n most → All IsWord (w ∷ switch_name s x ∷ decimal p ∷ decimal n ∷ [])
-count_words s kept w is x p n most fits at = words_cons w (switch_name s x ∷ decimal p ∷ decimal n ∷ []) is (words_cons (switch_name s x) (decimal p ∷ decimal n ∷ []) (switch_name_word s kept x at.port.switch) (words_cons (decimal p) (decimal n ∷ []) (decimal_word p (let h = at.port.most in omega arith)) (words_cons (decimal n) [] (decimal_word n (let h = at.count_most in omega arith)) words_nil)))
+count_words s kept w is x p n most fits at = words_cons w (switch_name s x ∷ decimal p ∷ decimal n ∷ []) is (words_cons (switch_name s x) (decimal p ∷ decimal n ∷ []) (switch_name_word s kept x at.port.switch) (words_cons (decimal p) (decimal n ∷ []) (decimal_word p (let h = at.port.port_most in omega arith)) (words_cons (decimal n) [] (decimal_word n (let h = at.count_most in omega arith)) words_nil)))
 
 pub words_are : (s : ScriptOf) → IsScript s → (e : Event) → CanSpell s e → All IsWord (event_words s e)
 words_are s kept Tick can = words_cons (codes "tick") [] (fixed_word (codes "tick") refl (omega arith) (omega arith)) words_nil

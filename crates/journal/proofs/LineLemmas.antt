@@ -5,7 +5,7 @@ use Rattle.std.proofs.lemmas.List.{take_rest, take_all, take-append-drop, get_or
 use Rattle.std.proofs.lemmas.List.Folds.{list_all_more, list_all_at}
 use Rattle.std.proofs.lemmas.List.Elements.{All-from_get_or}
 use Rattle.std.proofs.lemmas.List.Quantifiers.{position-Some}
-use Rattle.net_script.proofs.LineLemmas.{position_none}
+use Rattle.text_lines.proofs.LineLemmas.{position_none}
 use Rattle.journal.specs.Words.{has_words}
 use Rattle.journal.specs.Texts.{IsFirstLine}
 

@@ -7,14 +7,14 @@ use Rattle.std.proofs.lemmas.Grind.{flat_map-append}
 use Rattle.std.proofs.lemmas.List.{map_push, length_push}
 use Rattle.std.proofs.lemmas.List.Elements.{All-push}
 use Rattle.an_base.specs.declared.event.Event.{Event}
-use Rattle.net_script.specs.Lines.{line_text}
+use Rattle.text_lines.specs.Lines.{line_text}
 use Rattle.net_script.specs.Scripts.{ScriptOf}
 use Rattle.journal.specs.Events.{CanSpell, event_words, first_words, last_words, events_text, journal_text}
 use Rattle.journal.specs.declared.cause.JournalCause.{JournalCause}
 use Rattle.journal.specs.Lines.{Line, line_words}
-use Rattle.journal.specs.Steps.{ReadsForm, ReadsWords, ReadsLine, IsRefusal, refusal_at}
-use Rattle.journal.specs.declared.reader.Stop.{Stop}
-use Rattle.journal.specs.declared.reader.Stop.TheVariants.{Fault, OutOfMemory}
+use Rattle.journal.specs.Steps.{JournalStop, ReadsForm, ReadsWords, ReadsLine, IsRefusal}
+use Rattle.text_lines.specs.Stops.{refusal_at}
+use Rattle.text_lines.specs.declared.stop.Stop.TheVariants.{Fault, OutOfMemory}
 use Rattle.journal.specs.Words.{words_of}
 use Rattle.journal.specs.Texts.{IsFirstLine, IsJournal}
 
@@ -77,7 +77,7 @@ pub differing : (xs ys zs : List ℕ) (b : Bool) → b ≡ bytes_eq xs ys → b 
 differing xs ys zs b test other same alike = let yes : bytes_eq xs ys ≡ true = (bytes_eq-Decides xs ys).1 (alike ∙ sym same) in absurd (cc)
 
 -- a line that was refused
-pub refused : (s : ScriptOf) (bytes rest first after : List ℕ) (events : List Event) (line : ℕ) (stop : Stop) → IsRead s bytes rest events line → IsFirstLine rest first after → first ≢ codes "end" → ReadsLine s first (Err stop) → IsRefusal s bytes (refusal_at line stop)
+pub refused : (s : ScriptOf) (bytes rest first after : List ℕ) (events : List Event) (line : ℕ) (stop : JournalStop) → IsRead s bytes rest events line → IsFirstLine rest first after → first ≢ codes "end" → ReadsLine s first (Err stop) → IsRefusal s bytes (refusal_at line stop)
 refused s bytes rest first after events line (Fault c) read next not_last wrong = inr (inr (record {
   events = events;
   spelled = read.spelled;

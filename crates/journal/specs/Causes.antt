@@ -2,6 +2,8 @@ use Rattle.std.specs.Prelude.{ℕ, List, codes}
 use Rattle.journal.specs.declared.cause.JournalCause.{JournalCause}
 use Rattle.journal.specs.declared.cause.JournalCause.TheVariants.{BadHeader, UnknownWord, BadNumber, NoSuchName, NotLawful, NoEnd, Unfinished}
 
+-- The words for what is wrong with a journal.
+
 -- the words for a cause
 abbrev pub cause_text : JournalCause → List ℕ
 cause_text BadHeader = codes "bad header"

@@ -2,75 +2,77 @@ use Rattle.std.specs.Prelude.{ℕ, ◌^◌, ◌<◌, ◌≤◌, List, [], ◌∷
 use Rattle.std.specs.Fmt.{decimal}
 use Rattle.an_base.specs.declared.event.Event.{Event}
 use Rattle.an_base.specs.declared.event.Event.TheVariants.{Tick, Clock, Take, Handle, Load, Fail, Repair, Lose, Again, Swap, Noise, Send, Move, Restart}
+use Rattle.net_script.specs.Commands.{IsPort}
 use Rattle.net_script.specs.Scripts.{ScriptOf}
-use Rattle.net_script.specs.Lines.{line_text, lines_text}
+use Rattle.text_lines.specs.Lines.{line_text, lines_text}
 use Rattle.journal.specs.Lines.{Line, Ticks, Moves, OnSwitch, OnPort, OnWire, Sends, line_words}
 use Rattle.journal.specs.declared.kind.SwitchEvent.TheVariants as switch
 use Rattle.journal.specs.declared.kind.PortEvent.TheVariants as port
 use Rattle.net_script.specs.declared.command.WireChange.TheVariants as wire
 
+-- The text of a journal, event by event.
+
 -- the name of a switch, and of a host, by its place
 abbrev pub switch_name : ScriptOf → ℕ → List ℕ
-switch_name s x = slice_index_or s.switch_names x []
+switch_name script node = slice_index_or script.switch_names node []
 
 abbrev pub host_name : ScriptOf → ℕ → List ℕ
-host_name s h = slice_index_or s.names_of_hosts h []
+host_name script host = slice_index_or script.names_of_hosts host []
 
 -- the line of an event
 abbrev pub event_line : ScriptOf → Event → Line
-event_line s Tick = Ticks
-event_line s (Clock x) = OnSwitch switch.Clock (switch_name s x)
-event_line s (Take x p) = OnPort port.Take (switch_name s x) (decimal p)
-event_line s (Handle x) = OnSwitch switch.Handle (switch_name s x)
-event_line s (Load x) = OnSwitch switch.Load (switch_name s x)
-event_line s (Fail x p) = OnPort port.Fail (switch_name s x) (decimal p)
-event_line s (Repair x p) = OnPort port.Repair (switch_name s x) (decimal p)
-event_line s (Lose x p n) = OnWire wire.Lose (switch_name s x) (decimal p) (decimal n)
-event_line s (Again x p n) = OnWire wire.Again (switch_name s x) (decimal p) (decimal n)
-event_line s (Swap x p n) = OnWire wire.Swap (switch_name s x) (decimal p) (decimal n)
-event_line s (Noise x p n) = OnWire wire.Noise (switch_name s x) (decimal p) (decimal n)
-event_line s (Send h g) = Sends (host_name s h) (host_name s g)
-event_line s (Move k) = Moves (decimal k)
-event_line s (Restart x) = OnSwitch switch.Restart (switch_name s x)
+event_line script Tick = Ticks
+event_line script (Clock node) = OnSwitch switch.Clock (switch_name script node)
+event_line script (Take node at_port) = OnPort port.Take (switch_name script node) (decimal at_port)
+event_line script (Handle node) = OnSwitch switch.Handle (switch_name script node)
+event_line script (Load node) = OnSwitch switch.Load (switch_name script node)
+event_line script (Fail node at_port) = OnPort port.Fail (switch_name script node) (decimal at_port)
+event_line script (Repair node at_port) = OnPort port.Repair (switch_name script node) (decimal at_port)
+event_line script (Lose node at_port count) =
+    OnWire wire.Lose (switch_name script node) (decimal at_port) (decimal count)
+event_line script (Again node at_port count) =
+    OnWire wire.Again (switch_name script node) (decimal at_port) (decimal count)
+event_line script (Swap node at_port count) =
+    OnWire wire.Swap (switch_name script node) (decimal at_port) (decimal count)
+event_line script (Noise node at_port count) =
+    OnWire wire.Noise (switch_name script node) (decimal at_port) (decimal count)
+event_line script (Send host to) = Sends (host_name script host) (host_name script to)
+event_line script (Move packet) = Moves (decimal packet)
+event_line script (Restart node) = OnSwitch switch.Restart (switch_name script node)
 
 -- the words of an event
 abbrev pub event_words : ScriptOf → Event → List (List ℕ)
-event_words s e = line_words (event_line s e)
+event_words script event = line_words (event_line script event)
 
--- a switch of the script, and a port
+-- a switch of the script, and a host
 abbrev pub IsSwitch : ScriptOf → ℕ → Type 0
-IsSwitch s x = x < length s.wires.switches
+IsSwitch script node = node < length script.wires.switches
 
 abbrev pub IsHost : ScriptOf → ℕ → Type 0
-IsHost s h = h < length s.wires.hosts
-
-pub record IsPort (s : ScriptOf) (x p : ℕ) : Type 0 where
-  pub switch : IsSwitch s x
-  pub least : 1 ≤ p
-  pub most : p ≤ 12
+IsHost script host = host < length script.wires.hosts
 
 -- a port of the script, and a count up to most
-pub record IsCount (s : ScriptOf) (x p n most : ℕ) : Type 0 where
-  pub port : IsPort s x p
-  pub count_least : 1 ≤ n
-  pub count_most : n ≤ most
+pub record IsCount (script : ScriptOf) (node at_port count most : ℕ) : Type 0 where
+  pub port : IsPort script.wires node at_port
+  pub count_least : 1 ≤ count
+  pub count_most : count ≤ most
 
 -- the events that can be spelled for a script: their places are places of it, their numbers in range
 abbrev pub CanSpell : ScriptOf → Event → Type 0
-CanSpell s Tick = Unit {0}
-CanSpell s (Clock x) = IsSwitch s x
-CanSpell s (Take x p) = IsPort s x p
-CanSpell s (Handle x) = IsSwitch s x
-CanSpell s (Load x) = IsSwitch s x
-CanSpell s (Fail x p) = IsPort s x p
-CanSpell s (Repair x p) = IsPort s x p
-CanSpell s (Lose x p n) = IsCount s x p n 1000000
-CanSpell s (Again x p n) = IsCount s x p n 1000000
-CanSpell s (Swap x p n) = IsCount s x p n 1000000
-CanSpell s (Noise x p n) = IsCount s x p n 64
-CanSpell s (Send h g) = IsHost s h × IsHost s g
-CanSpell s (Move k) = (1 ≤ k) × (k < 2 ^ 32)
-CanSpell s (Restart x) = IsSwitch s x
+CanSpell script Tick = Unit {0}
+CanSpell script (Clock node) = IsSwitch script node
+CanSpell script (Take node at_port) = IsPort script.wires node at_port
+CanSpell script (Handle node) = IsSwitch script node
+CanSpell script (Load node) = IsSwitch script node
+CanSpell script (Fail node at_port) = IsPort script.wires node at_port
+CanSpell script (Repair node at_port) = IsPort script.wires node at_port
+CanSpell script (Lose node at_port count) = IsCount script node at_port count 1000000
+CanSpell script (Again node at_port count) = IsCount script node at_port count 1000000
+CanSpell script (Swap node at_port count) = IsCount script node at_port count 1000000
+CanSpell script (Noise node at_port count) = IsCount script node at_port count 64
+CanSpell script (Send host to) = IsHost script host × IsHost script to
+CanSpell script (Move packet) = (1 ≤ packet) × (packet < 2 ^ 32)
+CanSpell script (Restart node) = IsSwitch script node
 
 -- the first and the last line of a journal
 abbrev pub first_words : List (List ℕ)
@@ -81,8 +83,8 @@ last_words = codes "end" ∷ []
 
 -- the lines of events
 abbrev pub events_text : ScriptOf → List Event → List ℕ
-events_text s events = lines_text (map (event_words s) events)
+events_text script events = lines_text (map (event_words script) events)
 
 -- the text of a journal: `journal 1`, a line for each event, and `end`
 unfoldable pub journal_text : ScriptOf → List Event → List ℕ
-journal_text s events = line_text first_words ++ (events_text s events ++ line_text last_words)
+journal_text script events = line_text first_words ++ (events_text script events ++ line_text last_words)

@@ -6,14 +6,16 @@ use Rattle.journal.specs.declared.kind.SwitchEvent.TheVariants as switch
 use Rattle.journal.specs.declared.kind.PortEvent.{PortEvent}
 use Rattle.journal.specs.declared.kind.PortEvent.TheVariants as port
 
+-- The kinds of events that have a switch, or a port of one.
+
 -- the event of a kind at a switch, and at a port
 abbrev pub switch_event : SwitchEvent → ℕ → Event
-switch_event switch.Clock x = Clock x
-switch_event switch.Handle x = Handle x
-switch_event switch.Load x = Load x
-switch_event switch.Restart x = Restart x
+switch_event switch.Clock node = Clock node
+switch_event switch.Handle node = Handle node
+switch_event switch.Load node = Load node
+switch_event switch.Restart node = Restart node
 
 abbrev pub port_event : PortEvent → ℕ → ℕ → Event
-port_event port.Take x p = Take x p
-port_event port.Fail x p = Fail x p
-port_event port.Repair x p = Repair x p
+port_event port.Take node at_port = Take node at_port
+port_event port.Fail node at_port = Fail node at_port
+port_event port.Repair node at_port = Repair node at_port

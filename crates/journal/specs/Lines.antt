@@ -6,13 +6,15 @@ use Rattle.journal.specs.declared.kind.SwitchEvent.TheVariants as switch
 use Rattle.journal.specs.declared.kind.PortEvent.{PortEvent}
 use Rattle.journal.specs.declared.kind.PortEvent.TheVariants as port
 
+-- The forms of the lines of a journal.
+
 -- the forms of lines between the first and the last, with the words in their fields
 pub data Line : Type 0 where
   Ticks : Line
   Moves : (packet : List ℕ) → Line
   OnSwitch : (event : SwitchEvent) (name : List ℕ) → Line
   OnPort : (event : PortEvent) (name port : List ℕ) → Line
-  OnWire : (change : WireChange) (name port n : List ℕ) → Line
+  OnWire : (change : WireChange) (name port count : List ℕ) → Line
   Sends : (host to : List ℕ) → Line
 
 -- the word of an event of a switch
@@ -34,5 +36,5 @@ line_words Ticks = codes "tick" ∷ []
 line_words (Moves packet) = codes "move" ∷ packet ∷ []
 line_words (OnSwitch event name) = switch_word event ∷ name ∷ []
 line_words (OnPort event name port) = port_word event ∷ name ∷ port ∷ []
-line_words (OnWire change name port n) = wire_word change ∷ name ∷ port ∷ n ∷ []
+line_words (OnWire change name port count) = wire_word change ∷ name ∷ port ∷ count ∷ []
 line_words (Sends host to) = codes "send" ∷ host ∷ to ∷ []

@@ -1,77 +1,79 @@
-use Rattle.std.specs.Prelude.{◌≡◌, ◌≢◌, ◌⊎◌, ℕ, ◌+◌, List, [], ◌∷◌, ◌++◌, length, All, Some, true, false, codes}
+use Rattle.std.specs.Prelude.{◌≡◌, ◌≢◌, ◌⊎◌, ℕ, ◌+◌, List, [], ◌∷◌, ◌++◌, length, All, true, false, codes}
 use Rattle.an_base.specs.declared.event.Event.{Event}
-use Rattle.net_script.specs.Lines.{line_text}
+use Rattle.text_lines.specs.Lines.{line_text}
+use Rattle.text_lines.specs.Grammar.{HasNoFormBy, IsFaultyFormBy}
 use Rattle.net_script.specs.Scripts.{ScriptOf}
 use Rattle.journal.specs.declared.cause.JournalCause.{JournalCause}
 use Rattle.journal.specs.declared.cause.JournalCause.TheVariants.{BadHeader, UnknownWord, NoEnd}
 use Rattle.journal.specs.Words.{words_of, is_shaped}
-use Rattle.journal.specs.Lines.{Line, line_words}
+use Rattle.journal.specs.Lines.{line_words}
 use Rattle.journal.specs.Events.{CanSpell, first_words, events_text, journal_text}
 use Rattle.journal.specs.Rules.{line_cause}
 
+-- Which bytes begin with the text of a journal, and what is wrong with those that do not.
+
 -- the bytes begin with the text of these events, all of which can be spelled for the script
-pub record IsJournal (s : ScriptOf) (bytes : List ℕ) (events : List Event) : Type 0 where
-  pub spelled : All (CanSpell s) events
+pub record IsJournal (script : ScriptOf) (bytes : List ℕ) (events : List Event) : Type 0 where
+  pub spelled : All (CanSpell script) events
   pub after : List ℕ
-  pub text : bytes ≡ journal_text s events ++ after
+  pub text : bytes ≡ journal_text script events ++ after
 
 -- the bytes are a line and what stands after its line feed (10)
 pub record IsFirstLine (bytes line after : List ℕ) : Type 0 where
   pub parts : bytes ≡ line ++ 10 ∷ after
-  pub no_feed : All (λ c. c ≢ 10) line
+  pub no_feed : All (λ cause. cause ≢ 10) line
 
 -- the words have no form
 abbrev pub HasNoForm : List (List ℕ) → Type 0
-HasNoForm words = (form : Line) → words ≢ line_words form
+HasNoForm = HasNoFormBy line_words
 
--- the words have a form, with whose fields this is wrong
-pub record IsWrongForm (s : ScriptOf) (words : List (List ℕ)) (c : JournalCause) : Type 0 where
-  pub form : Line
-  pub line : words ≡ line_words form
-  pub wrong : line_cause s form ≡ Some c
-
--- words that are none of an event
+-- words that are none of an event: they have no form, or one with whose fields this is wrong
 abbrev pub AreWrong : ScriptOf → List (List ℕ) → JournalCause → Type 0
-AreWrong s words c = (HasNoForm words × (c ≡ UnknownWord)) ⊎ IsWrongForm s words c
+AreWrong = IsFaultyFormBy line_words line_cause UnknownWord
 
 -- a line that is none of an event
 abbrev pub IsWrongLine : ScriptOf → List ℕ → JournalCause → Type 0
-IsWrongLine s line c = ((is_shaped line ≡ false) × (c ≡ UnknownWord)) ⊎ ((is_shaped line ≡ true) × AreWrong s (words_of line) c)
+IsWrongLine script line cause =
+    ((is_shaped line ≡ false) × (cause ≡ UnknownWord))
+    ⊎ ((is_shaped line ≡ true) × AreWrong script (words_of line) cause)
 
 -- a line that is neither of an event nor the last
-pub record IsFaultyLine (s : ScriptOf) (rest : List ℕ) (c : JournalCause) : Type 0 where
+pub record IsFaultyLine (script : ScriptOf) (rest : List ℕ) (cause : JournalCause) : Type 0 where
   pub line : List ℕ
   pub after : List ℕ
   pub first : IsFirstLine rest line after
   pub not_last : line ≢ codes "end"
-  pub wrong : IsWrongLine s line c
+  pub wrong : IsWrongLine script line cause
 
 -- bytes without a line feed, of which there are some
-pub record IsUnended (rest : List ℕ) (c : JournalCause) : Type 0 where
+pub record IsUnended (rest : List ℕ) (cause : JournalCause) : Type 0 where
   pub some : rest ≢ []
-  pub no_feed : All (λ b. b ≢ 10) rest
-  pub cause : c ≡ UnknownWord
+  pub no_feed : All (λ byte. byte ≢ 10) rest
+  pub cause_is : cause ≡ UnknownWord
 
 -- what is wrong with what stands after so many lines of events
 abbrev pub IsFaultyRest : ScriptOf → List ℕ → JournalCause → Type 0
-IsFaultyRest s rest c = ((rest ≡ []) × (c ≡ NoEnd)) ⊎ (IsUnended rest c ⊎ IsFaultyLine s rest c)
+IsFaultyRest script rest cause =
+    ((rest ≡ []) × (cause ≡ NoEnd)) ⊎ (IsUnended rest cause ⊎ IsFaultyLine script rest cause)
 
 -- the first line is not `journal 1`, and there are some bytes
-pub record HasNoHeader (bytes : List ℕ) (line : ℕ) (c : JournalCause) : Type 0 where
+pub record HasNoHeader (bytes : List ℕ) (line : ℕ) (cause : JournalCause) : Type 0 where
   pub some : bytes ≢ []
   pub none : (rest : List ℕ) → bytes ≢ line_text first_words ++ rest
   pub number : line ≡ 1
-  pub cause : c ≡ BadHeader
+  pub cause_is : cause ≡ BadHeader
 
 -- after the first line and those of some events something is wrong
-pub record IsFaultAfter (s : ScriptOf) (bytes : List ℕ) (line : ℕ) (c : JournalCause) : Type 0 where
+pub record IsFaultAfter (script : ScriptOf) (bytes : List ℕ) (line : ℕ) (cause : JournalCause) : Type 0 where
   pub events : List Event
-  pub spelled : All (CanSpell s) events
+  pub spelled : All (CanSpell script) events
   pub rest : List ℕ
-  pub parts : bytes ≡ line_text first_words ++ (events_text s events ++ rest)
+  pub parts : bytes ≡ line_text first_words ++ (events_text script events ++ rest)
   pub number : line ≡ length events + 2
-  pub wrong : IsFaultyRest s rest c
+  pub wrong : IsFaultyRest script rest cause
 
 -- the first fault of the bytes is in this line and of this cause
 abbrev pub IsFault : ScriptOf → List ℕ → ℕ → JournalCause → Type 0
-IsFault s bytes line c = ((bytes ≡ []) × (line ≡ 1) × (c ≡ NoEnd)) ⊎ (HasNoHeader bytes line c ⊎ IsFaultAfter s bytes line c)
+IsFault script bytes line cause =
+    ((bytes ≡ []) × (line ≡ 1) × (cause ≡ NoEnd))
+    ⊎ (HasNoHeader bytes line cause ⊎ IsFaultAfter script bytes line cause)

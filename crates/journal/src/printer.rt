@@ -2,16 +2,15 @@
 
 ghost use Rattle.std.specs.Prelude.{◌≡◌, ◌<◌, ◌++◌, [], ◌∷◌, codes, length, All, OnOk, IfOk, slice_index_or};
 ghost use Rattle.std.specs.Fmt.{decimal};
-ghost use Rattle.net_script.specs.Lines.{line_text};
+ghost use Rattle.text_lines.specs.Lines.{line_text};
 ghost use Rattle.journal.specs.Events.{CanSpell, event_words, events_text, journal_text};
 
 use an_base::event::{Event, Journal};
 use an_base::memory::OutOfMemory;
-use net_script::printer::{
-    decimal, push_at_port, push_at_switch, push_line, push_on_wire, push_send,
-};
 use net_script::script::Script;
+use script_text::printer::{push_at_port, push_at_switch, push_on_wire, push_send};
 use std::alloc::Global;
+use text_lines::spelling::{decimal, push_line};
 
 /// The text of a journal: the first line, a line for each event, and the last line.
 pub fn print(alloc: Global, script: &Script, journal: &Journal) -> Result<Vec<u8>, OutOfMemory>

@@ -1,76 +1,32 @@
 //! The reader of journals.
 
 ghost use Rattle.std.specs.Prelude.{◌≡◌, ◌≢◌, ◌<◌, ◌-◌, ◌^◌, ◌++◌, List, ℕ, length, IfOk, IfErr, IfSome, IfNone};
-ghost use Rattle.net_script.specs.Lines.{line_text};
-ghost use Rattle.journal.specs.declared.reader.Stop.TheVariants.{Fault, OutOfMemory};
+ghost use Rattle.text_lines.specs.Lines.{line_text};
+ghost use Rattle.text_lines.specs.declared.stop.Stop.TheVariants.{Fault};
 ghost use Rattle.journal.specs.Events.{first_words};
 ghost use Rattle.journal.specs.Texts.{IsJournal};
-ghost use Rattle.journal.specs.Steps.{ReadsLine, IsRefusal, refusal_at, no_memory};
+ghost use Rattle.journal.specs.Steps.{ReadsLine, IsRefusal};
 
 use crate::cause::JournalCause;
 use crate::line::{MOST_LINE, are_line_bytes, first_line, have_bytes, words};
 use crate::words::read_words;
 use an_base::event::{Event, Journal};
-use an_base::memory::OutOfMemory;
 use net_script::script::Script;
 use std::alloc::Global;
+use text_lines::stop::{Refusal, Stop};
 
-/// Why bytes were not read, or a journal was refused.
-#[derive(Clone, Copy, Debug, PartialEq, Eq)]
-pub enum JournalRefusal {
-    /// The bytes do not begin with the text of a journal.
-    Fault {
-        /// The first faulty line, from 1.
-        line: u32,
-        /// What is wrong with it.
-        cause: JournalCause,
-    },
-    /// No memory was found. It says nothing about the bytes.
-    OutOfMemory,
-}
+/// Why bytes were not read, or a journal was refused: the first faulty line, from 1, with what is wrong
+/// with it; or that no memory was found, which says nothing about the bytes.
+pub type JournalRefusal = Refusal<JournalCause>;
 
 /// Why a line was not read.
-#[derive(Clone, Copy, Debug, PartialEq, Eq)]
-pub enum Stop {
-    /// It is faulty.
-    Fault(JournalCause),
-    /// No memory was found.
-    OutOfMemory,
-}
+pub type JournalStop = Stop<JournalCause>;
 
-impl From<JournalCause> for Stop {
+impl From<JournalCause> for Stop<JournalCause> {
     ghost from_gives = { λ cause stop. stop ≡ Fault cause };
 
-    fn from(cause: JournalCause) -> Stop {
+    fn from(cause: JournalCause) -> Stop<JournalCause> {
         Stop::Fault(cause)
-    }
-}
-
-impl From<OutOfMemory> for Stop {
-    ghost from_gives = { λ _ stop. stop ≡ OutOfMemory };
-
-    fn from(_error: OutOfMemory) -> Stop {
-        Stop::OutOfMemory
-    }
-}
-
-impl From<OutOfMemory> for JournalRefusal {
-    ghost from_gives = { λ _ refusal. refusal ≡ no_memory };
-
-    fn from(_error: OutOfMemory) -> JournalRefusal {
-        JournalRefusal::OutOfMemory
-    }
-}
-
-impl Stop {
-    // The refusal of a text that was stopped at this line.
-    fn at(self, line: u32) -> JournalRefusal
-        ensures { result ≡ refusal_at line self }
-    {
-        match self {
-            Stop::Fault(cause) => JournalRefusal::Fault { line, cause },
-            Stop::OutOfMemory => JournalRefusal::OutOfMemory,
-        }
     }
 }
 
@@ -83,13 +39,13 @@ pub fn read(alloc: Global, script: &Script, bytes: &[u8]) -> Result<Journal, Jou
     ensures fault { IfErr result (IsRefusal script.now bytes.now) }
 {
     if bytes.is_empty() {
-        return Err(JournalRefusal::Fault {
+        return Err(Refusal::Fault {
             line: 1,
             cause: JournalCause::NoEnd,
         });
     }
     let Some(rest) = after_header(bytes) else {
-        return Err(JournalRefusal::Fault {
+        return Err(Refusal::Fault {
             line: 1,
             cause: JournalCause::BadHeader,
         });
@@ -136,11 +92,11 @@ fn read_events(
     } else {
         JournalCause::UnknownWord
     };
-    Err(JournalRefusal::Fault { line, cause })
+    Err(Refusal::Fault { line, cause })
 }
 
 // The event that a line says.
-fn read_line(alloc: Global, script: &Script, line: &[u8]) -> Result<Event, Stop>
+fn read_line(alloc: Global, script: &Script, line: &[u8]) -> Result<Event, JournalStop>
     ensures { ReadsLine script.now line.now result }
 {
     if line.len() > MOST_LINE || !are_line_bytes(line) {
@@ -160,10 +116,10 @@ mod tests {
     use crate::printer::print;
     use std::test::Fail;
 
-    // Two switches with a link, and a host.
+    // A switch with a link to itself, and a host.
     fn script(rt: &HostRuntime) -> Result<Script, Fail> {
-        let bytes: &[u8] = b"autonet 1\nswitch A 000000000001\nswitch B 000000000002\n\
-            link A 1 B 1\nhost H 000000000003 A 2\nend\n";
+        let bytes: &[u8] =
+            b"autonet 1\nswitch A 000000000001\nlink A 1 A 2\nhost H 000000000003 A 3\nend\n";
         if bytes.len() > 1_000 {
             return Err("long")?;
         }
@@ -177,7 +133,7 @@ mod tests {
         bytes: &[u8],
     ) -> Result<Journal, JournalRefusal> {
         if bytes.len() > 1_000 {
-            return Err(JournalRefusal::OutOfMemory);
+            return Err(Refusal::OutOfMemory);
         }
         read(rt.alloc(), script, bytes)
     }
@@ -190,82 +146,91 @@ mod tests {
         why: JournalCause,
     ) -> bool {
         match read_few(rt, script, bytes) {
-            Err(JournalRefusal::Fault { line, cause }) => line == number && cause == why,
+            Err(Refusal::Fault { line, cause }) => line == number && cause == why,
             _ => false,
         }
     }
 
     #[test]
-    fn all_events_are_read(rt: HostRuntime) -> Result<(), Fail> {
+    fn events_are_read_and_printed(rt: HostRuntime) -> Result<(), Fail> {
         let script = script(&rt)?;
-        let bytes: &[u8] = b"journal 1\ntick\nclock A\ntake B 12\nhandle A\nload B\nfail A 1\n\
-            repair A 1\nlose A 1 1000000\nagain A 1 2\nswap A 1 3\nnoise A 1 64\nsend H H\n\
-            move 4294967295\nrestart B\nend\nwhat follows is not looked at";
-        let journal = read_few(&rt, &script, bytes).map_err(|_error| "refused")?;
-        let events = journal.as_slice();
-        assert_eq!(rt; events.len(), 14);
-        assert!(rt; events[0] == Event::Tick);
-        assert!(rt; events[2] == Event::Take { s: 1, port: 12 });
-        assert!(rt;
-            events[10]
-                == Event::Noise {
-                    s: 0,
-                    port: 1,
-                    n: 64
-                }
-        );
-        assert!(rt; events[11] == Event::Send { host: 0, to: 0 });
-        assert!(rt; events[12] == Event::Move { packet: u32::MAX });
-        assert!(rt; events[13] == Event::Restart { s: 1 });
-        Ok(())
-    }
-
-    #[test]
-    fn a_printed_journal_is_its_lines(rt: HostRuntime) -> Result<(), Fail> {
-        let script = script(&rt)?;
-        let mut journal = Journal::new(rt.alloc());
-        let text = print(rt.alloc(), &script, &journal).map_err(|_error| "memory")?;
-        assert_eq!(rt; text.as_slice(), b"journal 1\nend\n".as_slice());
-        journal.push(Event::Tick)?;
-        journal.push(Event::Move { packet: 7 })?;
-        assert_eq!(rt; journal.len(), 2);
-        Ok(())
-    }
-
-    #[test]
-    fn each_cause_has_its_line(rt: HostRuntime) -> Result<(), Fail> {
-        let script = script(&rt)?;
-        let faults: [(&[u8], u32, JournalCause); 18] = [
-            (b"", 1, JournalCause::NoEnd),
-            (b"journal 1", 1, JournalCause::BadHeader),
-            (b"journal 1 \nend\n", 1, JournalCause::BadHeader),
-            (b"\nend\n", 1, JournalCause::BadHeader),
-            (b"journal 1\n", 2, JournalCause::NoEnd),
-            (b"journal 1\ntick\n", 3, JournalCause::NoEnd),
-            (b"journal 1\nend", 2, JournalCause::UnknownWord),
-            (b"journal 1\n\nend\n", 2, JournalCause::UnknownWord),
-            (b"journal 1\ntick\r\nend\n", 2, JournalCause::UnknownWord),
-            (b"journal 1\ntick \nend\n", 2, JournalCause::UnknownWord),
-            (b"journal 1\nclock \nend\n", 2, JournalCause::UnknownWord),
-            (
-                b"journal 1\ntake A 1 1\nend\n",
-                2,
-                JournalCause::UnknownWord,
-            ),
-            (b"journal 1\ntake A 13\nend\n", 2, JournalCause::BadNumber),
-            (b"journal 1\nmove 0\nend\n", 2, JournalCause::BadNumber),
-            (
-                b"journal 1\ntick\nnoise A 1 65\n",
-                3,
-                JournalCause::BadNumber,
-            ),
-            (b"journal 1\ntake C 13\nend\n", 2, JournalCause::NoSuchName),
-            (b"journal 1\nclock H\nend\n", 2, JournalCause::NoSuchName),
-            (b"journal 1\nsend H A\nend\n", 2, JournalCause::NoSuchName),
-        ];
-        for (i, (bytes, line, cause)) in faults.iter().enumerate() {
-            assert!(rt; is_fault(&rt, &script, bytes, *line, *cause), "at {i}");
+        let bytes: &[u8] = b"journal 1\ntick\ntake A 12\nnoise A 1 64\nsend H H\n\
+            move 4294967295\nend\n";
+        if bytes.len() > 1_000 {
+            return Err("long")?;
         }
+        let Ok(journal) = read(rt.alloc(), &script, bytes) else {
+            return Err("refused")?;
+        };
+        let Ok(text) = print(rt.alloc(), &script, &journal) else {
+            return Err("memory")?;
+        };
+        assert_eq!(rt; text.as_slice(), bytes);
+        let events = journal.as_slice();
+        assert_eq!(rt; events.len(), 5);
+        assert!(rt; events[1] == Event::Take { s: 0, port: 12 });
+        assert!(rt; events[4] == Event::Move { packet: u32::MAX });
+        Ok(())
+    }
+
+    #[test]
+    fn bytes_without_a_journal_have_a_fault(rt: HostRuntime) -> Result<(), Fail> {
+        let script = script(&rt)?;
+        assert!(rt; is_fault(&rt, &script, b"", 1, JournalCause::NoEnd));
+        assert!(rt; is_fault(&rt, &script, b"journal 1", 1, JournalCause::BadHeader));
+        assert!(rt; is_fault(&rt, &script, b"journal 1\n", 2, JournalCause::NoEnd));
+        assert!(rt;
+            is_fault(
+                &rt,
+                &script,
+                b"journal 1\nend",
+                2,
+                JournalCause::UnknownWord
+            )
+        );
+        Ok(())
+    }
+
+    #[test]
+    fn a_line_may_be_of_no_event(rt: HostRuntime) -> Result<(), Fail> {
+        let script = script(&rt)?;
+        let unknown = JournalCause::UnknownWord;
+        assert!(rt; is_fault(&rt, &script, b"journal 1\n\nend\n", 2, unknown));
+        assert!(rt; is_fault(&rt, &script, b"journal 1\ntick\r\nend\n", 2, unknown));
+        assert!(rt; is_fault(&rt, &script, b"journal 1\nclock \nend\n", 2, unknown));
+        assert!(rt; is_fault(&rt, &script, b"journal 1\ntake A 1 1\nend\n", 2, unknown));
+        Ok(())
+    }
+
+    #[test]
+    fn a_field_may_be_wrong(rt: HostRuntime) -> Result<(), Fail> {
+        let script = script(&rt)?;
+        let number = JournalCause::BadNumber;
+        assert!(rt;
+            is_fault(
+                &rt,
+                &script,
+                b"journal 1\ntick\ntake A 13\nend\n",
+                3,
+                number
+            )
+        );
+        assert!(rt; is_fault(&rt, &script, b"journal 1\nmove 0\nend\n", 2, number));
+        let name = JournalCause::NoSuchName;
+        assert!(rt; is_fault(&rt, &script, b"journal 1\ntake C 13\nend\n", 2, name));
+        assert!(rt; is_fault(&rt, &script, b"journal 1\nsend H A\nend\n", 2, name));
+        Ok(())
+    }
+
+    #[test]
+    fn a_line_of_201_bytes_is_of_no_event(rt: HostRuntime) -> Result<(), Fail> {
+        let script = script(&rt)?;
+        let mut bytes = Vec::from_slice(rt.alloc(), b"journal 1\ntick ")?;
+        for _ in 0..196 {
+            bytes.push(b'x')?;
+        }
+        bytes.extend_from_slice(b"\nend\n")?;
+        assert!(rt; is_fault(&rt, &script, &bytes, 2, JournalCause::UnknownWord));
         Ok(())
     }
 }

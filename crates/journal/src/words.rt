@@ -2,19 +2,20 @@
 
 ghost use Rattle.std.specs.Prelude.{◌≡◌, ◌≢◌, ◌<◌, ◌≤◌, [], ◌∷◌, map, IfSome, IfNone};
 ghost use Rattle.std.specs.Fmt.{decimal};
+ghost use Rattle.text_lines.specs.Faults.{IsGoodField};
 ghost use Rattle.journal.specs.declared.kind.SwitchEvent.{SwitchEvent};
 ghost use Rattle.journal.specs.declared.kind.PortEvent.{PortEvent};
 ghost use Rattle.journal.specs.Lines.{Moves, OnSwitch, OnPort, OnWire, Sends, switch_word, port_word};
 ghost use Rattle.journal.specs.Events.{IsSwitch, IsHost, switch_name, host_name};
 ghost use Rattle.journal.specs.Rules.{name_cause, number_cause};
-ghost use Rattle.journal.specs.Steps.{IsField, ReadsForm, ReadsWords};
+ghost use Rattle.journal.specs.Steps.{ReadsForm, ReadsWords};
 
 use crate::cause::JournalCause;
 use crate::kind::{PortEvent, SwitchEvent};
 use an_base::event::Event;
 use net_script::command::WireChange;
 use net_script::script::Script;
-use net_script::word::{is, number_between};
+use text_lines::word::{is, number_between};
 
 /// The event that words say.
 pub fn read_words(script: &Script, words: &[&[u8]]) -> Result<Event, JournalCause>
@@ -159,7 +160,7 @@ fn port_event_of(word: &[u8]) -> Option<PortEvent>
 
 // The switch that a word names.
 fn switch_at(script: &Script, word: &[u8]) -> Result<u8, JournalCause>
-    ensures { IsField result (name_cause script.now.switch_names word.now)
+    ensures { IsGoodField result (name_cause script.now.switch_names word.now)
         (λ s. IsSwitch script.now s × (word.now ≡ switch_name script.now s)) }
 {
     match script.place_of_switch(word) {
@@ -170,7 +171,7 @@ fn switch_at(script: &Script, word: &[u8]) -> Result<u8, JournalCause>
 
 // The host that a word names.
 fn host_at(script: &Script, word: &[u8]) -> Result<u16, JournalCause>
-    ensures { IsField result (name_cause script.now.names_of_hosts word.now)
+    ensures { IsGoodField result (name_cause script.now.names_of_hosts word.now)
         (λ h. IsHost script.now h × (word.now ≡ host_name script.now h)) }
 {
     match script.place_of_host(word) {
@@ -181,7 +182,7 @@ fn host_at(script: &Script, word: &[u8]) -> Result<u16, JournalCause>
 
 // The number of a range that a word says.
 fn number_in(word: &[u8], least: u64, most: u64) -> Result<u64, JournalCause>
-    ensures { IsField result (number_cause least most word.now)
+    ensures { IsGoodField result (number_cause least most word.now)
         (λ n. (word.now ≡ decimal n) × (least ≤ n) × (n ≤ most)) }
 {
     number_between(word, least, most).ok_or(JournalCause::BadNumber)

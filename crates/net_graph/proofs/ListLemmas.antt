@@ -2,6 +2,7 @@ use Rattle.std.proofs.Common.{◌≡◌, ◌≢◌, ◌∙◌, sym, subst, refl,
 use Rattle.std.specs.Prelude.{Any}
 use Rattle.std.proofs.lemmas.List.Elements.{All-weaker, All-contains, All-contains_itself, Contains-append_left, Contains-append_right, Contains-append_cases, Contains-push_cases, Contains-get_or}
 use Rattle.std.proofs.lemmas.List.Kept.{AllPairs-cons}
+use Rattle.an_base.proofs.ListLemmas.{AllPairs-head, AllPairs-tail}
 use Rattle.std.proofs.lemmas.List.Quantifiers.{all_pairs_push}
 
 -- what holds of each member
@@ -32,10 +33,6 @@ pub Any-cons_cases : {X : Type 0} (P : X → Type 0) (x : X) (xs : List X) → A
 Any-cons_cases P x xs (zero, y, low, is, p) = inl (subst P (sym is) p)
 Any-cons_cases P x xs (suc k, y, low, is, p) = inr (k, y, omega arith, is, p)
 
--- an element of the first part
-pub Any-front : {X : Type 0} (P : X → Type 0) (xs ys : List X) → Any P xs → Any P (xs ++ ys)
-Any-front P xs ys (k, x, low, is, p) = let h = Contains-append_left xs ys x (k, low, is) in (h.0, x, h.1, h.2, p)
-
 -- what follows of an element
 pub Any-weaker : {X : Type 0} (P Q : X → Type 0) → ((x : X) → P x → Q x) → (xs : List X) → Any P xs → Any Q xs
 Any-weaker P Q f xs (k, x, low, is, p) = (k, x, low, is, f x p)
@@ -55,14 +52,6 @@ Any-from_map f (x ∷ xs) y has = elim (Contains-cons_cases (f x) y (map f xs) h
   | inl is ↦ (0, x, omega arith, refl, is)
   | inr later ↦ Any-later (λ z. f z ≡ y) x xs (Any-from_map f xs y later)
 ]
-
--- the first element with each later one
-pub AllPairs-head : {X : Type 0} (R : X → X → Type 0) (x : X) (xs : List X) → AllPairs R (x ∷ xs) → All (R x) xs
-AllPairs-head R x xs pairs = λ k d low. pairs 0 (suc k) d (omega arith) (omega arith)
-
--- the later elements with one another
-pub AllPairs-tail : {X : Type 0} (R : X → X → Type 0) (x : X) (xs : List X) → AllPairs R (x ∷ xs) → AllPairs R xs
-AllPairs-tail R x xs pairs = λ i j d lt low. pairs (suc i) (suc j) d (omega arith) (omega arith)
 
 -- the first part of a list
 pub AllPairs-front : {X : Type 0} (R : X → X → Type 0) (xs ys : List X) → AllPairs R (xs ++ ys) → AllPairs R xs

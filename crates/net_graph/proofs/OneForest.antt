@@ -1,17 +1,17 @@
 use Rattle.std.proofs.Common.{◌≡◌, ◌∙◌, sym, ap, subst, refl, ℕ, ◌<◌, List, [], ◌∷◌, arith, length, All, AllPairs, Contains, inl, inr, IsTrue}
-use Rattle.std.specs.declared.cmp.Ordering.{Ordering}
-use Rattle.std.specs.declared.cmp.Ordering.TheVariants.{Less, Equal, Greater}
-use Rattle.std.specs.Ordering.{is_lt, is_le, ordering_reverse}
+use Rattle.std.specs.Ordering.{is_le}
 use Rattle.std.proofs.lemmas.List.Elements.{All-contains}
 use Rattle.an_base.specs.Values.{LifeId, Place, PeerAt, EntryOf}
 use Rattle.an_base.specs.Order.{life_cmp, IsBelow}
 use Rattle.an_base.proofs.PlaceLaws.{one_place_of}
 use Rattle.an_base.specs.Tree.{Network, Walk, IsPlace}
-use Rattle.an_base.proofs.OrderLaws.{life_total, both_least}
+use Rattle.an_base.proofs.OrderLaws.{both_least}
+use Rattle.an_base.proofs.LifeLemmas.{below_both}
 use Rattle.net_graph.specs.Wires.{Wires, IsWired, network}
 use Rattle.net_graph.specs.Entry.{LeadsOut, AreLinks}
 use Rattle.net_graph.specs.Forest.{IsEntry, IsMember, IsComponent, RootsBelow, IsForest}
-use Rattle.net_graph.proofs.ListLemmas.{Contains-here, Contains-later, Contains-cons_cases, AllPairs-head, AllPairs-tail}
+use Rattle.net_graph.proofs.ListLemmas.{Contains-here, Contains-later, Contains-cons_cases}
+use Rattle.an_base.proofs.ListLemmas.{AllPairs-head, AllPairs-tail}
 use Rattle.net_graph.proofs.FarLemmas.{network_closed, far_back}
 use Rattle.net_graph.proofs.WalkLemmas.{walk_back}
 use Rattle.net_graph.proofs.CollectLemmas.{uid_one}
@@ -55,18 +55,6 @@ one_rising {X = X} R (x ∷ xs) (y ∷ ys) one xs_rise ys_rise there here =
       | inr later ↦ later
     ]
 
--- no two comparisons that reverse one another are both less
-reversed : (r s : Ordering) → r ≡ ordering_reverse s → IsTrue (is_lt r) → IsTrue (is_lt s) → ⊥
-reversed Less Less e lt gt = cc
-reversed Less Equal e lt gt = cc
-reversed Less Greater e lt gt = cc
-reversed Equal s e lt gt = cc
-reversed Greater s e lt gt = cc
-
--- no two lives are each below the other
-pub not_both_below : (a b : LifeId) → IsBelow a b → IsBelow b a → ⊥
-not_both_below a b lt gt = reversed (life_cmp a b) (life_cmp b a) (life_total.antisymm a b) lt gt
-
 -- a link out of a node is among its links
 link_there : (g : Network) (x : ℕ) (links : List PeerAt) (l : PeerAt) → AreLinks g x links → LeadsOut g x l → Contains links l
 link_there g x links l are (y, other, e, life) =
@@ -81,7 +69,7 @@ one_links g x a b are_a are_b =
     (λ l has. link_there g x a l are_a (All-contains (LeadsOut g x) b l are_b.each has))
 
 -- switches with one life are one
-one_life : (w : Wires) (x y : ℕ) → IsWired w → x < length w.switches → y < length w.switches → (network w).life x ≡ (network w).life y → x ≡ y
+pub one_life : (w : Wires) (x y : ℕ) → IsWired w → x < length w.switches → y < length w.switches → (network w).life x ≡ (network w).life y → x ≡ y
 one_life w x y wired in_x in_y same = uid_one w x y wired in_x in_y (ap (λ (l : LifeId). l.uid) same)
 
 -- a switch has one place in the tree of a root
@@ -106,7 +94,7 @@ entry_there w r entries e wired component (x, in_x, is) =
 -- a root has one component
 pub one_component : (w : Wires) (r : ℕ) (a b : List EntryOf) → IsWired w → IsComponent w r a → IsComponent w r b → a ≡ b
 one_component w r a b wired is_a is_b =
-    one_rising (λ d e. IsBelow d.life e.life) a b (λ d e has has' lt gt. not_both_below d.life e.life lt gt) is_a.rising is_b.rising
+    one_rising (λ d e. IsBelow d.life e.life) a b (λ d e has has' lt gt. below_both d.life e.life lt gt) is_a.rising is_b.rising
     (λ e has. entry_there w r b e wired is_b (All-contains (IsMember w r) a e is_a.only has))
     (λ e has. entry_there w r a e wired is_a (All-contains (IsMember w r) b e is_b.only has))
 
@@ -142,7 +130,7 @@ roots_apart : (w : Wires) (r s : ℕ) (a b : List EntryOf) → IsComponent w r a
 roots_apart w r s a b is_a is_b lt gt =
     let d = some_entry w r a is_a in
     let e = some_entry w s b is_b in
-    not_both_below d.0.position.root e.0.position.root
+    below_both d.0.position.root e.0.position.root
     (All-contains (λ y. IsBelow d.0.position.root y.position.root) b e.0 (All-contains (λ x. All (λ y. IsBelow x.position.root y.position.root) b) a d.0 lt d.1) e.1)
     (All-contains (λ y. IsBelow e.0.position.root y.position.root) a d.0 (All-contains (λ x. All (λ y. IsBelow x.position.root y.position.root) a) b e.0 gt e.1) d.1)
 

@@ -6,9 +6,16 @@ use Rattle.net_graph.specs.Levels.{level_at}
 use Rattle.net_graph.specs.Next.{left_count}
 use Rattle.net_graph.specs.Forest.{IsEntry}
 
+-- The entries of a component while they are collected by rising identifier.
+
 -- the entries are those of the members with identifiers below from
-pub record AreBelow (w : Wires) (levels : List (Option ℕ)) (r from : ℕ) (entries : List EntryOf) : Type 0 where
-  pub each : All (λ e. (x : ℕ) × (x < length w.switches) × IsEntry w r x e × (uid_of w.switches x < from)) entries
-  pub whole : (x l : ℕ) → x < length w.switches → level_at levels x ≡ Some l → uid_of w.switches x < from → Any (IsEntry w r x) entries
+pub record AreBelow (wires : Wires) (levels : List (Option ℕ)) (top from : ℕ)
+    (entries : List EntryOf) : Type 0 where
+  pub each :
+      All (λ entry. (node : ℕ) × (node < length wires.switches) × IsEntry wires top node entry
+      × (uid_of wires.switches node < from)) entries
+  pub whole :
+      (node level : ℕ) → node < length wires.switches → level_at levels node ≡ Some level
+      → uid_of wires.switches node < from → Any (IsEntry wires top node) entries
   pub rising : LivesRise entries
-  pub few : length entries + left_count w levels from (length w.switches) ≤ length w.switches
+  pub few : length entries + left_count wires levels from (length wires.switches) ≤ length wires.switches

@@ -3,20 +3,28 @@ use Rattle.an_base.specs.Values.{PeerAt}
 use Rattle.an_base.specs.Order.{PortsRise}
 use Rattle.an_base.specs.Tree.{Network}
 
--- the link is at a port of x that leads to another node, and names the far side
+-- The links of a node, as a topology names them.
+
+-- the link is at a port of a node that leads to another node, and names the far side
 abbrev pub LeadsOut : Network → ℕ → PeerAt → Type 0
-LeadsOut g x l = (y : ℕ) × (y ≢ x) × (g.far x l.port ≡ Some (y, l.peer.port)) × (l.peer.life ≡ g.life y)
+LeadsOut network node link =
+    (other : ℕ) × (other ≢ node) × (network.far node link.port ≡ Some (other, link.peer.port))
+    × (link.peer.life ≡ network.life other)
 
 -- the links of a node: its ports that lead to other nodes, by rising port, each with the life and the port at the far side
-pub record AreLinks (g : Network) (x : ℕ) (links : List PeerAt) : Type 0 where
+pub record AreLinks (network : Network) (node : ℕ) (links : List PeerAt) : Type 0 where
   pub rising : PortsRise links
-  pub each : All (LeadsOut g x) links
-  pub whole : (p y q : ℕ) → y ≢ x → g.far x p ≡ Some (y, q) → Contains links (record { port = p; peer = record { life = g.life y; port = q } })
+  pub each : All (LeadsOut network node) links
+  pub whole :
+      (port other far_port : ℕ) → other ≢ node → network.far node port ≡ Some (other, far_port)
+      → Contains links (record { port = port; peer = record { life = network.life other; port = far_port } })
 
 -- the same of the ports below end
-pub record AreLinksBelow (g : Network) (x end : ℕ) (links : List PeerAt) : Type 0 where
+pub record AreLinksBelow (network : Network) (node end : ℕ) (links : List PeerAt) : Type 0 where
   pub rising : PortsRise links
-  pub each : All (LeadsOut g x) links
-  pub below : All (λ l. l.port < end) links
-  pub whole : (p y q : ℕ) → p < end → y ≢ x → g.far x p ≡ Some (y, q) → Contains links (record { port = p; peer = record { life = g.life y; port = q } })
+  pub each : All (LeadsOut network node) links
+  pub below : All (λ link. link.port < end) links
+  pub whole :
+      (port other far_port : ℕ) → port < end → other ≢ node → network.far node port ≡ Some (other, far_port)
+      → Contains links (record { port = port; peer = record { life = network.life other; port = far_port } })
   pub few : length links < end

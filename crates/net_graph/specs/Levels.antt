@@ -1,33 +1,50 @@
 use Rattle.std.specs.Prelude.{◌≡◌, ℕ, ◌+◌, ◌<◌, ◌≤◌, List, Option, Some, None, slice_index_or}
 use Rattle.an_base.specs.Tree.{Network, Neighbours, Walk, IsDistance}
 
+-- The distances of nodes to a root, found round by round.
+
 -- the level of a node, where it has one so far
 abbrev pub level_at : List (Option ℕ) → ℕ → Option ℕ
-level_at levels x = slice_index_or levels x None
+level_at levels node = slice_index_or levels node None
 
--- some neighbour of x has this level
-abbrev pub HasNeighbourAt : Network → List (Option ℕ) → ℕ → ℕ → Type 0
-HasNeighbourAt g levels d x = (y : ℕ) × Neighbours g x y × (level_at levels y ≡ Some d)
+-- some neighbour of the node has this level
+abbrev pub HasNeighbourAt : Network → List (Option ℕ) → (level node : ℕ) → Type 0
+HasNeighbourAt network levels level node =
+    (other : ℕ) × Neighbours network node other × (level_at levels other ≡ Some level)
 
--- the nodes without a level that have a neighbour at level d get level d + 1, and nothing else changes
-pub record IsRound (g : Network) (old new : List (Option ℕ)) (d : ℕ) : Type 0 where
-  pub kept : (x l : ℕ) → level_at old x ≡ Some l → level_at new x ≡ Some l
-  pub added : (x l : ℕ) → level_at old x ≡ None → level_at new x ≡ Some l → (l ≡ d + 1) × HasNeighbourAt g old d x
-  pub whole : (x : ℕ) → x < g.count → level_at new x ≡ None → HasNeighbourAt g old d x → ⊥
+-- the nodes without a level that have a neighbour at one level get the next one, and nothing else changes
+pub record IsRound (network : Network) (old new : List (Option ℕ)) (level : ℕ) : Type 0 where
+  pub kept :
+      (node found_level : ℕ) → level_at old node ≡ Some found_level → level_at new node ≡ Some found_level
+  pub added :
+      (node found_level : ℕ) → level_at old node ≡ None → level_at new node ≡ Some found_level
+      → (found_level ≡ level + 1) × HasNeighbourAt network old level node
+  pub whole :
+      (node : ℕ) → node < network.count → level_at new node ≡ None → HasNeighbourAt network old level node → ⊥
 
--- the levels are the distances to r up to d
-pub record IsReached (g : Network) (r : ℕ) (levels : List (Option ℕ)) (d : ℕ) : Type 0 where
-  pub found : (x l : ℕ) → level_at levels x ≡ Some l → IsDistance g x r l × (l ≤ d)
-  pub beyond : (x m : ℕ) → x < g.count → level_at levels x ≡ None → Walk g m x r → d < m
+-- the levels are the distances to the root `top`, up to one level
+pub record IsReached (network : Network) (top : ℕ) (levels : List (Option ℕ)) (level : ℕ) : Type 0 where
+  pub found :
+      (node found_level : ℕ) → level_at levels node ≡ Some found_level
+      → IsDistance network node top found_level × (found_level ≤ level)
+  pub beyond :
+      (node steps : ℕ) → node < network.count → level_at levels node ≡ None → Walk network steps node top
+      → level < steps
 
--- the levels are the distances to r, and a node without a level has no walk there
-pub record AreDistances (g : Network) (r : ℕ) (levels : List (Option ℕ)) : Type 0 where
-  pub found : (x l : ℕ) → level_at levels x ≡ Some l → IsDistance g x r l × (l ≤ 125)
-  pub none : (x m : ℕ) → x < g.count → level_at levels x ≡ None → Walk g m x r → ⊥
+-- the levels are the distances to the root `top`, and a node without a level has no walk there
+pub record AreDistances (network : Network) (top : ℕ) (levels : List (Option ℕ)) : Type 0 where
+  pub found :
+      (node found_level : ℕ) → level_at levels node ≡ Some found_level
+      → IsDistance network node top found_level × (found_level ≤ 125)
+  pub none :
+      (node steps : ℕ) → node < network.count → level_at levels node ≡ None → Walk network steps node top → ⊥
 
 -- the same for the nodes below end
-pub record IsRoundTo (g : Network) (old new : List (Option ℕ)) (d end : ℕ) : Type 0 where
-  pub kept : (x l : ℕ) → level_at old x ≡ Some l → level_at new x ≡ Some l
-  pub added : (x l : ℕ) → level_at old x ≡ None → level_at new x ≡ Some l → (l ≡ d + 1) × HasNeighbourAt g old d x
-  pub later : (x : ℕ) → end ≤ x → level_at new x ≡ level_at old x
-  pub whole : (x : ℕ) → x < end → level_at new x ≡ None → HasNeighbourAt g old d x → ⊥
+pub record IsRoundTo (network : Network) (old new : List (Option ℕ)) (level end : ℕ) : Type 0 where
+  pub kept :
+      (node found_level : ℕ) → level_at old node ≡ Some found_level → level_at new node ≡ Some found_level
+  pub added :
+      (node found_level : ℕ) → level_at old node ≡ None → level_at new node ≡ Some found_level
+      → (found_level ≡ level + 1) × HasNeighbourAt network old level node
+  pub later : (node : ℕ) → end ≤ node → level_at new node ≡ level_at old node
+  pub whole : (node : ℕ) → node < end → level_at new node ≡ None → HasNeighbourAt network old level node → ⊥

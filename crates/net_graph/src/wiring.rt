@@ -116,9 +116,17 @@ impl Model for Wiring {
 
     ghost Value = { Wires };
 
-    ghost view = { λ w. record { switches = w.switches.items; links = w.links.items; hosts = w.hosts.items } };
+    ghost view = { λ w. record {
+      switches = w.switches.items;
+      links = w.links.items;
+      hosts = w.hosts.items;
+    } };
 
-    ghost invariant = { λ w. IsKept (record { switches = w.switches.items; links = w.links.items; hosts = w.hosts.items }) w.rows.items };
+    ghost invariant = { λ w. IsKept (record {
+      switches = w.switches.items;
+      links = w.links.items;
+      hosts = w.hosts.items;
+    }) w.rows.items };
 }
 
 impl Wiring {
@@ -208,7 +216,7 @@ impl Wiring {
     }
 
     /// What is at the far side of this port of this switch, if a link or a host is on it. It
-    /// answers for all values, in constant time.
+    /// answers for all values.
     pub fn far(&self, s: u8, port: u8) -> Option<Far>
         ensures far { result ≡ far_at self.now s port }
         ensures meaning { MatchOption result
@@ -237,7 +245,10 @@ impl Wiring {
         requires room { length self.old.switches < 126 }
         requires switch { IsSwitch switch }
         requires new { ¬ Contains (uids self.old) switch.uid }
-        ensures ok { OnOk result (self.new ≡ record self.old { switches = self.old.switches ++ switch ∷ [] }) }
+        ensures ok { OnOk result (self.new ≡ record self.old {
+          switches = self.old.switches ++ switch
+              ∷ [];
+        }) }
         ensures err { OnErr result (self.new ≡ self.old) }
     {
         self.rows.push(PortRow { cells: [None; 13] })?;

@@ -1,25 +1,15 @@
 use Rattle.std.proofs.Common.{◌≡◌, ◌∙◌, sym, ap, refl, subst, ℕ, ◌<◌, List, length, get_or, Option, Some, None, Bool, true, false, ◌||◌, inl, inr, Contains, is_some, IsTrue, ◌↔◌, eqb}
-use Rattle.std.specs.Str.{bytes_eq}
-use Rattle.std.proofs.lemmas.Slice.Eq.{bytes_eq-Decides}
 use Rattle.std.proofs.lemmas.Bool.Decides.{Decides-eqb}
 use Rattle.std.proofs.lemmas.List.Folds.{list_any_at, list_any_none}
 use Rattle.std.proofs.lemmas.List.Elements.{Contains-append_cases, All-from_get_or}
 use Rattle.net_graph.specs.Wires.{uids}
-use Rattle.net_script.specs.Names.{place_of}
+use Rattle.text_lines.specs.Names.{place_of}
 use Rattle.net_script.specs.Scripts.{ScriptOf, names_of}
 use Rattle.net_graph.specs.Wires.{Wires}
 use Rattle.net_script.specs.declared.cause.ScriptCause.TheVariants.{UidTwice}
-use Rattle.net_script.specs.Words.{is_uid, uid_value}
+use Rattle.text_lines.specs.Words.{is_uid, uid_value}
 use Rattle.net_script.specs.Rules.{is_taken, is_uid_taken, new_uid_cause}
-use Rattle.net_script.proofs.LineLemmas.{position_none}
-
--- a name without a place is none of the names
-pub no_place : (names : List (List ℕ)) (name : List ℕ) → place_of names name ≡ None → ¬ Contains names name
-unfolding place_of
-no_place names name none has =
-    let no : bytes_eq (get_or names has.0 name) name ≡ false = position_none (λ (n : List ℕ). bytes_eq n name) names name none has.0 has.1 in
-    let yes : bytes_eq (get_or names has.0 name) name ≡ true = (bytes_eq-Decides (get_or names has.0 name) name).1 has.2 in
-    absurd (cc)
+use Rattle.text_lines.proofs.NameLemmas.{no_place}
 
 -- nor is one without a value
 none_of : {X : Type 0} (o : Option X) → is_some o ≡ false → o ≡ None

@@ -1,7 +1,6 @@
-use Rattle.std.proofs.Common.{◌≡◌, ◌≢◌, ◌++◌, ◌∙◌, sym, ap, refl, ℕ, List, [], ◌∷◌, Option, Some, None, Bool, true, false, cond, ◌&&◌, codes}
+use Rattle.std.proofs.Common.{◌≡◌, ◌≢◌, ◌++◌, ◌∙◌, sym, ap, refl, ℕ, List, [], ◌∷◌, Option, Some, None, true, cond, ◌&&◌, codes}
 use Rattle.std.specs.Str.{bytes_eq}
 use Rattle.std.specs.Option.{option_map}
-use Rattle.std.proofs.lemmas.Slice.Eq.{bytes_eq-Decides}
 use Rattle.std.proofs.lemmas.Bool.{and_parts}
 use Rattle.net_script.specs.declared.setting.Setting.{Setting}
 use Rattle.net_script.specs.declared.setting.Setting.TheVariants.{Ticks, Events, Blocks, Epoch, Pace}
@@ -13,6 +12,7 @@ use Rattle.net_script.specs.Settings.{setting_words}
 use Rattle.net_script.specs.Commands.{link_word, wire_word}
 use Rattle.net_script.specs.Forms.{Form, Number, AnyRoutes, SwitchLine, LinkLine, HostLine, ChangesLink, ChangesWire, Sends, Restarts, End, form_words}
 use Rattle.net_script.specs.Texts.{HasNoForm}
+use Rattle.text_lines.proofs.ChoiceLemmas.{word_is, branch, mapped}
 
 -- a limit, a change of a link and one of a wire, by their words
 abbrev pub limit_of : List ℕ → Option Setting
@@ -65,15 +65,6 @@ one_form f g same = let h : Some f ≡ Some g = sym (form_of-form_words f) ∙ a
 pub no_form : (words : List (List ℕ)) → form_of words ≡ None → HasNoForm words
 no_form words none form same = let h : ◌≡◌ {A = Option Form} None (Some form) = sym none ∙ ap form_of same ∙ form_of-form_words form in absurd (cc)
 
--- bytes that compare alike are one
-pub word_is : (w v : List ℕ) → bytes_eq w v ≡ true → w ≡ v
-word_is w v same = (bytes_eq-Decides w v).0 same
-
--- a choice that found something
-pub branch : {X : Type 0} (b : Bool) (one more : Option X) (f : X) (Q : Type 0) → (b ≡ true → one ≡ Some f → Q) → (b ≡ false → more ≡ Some f → Q) → cond b one more ≡ Some f → Q
-branch true one more f Q here later found = here refl found
-branch false one more f Q here later found = later refl found
-
 limit_is : (w : List ℕ) (k : Setting) → limit_of w ≡ Some k → codes "limit" ∷ w ∷ [] ≡ setting_words k
 limit_is w k found =
     branch (bytes_eq w (codes "ticks")) _ _ k _ (λ t e. let h : Ticks ≡ k = cc in rw (word_is w (codes "ticks") t, ← h) refl)
@@ -94,11 +85,6 @@ wire_is w k found =
     (λ n. branch (bytes_eq w (codes "swap")) _ _ k _ (λ t e. let h : wire.Swap ≡ k = cc in rw (word_is w (codes "swap") t, ← h) refl)
     (λ n. branch (bytes_eq w (codes "noise")) _ _ k _ (λ t e. let h : wire.Noise ≡ k = cc in rw (word_is w (codes "noise") t, ← h) refl)
     (λ n e. absurd (cc))))) found
-
--- a choice by a map
-pub mapped : {X Y : Type 0} (o : Option X) (g : X → Y) (f : Y) (Q : Type 0) → ((x : X) → o ≡ Some x → g x ≡ f → Q) → option_map g o ≡ Some f → Q
-mapped None g f Q here found = absurd (cc)
-mapped (Some x) g f Q here found = let same : g x ≡ f = cc in here x refl same
 
 -- two words that compare alike
 words_are : (a v b w : List ℕ) → (bytes_eq a v && bytes_eq b w) ≡ true → (a ≡ v) × (b ≡ w)

@@ -20,19 +20,20 @@ use Rattle.net_script.specs.declared.draft.Part.TheVariants.{Header, Items, Afte
 use Rattle.net_script.specs.declared.setting.Limits.{Limits}
 use Rattle.net_script.specs.declared.setting.Setting.{Setting}
 use Rattle.net_script.specs.declared.setting.Setting.TheVariants.{Ticks, Events, Blocks, Epoch, Pace}
-use Rattle.net_script.specs.Words.{is_name, is_number, number_value, is_uid, uid_value}
-use Rattle.net_script.specs.Lines.{lines_of, words_of}
-use Rattle.net_script.specs.Causes.{unless}
+use Rattle.text_lines.specs.Words.{is_name, is_number, number_value, is_uid, uid_value}
+use Rattle.text_lines.specs.Lines.{lines_of, words_of}
+use Rattle.text_lines.specs.Faults.{unless}
 use Rattle.net_script.specs.Settings.{least_of, most_of, has_come}
 use Rattle.net_script.specs.Commands.{IsPort, IsCommandEvent, is_used, is_linked, last_time, link_event, wire_event, most_count, is_restart}
 use Rattle.net_script.specs.Scripts.{ScriptOf, IsScript, IsLimits, IsPace, IsNewName, CanAddSwitch, CanAddLink, CanAddHost, CanAddCommand, lives_of, with_setting}
 use Rattle.net_script.specs.Forms.{Form, Number, AnyRoutes, SwitchLine, LinkLine, HostLine, ChangesLink, ChangesWire, Sends, Restarts, End}
 use Rattle.net_script.specs.Rules.{is_taken, is_uid_taken, place, port_cause, number_cause, new_name_cause, new_uid_cause, known_cause, had_cause, had_of, time_cause, lives_cause, commands_cause, is_free, switch_of, link_of, host_of, setting_cause, switch_cause, link_cause, host_cause, link_change_cause, wire_change_cause, send_cause, restart_cause, link_command, wire_command, send_command, restart_command, cause_of, with_form}
 use Rattle.net_script.specs.Drafts.{start}
-use Rattle.net_script.specs.Texts.{AddsWords, AddsRow, Leads, IsText}
-use Rattle.net_script.proofs.CauseLemmas.{no_first, holds, not_true}
+use Rattle.net_script.specs.Texts.{AddsWords, Leads, IsText}
+use Rattle.net_script.proofs.TextLemmas.{AddsRow}
+use Rattle.text_lines.proofs.FaultLemmas.{no_first, holds, not_true}
 use Rattle.net_script.proofs.FieldLemmas.{not_taken, uid_test}
-use Rattle.net_script.proofs.KeptLemmas.{known_low, in_range}
+use Rattle.net_script.proofs.RangeLemmas.{known_low, in_range}
 use Rattle.net_script.proofs.ScriptLemmas.{empty_kept, switch_kept, link_kept, host_kept, command_kept}
 
 -- FIELDS WITH WHICH NOTHING IS WRONG

@@ -1,7 +1,8 @@
-use Rattle.std.specs.Prelude.{ℕ, Bool, List, [], ◌∷◌, Option, Some, None, codes, if◌then◌else◌}
-use Rattle.std.specs.Option.{option_or}
+use Rattle.std.specs.Prelude.{ℕ, List, codes}
 use Rattle.net_script.specs.declared.cause.ScriptCause.{ScriptCause}
 use Rattle.net_script.specs.declared.cause.ScriptCause.TheVariants.{NotAscii, BadHeader, UnknownWord, BadNumber, BadName, NameTwice, UidTwice, NoSuchName, PortRange, PortUsed, TooMany, TimesFall, NoEnd, AfterEnd, LineTooLong, NoLink, TablesShort}
+
+-- The words for what is wrong with a script.
 
 -- the words for a cause
 abbrev pub cause_text : ScriptCause → List ℕ
@@ -22,12 +23,3 @@ cause_text AfterEnd = codes "after end"
 cause_text LineTooLong = codes "line too long"
 cause_text NoLink = codes "no link"
 cause_text TablesShort = codes "tables short"
-
--- the cause, where what is asked for does not hold
-abbrev pub unless : Bool → ScriptCause → Option ScriptCause
-unless holds cause = if holds then None else Some cause
-
--- the first of some causes
-abbrev pub first_of : List (Option ScriptCause) → Option ScriptCause
-first_of [] = None
-first_of (c ∷ cs) = option_or c (first_of cs)

@@ -11,14 +11,16 @@ use Rattle.net_script.specs.declared.command.LinkChange.TheVariants as link
 use Rattle.net_script.specs.declared.command.WireChange.{WireChange}
 use Rattle.net_script.specs.declared.command.WireChange.TheVariants as wire
 
+-- Timed commands, and which of them can be in a wiring.
+
 -- the word for a change of a link, and its event
 abbrev pub link_word : LinkChange → List ℕ
 link_word link.Fail = codes "fail"
 link_word link.Repair = codes "repair"
 
 abbrev pub link_event : LinkChange → ℕ → ℕ → Event
-link_event link.Fail s p = Fail s p
-link_event link.Repair s p = Repair s p
+link_event link.Fail node port = Fail node port
+link_event link.Repair node port = Repair node port
 
 -- the word for a change of what a wire does, its event, and its greatest number
 abbrev pub wire_word : WireChange → List ℕ
@@ -28,10 +30,10 @@ wire_word wire.Swap = codes "swap"
 wire_word wire.Noise = codes "noise"
 
 abbrev pub wire_event : WireChange → ℕ → ℕ → ℕ → Event
-wire_event wire.Lose s p n = Lose s p n
-wire_event wire.Again s p n = Again s p n
-wire_event wire.Swap s p n = Swap s p n
-wire_event wire.Noise s p n = Noise s p n
+wire_event wire.Lose node port count = Lose node port count
+wire_event wire.Again node port count = Again node port count
+wire_event wire.Swap node port count = Swap node port count
+wire_event wire.Noise node port count = Noise node port count
 
 abbrev pub most_count : WireChange → ℕ
 most_count wire.Lose = 1000000
@@ -40,59 +42,59 @@ most_count wire.Swap = 1000000
 most_count wire.Noise = 64
 
 -- whether a port has a link or a host
-abbrev pub is_used : Wires → ℕ → ℕ → Bool
-is_used w s p = is_some (far_at w s p)
+abbrev pub is_used : Wires → (node port : ℕ) → Bool
+is_used wires node port = is_some (far_at wires node port)
 
 -- whether this is a port of a switch
 abbrev pub is_switch_far : Option Far → Bool
 is_switch_far None = false
-is_switch_far (Some (Switch s p)) = true
-is_switch_far (Some (HostAt h)) = false
+is_switch_far (Some (Switch node port)) = true
+is_switch_far (Some (HostAt host)) = false
 
 -- whether a port has a link
-abbrev pub is_linked : Wires → ℕ → ℕ → Bool
-is_linked w s p = is_switch_far (far_at w s p)
+abbrev pub is_linked : Wires → (node port : ℕ) → Bool
+is_linked wires node port = is_switch_far (far_at wires node port)
 
 -- a port of a switch
-pub record IsPort (w : Wires) (s p : ℕ) : Type 0 where
-  pub switch : s < length w.switches
-  pub port_least : 1 ≤ p
-  pub port_most : p ≤ 12
+pub record IsPort (wires : Wires) (node own_port : ℕ) : Type 0 where
+  pub switch : node < length wires.switches
+  pub port_least : 1 ≤ own_port
+  pub port_most : own_port ≤ 12
 
 -- a port that has a link or a host
-pub record IsUsedPort (w : Wires) (s p : ℕ) : Type 0 where
-  pub port : IsPort w s p
-  pub used : is_used w s p ≡ true
+pub record IsUsedPort (wires : Wires) (node own_port : ℕ) : Type 0 where
+  pub port : IsPort wires node own_port
+  pub used : is_used wires node own_port ≡ true
 
 -- a change of a wire that can be
-pub record IsWireChange (w : Wires) (s p n most : ℕ) : Type 0 where
-  pub port : IsPort w s p
-  pub linked : is_linked w s p ≡ true
-  pub count_least : 1 ≤ n
-  pub count_most : n ≤ most
+pub record IsWireChange (wires : Wires) (node own_port count most : ℕ) : Type 0 where
+  pub port : IsPort wires node own_port
+  pub linked : is_linked wires node own_port ≡ true
+  pub count_least : 1 ≤ count
+  pub count_most : count ≤ most
 
 -- the events that a command may have in a wiring
 abbrev pub IsCommandEvent : Wires → Event → Type 0
-IsCommandEvent w (Fail s p) = IsUsedPort w s p
-IsCommandEvent w (Repair s p) = IsUsedPort w s p
-IsCommandEvent w (Lose s p n) = IsWireChange w s p n 1000000
-IsCommandEvent w (Again s p n) = IsWireChange w s p n 1000000
-IsCommandEvent w (Swap s p n) = IsWireChange w s p n 1000000
-IsCommandEvent w (Noise s p n) = IsWireChange w s p n 64
-IsCommandEvent w (Send h g) = (h < length w.hosts) × (g < length w.hosts)
-IsCommandEvent w (Restart s) = s < length w.switches
-IsCommandEvent w e = ⊥
+IsCommandEvent wires (Fail node port) = IsUsedPort wires node port
+IsCommandEvent wires (Repair node port) = IsUsedPort wires node port
+IsCommandEvent wires (Lose node port count) = IsWireChange wires node port count 1000000
+IsCommandEvent wires (Again node port count) = IsWireChange wires node port count 1000000
+IsCommandEvent wires (Swap node port count) = IsWireChange wires node port count 1000000
+IsCommandEvent wires (Noise node port count) = IsWireChange wires node port count 64
+IsCommandEvent wires (Send host to) = (host < length wires.hosts) × (to < length wires.hosts)
+IsCommandEvent wires (Restart node) = node < length wires.switches
+IsCommandEvent wires event = ⊥
 
 -- a command that can be in a wiring
-pub record IsCommand (w : Wires) (c : Command) : Type 0 where
-  pub time : c.time ≤ 1000000
-  pub event : IsCommandEvent w c.event
+pub record IsCommand (wires : Wires) (one : Command) : Type 0 where
+  pub time : one.time ≤ 1000000
+  pub event : IsCommandEvent wires one.event
 
 -- whether an event is a restart
 abbrev pub is_restart : Event → Bool
-is_restart (Restart s) = true
-is_restart e = false
+is_restart (Restart node) = true
+is_restart event = false
 
 -- the time of the last command, 0 without one
 abbrev pub last_time : List Command → ℕ
-last_time cs = option_map_or (λ c. c.time) (slice_get cs (length cs - 1)) 0
+last_time commands = option_map_or (λ command. command.time) (slice_get commands (length commands - 1)) 0

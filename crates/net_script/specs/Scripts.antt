@@ -4,12 +4,14 @@ use Rattle.net_graph.specs.declared.wiring.SwitchAt.{SwitchAt}
 use Rattle.net_graph.specs.declared.wiring.LinkAt.{LinkAt}
 use Rattle.net_graph.specs.declared.wiring.HostOn.{HostOn}
 use Rattle.net_graph.specs.Wires.{Wires, IsWired, IsSwitch, IsLink, IsHost, uids, used_ports, a_end, b_end, host_end}
-use Rattle.net_script.specs.Words.{IsName}
+use Rattle.text_lines.specs.Words.{IsName}
 use Rattle.net_script.specs.declared.setting.Setting.{Setting}
 use Rattle.net_script.specs.declared.setting.Setting.TheVariants.{Ticks, Events, Blocks, Epoch, Pace}
 use Rattle.net_script.specs.declared.command.Command.{Command}
 use Rattle.net_script.specs.Commands.{IsCommand, is_restart, last_time}
 use Rattle.net_script.specs.declared.setting.Limits.{Limits}
+
+-- Scripts, and what each keeps.
 
 -- a script: the wiring, the names of its switches and hosts by place, the commands in order, and the
 -- settings
@@ -25,102 +27,121 @@ pub record ScriptOf : Type 0 where
 
 -- the names of switches and hosts, which share one set
 abbrev pub names_of : ScriptOf → List (List ℕ)
-names_of s = s.switch_names ++ s.names_of_hosts
+names_of script = script.switch_names ++ script.names_of_hosts
 
 -- the restarts among commands
 unfoldable pub restarts_of : List Command → ℕ
-restarts_of cs = count_by (λ c. is_restart c.event) cs
+restarts_of commands = count_by (λ command. is_restart command.event) commands
 
 -- the lives of switches: one each, and one for each restart
 abbrev pub lives_of : ScriptOf → ℕ
-lives_of s = length s.wires.switches + restarts_of s.commands
+lives_of script = length script.wires.switches + restarts_of script.commands
 
 -- the ranges of limits
-pub record IsLimits (l : Limits) : Type 0 where
-  pub ticks : l.ticks ≤ 1000000
-  pub events_least : 2 ≤ l.events
-  pub events_most : l.events ≤ 16000000
-  pub blocks_least : 1 ≤ l.blocks
-  pub blocks_most : l.blocks ≤ 1048576
+pub record IsLimits (limits : Limits) : Type 0 where
+  pub ticks : limits.ticks ≤ 1000000
+  pub events_least : 2 ≤ limits.events
+  pub events_most : limits.events ≤ 16000000
+  pub blocks_least : 1 ≤ limits.blocks
+  pub blocks_most : limits.blocks ≤ 1048576
 
 -- the range of a pace
 abbrev pub IsPace : Option ℕ → Type 0
-IsPace pace = IfSome pace (λ n. (1 ≤ n) × (n ≤ 1000000))
+IsPace pace = IfSome pace (λ number. (1 ≤ number) × (number ≤ 1000000))
 
 -- what every script keeps
-pub record IsScript (s : ScriptOf) : Type 0 where
-  pub wired : IsWired s.wires
-  pub switch_count : length s.switch_names ≡ length s.wires.switches
-  pub host_count : length s.names_of_hosts ≡ length s.wires.hosts
-  pub switch_names : All IsName s.switch_names
-  pub names_of_hosts : All IsName s.names_of_hosts
-  pub names_apart : AllPairs (λ n m. n ≢ m) (names_of s)
-  pub command_count : length s.commands ≤ 10000
-  pub commands : All (IsCommand s.wires) s.commands
-  pub times : IsNonDecreasingBy (λ c. c.time) s.commands
-  pub lives : lives_of s ≤ 126
-  pub epoch : s.epoch < 2 ^ 64
-  pub pace : IsPace s.pace
-  pub limits : IsLimits s.limits
+pub record IsScript (script : ScriptOf) : Type 0 where
+  pub wired : IsWired script.wires
+  pub switch_count : length script.switch_names ≡ length script.wires.switches
+  pub host_count : length script.names_of_hosts ≡ length script.wires.hosts
+  pub switch_names : All IsName script.switch_names
+  pub names_of_hosts : All IsName script.names_of_hosts
+  pub names_apart : AllPairs (λ one other. one ≢ other) (names_of script)
+  pub command_count : length script.commands ≤ 10000
+  pub commands : All (IsCommand script.wires) script.commands
+  pub times : IsNonDecreasingBy (λ command. command.time) script.commands
+  pub lives : lives_of script ≤ 126
+  pub epoch : script.epoch < 2 ^ 64
+  pub pace : IsPace script.pace
+  pub limits : IsLimits script.limits
 
 -- the script without lines between the first and the last
 abbrev pub empty_script : ScriptOf
-empty_script = record { wires = record { switches = []; links = []; hosts = [] }; switch_names = []; names_of_hosts = []; commands = []; epoch = 0; pace = None; limits = record { ticks = 4096; events = 2000000; blocks = 65536 }; any_routes = false }
+empty_script =
+    record {
+      wires = record { switches = []; links = []; hosts = [] };
+      switch_names = [];
+      names_of_hosts = [];
+      commands = [];
+      epoch = 0;
+      pace = None;
+      limits = record { ticks = 4096; events = 2000000; blocks = 65536 };
+      any_routes = false;
+    }
 
--- s with one more switch
+-- the script with one more switch
 abbrev pub with_switch : ScriptOf → List ℕ → SwitchAt → ScriptOf
-with_switch s name x = record s { wires = record s.wires { switches = s.wires.switches ++ x ∷ [] }; switch_names = s.switch_names ++ name ∷ [] }
+with_switch script name added =
+    record script {
+      wires = record script.wires { switches = script.wires.switches ++ added ∷ [] };
+      switch_names = script.switch_names ++ name ∷ [];
+    }
 
--- s with one more link
+-- the script with one more link
 abbrev pub with_link : ScriptOf → LinkAt → ScriptOf
-with_link s l = record s { wires = record s.wires { links = s.wires.links ++ l ∷ [] } }
+with_link script added =
+    record script { wires = record script.wires { links = script.wires.links ++ added ∷ [] } }
 
--- s with one more host
+-- the script with one more host
 abbrev pub with_host : ScriptOf → List ℕ → HostOn → ScriptOf
-with_host s name x = record s { wires = record s.wires { hosts = s.wires.hosts ++ x ∷ [] }; names_of_hosts = s.names_of_hosts ++ name ∷ [] }
+with_host script name added =
+    record script {
+      wires = record script.wires { hosts = script.wires.hosts ++ added ∷ [] };
+      names_of_hosts = script.names_of_hosts ++ name ∷ [];
+    }
 
--- s with one more command
+-- the script with one more command
 abbrev pub with_command : ScriptOf → Command → ScriptOf
-with_command s c = record s { commands = s.commands ++ c ∷ [] }
+with_command script command = record script { commands = script.commands ++ command ∷ [] }
 
--- s with this setting
+-- the script with this setting
 abbrev pub with_setting : ScriptOf → Setting → ℕ → ScriptOf
-with_setting s Ticks n = record s { limits = record s.limits { ticks = n } }
-with_setting s Events n = record s { limits = record s.limits { events = n } }
-with_setting s Blocks n = record s { limits = record s.limits { blocks = n } }
-with_setting s Epoch n = record s { epoch = n }
-with_setting s Pace n = record s { pace = Some n }
+with_setting script Ticks number = record script { limits = record script.limits { ticks = number } }
+with_setting script Events number = record script { limits = record script.limits { events = number } }
+with_setting script Blocks number = record script { limits = record script.limits { blocks = number } }
+with_setting script Epoch number = record script { epoch = number }
+with_setting script Pace number = record script { pace = Some number }
 
 -- a new name
-pub record IsNewName (s : ScriptOf) (name : List ℕ) : Type 0 where
+pub record IsNewName (script : ScriptOf) (name : List ℕ) : Type 0 where
   pub is_name : IsName name
-  pub is_new : ¬ Contains (names_of s) name
+  pub is_new : ¬ Contains (names_of script) name
 
--- s may get this switch
-pub record CanAddSwitch (s : ScriptOf) (name : List ℕ) (x : SwitchAt) : Type 0 where
-  pub new_name : IsNewName s name
-  pub switch : IsSwitch x
-  pub uid_new : ¬ Contains (uids s.wires) x.uid
-  pub room : lives_of s < 126
+-- the script may get this switch
+pub record CanAddSwitch (script : ScriptOf) (name : List ℕ) (added : SwitchAt) : Type 0 where
+  pub new_name : IsNewName script name
+  pub switch : IsSwitch added
+  pub uid_new : ¬ Contains (uids script.wires) added.uid
+  pub room : lives_of script < 126
 
--- s may get this link
-pub record CanAddLink (s : ScriptOf) (l : LinkAt) : Type 0 where
-  pub link : IsLink (length s.wires.switches) l
-  pub apart : a_end l ≢ b_end l
-  pub a_free : ¬ Contains (used_ports s.wires) (a_end l)
-  pub b_free : ¬ Contains (used_ports s.wires) (b_end l)
+-- the script may get this link
+pub record CanAddLink (script : ScriptOf) (added : LinkAt) : Type 0 where
+  pub link : IsLink (length script.wires.switches) added
+  pub apart : a_end added ≢ b_end added
+  pub a_free : ¬ Contains (used_ports script.wires) (a_end added)
+  pub b_free : ¬ Contains (used_ports script.wires) (b_end added)
 
--- s may get this host
-pub record CanAddHost (s : ScriptOf) (name : List ℕ) (x : HostOn) : Type 0 where
-  pub new_name : IsNewName s name
-  pub host : IsHost (length s.wires.switches) x
-  pub uid_new : ¬ Contains (uids s.wires) x.uid
-  pub free : ¬ Contains (used_ports s.wires) (host_end x)
-  pub room : length s.wires.hosts < 1000
+-- the script may get this host
+pub record CanAddHost (script : ScriptOf) (name : List ℕ) (added : HostOn) : Type 0 where
+  pub new_name : IsNewName script name
+  pub host : IsHost (length script.wires.switches) added
+  pub uid_new : ¬ Contains (uids script.wires) added.uid
+  pub free : ¬ Contains (used_ports script.wires) (host_end added)
+  pub room : length script.wires.hosts < 1000
 
--- s may get this command
-pub record CanAddCommand (s : ScriptOf) (c : Command) : Type 0 where
-  pub command : IsCommand s.wires c
-  pub time : last_time s.commands ≤ c.time
-  pub room : length s.commands < 10000
-  pub lives : is_restart c.event ≡ true → lives_of s < 126
+-- the script may get this command
+pub record CanAddCommand (script : ScriptOf) (added : Command) : Type 0 where
+  pub command : IsCommand script.wires added
+  pub time : last_time script.commands ≤ added.time
+  pub room : length script.commands < 10000
+  pub lives : is_restart added.event ≡ true → lives_of script < 126

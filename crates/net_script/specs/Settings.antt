@@ -3,6 +3,8 @@ use Rattle.net_script.specs.declared.setting.Setting.{Setting}
 use Rattle.net_script.specs.declared.setting.Setting.TheVariants.{Ticks, Events, Blocks, Epoch, Pace}
 use Rattle.net_script.specs.declared.setting.Came.{Came}
 
+-- The settings of a script that are numbers.
+
 -- the words before the number of a setting
 abbrev pub setting_words : Setting → List (List ℕ)
 setting_words Ticks = codes "limit" ∷ codes "ticks" ∷ []
@@ -29,7 +31,8 @@ most_of Pace = 1000000
 
 -- no setting had its line
 abbrev pub none_came : Came
-none_came = record { ticks = false; events = false; blocks = false; epoch = false; pace = false; routes = false }
+none_came =
+    record { ticks = false; events = false; blocks = false; epoch = false; pace = false; routes = false }
 
 -- whether a setting had its line
 abbrev pub has_come : Came → Setting → Bool

@@ -1,44 +1,30 @@
-use Rattle.std.specs.Prelude.{◌≡◌, ℕ, List, Option, Some, None, Result, Ok, Err, ⊤}
+use Rattle.std.specs.Prelude.{◌≡◌, ℕ, List, Some}
+use Rattle.text_lines.specs.declared.stop.Stop.{Stop}
+use Rattle.text_lines.specs.declared.stop.Refusal.{Refusal}
+use Rattle.text_lines.specs.Stops.{IsRefusalBy, ReadsFormBy}
 use Rattle.net_script.specs.declared.cause.ScriptCause.{ScriptCause}
-use Rattle.net_script.specs.declared.form.Stop.{Stop}
-use Rattle.net_script.specs.declared.form.Stop.TheVariants.{Fault, OutOfMemory}
-use Rattle.net_script.specs.declared.reader.ReadRefusal.{ReadRefusal}
-use Rattle.net_script.specs.declared.reader.ReadRefusal.TheVariants as refusal
 use Rattle.net_script.specs.declared.draft.Draft.{Draft}
 use Rattle.net_script.specs.Forms.{Form}
 use Rattle.net_script.specs.Rules.{cause_of, with_form}
 use Rattle.net_script.specs.Texts.{IsFault}
 
--- a field has this value where nothing is wrong with it, and else is refused by the cause
-abbrev pub IsField : {T : Type 0} → Result T ScriptCause → Option ScriptCause → T → Type 0
-IsField (Ok found) cause value = (cause ≡ None) × (found ≡ value)
-IsField (Err c) cause value = cause ≡ Some c
+-- The steps of the reader.
 
--- nothing is wrong, and else it is refused by the cause
-abbrev pub IsTest : {T : Type 0} → Result T ScriptCause → Option ScriptCause → Type 0
-IsTest (Ok found) cause = cause ≡ None
-IsTest (Err c) cause = cause ≡ Some c
+-- why a line of a script adds nothing, and why bytes were not read as a script
+abbrev pub ScriptStop : Type 0
+ScriptStop = Stop ScriptCause
 
--- a step is good, or is stopped by a cause for which it is faulty, or by want of memory
-abbrev pub IsStep : {T : Type 0} → Result T Stop → Type 0 → (ScriptCause → Type 0) → Type 0
-IsStep (Ok done) good faulty = good
-IsStep (Err (Fault c)) good faulty = faulty c
-IsStep (Err OutOfMemory) good faulty = ⊤
+abbrev pub ReadRefusal : Type 0
+ReadRefusal = Refusal ScriptCause
 
--- nothing is wrong with a line of this form after d, and e is d with what it adds
+-- nothing is wrong with a line of this form after a draft, and it leads to the draft with what it adds
 abbrev pub ReadsForm : Draft → Form → Draft → Type 0
-ReadsForm d form e = (cause_of d form ≡ None) × (e ≡ with_form d form)
+ReadsForm = ReadsFormBy cause_of with_form
 
--- this is wrong with a line of this form after d
+-- this is wrong with a line of this form after a draft
 abbrev pub IsWrong : Draft → Form → ScriptCause → Type 0
-IsWrong d form c = cause_of d form ≡ Some c
+IsWrong draft form cause = cause_of draft form ≡ Some cause
 
 -- the refusal says the first fault of the bytes, or that no memory was found
 abbrev pub IsRefusal : List ℕ → ReadRefusal → Type 0
-IsRefusal bytes (refusal.Fault line c) = IsFault bytes line c
-IsRefusal bytes refusal.OutOfMemory = ⊤
-
--- the refusal of a text that was stopped at this line
-abbrev pub refusal_at : ℕ → Stop → ReadRefusal
-refusal_at line (Fault c) = refusal.Fault line c
-refusal_at line OutOfMemory = refusal.OutOfMemory
+IsRefusal bytes = IsRefusalBy (IsFault bytes)

@@ -22,7 +22,7 @@ pub enum ScriptCause {
     UidTwice,
     /// No earlier switch, or host where one is wanted, has the name.
     NoSuchName,
-    /// A port number is not 1 to 12.
+    /// A number of a port is not 1 to 12, or an entry of a routing table is not 0 to 12.
     PortRange,
     /// The port has a link or a host already, or both ends of a link are one port.
     PortUsed,

@@ -3,8 +3,8 @@
 ghost use Rattle.std.specs.Prelude.{◌≡◌, ◌≢◌, IfSome, IfNone};
 ghost use Rattle.net_script.specs.Commands.{link_event, most_count, wire_word, wire_event, is_restart};
 
-use crate::word::is;
 use an_base::event::Event;
+use text_lines::word::is;
 
 /// An event of a script, and the tick from which it is due.
 #[derive(Clone, Copy, Debug, PartialEq, Eq)]

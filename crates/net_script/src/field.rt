@@ -4,17 +4,17 @@ ghost use Rattle.std.specs.Prelude.{◌≡◌, ◌≢◌, ◌<◌, ◌≤◌, �
 ghost use Rattle.std.specs.Option.{option_map};
 ghost use Rattle.net_graph.specs.Wires.{uids, used_ports, a_end, b_end};
 ghost use Rattle.net_script.specs.declared.cause.ScriptCause.TheVariants.{PortUsed, NoLink};
-ghost use Rattle.net_script.specs.Words.{number_value, uid_value};
-ghost use Rattle.net_script.specs.Causes.{unless};
+ghost use Rattle.text_lines.specs.Words.{number_value, uid_value};
+ghost use Rattle.text_lines.specs.Faults.{unless};
 ghost use Rattle.net_script.specs.Commands.{is_used, is_linked, last_time};
 ghost use Rattle.net_script.specs.Scripts.{IsNewName, lives_of};
 ghost use Rattle.net_script.specs.Rules.{number_cause, port_cause, new_name_cause, new_uid_cause, known_cause, had_cause, time_cause, lives_cause, commands_cause, is_taken, is_free, place, had_of};
-ghost use Rattle.net_script.specs.Steps.{IsField, IsTest};
+ghost use Rattle.text_lines.specs.Faults.{IsField, IsTest};
 
 use crate::cause::ScriptCause;
 use crate::script::{MOST_COMMANDS, MOST_LIVES, MOST_TIME, Script};
-use crate::word::{is_name, is_number, number_between, number_of, uid_of};
 use net_graph::wiring::{Far, LinkAt, Wiring};
+use text_lines::word::{is_name, is_number, number_between, number_of, uid_of};
 
 /// The number of a range that a word says.
 pub fn number_in(word: &[u8], least: u64, most: u64) -> Result<u64, ScriptCause>

@@ -2,7 +2,7 @@
 
 ghost use Rattle.std.specs.Prelude.{◌≡◌, ◌≢◌, [], ◌∷◌, None, map, codes, IfOk, IfSome, IfNone};
 ghost use Rattle.std.specs.Option.{option_map};
-ghost use Rattle.net_script.specs.declared.form.Stop.TheVariants.{Fault, OutOfMemory};
+ghost use Rattle.text_lines.specs.declared.stop.Stop.TheVariants.{Fault};
 ghost use Rattle.net_script.specs.Settings.{setting_words};
 ghost use Rattle.net_script.specs.Commands.{link_word};
 ghost use Rattle.net_script.specs.Scripts.{CanAddSwitch, CanAddLink, CanAddHost, CanAddCommand};
@@ -11,7 +11,9 @@ ghost use Rattle.net_script.specs.Rules.{switch_of, link_of, host_of, link_comma
 ghost use Rattle.net_script.specs.declared.setting.Setting.{Setting};
 ghost use Rattle.net_script.specs.declared.command.LinkChange.{LinkChange};
 ghost use Rattle.net_script.specs.Texts.{AddsForm, IsFaultyForm};
-ghost use Rattle.net_script.specs.Steps.{IsField, IsStep, ReadsForm, IsWrong};
+ghost use Rattle.text_lines.specs.Faults.{IsField};
+ghost use Rattle.text_lines.specs.Stops.{IsStep};
+ghost use Rattle.net_script.specs.Steps.{ReadsForm, IsWrong};
 
 use crate::cause::ScriptCause;
 use crate::command::{Command, LinkChange, WireChange};
@@ -22,40 +24,26 @@ use crate::field::{
 };
 use crate::script::Script;
 use crate::setting::Setting;
-use crate::word::is;
 use an_base::event::Event;
-use an_base::memory::OutOfMemory;
 use an_base::text::Word;
 use net_graph::wiring::{HostOn, LinkAt, MOST_HOSTS, SwitchAt};
 use std::alloc::Global;
+use text_lines::stop::Stop;
+use text_lines::word::is;
 
-/// Why a line adds nothing.
-#[derive(Clone, Copy, Debug, PartialEq, Eq)]
-pub enum Stop {
-    /// It is faulty.
-    Fault(ScriptCause),
-    /// No memory was found.
-    OutOfMemory,
-}
+/// Why a line of a script adds nothing.
+pub type ScriptStop = Stop<ScriptCause>;
 
-impl From<ScriptCause> for Stop {
+impl From<ScriptCause> for Stop<ScriptCause> {
     ghost from_gives = { λ cause stop. stop ≡ Fault cause };
 
-    fn from(cause: ScriptCause) -> Stop {
+    fn from(cause: ScriptCause) -> Stop<ScriptCause> {
         Stop::Fault(cause)
     }
 }
 
-impl From<OutOfMemory> for Stop {
-    ghost from_gives = { λ _ stop. stop ≡ OutOfMemory };
-
-    fn from(_error: OutOfMemory) -> Stop {
-        Stop::OutOfMemory
-    }
-}
-
 /// Adds what a line of these words says.
-pub fn read_form(draft: &mut Draft, alloc: Global, words: &[&[u8]]) -> Result<(), Stop>
+pub fn read_form(draft: &mut Draft, alloc: Global, words: &[&[u8]]) -> Result<(), ScriptStop>
     ensures { IsStep result (AddsForm draft.old (map (λ w. w.now) words.now) draft.new)
         (IsFaultyForm draft.old (map (λ w. w.now) words.now)) }
 {
@@ -70,7 +58,7 @@ pub fn read_form(draft: &mut Draft, alloc: Global, words: &[&[u8]]) -> Result<()
     }
 }
 
-fn read_one(draft: &mut Draft, a: &[u8]) -> Result<(), Stop>
+fn read_one(draft: &mut Draft, a: &[u8]) -> Result<(), ScriptStop>
     ensures { IsStep result (AddsForm draft.old (a.now ∷ []) draft.new)
         (IsFaultyForm draft.old (a.now ∷ [])) }
 {
@@ -81,7 +69,7 @@ fn read_one(draft: &mut Draft, a: &[u8]) -> Result<(), Stop>
     Err(Stop::Fault(ScriptCause::UnknownWord))
 }
 
-fn read_two(draft: &mut Draft, a: &[u8], b: &[u8]) -> Result<(), Stop>
+fn read_two(draft: &mut Draft, a: &[u8], b: &[u8]) -> Result<(), ScriptStop>
     ensures { IsStep result (AddsForm draft.old (a.now ∷ b.now ∷ []) draft.new)
         (IsFaultyForm draft.old (a.now ∷ b.now ∷ [])) }
 {
@@ -97,7 +85,13 @@ fn read_two(draft: &mut Draft, a: &[u8], b: &[u8]) -> Result<(), Stop>
     Err(Stop::Fault(ScriptCause::UnknownWord))
 }
 
-fn read_three(draft: &mut Draft, alloc: Global, a: &[u8], b: &[u8], c: &[u8]) -> Result<(), Stop>
+fn read_three(
+    draft: &mut Draft,
+    alloc: Global,
+    a: &[u8],
+    b: &[u8],
+    c: &[u8],
+) -> Result<(), ScriptStop>
     ensures { IsStep result (AddsForm draft.old (a.now ∷ b.now ∷ c.now ∷ []) draft.new)
         (IsFaultyForm draft.old (a.now ∷ b.now ∷ c.now ∷ [])) }
 {
@@ -113,7 +107,7 @@ fn read_three(draft: &mut Draft, alloc: Global, a: &[u8], b: &[u8], c: &[u8]) ->
     Err(Stop::Fault(ScriptCause::UnknownWord))
 }
 
-fn read_four(draft: &mut Draft, a: &[u8], b: &[u8], c: &[u8], d: &[u8]) -> Result<(), Stop>
+fn read_four(draft: &mut Draft, a: &[u8], b: &[u8], c: &[u8], d: &[u8]) -> Result<(), ScriptStop>
     ensures { IsStep result (AddsForm draft.old (a.now ∷ b.now ∷ c.now ∷ d.now ∷ []) draft.new)
         (IsFaultyForm draft.old (a.now ∷ b.now ∷ c.now ∷ d.now ∷ [])) }
 {
@@ -131,7 +125,7 @@ fn read_five(
     c: &[u8],
     d: &[u8],
     e: &[u8],
-) -> Result<(), Stop>
+) -> Result<(), ScriptStop>
     ensures { IsStep result (AddsForm draft.old (a.now ∷ b.now ∷ c.now ∷ d.now ∷ e.now ∷ []) draft.new)
         (IsFaultyForm draft.old (a.now ∷ b.now ∷ c.now ∷ d.now ∷ e.now ∷ [])) }
 {
@@ -164,8 +158,9 @@ fn read_six(
     d: &[u8],
     e: &[u8],
     f: &[u8],
-) -> Result<(), Stop>
-    ensures { IsStep result (AddsForm draft.old (a.now ∷ b.now ∷ c.now ∷ d.now ∷ e.now ∷ f.now ∷ []) draft.new)
+) -> Result<(), ScriptStop>
+    ensures { IsStep result (AddsForm draft.old (a.now ∷ b.now ∷ c.now ∷ d.now ∷ e.now ∷ f.now
+        ∷ []) draft.new)
         (IsFaultyForm draft.old (a.now ∷ b.now ∷ c.now ∷ d.now ∷ e.now ∷ f.now ∷ [])) }
 {
     if is(a, "at") {
@@ -208,7 +203,7 @@ fn link_change_of(word: &[u8]) -> Option<LinkChange>
 }
 
 #[tactic(auto, unfolding(crate::specs::Rules::setting_cause))]
-fn read_setting(draft: &mut Draft, setting: Setting, n: &[u8]) -> Result<(), Stop>
+fn read_setting(draft: &mut Draft, setting: Setting, n: &[u8]) -> Result<(), ScriptStop>
     ensures { IsStep result (ReadsForm draft.old (Number setting n.now) draft.new)
         (IsWrong draft.old (Number setting n.now)) }
 {
@@ -221,7 +216,7 @@ fn read_setting(draft: &mut Draft, setting: Setting, n: &[u8]) -> Result<(), Sto
     Ok(())
 }
 
-fn read_any_routes(draft: &mut Draft) -> Result<(), Stop>
+fn read_any_routes(draft: &mut Draft) -> Result<(), ScriptStop>
     ensures { IsStep result (ReadsForm draft.old (AnyRoutes) draft.new)
         (IsWrong draft.old (AnyRoutes)) }
 {
@@ -258,7 +253,7 @@ fn read_switch(
     name: &[u8],
     uid: &[u8],
     had: Option<&[u8]>,
-) -> Result<(), Stop>
+) -> Result<(), ScriptStop>
     ensures { IsStep result (ReadsForm draft.old (SwitchLine name.now uid.now (option_map (λ w. w.now) had.entry)) draft.new)
         (IsWrong draft.old (SwitchLine name.now uid.now (option_map (λ w. w.now) had.entry))) }
 {
@@ -300,7 +295,7 @@ fn read_link(
     a_port: &[u8],
     b: &[u8],
     b_port: &[u8],
-) -> Result<(), Stop>
+) -> Result<(), ScriptStop>
     ensures { IsStep result (ReadsForm draft.old (LinkLine a.now a_port.now b.now b_port.now) draft.new)
         (IsWrong draft.old (LinkLine a.now a_port.now b.now b_port.now)) }
 {
@@ -339,7 +334,7 @@ fn read_host(
     uid: &[u8],
     switch: &[u8],
     port: &[u8],
-) -> Result<(), Stop>
+) -> Result<(), ScriptStop>
     ensures { IsStep result (ReadsForm draft.old (HostLine name.now uid.now switch.now port.now) draft.new)
         (IsWrong draft.old (HostLine name.now uid.now switch.now port.now)) }
 {
@@ -376,7 +371,7 @@ fn read_link_change(
     time: &[u8],
     name: &[u8],
     port: &[u8],
-) -> Result<(), Stop>
+) -> Result<(), ScriptStop>
     ensures { IsStep result (ReadsForm draft.old (ChangesLink change time.now name.now port.now) draft.new)
         (IsWrong draft.old (ChangesLink change time.now name.now port.now)) }
 {
@@ -416,7 +411,7 @@ fn read_wire_change(
     name: &[u8],
     port: &[u8],
     n: &[u8],
-) -> Result<(), Stop>
+) -> Result<(), ScriptStop>
     ensures { IsStep result (ReadsForm draft.old (ChangesWire change time.now name.now port.now n.now) draft.new)
         (IsWrong draft.old (ChangesWire change time.now name.now port.now n.now)) }
 {
@@ -439,7 +434,7 @@ fn send_in(script: &Script, time: &[u8], host: &[u8], to: &[u8]) -> Result<Comma
     Ok(Command { time, event })
 }
 
-fn read_send(draft: &mut Draft, time: &[u8], host: &[u8], to: &[u8]) -> Result<(), Stop>
+fn read_send(draft: &mut Draft, time: &[u8], host: &[u8], to: &[u8]) -> Result<(), ScriptStop>
     ensures { IsStep result (ReadsForm draft.old (Sends time.now host.now to.now) draft.new)
         (IsWrong draft.old (Sends time.now host.now to.now)) }
 {
@@ -462,7 +457,7 @@ fn restart_in(script: &Script, time: &[u8], name: &[u8]) -> Result<Command, Scri
     Ok(Command { time, event })
 }
 
-fn read_restart(draft: &mut Draft, time: &[u8], name: &[u8]) -> Result<(), Stop>
+fn read_restart(draft: &mut Draft, time: &[u8], name: &[u8]) -> Result<(), ScriptStop>
     ensures { IsStep result (ReadsForm draft.old (Restarts time.now name.now) draft.new)
         (IsWrong draft.old (Restarts time.now name.now)) }
 {

@@ -3,16 +3,16 @@
 ghost use Rattle.std.specs.Prelude.{◌≡◌, ◌<◌, ◌≤◌, true, length, OnOk, OnErr, IfSome};
 ghost use Rattle.net_script.specs.Settings.{least_of, most_of};
 ghost use Rattle.net_script.specs.Scripts.{IsScript, CanAddSwitch, CanAddLink, CanAddHost, CanAddCommand, empty_script, restarts_of, lives_of, with_switch, with_link, with_host, with_command, with_setting};
-ghost use Rattle.net_script.specs.Names.{place_of};
+ghost use Rattle.text_lines.specs.Names.{place_of};
 
 use crate::command::{Command, is_restart};
-use crate::names::Names;
 use crate::setting::{Limits, Setting};
 use an_base::memory::OutOfMemory;
 use an_base::text::Word;
 use net_graph::wiring::{HostOn, LinkAt, SwitchAt, Wiring};
 use std::alloc::Global;
 use std::marker::Model;
+use text_lines::names::Names;
 
 /// The most lives of switches: one for each switch, and one for each restart.
 pub const MOST_LIVES: usize = 126;
@@ -42,10 +42,28 @@ impl Model for Script {
 
     ghost Value = { ScriptOf };
 
-    ghost view = { λ s. record { wires = s.wiring; switch_names = s.switch_names; names_of_hosts = s.names_of_hosts; commands = s.commands.items; epoch = s.epoch; pace = s.pace; limits = s.limits; any_routes = s.any_routes } };
+    ghost view = { λ s. record {
+      wires = s.wiring;
+      switch_names = s.switch_names;
+      names_of_hosts = s.names_of_hosts;
+      commands = s.commands.items;
+      epoch = s.epoch;
+      pace = s.pace;
+      limits = s.limits;
+      any_routes = s.any_routes;
+    } };
 
     ghost invariant = { λ s. IsScript
-        (record { wires = s.wiring; switch_names = s.switch_names; names_of_hosts = s.names_of_hosts; commands = s.commands.items; epoch = s.epoch; pace = s.pace; limits = s.limits; any_routes = s.any_routes }) };
+        (record {
+          wires = s.wiring;
+          switch_names = s.switch_names;
+          names_of_hosts = s.names_of_hosts;
+          commands = s.commands.items;
+          epoch = s.epoch;
+          pace = s.pace;
+          limits = s.limits;
+          any_routes = s.any_routes;
+        }) };
 }
 
 impl Script {
@@ -93,7 +111,7 @@ impl Script {
         &self.names_of_hosts
     }
 
-    /// The place of the switch that has this name, in constant time.
+    /// The place of the switch that has this name.
     pub fn place_of_switch(&self, name: &[u8]) -> Option<u8>
         ensures place { result ≡ place_of self.now.switch_names name.now }
         ensures range { IfSome result (λ s. s < length self.now.wires.switches) }
@@ -103,7 +121,7 @@ impl Script {
         Some(place as u8)
     }
 
-    /// The place of the host that has this name, in constant time.
+    /// The place of the host that has this name.
     pub fn place_of_host(&self, name: &[u8]) -> Option<u16>
         ensures place { result ≡ place_of self.now.names_of_hosts name.now }
         ensures range { IfSome result (λ h. h < length self.now.wires.hosts) }

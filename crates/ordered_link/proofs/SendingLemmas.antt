@@ -1,4 +1,4 @@
-use Rattle.std.proofs.Common.{◌≡◌, ◌∙◌, sym, ap, subst, refl, ℕ, ◌+◌, ◌-◌, ◌<◌, ◌≤◌, List, [], ◌∷◌, ◌++◌, length, drop, arith, Option, Bool, true, false, cond, take, length-drop, drop-drop, ◌&&◌, nat_lt, nat_le, ◌⊎◌, inl, inr}
+use Rattle.std.proofs.Common.{◌≡◌, ◌∙◌, sym, ap, subst, ℕ, ◌+◌, ◌-◌, ◌<◌, ◌≤◌, List, [], ◌∷◌, ◌++◌, length, drop, arith, Option, Bool, true, false, cond, take, length-drop, drop-drop, ◌&&◌, nat_lt, nat_le, ◌⊎◌, inl, inr}
 use Rattle.std.proofs.lemmas.List.{drop-append-le, length_push, drop-take, take-append-le}
 use Rattle.std.proofs.lemmas.Bool.{lt-ltb, le-ltb, le-leb, lt-leb}
 use Rattle.std.proofs.Math.Bool.{and-false}

@@ -1,10 +1,11 @@
-use Rattle.std.proofs.Common.{◌≡◌, ◌∙◌, sym, ap, subst, refl, ℕ, zero, suc, ◌+◌, ◌-◌, ◌<◌, ◌≤◌, List, [], ◌∷◌, ◌++◌, length, arith, Option, Some, None, Bool, true, false, cond, slice_get, append_assoc, ◌⊎◌, inl, inr, nat_le, ◌==◌, ◌&&◌, nat_lt, eqb-true, append-nil}
+use Rattle.std.proofs.Common.{◌≡◌, ◌∙◌, sym, ap, subst, refl, ℕ, zero, suc, ◌+◌, ◌-◌, ◌≤◌, List, [], ◌∷◌, ◌++◌, length, arith, Option, Some, None, Bool, true, false, cond, slice_get, append_assoc, ◌⊎◌, inl, inr, nat_le, ◌==◌, ◌&&◌, nat_lt, eqb-true, append-nil}
 use Rattle.std.proofs.lemmas.List.{length_push}
 use Rattle.std.proofs.lemmas.Bool.{ltb-true}
 use Rattle.std.proofs.lemmas.Option.{none-some, same_Some, cond_some}
 use Rattle.an_base.specs.declared.body.Body.{Body}
+use Rattle.an_base.proofs.ListLemmas.{get_front}
 use Rattle.ordered_link.specs.Sending.{Sending, highest, may_send, next_to_send, send_next, is_waiting, with_pushed, push, sent_by_push, is_outstanding, forget, acknowledge, sent_by_ack, send_again}
-use Rattle.ordered_link.specs.Receiving.{Receiving, last, come, hold, accept, has_come, follow, follow_with}
+use Rattle.ordered_link.specs.Receiving.{Receiving, last, come, hold, accept, has_come, follow_with}
 use Rattle.ordered_link.specs.Session.{Session, Numbered, IsFrontOf, Event, numbered, put_out, sends, body_comes, ack_comes, happens, run, start}
 use Rattle.ordered_link.specs.Session.Event.{Push, More, Send_again, Body_comes, Follow, Answer, Ack_comes}
 
@@ -37,12 +38,6 @@ and_left : (b c : Bool) → (b && c) ≡ true → b ≡ true
 and_left true c h = refl
 and_left false c h = h
 
--- an element stays where it is once more stand behind it
-get_front : {X : Type 0} (xs ys : List X) (i : ℕ) (x : X) → slice_get xs i ≡ Some x → slice_get (xs ++ ys) i ≡ Some x
-get_front [] ys i x h = absurd (none-some x h)
-get_front (y ∷ xs) ys zero x h = h
-get_front (y ∷ xs) ys (suc i) x h = get_front xs ys i x h
-
 get_behind : {X : Type 0} (xs ys : List X) → slice_get (xs ++ ys) (length xs) ≡ slice_get ys 0
 get_behind [] ys = refl
 get_behind (x ∷ xs) ys = get_behind xs ys
@@ -58,8 +53,22 @@ front_more accepted pushed b front next =
     (front_next accepted front.0 b (sym (get_behind accepted front.0) ∙ ap (λ l. slice_get l (length accepted)) front.1 ∙ next))
 
 -- bodies stay when more are pushed
-body_more : (pushed more : List Body) (k : ℕ) (b : Body) → IsBody pushed k b → IsBody (pushed ++ more) k b
+pub body_more : (pushed more : List Body) (k : ℕ) (b : Body) → IsBody pushed k b → IsBody (pushed ++ more) k b
 body_more pushed more k b h = record { least = h.least; there = get_front pushed more (k - 1) b h.there }
+
+-- a body keeps its number where more stands behind
+pub body_front : (pushed whole : List Body) (k : ℕ) (b : Body) → IsFrontOf pushed whole → IsBody pushed k b → IsBody whole k b
+body_front pushed whole k b front is = subst (λ (l : List Body). IsBody l k b) front.1 (body_more pushed front.0 k b is)
+
+-- fronts
+pub front_itself : (xs : List Body) → IsFrontOf xs xs
+front_itself xs = ([], append-nil xs)
+
+pub front_same : (xs ys : List Body) → ys ≡ xs → IsFrontOf xs ys
+front_same xs ys is = ([], append-nil xs ∙ sym is)
+
+pub front_trans : (xs ys zs : List Body) → IsFrontOf xs ys → IsFrontOf ys zs → IsFrontOf xs zs
+front_trans xs ys zs f g = (f.0 ++ g.0, sym (append_assoc xs f.0 g.0) ∙ ap (λ (r : List Body). r ++ g.0) f.1 ∙ g.1)
 
 front_longer : (accepted pushed more : List Body) → IsFrontOf accepted pushed → IsFrontOf accepted (pushed ++ more)
 front_longer accepted pushed more front = (front.0 ++ more, sym (append_assoc accepted front.0 more) ∙ ap (λ l. l ++ more) front.1)
@@ -88,32 +97,32 @@ sound_sends w s number more sound pushed acked least =
     still : (k : ℕ) (b : Body) → IsBody w.sending.pushed k b → IsBody s.pushed k b
     still k b is = subst (λ l. IsBody l k b) (sym pushed) (body_more w.sending.pushed more k b is)
 
-next_least : (s : Sending) (k : ℕ) → next_to_send s ≡ Some k → 1 ≤ k
+pub next_least : (s : Sending) (k : ℕ) → next_to_send s ≡ Some k → 1 ≤ k
 next_least s k h = let e = (cond_some (may_send s) (highest s + 1) k h).1 in omega (arith, e)
 
 -- sending the next body changes neither what was pushed nor what is acknowledged
-sent_pushed : (now : ℕ) (s : Sending) → (send_next now s).pushed ≡ s.pushed
+pub sent_pushed : (now : ℕ) (s : Sending) → (send_next now s).pushed ≡ s.pushed
 sent_pushed now s = by_test (λ (z : Sending). z.pushed ≡ s.pushed) (may_send s) _ s (λ _. refl) (λ _. refl)
 
-sent_acked : (now : ℕ) (s : Sending) → (send_next now s).acked ≡ s.acked
+pub sent_acked : (now : ℕ) (s : Sending) → (send_next now s).acked ≡ s.acked
 sent_acked now s = by_test (λ (z : Sending). z.acked ≡ s.acked) (may_send s) _ s (λ _. refl) (λ _. refl)
 
-push_pushed : (b : Body) (now : ℕ) (s : Sending) → (push b now s).pushed ≡ s.pushed ++ b ∷ []
+pub push_pushed : (b : Body) (now : ℕ) (s : Sending) → (push b now s).pushed ≡ s.pushed ++ b ∷ []
 push_pushed b now s = by_test (λ (z : Sending). z.pushed ≡ s.pushed ++ b ∷ []) (is_waiting s) _ _ (λ _. refl) (λ _. sent_pushed now (with_pushed b s))
 
-push_acked : (b : Body) (now : ℕ) (s : Sending) → (push b now s).acked ≡ s.acked
+pub push_acked : (b : Body) (now : ℕ) (s : Sending) → (push b now s).acked ≡ s.acked
 push_acked b now s = by_test (λ (z : Sending). z.acked ≡ s.acked) (is_waiting s) _ _ (λ _. refl) (λ _. sent_acked now (with_pushed b s))
 
-push_least : (b : Body) (s : Sending) (k : ℕ) → sent_by_push b s ≡ Some k → 1 ≤ k
+pub push_least : (b : Body) (s : Sending) (k : ℕ) → sent_by_push b s ≡ Some k → 1 ≤ k
 push_least b s k = by_test (λ (o : Option ℕ). o ≡ Some k → 1 ≤ k) (is_waiting s) _ _ (λ _ h. absurd (none-some k h)) (λ _ h. next_least (with_pushed b s) k h)
 
-ack_pushed : (n now : ℕ) (s : Sending) → (acknowledge n now s).pushed ≡ s.pushed
+pub ack_pushed : (n now : ℕ) (s : Sending) → (acknowledge n now s).pushed ≡ s.pushed
 ack_pushed n now s = by_test (λ (z : Sending). z.pushed ≡ s.pushed) (is_outstanding n s) _ s (λ _. sent_pushed now (forget n s)) (λ _. refl)
 
 ack_acked : (n now most : ℕ) (s : Sending) → n ≤ most → s.acked ≤ most → (acknowledge n now s).acked ≤ most
 ack_acked n now most s new old = by_test (λ (z : Sending). z.acked ≤ most) (is_outstanding n s) _ s (λ _. subst (λ a. a ≤ most) (sym (sent_acked now (forget n s))) new) (λ _. old)
 
-ack_least : (n : ℕ) (s : Sending) (k : ℕ) → sent_by_ack n s ≡ Some k → 1 ≤ k
+pub ack_least : (n : ℕ) (s : Sending) (k : ℕ) → sent_by_ack n s ≡ Some k → 1 ≤ k
 ack_least n s k = by_test (λ (o : Option ℕ). o ≡ Some k → 1 ≤ k) (is_outstanding n s) _ _ (λ _ h. next_least (forget n s) k h) (λ _ h. absurd (none-some k h))
 
 -- the wanted body is accepted

@@ -1,4 +1,7 @@
-use Rattle.std.specs.Prelude.{◌≡◌, ℕ, ◌+◌, ◌-◌, List, [], ◌∷◌, ◌++◌, length, slice_get, Option, Some, None, if◌then◌else◌}
+-- One direction of a session between a sender and a receiver, over wires that lose, repeat and reorder what
+-- is put on them.
+
+use Rattle.std.specs.Prelude.{◌≡◌, ℕ, ◌-◌, List, [], ◌∷◌, ◌++◌, slice_get, Option, Some, None, if◌then◌else◌}
 use Rattle.an_base.specs.declared.body.Body.{Body}
 use Rattle.ordered_link.specs.Sending.{Sending, unused, push, sent_by_push, acknowledge, sent_by_ack, send_again, is_outstanding, next_to_send, send_next}
 use Rattle.ordered_link.specs.Receiving.{Receiving, untouched, last, come, follow}
@@ -8,7 +11,8 @@ pub record Numbered : Type 0 where
   pub k : ℕ
   pub body : Body
 
--- One direction of a session, with all that was ever put on the wires: each body with its number, and the number of each acknowledgement
+-- The two ends, with all that was ever put on the wires: each body with its number, and the number of each
+-- acknowledgement
 pub record Session : Type 0 where
   pub sending : Sending
   pub receiving : Receiving
@@ -30,37 +34,43 @@ pub data Event : Type 0 where
 
 -- the body with this number goes out, where one does
 abbrev pub numbered : ℕ → Option Body → List Numbered
-numbered k None = []
-numbered k (Some body) = record { k = k; body = body } ∷ []
+numbered number None = []
+numbered number (Some body) = record { k = number; body = body } ∷ []
 
 abbrev pub put_out : Sending → Option ℕ → List Numbered
-put_out s None = []
-put_out s (Some k) = numbered k (slice_get s.pushed (k - 1))
+put_out sending None = []
+put_out sending (Some number) = numbered number (slice_get sending.pushed (number - 1))
 
 abbrev pub sends : Sending → Option ℕ → Session → Session
-sends s k w = record w { sending = s; bodies = put_out s k ++ w.bodies }
+sends sending number session =
+    record session { sending = sending; bodies = put_out sending number ++ session.bodies }
 
 abbrev pub body_comes : Option Numbered → Session → Session
-body_comes None w = w
-body_comes (Some x) w = record w { receiving = come x.k x.body w.receiving }
+body_comes None session = session
+body_comes (Some item) session = record session { receiving = come item.k item.body session.receiving }
 
 abbrev pub ack_comes : Option ℕ → ℕ → Session → Session
-ack_comes None now w = w
-ack_comes (Some n) now w = sends (acknowledge n now w.sending) (sent_by_ack n w.sending) w
+ack_comes None now session = session
+ack_comes (Some number) now session =
+    sends (acknowledge number now session.sending) (sent_by_ack number session.sending) session
 
 abbrev pub happens : Event → Session → Session
-happens (Push body now) w = sends (push body now w.sending) (sent_by_push body w.sending) w
-happens (More now) w = sends (send_next now w.sending) (next_to_send w.sending) w
-happens (Send_again k now) w = if is_outstanding k w.sending then sends (send_again k now w.sending) (Some k) w else w
-happens (Body_comes which) w = body_comes (slice_get w.bodies which) w
-happens Follow w = record w { receiving = follow w.receiving }
-happens Answer w = record w { acks = last w.receiving ∷ w.acks }
-happens (Ack_comes which now) w = ack_comes (slice_get w.acks which) now w
+happens (Push body now) session =
+    sends (push body now session.sending) (sent_by_push body session.sending) session
+happens (More now) session = sends (send_next now session.sending) (next_to_send session.sending) session
+happens (Send_again number now) session =
+    if is_outstanding number session.sending
+    then sends (send_again number now session.sending) (Some number) session
+    else session
+happens (Body_comes which) session = body_comes (slice_get session.bodies which) session
+happens Follow session = record session { receiving = follow session.receiving }
+happens Answer session = record session { acks = last session.receiving ∷ session.acks }
+happens (Ack_comes which now) session = ack_comes (slice_get session.acks which) now session
 
 -- a whole schedule
 abbrev pub run : List Event → Session → Session
-run [] w = w
-run (e ∷ es) w = run es (happens e w)
+run [] session = session
+run (event ∷ events) session = run events (happens event session)
 
 -- the accepted bodies are a front of those pushed, in their order
 abbrev pub IsFrontOf : List Body → List Body → Type 0

@@ -1,5 +1,5 @@
-ghost use Rattle.std.specs.Prelude.{◌≡◌, ℕ, List, ◌<◌, ◌≤◌, [], length, take, IfOk, OnOk, OnErr, IfErr, IfSome};
-ghost use Rattle.outside.specs.Told.{with_front, with_back, Rose};
+ghost use Rattle.std.specs.Prelude.{◌+◌, ◌<◌, ◌≤◌, length, IfOk, OnOk, OnErr, IfErr};
+ghost use Rattle.outside.specs.Told.{Gave, GaveAtMost, IsAtEnd, Gains, GainsFront, IsNoLess, Failed};
 ghost use Rattle.outside.specs.Stops.{OnFault, IfOver};
 
 use crate::sink::{Sink, Took};
@@ -22,22 +22,24 @@ pub enum ReadStop {
 #[derive(Clone, Copy, Debug, PartialEq, Eq)]
 pub struct WriteFault;
 
-// How many bytes are asked for at once.
-const PIECE: usize = 4096;
+/// How many bytes of a source are asked for at once.
+pub const PIECE: usize = 4096;
 
 /// Reads a source to its end. The limit is a number of bytes; a source that has more is read no
-/// further than it takes to know that.
+/// further than it takes to know that, which is one piece past the limit at most.
 #[tactic(auto, using(crate::proofs::ToldLemmas::with_front_none, crate::proofs::ToldLemmas::with_front_twice, crate::proofs::ToldLemmas::Rose_later))]
 pub fn read_all<S: Source>(alloc: Global, source: &mut S, limit: usize) -> Result<Vec<u8>, ReadStop>
-    ensures all { IfOk result (λ v. S.left source.old ≡ with_front v.items (S.left source.new)) }
-    ensures end { OnOk result (IfSome (S.left source.new) (λ rest. rest ≡ [])) }
+    ensures all { IfOk result (λ v. Gave (S.seen source.old) (S.seen source.new) v.items) }
+    ensures end { OnOk result (IsAtEnd (S.seen source.new)) }
     ensures within { IfOk result (λ v. length v.items ≤ limit) }
-    ensures over { IfErr result (IfOver (λ bytes. (limit < length bytes) × (S.left source.old ≡ with_front bytes (S.left source.new)))) }
-    ensures fault { IfErr result (OnFault (Rose (S.faults source.old) (S.faults source.new))) }
-    ensures kept { S.faults source.old ≤ S.faults source.new }
+    ensures over { IfErr result (IfOver (λ bytes. limit < length bytes)) }
+    ensures over_all { IfErr result (IfOver (Gave (S.seen source.old) (S.seen source.new))) }
+    ensures fault { IfErr result (OnFault (Failed (S.seen source.old) (S.seen source.new))) }
+    ensures kept { IsNoLess (S.seen source.old) (S.seen source.new) }
 
-    // Whatever the answer, what was left is what was taken and what is left now.
-    ensures taken { (bytes : List ℕ) × (S.left source.old ≡ with_front bytes (S.left source.new)) }
+    // It stops at a fault with the limit not passed, and else one piece later at most.
+    ensures fault_within { IfErr result (OnFault (GaveAtMost (S.seen source.old) (S.seen source.new) limit)) }
+    ensures taken { GaveAtMost (S.seen source.old) (S.seen source.new) (limit + PIECE) }
 {
     let mut bytes = Vec::new(alloc);
     let mut piece = [0u8; PIECE];
@@ -60,10 +62,10 @@ pub fn read_all<S: Source>(alloc: Global, source: &mut S, limit: usize) -> Resul
 /// Writes all of the bytes, in order. Where a write fails, a front of them was written.
 #[tactic(auto, using(crate::proofs::ToldLemmas::with_back_none, crate::proofs::ToldLemmas::with_back_twice, crate::proofs::ToldLemmas::Rose_later))]
 pub fn write_all<K: Sink>(sink: &mut K, bytes: &[u8]) -> Result<(), WriteFault>
-    ensures all { OnOk result (K.written sink.new ≡ with_back (K.written sink.old) bytes.now) }
-    ensures prefix { (n : ℕ) × (n ≤ length bytes.now) × (K.written sink.new ≡ with_back (K.written sink.old) (take n bytes.now)) }
-    ensures fault { OnErr result (Rose (K.faults sink.old) (K.faults sink.new)) }
-    ensures kept { K.faults sink.old ≤ K.faults sink.new }
+    ensures all { OnOk result (Gains (K.seen sink.old) (K.seen sink.new) bytes.now) }
+    ensures prefix { GainsFront (K.seen sink.old) (K.seen sink.new) bytes.now }
+    ensures fault { OnErr result (Failed (K.seen sink.old) (K.seen sink.new)) }
+    ensures kept { IsNoLess (K.seen sink.old) (K.seen sink.new) }
 {
     let mut done = 0;
     'turns: while done < bytes.len() {

@@ -1,8 +1,8 @@
-ghost use Rattle.std.specs.Prelude.{◌≡◌, ◌==◌, ℕ, ◌<◌, ◌≤◌, [], length, take, IfOk, Some};
+ghost use Rattle.std.specs.Prelude.{◌≡◌, ◌==◌, ◌<◌, ◌≤◌, [], length, take, IfOk};
 ghost use Rattle.std.specs.List.{list_any};
-ghost use Rattle.outside.specs.Told.{with_front, with_back, Rose};
+ghost use Rattle.outside.specs.Told.{Gave, Gains, Ends, IsNoLess, OnlyFailed};
 ghost use Rattle.outside.specs.Answers.{IfPart, OnEnd, OnFailed, IfTaken, OnNotTaken};
-ghost use Rattle.outside.specs.Memory.{read_answer, after_read, write_answer, after_write};
+ghost use Rattle.outside.specs.Memory.{seen_source, seen_sink, read_answer, after_read, write_answer, after_write};
 
 use crate::sink::{Sink, Took};
 use crate::source::{Got, Source};
@@ -68,17 +68,15 @@ impl MemorySource {
 }
 
 impl Source for MemorySource {
-    ghost left = { λ s. Some s.left };
-
-    ghost faults = { λ s. s.faults };
+    ghost seen = { seen_source };
 
     fn read(&mut self, buf: &mut [u8]) -> Got
         requires { 0 < length buf.old }
         ensures count { IfPart result (λ n. (1 ≤ n) × (n ≤ length buf.old)) }
-        ensures part { IfPart result (λ n. Some self.old.left ≡ with_front (take n buf.new) (Some self.new.left)) }
-        ensures end { OnEnd result ((Some self.new.left ≡ Some self.old.left) × (self.old.left ≡ [])) }
-        ensures failed { OnFailed result ((Some self.new.left ≡ Some self.old.left) × Rose self.old.faults self.new.faults) }
-        ensures kept { self.old.faults ≤ self.new.faults }
+        ensures part { IfPart result (λ n. Gave (seen_source self.old) (seen_source self.new) (take n buf.new)) }
+        ensures end { OnEnd result (Ends (seen_source self.old) (seen_source self.new)) }
+        ensures failed { OnFailed result (OnlyFailed (seen_source self.old) (seen_source self.new)) }
+        ensures kept { IsNoLess (seen_source self.old) (seen_source self.new) }
         ensures answer { result ≡ read_answer self.old (length buf.old) }
         ensures after { self.new ≡ after_read self.old (length buf.old) }
     {
@@ -145,16 +143,14 @@ impl MemorySink {
 }
 
 impl Sink for MemorySink {
-    ghost written = { λ s. Some s.written };
-
-    ghost faults = { λ s. s.faults };
+    ghost seen = { seen_sink };
 
     fn write(&mut self, bytes: &[u8]) -> Took
         requires { 0 < length bytes.now }
         ensures count { IfTaken result (λ n. (1 ≤ n) × (n ≤ length bytes.now)) }
-        ensures part { IfTaken result (λ n. Some self.new.written ≡ with_back (Some self.old.written) (take n bytes.now)) }
-        ensures failed { OnNotTaken result ((Some self.new.written ≡ Some self.old.written) × Rose self.old.faults self.new.faults) }
-        ensures kept { self.old.faults ≤ self.new.faults }
+        ensures part { IfTaken result (λ n. Gains (seen_sink self.old) (seen_sink self.new) (take n bytes.now)) }
+        ensures failed { OnNotTaken result (OnlyFailed (seen_sink self.old) (seen_sink self.new)) }
+        ensures kept { IsNoLess (seen_sink self.old) (seen_sink self.new) }
         ensures answer { result ≡ write_answer self.old bytes.now }
         ensures after { self.new ≡ after_write self.old bytes.now }
     {
@@ -174,8 +170,6 @@ impl Sink for MemorySink {
 mod tests {
     use super::*;
     use crate::all::{ReadStop, read_all, write_all};
-    use crate::standard::{StdSink, StdSource};
-    use std::io::Cursor;
     use std::test::Fail;
 
     // A source of five bytes.
@@ -228,27 +222,6 @@ mod tests {
         assert!(rt; write_all(&mut sink, b"cd").is_err());
         assert!(rt; write_all(&mut sink, b"efgh").is_err());
         assert_eq!(rt; sink.bytes(), b"abefg".as_slice());
-        Ok(())
-    }
-
-    #[test]
-    fn a_standard_reader_gives_its_bytes_and_counts_its_faults(
-        rt: HostRuntime,
-    ) -> Result<(), Fail> {
-        let mut source = StdSource::new(Cursor::new(b"abc".as_slice()));
-        let read = read_all(rt.alloc(), &mut source, 3)?;
-        assert_eq!(rt; read.as_slice(), b"abc".as_slice());
-        Ok(())
-    }
-
-    #[test]
-    fn a_standard_writer_takes_the_bytes(rt: HostRuntime) -> Result<(), Fail> {
-        let mut bytes = Vec::<u8>::new(rt.alloc());
-        {
-            let mut sink = StdSink::new(&mut bytes);
-            assert!(rt; write_all(&mut sink, b"abc").is_ok());
-        }
-        assert_eq!(rt; bytes.as_slice(), b"abc".as_slice());
         Ok(())
     }
 }

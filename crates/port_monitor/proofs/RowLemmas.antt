@@ -1,18 +1,13 @@
 use Rattle.std.proofs.Common.{◌≡◌, ◌∙◌, sym, ap, subst, refl, ℕ, suc, ◌+◌, List, [], ◌∷◌, arith, Option, Some, None, Bool, true, false, cond, take, replicate, ◌==◌, eqb-true}
 use Rattle.std.proofs.lemmas.Option.{none-some, same_Some}
-use Rattle.std.proofs.lemmas.Bool.{false≢true}
-use Rattle.std.specs.declared.cmp.Ordering.{Ordering}
-use Rattle.std.specs.declared.cmp.Ordering.TheVariants.{Less, Equal, Greater}
-use Rattle.std.specs.Ordering.{is_eq, nat_cmp}
 use Rattle.an_base.specs.Values.{EndId}
-use Rattle.an_base.specs.Order.{life_cmp, end_cmp}
 use Rattle.an_base.specs.declared.port.Sample.{Sample}
 use Rattle.an_base.specs.declared.port.Sample.TheVariants as sample
-use Rattle.an_base.proofs.OrderLaws.{then_equal, nat_apart, life_apart}
 use Rattle.skeptic.specs.Skeptics.{hold, is_over}
 use Rattle.connectivity.specs.declared.conn.Conn.{Conn}
 use Rattle.connectivity.specs.declared.conn.Conn.TheVariants.{Who, Loop, Good}
 use Rattle.connectivity.specs.Connections.{ConnectivityOf, is_end, is_same_end, streak_of, asked, held_by, judged, judged_as, met, counts}
+use Rattle.connectivity.proofs.EndLemmas.{same_end_is}
 use Rattle.port_monitor.specs.declared.port.Phase.{Phase}
 use Rattle.port_monitor.specs.declared.port.Phase.TheVariants.{Dead, Checking, Host, Switch}
 use Rattle.port_monitor.specs.declared.port.Port.{Port}
@@ -44,16 +39,6 @@ record IsKept (p : Port) (answers : List (Option EndId)) : Type 0 where
 by_test : {A : Type 0} (P : A → Type 0) (b : Bool) (x y : A) → (b ≡ true → P x) → (b ≡ false → P y) → P (cond b x y)
 by_test P true x y t f = t refl
 by_test P false x y t f = f refl
-
-equal_is : (o : Ordering) → is_eq o ≡ true → o ≡ Equal
-equal_is Equal h = refl
-equal_is Less h = absurd (false≢true h)
-equal_is Greater h = absurd (false≢true h)
-
-same_end_is : (p q : EndId) → is_same_end p q ≡ true → p ≡ q
-same_end_is p q h =
-    let e = then_equal (life_cmp p.life q.life) (nat_cmp p.port q.port) (equal_is (end_cmp p q) h) in
-    ap (λ l. record { life = l; port = p.port }) (life_apart p.life q.life e.0) ∙ ap (λ n. record { life = q.life; port = n }) (nat_apart p.port q.port e.1)
 
 -- one more answer of the candidate makes the row longer, and one of another end begins it anew
 longer : (q c : EndId) (streak : ℕ) (answers : List (Option EndId)) → c ≡ q → take streak answers ≡ replicate streak (Some c) → take (streak + 1) (Some q ∷ answers) ≡ replicate (streak + 1) (Some q)

@@ -1,3 +1,6 @@
+-- The ports of a switch as functions of what happened at each of them: clocks with their samples, and
+-- replies.
+
 use Rattle.std.specs.Prelude.{◌≡◌, ◌==◌, ◌-◌, ◌≤◌, ℕ, List, [], ◌∷◌, map, slice_get, Option, Some, if◌then◌else◌}
 use Rattle.an_base.specs.Values.{LifeId, EndId, PeerAt}
 use Rattle.an_base.specs.declared.port.Sample.{Sample}
@@ -20,16 +23,19 @@ History = List Happening
 -- the port at this own end after all of it
 abbrev pub port_after : EndId → History → Port
 port_after me [] = unsampled me
-port_after me (Sampled s ∷ history) = sampled s (port_after me history)
+port_after me (Sampled sample ∷ history) = sampled sample (port_after me history)
 port_after me (Replied from nonce ∷ history) = replied_to from nonce (port_after me history)
 
 -- the histories of the ports, with one more happening at one of them
 abbrev pub with_happening : ℕ → Happening → (ℕ → History) → ℕ → History
-with_happening port x histories q = if q == port then x ∷ histories q else histories q
+with_happening port happening histories other =
+    if other == port then happening ∷ histories other else histories other
 
 -- the ports 1 to 12 are those of these histories
-pub record IsAfter (m : Monitor) (histories : ℕ → History) : Type 0 where
-  pub ports : (port : ℕ) → 1 ≤ port → port ≤ 12 → slice_get m.ports (port - 1) ≡ Some (port_after (record { life = m.life; port = port }) (histories port))
+pub record IsAfter (monitor : Monitor) (histories : ℕ → History) : Type 0 where
+  pub ports : (port : ℕ) → 1 ≤ port → port ≤ 12
+      → slice_get monitor.ports (port - 1)
+      ≡ Some (port_after (record { life = monitor.life; port = port }) (histories port))
 
 -- the external ports, rising
 abbrev pub externals : List ℕ
@@ -37,17 +43,19 @@ externals = 1 ∷ 2 ∷ 3 ∷ 4 ∷ 5 ∷ 6 ∷ 7 ∷ 8 ∷ 9 ∷ 10 ∷ 11 ∷ 
 
 -- the good links of this life after these histories, rising
 abbrev pub links_after : LifeId → (ℕ → History) → List PeerAt
-links_after life histories = links_from 1 (map (λ port. port_after (record { life = life; port = port }) (histories port)) externals)
+links_after life histories =
+    links_from 1 (map (λ port. port_after (record { life = life; port = port }) (histories port)) externals)
 
 -- Who answered the probes since the far end was last asked anew, the last first
 abbrev pub answered_by : Sample → Phase → Option EndId → List (Option EndId) → List (Option EndId)
 answered_by sample.Down phase answer answers = []
-answered_by s Dead answer answers = []
-answered_by s Checking answer answers = []
-answered_by s Host answer answers = []
-answered_by s Switch answer answers = answer ∷ answers
+answered_by other Dead answer answers = []
+answered_by other Checking answer answers = []
+answered_by other Host answer answers = []
+answered_by other Switch answer answers = answer ∷ answers
 
 abbrev pub answers : EndId → History → List (Option EndId)
 answers me [] = []
-answers me (Sampled s ∷ history) = answered_by s (port_after me history).phase (port_after me history).far.answer (answers me history)
+answers me (Sampled sample ∷ history) =
+    answered_by sample (port_after me history).phase (port_after me history).far.answer (answers me history)
 answers me (Replied from nonce ∷ history) = answers me history

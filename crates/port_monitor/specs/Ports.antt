@@ -1,3 +1,5 @@
+-- One port: what a clock and a reply make of it, and what it is then taken to be.
+
 use Rattle.std.specs.Prelude.{ℕ, suc, Bool, true, false, List, [], ◌∷◌, ◌++◌, Option, Some, None, if◌then◌else◌}
 use Rattle.an_base.specs.Values.{EndId, PeerAt}
 use Rattle.an_base.specs.declared.frame.Frame.{Frame}
@@ -25,26 +27,29 @@ status_down Checking status = failed status
 status_down Host status = failed status
 status_down Switch status = failed status
 
+-- one clock at a port that is down
 abbrev pub fallen : Port → Port
-fallen p = record { phase = Dead; status = status_down p.phase p.status; far = forgotten p.far }
+fallen port = record { phase = Dead; status = status_down port.phase port.status; far = forgotten port.far }
 
 -- what is at the other end of a port that was checked; a switch is asked at once who it is
 abbrev pub entered : Bool → Port → Port
-entered true p = record { phase = Host; status = cleared p.status; far = forgotten p.far }
-entered false p = record { phase = Switch; status = cleared p.status; far = probed (forgotten p.far) }
+entered true port = record { phase = Host; status = cleared port.status; far = forgotten port.far }
+entered false port =
+    record { phase = Switch; status = cleared port.status; far = probed (forgotten port.far) }
 
 -- one clock at a port that is not down, by the phase that it had before
 abbrev pub kept_up : Phase → Bool → Port → Port
-kept_up Dead is_host p = record p { phase = if is_over p.status then Checking else Dead; status = dwelt p.status }
-kept_up Checking is_host p = entered is_host p
-kept_up Host is_host p = record p { status = praised p.status }
-kept_up Switch is_host p = record p { status = praised p.status; far = probed (judged p.far) }
+kept_up Dead is_host port =
+    record port { phase = if is_over port.status then Checking else Dead; status = dwelt port.status }
+kept_up Checking is_host port = entered is_host port
+kept_up Host is_host port = record port { status = praised port.status }
+kept_up Switch is_host port = record port { status = praised port.status; far = probed (judged port.far) }
 
 -- one clock with this sample
 abbrev pub sampled : Sample → Port → Port
-sampled sample.Down p = fallen p
-sampled sample.Host p = kept_up p.phase true p
-sampled sample.Switch p = kept_up p.phase false p
+sampled sample.Down port = fallen port
+sampled sample.Host port = kept_up port.phase true port
+sampled sample.Switch port = kept_up port.phase false port
 
 -- whether a switch is asked, and asks
 abbrev pub speaks : Phase → Bool
@@ -55,13 +60,14 @@ speaks Switch = true
 
 -- the number of the probe that goes out at a clock, by the port after it
 abbrev pub probe_of : Port → Option ℕ
-probe_of p = if speaks p.phase then Some p.far.nonce else None
+probe_of port = if speaks port.phase then Some port.far.nonce else None
 
 -- a reply came from this end, with this number
 abbrev pub replied_to : EndId → ℕ → Port → Port
-replied_to from nonce p = if speaks p.phase then record p { far = replied from nonce p.far } else p
+replied_to from nonce port =
+    if speaks port.phase then record port { far = replied from nonce port.far } else port
 
--- the state of a port, and its peer
+-- the state of a port, by its phase and what is known of the far end
 abbrev pub state_by : Phase → Conn → PortState
 state_by Dead conn = state.Dead
 state_by Checking conn = state.Checking
@@ -71,8 +77,9 @@ state_by Switch (Loop peer) = state.Loop
 state_by Switch (Good peer) = state.Good
 
 abbrev pub state_of : Port → PortState
-state_of p = state_by p.phase p.far.conn
+state_of port = state_by port.phase port.far.conn
 
+-- the far end, where it is known
 abbrev pub peer_by : Phase → Conn → Option EndId
 peer_by Dead conn = None
 peer_by Checking conn = None
@@ -82,7 +89,7 @@ peer_by Switch (Loop peer) = Some peer
 peer_by Switch (Good peer) = Some peer
 
 abbrev pub peer_of : Port → Option EndId
-peer_of p = peer_by p.phase p.far.conn
+peer_of port = peer_by port.phase port.far.conn
 
 -- the peer of a good port
 abbrev pub good_peer_by : Phase → Conn → Option EndId
@@ -99,9 +106,10 @@ link_to port None = []
 link_to port (Some peer) = record { port = port; peer = peer } ∷ []
 
 abbrev pub links_from : ℕ → List Port → List PeerAt
-links_from port [] = []
-links_from port (p ∷ ps) = link_to port (good_peer_by p.phase p.far.conn) ++ links_from (suc port) ps
+links_from number [] = []
+links_from number (port ∷ ports) =
+    link_to number (good_peer_by port.phase port.far.conn) ++ links_from (suc number) ports
 
 -- the reply to a probe, where the port speaks
 abbrev pub reply_to : EndId → EndId → ℕ → Port → Option Frame
-reply_to me from nonce p = if speaks p.phase then Some (Reply me from nonce) else None
+reply_to me from nonce port = if speaks port.phase then Some (Reply me from nonce) else None

@@ -1,9 +1,9 @@
-ghost use Rattle.std.specs.Prelude.{◌≡◌, ◌∷◌, None, Some, replicate, take};
+ghost use Rattle.std.specs.Prelude.{◌≡◌, ◌∷◌, ℕ, None, Some, replicate, take};
 ghost use Rattle.an_base.specs.Values.{EndId};
 ghost use Rattle.an_base.specs.declared.port.Sample.{Sample};
 ghost use Rattle.skeptic.specs.Skeptics.{hold};
-ghost use Rattle.port_monitor.specs.Ports.{peer_of};
-ghost use Rattle.port_monitor.specs.Histories.{History, Sampled, answers, port_after};
+ghost use Rattle.port_monitor.specs.Ports.{peer_of, state_of};
+ghost use Rattle.port_monitor.specs.Histories.{History, Replied, Sampled, answers, port_after};
 
 /// An end becomes the peer of a port only at a clock at which as many probes in a row as the skeptic
 /// of the far end asks for, the last one among them, were answered by that end.
@@ -12,4 +12,12 @@ pub fn a_peer_answered_in_a_row()
         → peer_of (port_after me history) ≡ None
         → peer_of (port_after me (Sampled sample ∷ history)) ≡ Some q
         → take (hold (port_after me history).far.skeptic) (answers me (Sampled sample ∷ history)) ≡ replicate (hold (port_after me history).far.skeptic) (Some q) }
+{}
+
+/// A reply changes neither the state of a port nor its peer: they follow at the next clock.
+pub fn a_reply_changes_neither_state_nor_peer()
+    ensures state { (me from : EndId) (nonce : ℕ) (history : History)
+        → state_of (port_after me (Replied from nonce ∷ history)) ≡ state_of (port_after me history) }
+    ensures peer { (me from : EndId) (nonce : ℕ) (history : History)
+        → peer_of (port_after me (Replied from nonce ∷ history)) ≡ peer_of (port_after me history) }
 {}

@@ -183,6 +183,22 @@ mod tests {
     }
 
     #[test]
+    fn a_port_that_was_good_for_63_samples_alone_is_not_forgiven(rt: HostRuntime) {
+        let mut monitor = Monitor::new(Life::new(1, 1));
+        for sample in [Sample::Host, Sample::Host, Sample::Down] {
+            sampled(&mut monitor, sample);
+        }
+        for _ in 0..66 {
+            sampled(&mut monitor, Sample::Host);
+        }
+        assert!(rt; sampled(&mut monitor, Sample::Down) == Some(PortState::Dead));
+        for _ in 0..3 {
+            assert!(rt; sampled(&mut monitor, Sample::Host) == Some(PortState::Dead));
+        }
+        assert!(rt; sampled(&mut monitor, Sample::Host) == Some(PortState::Checking));
+    }
+
+    #[test]
     fn a_switch_that_answers_is_a_good_link(rt: HostRuntime) {
         let peer = End::new(Life::new(2, 1), 7);
         let mut monitor = Monitor::new(Life::new(1, 1));

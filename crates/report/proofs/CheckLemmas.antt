@@ -11,7 +11,7 @@ use Rattle.topo_graph.specs.Topology.{nothing}
 use Rattle.report.specs.Names.{life_text}
 use Rattle.an_base.specs.Rows.{RowOf}
 use Rattle.net_graph.specs.declared.wiring.SwitchAt.{SwitchAt}
-use Rattle.net_script.specs.Tables.{TablesOf}
+use Rattle.table_script.specs.Tables.{TablesOf}
 use Rattle.dep_check.specs.declared.refusal.CheckRefusal.{CheckRefusal}
 use Rattle.dep_check.specs.declared.refusal.CheckRefusal.TheVariants.{Cycle, NotJoined, IllegalExit, OutOfMemory}
 use Rattle.dep_check.specs.Answer.{Passes, IsRefusal}

@@ -1,30 +1,24 @@
-use Rattle.std.proofs.Common.{◌≡◌, ◌≢◌, ◌∙◌, sym, ap, subst, refl, ℕ, zero, suc, ◌<◌, ◌≤◌, ◌==◌, List, Option, Some, None, arith, length, get_or, position, unwrap_or}
+use Rattle.std.proofs.Common.{◌≡◌, ◌≢◌, ◌∙◌, sym, ap, subst, refl, ℕ, ◌<◌, ◌≤◌, ◌==◌, List, Option, Some, None, arith, length, get_or, position, unwrap_or}
 use Rattle.std.proofs.lemmas.Option.{slice_get-get_or}
 use Rattle.std.proofs.lemmas.Bool.{eqb-true, eqb-false}
 use Rattle.std.proofs.lemmas.List.{length-map}
 use Rattle.std.proofs.lemmas.List.Elements.{All-map}
 use Rattle.std.proofs.lemmas.List.Quantifiers.{position-Some}
-use Rattle.net_script.proofs.LineLemmas.{position_none}
+use Rattle.text_lines.proofs.LineLemmas.{position_none}
 use Rattle.table_build.proofs.ListLemmas.{AllPairs-map}
-use Rattle.net_graph.proofs.OneForest.{not_both_below}
+use Rattle.an_base.proofs.LifeLemmas.{below_same}
 use Rattle.std.specs.Option.{option_map}
 use Rattle.an_base.specs.Values.{LifeId, EntryOf}
-use Rattle.an_base.specs.Order.{IsBelow}
 use Rattle.an_base.specs.Numbers.{AreNumbers}
-use Rattle.an_base.specs.Tree.{Network, Walk}
+use Rattle.an_base.proofs.WalkLemmas.{walk_then}
 use Rattle.net_graph.specs.declared.wiring.SwitchAt.{SwitchAt}
 use Rattle.net_graph.specs.Wires.{Wires, IsWired, uid_of, network}
 use Rattle.net_graph.specs.Forest.{IsComponent, IsMember}
 use Rattle.net_graph.proofs.CollectLemmas.{uid_one}
 use Rattle.net_graph.proofs.FarLemmas.{far_back}
 use Rattle.net_graph.proofs.WalkLemmas.{walk_back}
-use Rattle.net_script.specs.Tables.{TablesOf, IsTables, AreTablesOf}
+use Rattle.table_script.specs.Tables.{TablesOf, IsTables, AreTablesOf}
 use Rattle.report.specs.Check.{number_of, numbers_of}
-
--- a walk after a walk
-pub walk_then : (g : Network) (m n x y z : ℕ) → Walk g m x y → Walk g n y z → (k : ℕ) × Walk g k x z
-walk_then g zero n x y z one two = (n, subst (λ (v : ℕ). Walk g n v z) (sym one) two)
-walk_then g (suc m) n x y z (u, near, rest) two = let more = walk_then g m n u y z rest two in (suc more.0, (u, near, more.1))
 
 -- the identifier of a switch that there is
 pub uid_is : (switches : List SwitchAt) (x : ℕ) (d : SwitchAt) → x < length switches → uid_of switches x ≡ (get_or switches x d).uid
@@ -44,9 +38,6 @@ number_is w t e x wired low is =
     let d : SwitchAt = record { uid = 0; had = 1 } in
     ap (λ (o : Option ℕ). get_or t.numbers (unwrap_or o 0) 0) (uid_found w x e.life.uid d (position (λ s. s.uid == e.life.uid) w.switches) wired low (ap (λ (l : LifeId). l.uid) is) refl)
 
-below_itself : (a b : LifeId) → IsBelow a b → a ≡ b → ⊥
-below_itself a b below same = not_both_below a b below (subst (λ (l : LifeId). IsBelow b l) (sym same) (subst (λ (l : LifeId). IsBelow l b) same below))
-
 -- the numbers of the members of a component are numbers of a topology
 pub component_numbers : (w : Wires) (t : TablesOf) (r : ℕ) (es : List EntryOf) → IsWired w → IsTables t → AreTablesOf w t → IsComponent w r es → 1 ≤ length es → length es ≤ 126 → AreNumbers (numbers_of w.switches t es)
 component_numbers w t r es wired kept tables component some most = record {
@@ -63,5 +54,5 @@ component_numbers w t r es wired kept tables component some most = record {
       let two = number_is w t (get_or es j d) b.0 wired b.1 b.2.life in
       let walk = walk_then (network w) (get_or es i d).position.level (get_or es j d).position.level a.0 r b.0 a.2.place.level.walk (walk_back (network w) (get_or es j d).position.level b.0 r (far_back w wired) b.2.place.level.walk) in
       let x_is : a.0 ≡ b.0 = tables.apart walk.0 a.0 b.0 a.1 b.1 walk.1 (sym one ∙ same ∙ two) in
-      below_itself (get_or es i d).life (get_or es j d).life (component.rising i j d before low) (a.2.life ∙ ap (λ (x : ℕ). (network w).life x) x_is ∙ sym b.2.life));
+      below_same (get_or es i d).life (get_or es j d).life (a.2.life ∙ ap (λ (x : ℕ). (network w).life x) x_is ∙ sym b.2.life) (component.rising i j d before low));
 }

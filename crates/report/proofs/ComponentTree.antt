@@ -10,17 +10,13 @@ use Rattle.an_base.proofs.PlaceLaws.{one_level}
 use Rattle.net_graph.specs.Wires.{Wires, IsWired, network, far_of}
 use Rattle.net_graph.specs.Entry.{LeadsOut}
 use Rattle.net_graph.specs.Forest.{IsEntry, IsMember, IsComponent}
-use Rattle.net_graph.proofs.CollectLemmas.{uid_one}
+use Rattle.net_graph.proofs.OneForest.{one_life}
 use Rattle.net_graph.proofs.FarLemmas.{far_range, far_back}
 use Rattle.topo_graph.specs.Topology.{Names, IsLink, nothing, entry_at, life_at, end_at, level_at, IsGraph, IsTree, far_of as far_in}
 use Rattle.topo_graph.specs.Stands.{IsAfter, IsNextBelow, Stands}
 use Rattle.topo_graph.proofs.FarLemmas.{one_place, far_is_link, link_is_far}
 use Rattle.topo_graph.proofs.TreeLemmas.{places_le, stand_tree}
 use Rattle.dep_check.proofs.Pigeons.{pigeons}
-
--- switches with one life are one
-one_life : (w : Wires) (x y : ℕ) → IsWired w → x < length w.switches → y < length w.switches → (network w).life x ≡ (network w).life y → x ≡ y
-one_life w x y wired in_x in_y same = uid_one w x y wired in_x in_y (ap (λ (l : LifeId). l.uid) same)
 
 -- the switch of the entry at a place
 abbrev member_at : (w : Wires) (r : ℕ) (es : List EntryOf) → IsComponent w r es → (i : ℕ) → i < length es → IsMember w r (entry_at es i)

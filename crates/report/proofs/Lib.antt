@@ -6,10 +6,12 @@ pub mod ComponentTree
 pub mod PartLemmas
 pub mod OwnForms
 pub mod OwnNames
-pub mod OwnText
 pub mod OwnChain
 pub mod OwnTold
 pub mod OwnLines
 pub mod OwnApart
 pub mod OwnPass
 pub mod OwnLaw
+pub mod OneText
+pub mod FloodLemmas
+pub mod FloodLaws

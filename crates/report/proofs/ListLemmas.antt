@@ -3,7 +3,8 @@ use Rattle.std.specs.Prelude.{Any}
 use Rattle.std.specs.List.{flat_map}
 use Rattle.std.proofs.lemmas.List.Elements.{All-nil, All-head, All-tail, All-append}
 use Rattle.net_graph.proofs.ListLemmas.{Any-cons_cases}
-use Rattle.table_build.proofs.ListLemmas.{AllPairs-head, AllPairs-tail, AllPairs-append, Any-front, Any-back}
+use Rattle.an_base.proofs.ListLemmas.{AllPairs-head, AllPairs-tail, Any-front}
+use Rattle.table_build.proofs.ListLemmas.{AllPairs-append, Any-back}
 
 -- what holds in each of the lists holds in all of them together
 pub All-flat_map : {X A : Type 0} (P : A → Type 0) (f : X → List A) (xs : List X) → All (λ x. All P (f x)) xs → All P (flat_map f xs)

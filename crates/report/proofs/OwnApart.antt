@@ -16,19 +16,19 @@ use Rattle.an_base.specs.Rows.{RowOf}
 use Rattle.an_base.proofs.OrderLaws.{both_least}
 use Rattle.net_graph.specs.Wires.{Wires, IsWired, network}
 use Rattle.net_graph.specs.Forest.{IsMember, IsComponent, RootsBelow}
-use Rattle.net_graph.proofs.OneForest.{not_both_below}
+use Rattle.an_base.proofs.LifeLemmas.{below_same}
 use Rattle.net_graph.proofs.ListLemmas.{Any-later, Any-cons_cases, Any-weaker}
-use Rattle.net_script.specs.declared.table_draft.NumberAt.{NumberAt}
-use Rattle.net_script.specs.declared.table_draft.EntryAt.{EntryAt}
-use Rattle.net_script.specs.Words.{number_value}
+use Rattle.table_script.specs.declared.table_draft.NumberAt.{NumberAt}
+use Rattle.table_script.specs.declared.table_draft.EntryAt.{EntryAt}
+use Rattle.text_lines.specs.Words.{number_value}
 use Rattle.net_script.specs.Rules.{place}
 use Rattle.net_script.specs.Scripts.{ScriptOf, IsScript}
-use Rattle.net_script.specs.Tables.{are_joined}
-use Rattle.net_script.specs.TableForms.{TableForm, ComponentLine, MemberLine, NumberLine, RowLine, EndLine}
-use Rattle.net_script.specs.TableRules.{AreNumbersApart}
-use Rattle.net_script.proofs.JoinedLemmas.{joined_self, joined_back, joined_on, walk_joined}
-use Rattle.net_script.proofs.SpellLemmas.{decimal_value}
-use Rattle.net_script.proofs.WalkJoined.{joined_by_walks}
+use Rattle.table_script.specs.Tables.{are_joined}
+use Rattle.table_script.specs.TableForms.{TableForm, ComponentLine, MemberLine, NumberLine, RowLine, EndLine}
+use Rattle.table_script.specs.TableRules.{AreNumbersApart}
+use Rattle.table_script.proofs.JoinedLemmas.{joined_self, joined_back, joined_on, walk_joined}
+use Rattle.text_lines.proofs.SpellLemmas.{decimal_value}
+use Rattle.table_script.proofs.WalkJoined.{joined_by_walks}
 use Rattle.topo_graph.specs.Topology.{nothing, life_at}
 use Rattle.switch_numbering.specs.Numbering.{numbering}
 use Rattle.table_build.specs.Exits.{is_entry}
@@ -37,7 +37,9 @@ use Rattle.table_build.proofs.ListLemmas.{AllPairs-map, AllPairs-append, Any-map
 use Rattle.report.specs.Names.{life_text}
 use Rattle.report.specs.Expect.{Part}
 use Rattle.report.proofs.ListLemmas.{Any-flat_map, AllPairs-flat_map}
-use Rattle.report.proofs.OwnForms.{member_form, number_form, row_form, member_rows, table_forms, part_forms, own_forms, numbers_in, entries_in, AreEntriesApart, AreParts}
+use Rattle.report.proofs.OwnForms.{numbers_in, entries_in, AreEntriesApart, AreParts}
+use Rattle.report.specs.Expect.{member_form, number_form, part_forms, expect_forms}
+use Rattle.report.specs.Rows.{row_form, member_rows, table_forms}
 use Rattle.report.proofs.OwnNames.{life_named}
 use Rattle.report.proofs.PartLemmas.{IsPart, are_parts}
 
@@ -95,7 +97,7 @@ numbers_of_rows s life rows (n ∷ ns) = numbers_of_rows s life rows ns
 numbers_of_tables : (s : ScriptOf) (es : List EntryOf) (x : ℕ) (ts : List TableOf) → numbers_in s (table_forms s es x ts) ≡ []
 numbers_of_tables s es x [] = refl
 numbers_of_tables s es x (t ∷ ts) =
-    numbers_append s (member_rows s es x t) (table_forms s es (x + 1) ts)
+    numbers_append s (member_rows s es x t.rows) (table_forms s es (x + 1) ts)
     ∙ ap (λ (ns : List NumberAt). ns ++ numbers_in s (table_forms s es (x + 1) ts)) (numbers_of_rows s (life_at es x) t.rows (filter (is_entry es x) (range_with_len 0 13)))
     ∙ numbers_of_tables s es (x + 1) ts
 
@@ -114,7 +116,7 @@ entries_of_rows s life rows (n ∷ ns) = ap (λ (es : List EntryAt). entry_read 
 
 entries_of_tables : (s : ScriptOf) (es : List EntryOf) (x : ℕ) (t : TableOf) (ts : List TableOf) → entries_in s (table_forms s es x (t ∷ ts)) ≡ member_entries s es x ++ entries_in s (table_forms s es (x + 1) ts)
 entries_of_tables s es x t ts =
-    entries_append s (member_rows s es x t) (table_forms s es (x + 1) ts)
+    entries_append s (member_rows s es x t.rows) (table_forms s es (x + 1) ts)
     ∙ ap (λ (rs : List EntryAt). rs ++ entries_in s (table_forms s es (x + 1) ts)) (entries_of_rows s (life_at es x) t.rows (filter (is_entry es x) (range_with_len 0 13)))
 
 -- those of a part
@@ -140,17 +142,13 @@ part_entries s p =
 
 -- SWITCHES OF PARTS
 
--- no life is below itself, nor below one that is not above it
-below_itself : (a b : LifeId) → IsBelow a b → a ≡ b → ⊥
-below_itself a b below same = not_both_below a b below (subst (λ (l : LifeId). IsBelow b l) (sym same) (subst (λ (l : LifeId). IsBelow l b) same below))
-
 le_from_lt : (o : Ordering) → IsTrue (is_lt o) → IsTrue (is_le o)
 le_from_lt Less lt = lt
 le_from_lt Equal lt = absurd (cc)
 le_from_lt Greater lt = absurd (cc)
 
 below_least : (a b : LifeId) → IsBelow a b → IsTrue (is_le (life_cmp b a)) → ⊥
-below_least a b below least = below_itself a b below (both_least a b (le_from_lt (life_cmp a b) below) least)
+below_least a b below least = below_same a b (both_least a b (le_from_lt (life_cmp a b) below) least) below
 
 -- links do not join the roots of two components, of which the first is below the second
 roots_apart : (w : Wires) (r q : ℕ) (a b : List EntryOf) → IsWired w → IsComponent w r a → IsComponent w q b → RootsBelow a b → are_joined w.links r q ≡ true → ⊥
@@ -185,7 +183,7 @@ members_apart s r es i j d kept component before low = λ same.
     let a : IsMember s.wires r (get_or es i d) = component.only i d (omega arith) in
     let b : IsMember s.wires r (get_or es j d) = component.only j d low in
     let one : a.0 ≡ b.0 = sym (life_named s a.0 (get_or es i d).life kept a.1 a.2.life).found ∙ same ∙ (life_named s b.0 (get_or es j d).life kept b.1 b.2.life).found in
-    below_itself (get_or es i d).life (get_or es j d).life (component.rising i j d before low) (a.2.life ∙ ap (network s.wires).life one ∙ sym b.2.life)
+    below_same (get_or es i d).life (get_or es j d).life (a.2.life ∙ ap (network s.wires).life one ∙ sym b.2.life) (component.rising i j d before low)
 
 -- THE NUMBERS
 
@@ -233,7 +231,7 @@ parts_rise s parts i j d are before low =
     (are.trees.rising i j d.entries before (let e = length-map parts (λ p. p.entries) in omega arith)))
 
 -- the numbers of all parts are apart
-pub own_numbers : (s : ScriptOf) (parts : List Part) → AreParts s parts → AllPairs (AreNumbersApart s.wires) (numbers_in s (own_forms s parts))
+pub own_numbers : (s : ScriptOf) (parts : List Part) → AreParts s parts → AllPairs (AreNumbersApart s.wires) (numbers_in s (expect_forms s parts))
 own_numbers s parts are =
     let each = are_parts s parts are.kept are.trees are.tables in
     subst (AllPairs (AreNumbersApart s.wires)) (sym (numbers_flat s (part_forms s) parts))
@@ -282,7 +280,7 @@ part_numbered s p x kept is low any =
     (Any-weaker (λ e. e.life ≡ (network s.wires).life x) (λ e. place s.switch_names (life_text s e.life) ≡ x) (λ e same. (life_named s x e.life kept low same).found) p.entries any)))
 
 -- each switch has a number
-pub own_numbered : (s : ScriptOf) (parts : List Part) → AreParts s parts → (x : ℕ) → x < length s.wires.switches → Any (λ n. n.s ≡ x) (numbers_in s (own_forms s parts))
+pub own_numbered : (s : ScriptOf) (parts : List Part) → AreParts s parts → (x : ℕ) → x < length s.wires.switches → Any (λ n. n.s ≡ x) (numbers_in s (expect_forms s parts))
 own_numbered s parts are x low =
     let each = are_parts s parts are.kept are.trees are.tables in
     let found = any_from_map (Any (λ e. e.life ≡ (network s.wires).life x)) (λ p. p.entries) parts (are.trees.whole x low) in
@@ -352,7 +350,7 @@ entries_joined s p kept is =
     (entries_in s (table_forms s p.entries 0 p.tables)) (tables_from s p.entries 0 p.tables (let e = is.tables.count in omega arith)))
 
 -- the entries of all parts are apart
-pub own_entries : (s : ScriptOf) (parts : List Part) → AreParts s parts → AllPairs AreEntriesApart (entries_in s (own_forms s parts))
+pub own_entries : (s : ScriptOf) (parts : List Part) → AreParts s parts → AllPairs AreEntriesApart (entries_in s (expect_forms s parts))
 own_entries s parts are =
     let each = are_parts s parts are.kept are.trees are.tables in
     subst (AllPairs AreEntriesApart) (sym (entries_flat s (part_forms s) parts))

@@ -5,22 +5,23 @@ use Rattle.std.proofs.lemmas.List.{get_or_append_left, get_or_at}
 use Rattle.std.proofs.lemmas.List.Folds.{list_any_none, list_any-from_Any}
 use Rattle.std.proofs.lemmas.List.FromFn.{get_or-range_with_len, length-range_with_len}
 use Rattle.an_base.specs.Rows.{RowOf}
-use Rattle.net_script.specs.declared.cause.ScriptCause.TheVariants.{BadNumber, TablesShort}
-use Rattle.net_script.specs.Causes.{unless}
-use Rattle.net_script.specs.declared.table_draft.NumberAt.{NumberAt}
-use Rattle.net_script.specs.declared.table_draft.EntryAt.{EntryAt}
+use Rattle.net_script.specs.declared.cause.ScriptCause.TheVariants.{BadNumber, TablesShort, LineTooLong, NotAscii}
+use Rattle.text_lines.specs.Faults.{unless}
+use Rattle.table_script.specs.declared.table_draft.NumberAt.{NumberAt}
+use Rattle.table_script.specs.declared.table_draft.EntryAt.{EntryAt}
 use Rattle.net_script.specs.Rules.{place, known_cause}
-use Rattle.net_script.specs.Words.{number_value}
+use Rattle.text_lines.specs.Words.{number_value}
 use Rattle.net_script.specs.Scripts.{ScriptOf}
-use Rattle.net_script.specs.Chains.{LeadsBy}
-use Rattle.net_script.specs.Tables.{are_joined}
-use Rattle.net_script.specs.TableForms.{TableForm, ComponentLine, MemberLine, NumberLine, RowLine, EndLine, table_words}
-use Rattle.net_script.specs.TableDrafts.{TableDraftOf, no_tables}
-use Rattle.net_script.specs.TableRules.{row_of, entry_cause, are_pairs, is_numbered, is_number_taken, is_entered, are_numbered, row_line_cause, table_cause, with_table_form, AreNumbersApart}
-use Rattle.net_script.specs.TableTexts.{AddsTableWords, AddsTableRow, AddsTable}
-use Rattle.net_script.proofs.SpellLemmas.{line_good, line_words, test_from_all}
-use Rattle.net_script.proofs.ChainLemmas.{fixed_word, words_cons, words_nil}
-use Rattle.net_script.proofs.NumberLineLemmas.{number_new}
+use Rattle.text_lines.specs.Chains.{LeadsBy}
+use Rattle.table_script.specs.Tables.{are_joined}
+use Rattle.table_script.specs.TableForms.{TableForm, ComponentLine, MemberLine, NumberLine, RowLine, EndLine, table_words}
+use Rattle.table_script.specs.TableDrafts.{TableDraftOf, no_tables}
+use Rattle.table_script.specs.TableRules.{row_of, entry_cause, are_pairs, is_numbered, is_number_taken, is_entered, are_numbered, row_line_cause, table_cause, with_table_form, AreNumbersApart}
+use Rattle.table_script.specs.TableTexts.{AddsTableWords, AddsTable}
+use Rattle.table_script.proofs.TableLaws.{AddsTableRow}
+use Rattle.text_lines.proofs.SpellLemmas.{line_good, line_words, test_from_all}
+use Rattle.text_lines.proofs.SpellLemmas.{fixed_word, words_cons, words_nil}
+use Rattle.table_script.proofs.NumberLineLemmas.{number_new}
 use Rattle.report.proofs.OwnForms.{numbers_in, entries_in, rows_in, drafted, IsPlain, IsPrintedForm, AreEntriesApart, AreWhole}
 
 -- what a front of the forms says
@@ -89,7 +90,7 @@ adds_row s d e (w ∷ ws) some adds = adds
 -- a printed form with which nothing is wrong is a good line
 form_adds : (s : ScriptOf) (d e : TableDraftOf) (f : TableForm) → IsPrintedForm f → d.ended ≡ false → table_cause s d f ≡ None → e ≡ with_table_form s d f → AddsTable s d (join_with_byte 32 (table_words f)) e
 form_adds s d e f printed unended good then = record {
-  bytes = line_good 4000 (table_words f) printed.words (let h = printed.few in omega arith);
+  bytes = line_good LineTooLong NotAscii 4000 (table_words f) printed.words (let h = printed.few in omega arith);
   row = subst (λ (ws : List (List ℕ)). AddsTableRow s d ws e) (sym (line_words (table_words f) (words_some f) printed.words))
       (adds_row s d e (table_words f) (words_some f) (subst (λ (b : Bool). AddsTableWords b s d (table_words f) e) (sym unended) (record { form = f; line = refl; good = good; then = then })));
 }

@@ -1,64 +1,19 @@
-use Rattle.std.proofs.Common.{◌≡◌, ◌≢◌, ◌==◌, ℕ, ◌+◌, ◌<◌, ◌≤◌, List, [], ◌∷◌, ◌++◌, length, map, codes, None, true, All, AllPairs}
-use Rattle.std.specs.Prelude.{if◌then◌else◌, filter, Any}
-use Rattle.std.specs.Fmt.{decimal}
-use Rattle.std.specs.List.{flat_map, range_with_len, zip}
-use Rattle.an_base.specs.Values.{LifeId, Place, EntryOf}
+use Rattle.std.proofs.Common.{◌≡◌, ◌≢◌, ℕ, ◌<◌, ◌≤◌, List, [], ◌∷◌, ◌++◌, length, map, None, true, All, AllPairs}
+use Rattle.std.specs.Prelude.{Any}
+use Rattle.an_base.specs.Values.{LifeId}
 use Rattle.an_base.specs.Rows.{RowOf}
 use Rattle.net_graph.specs.Forest.{IsForest}
-use Rattle.net_script.specs.declared.table_draft.NumberAt.{NumberAt}
-use Rattle.net_script.specs.declared.table_draft.EntryAt.{EntryAt}
-use Rattle.net_script.specs.Words.{number_value, is_number_in, IsName}
+use Rattle.table_script.specs.declared.table_draft.NumberAt.{NumberAt}
+use Rattle.table_script.specs.declared.table_draft.EntryAt.{EntryAt}
+use Rattle.text_lines.specs.Words.{number_value, is_number_in, IsName}
 use Rattle.net_script.specs.Rules.{place, known_cause}
 use Rattle.net_script.specs.Scripts.{ScriptOf, IsScript}
-use Rattle.net_script.specs.TableForms.{TableForm, ComponentLine, MemberLine, NumberLine, RowLine, EndLine, table_words}
-use Rattle.net_script.specs.TableDrafts.{TableDraftOf}
-use Rattle.net_script.specs.TableRules.{row_of, entry_cause, are_pairs, AreNumbersApart}
-use Rattle.net_script.proofs.SpellLemmas.{IsWord}
-use Rattle.topo_graph.specs.Topology.{entry_at, life_at}
-use Rattle.switch_numbering.specs.Numbering.{numbering}
-use Rattle.table_build.specs.Exits.{is_entry}
-use Rattle.table_build.specs.Tables.{TableOf}
+use Rattle.table_script.specs.TableForms.{TableForm, ComponentLine, MemberLine, NumberLine, RowLine, EndLine, table_words}
+use Rattle.table_script.specs.TableDrafts.{TableDraftOf}
+use Rattle.table_script.specs.TableRules.{row_of, entry_cause, are_pairs, AreNumbersApart}
+use Rattle.text_lines.proofs.SpellLemmas.{IsWord}
 use Rattle.report.specs.Names.{life_text}
-use Rattle.report.specs.Rows.{exits_text, rows_at}
 use Rattle.report.specs.Expect.{Part, AreTables}
-
--- The lines of the text of `expect`, as forms of lines of tables.
-
--- a pair: the number of the target, a colon, and the exits
-abbrev pub pair_word : RowOf → List ℕ
-pair_word r = decimal r.to ++ (codes ":" ++ exits_text r.exits)
-
--- below the root, the parent and the own port to it
-abbrev pub parent_words : ScriptOf → Place → List (List ℕ)
-parent_words s p = if p.level == 0 then [] else (codes "parent" ∷ life_text s p.parent ∷ codes "port" ∷ decimal p.port ∷ [])
-
-abbrev pub component_form : ScriptOf → List EntryOf → TableForm
-component_form s es = ComponentLine (life_text s (entry_at es 0).position.root ∷ codes "members" ∷ decimal (length es) ∷ [])
-
-abbrev pub member_form : ScriptOf → EntryOf → TableForm
-member_form s e = MemberLine (life_text s e.life ∷ codes "level" ∷ decimal e.position.level ∷ parent_words s e.position)
-
-abbrev pub number_form : ScriptOf → EntryOf × ℕ → TableForm
-number_form s m = NumberLine (life_text s m.0.life) (decimal m.1)
-
-abbrev pub row_form : ScriptOf → LifeId → List RowOf → ℕ → TableForm
-row_form s life rows entry = RowLine (life_text s life) (decimal entry) (map pair_word (rows_at rows entry))
-
--- the lines of the table of the member at x
-abbrev pub member_rows : ScriptOf → List EntryOf → ℕ → TableOf → List TableForm
-member_rows s es x t = map (row_form s (life_at es x) t.rows) (filter (is_entry es x) (range_with_len 0 13))
-
--- those of the members from x on
-abbrev pub table_forms : ScriptOf → List EntryOf → ℕ → List TableOf → List TableForm
-table_forms s es x [] = []
-table_forms s es x (t ∷ ts) = member_rows s es x t ++ table_forms s es (x + 1) ts
-
-abbrev pub part_forms : ScriptOf → Part → List TableForm
-part_forms s p = component_form s p.entries ∷ (map (member_form s) p.entries ++ (map (number_form s) (zip p.entries (numbering p.entries)) ++ table_forms s p.entries 0 p.tables))
-
--- all lines but the last
-abbrev pub own_forms : ScriptOf → List Part → List TableForm
-own_forms s parts = flat_map (part_forms s) parts
 
 -- WHAT FORMS SAY
 

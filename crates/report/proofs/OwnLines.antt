@@ -20,28 +20,30 @@ use Rattle.an_base.specs.Values.{EntryOf, LifeId}
 use Rattle.an_base.specs.Numbers.{AreNumbers}
 use Rattle.an_base.specs.Tree.{Network, IsDistance, IsClosed}
 use Rattle.an_base.proofs.PlaceLaws.{one_level}
-use Rattle.net_graph.proofs.ListLemmas.{AllPairs-head, AllPairs-tail}
+use Rattle.an_base.proofs.ListLemmas.{AllPairs-head, AllPairs-tail}
 use Rattle.net_graph.specs.Wires.{network}
 use Rattle.net_graph.specs.Forest.{IsComponent, IsMember}
 use Rattle.net_graph.proofs.FarLemmas.{far_is, network_closed}
-use Rattle.net_script.specs.Words.{is_number, is_number_in, number_value}
-use Rattle.net_script.specs.TableRules.{is_colon, port_words as words_of_ports, are_ports, rise_above, is_pair, are_pairs, pair_number, pair_exits, row_of, entry_cause}
-use Rattle.net_script.specs.Causes.{unless}
+use Rattle.text_lines.specs.Words.{is_number, is_number_in, number_value}
+use Rattle.table_script.specs.TableRules.{is_colon, port_words, are_ports, rise_above, is_pair, are_pairs, pair_number, pair_exits, row_of, entry_cause}
+use Rattle.text_lines.specs.Faults.{unless}
 use Rattle.net_script.specs.Scripts.{ScriptOf, IsScript}
-use Rattle.net_script.specs.TableForms.{TableForm}
+use Rattle.table_script.specs.TableForms.{TableForm}
 use Rattle.net_script.specs.declared.cause.ScriptCause.TheVariants.{BadNumber, PortRange}
-use Rattle.net_script.proofs.SpellLemmas.{IsPrinted, IsWord, decimal_word, decimal_value, decimal_number, name_word}
-use Rattle.net_script.proofs.WordLemmas.{own}
-use Rattle.net_script.proofs.ChainLemmas.{fixed_word, words_cons, words_nil}
-use Rattle.net_script.proofs.GoodLemmas.{unless_good, first_good}
+use Rattle.text_lines.proofs.SpellLemmas.{IsPrinted, IsWord, decimal_word, decimal_value, decimal_number, name_word}
+use Rattle.text_lines.proofs.WordLemmas.{own}
+use Rattle.text_lines.proofs.SpellLemmas.{fixed_word, words_cons, words_nil}
+use Rattle.text_lines.proofs.FaultLemmas.{unless_good, first_good}
 use Rattle.switch_numbering.specs.Numbering.{numbering}
 use Rattle.topo_graph.specs.Topology.{IsGraph, nothing, entry_at, life_at}
 use Rattle.table_build.specs.Exits.{LeadsTo, Begins, may_go_up, is_entry}
 use Rattle.table_build.specs.Tables.{TableOf, IsTable, IsRow, IsBefore}
 use Rattle.table_build.proofs.ListLemmas.{AllPairs-map}
 use Rattle.dep_check.proofs.Pigeons.{pigeons}
-use Rattle.report.specs.Rows.{exits_text, port_words, rows_at}
-use Rattle.report.proofs.OwnForms.{pair_word, parent_words, component_form, member_form, number_form, row_form, member_rows, table_forms, part_forms, own_forms, IsPlain, IsPrintedForm, AreParts, IsNamed}
+use Rattle.report.specs.Rows.{exits_text, slashed, rows_at}
+use Rattle.report.proofs.OwnForms.{IsPlain, IsPrintedForm, AreParts, IsNamed}
+use Rattle.report.specs.Expect.{parent_words, component_form, member_form, number_form, part_forms, expect_forms}
+use Rattle.report.specs.Rows.{pair_word, row_form, member_rows, table_forms}
 use Rattle.report.specs.Names.{life_text}
 use Rattle.report.specs.Expect.{Part, AreTables, table_at}
 use Rattle.report.proofs.TextLemmas.{numbered}
@@ -95,23 +97,23 @@ split_ports p (q ∷ qs) are =
 -- they are not `-`
 not_dash : (p : ℕ) (ps : List ℕ) → p < 2 ^ 64 → bytes_eq (exits_text (p ∷ ps)) (codes "-") ≡ false
 unfolding exits_text
-not_dash p ps low = go (bytes_eq (decimal p ++ flat_map port_words ps) (codes "-")) refl
+not_dash p ps low = go (bytes_eq (decimal p ++ flat_map slashed ps) (codes "-")) refl
   where
-    go : (b : Bool) → bytes_eq (decimal p ++ flat_map port_words ps) (codes "-") ≡ b → b ≡ false
+    go : (b : Bool) → bytes_eq (decimal p ++ flat_map slashed ps) (codes "-") ≡ b → b ≡ false
     go false t = refl
     go true t =
-        let same = (bytes_eq-Decides (decimal p ++ flat_map port_words ps) (codes "-")).0 t in
-        let first : get_or (decimal p ++ flat_map port_words ps) 0 0 ≡ 45 = ap (λ (xs : List ℕ). get_or xs 0 0) same in
-        let here = get_or_append_left (decimal p) (flat_map port_words ps) 0 0 (decimal_nonempty p low) in
+        let same = (bytes_eq-Decides (decimal p ++ flat_map slashed ps) (codes "-")).0 t in
+        let first : get_or (decimal p ++ flat_map slashed ps) 0 0 ≡ 45 = ap (λ (xs : List ℕ). get_or xs 0 0) same in
+        let here = get_or_append_left (decimal p) (flat_map slashed ps) 0 0 (decimal_nonempty p low) in
         let digit = (decimal_digits p low 0 0 (decimal_nonempty p low)).0 in
         absurd (omega arith)
 
 -- the words of exits are the ports
-no_words : words_of_ports (exits_text []) ≡ []
+no_words : port_words (exits_text []) ≡ []
 unfolding exits_text
 no_words = refl
 
-exits_words : (ps : List ℕ) → All IsPort ps → words_of_ports (exits_text ps) ≡ map decimal ps
+exits_words : (ps : List ℕ) → All IsPort ps → port_words (exits_text ps) ≡ map decimal ps
 exits_words [] are = no_words
 exits_words (p ∷ ps) are =
     let most = (All-head IsPort p ps are).1 in
@@ -153,7 +155,7 @@ record AreRising (ps : List ℕ) : Type 0 where
   ports : All IsPort ps
   rise : ExitsRise ps
 
-exits_are_ports : (ps : List ℕ) → AreRising ps → are_ports 0 (words_of_ports (exits_text ps)) ≡ true
+exits_are_ports : (ps : List ℕ) → AreRising ps → are_ports 0 (port_words (exits_text ps)) ≡ true
 exits_are_ports ps are =
     ap (are_ports 0) (exits_words ps are.ports)
     ∙ rw (ports_in ps are.ports, values ps are.ports, rises 0 ps are.rise (All-weaker IsPort (λ n. 0 < n) (λ n is. let h = is.0 in omega arith) ps are.ports)) refl
@@ -192,7 +194,7 @@ number_is r is =
 exits_are : (r : RowOf) → IsSpelled r → pair_exits (pair_word r) ≡ r.exits
 exits_are r is =
     let most = is.most in
-    ap (λ (t : List ℕ). map number_value (words_of_ports t)) (after_colon r.to (exits_text r.exits) (omega arith))
+    ap (λ (t : List ℕ). map number_value (port_words t)) (after_colon r.to (exits_text r.exits) (omega arith))
     ∙ ap (λ (ws : List (List ℕ)). map number_value ws) (exits_words r.exits is.exits.ports)
     ∙ values r.exits is.exits.ports
 
@@ -208,25 +210,25 @@ pair_is r is =
     let least = is.least in
     let most = is.most in
     let number : is_number_in 1 126 (before_first is_colon (pair_word r)) ≡ true = ap (is_number_in 1 126) (before_colon r.to (exits_text r.exits) (omega arith)) ∙ number_in 1 126 r.to (omega arith) least most in
-    let ports : are_ports 0 (words_of_ports (after_first is_colon (pair_word r))) ≡ true = ap (λ (t : List ℕ). are_ports 0 (words_of_ports t)) (after_colon r.to (exits_text r.exits) (omega arith)) ∙ exits_are_ports r.exits is.exits in
+    let ports : are_ports 0 (port_words (after_first is_colon (pair_word r))) ≡ true = ap (λ (t : List ℕ). are_ports 0 (port_words t)) (after_colon r.to (exits_text r.exits) (omega arith)) ∙ exits_are_ports r.exits is.exits in
     three _ _ _ (has_colon r.to (exits_text r.exits)) number ports
   where
     three : (a b c : Bool) → a ≡ true → b ≡ true → c ≡ true → (a && (b && c)) ≡ true
     three a b c one two more = rw (one, two, more) refl
 
 -- its bytes are printed
-slashes_printed : (ps : List ℕ) → All IsPort ps → All IsPrinted (flat_map port_words ps)
+slashes_printed : (ps : List ℕ) → All IsPort ps → All IsPrinted (flat_map slashed ps)
 slashes_printed [] are = All-nil IsPrinted
 slashes_printed (p ∷ ps) are =
     let most = (All-head IsPort p ps are).1 in
-    All-append IsPrinted (port_words p) (flat_map port_words ps) (All-cons IsPrinted 47 (decimal p) (omega arith, omega arith) (decimal_word p (omega arith)).bytes) (slashes_printed ps (All-tail IsPort p ps are))
+    All-append IsPrinted (slashed p) (flat_map slashed ps) (All-cons IsPrinted 47 (decimal p) (omega arith, omega arith) (decimal_word p (omega arith)).bytes) (slashes_printed ps (All-tail IsPort p ps are))
 
 exits_printed : (ps : List ℕ) → All IsPort ps → All IsPrinted (exits_text ps)
 unfolding exits_text
 exits_printed [] are = All-cons IsPrinted 45 [] (omega arith, omega arith) (All-nil IsPrinted)
 exits_printed (p ∷ ps) are =
     let most = (All-head IsPort p ps are).1 in
-    All-append IsPrinted (decimal p) (flat_map port_words ps) (decimal_word p (omega arith)).bytes (slashes_printed ps (All-tail IsPort p ps are))
+    All-append IsPrinted (decimal p) (flat_map slashed ps) (decimal_word p (omega arith)).bytes (slashes_printed ps (All-tail IsPort p ps are))
 
 -- and few: how many bytes ports above a number take, each behind a slash: two for one digit, three for two
 one_digit : (p : ℕ) → p < 10 → length (decimal p) ≤ 1
@@ -239,13 +241,13 @@ record IsShort (low len : ℕ) : Type 0 where
   ones : low ≤ 9 → len + 2 * low ≤ 27
   twos : 9 ≤ low → len + 3 * low ≤ 36
 
-slashes_short : (low : ℕ) (ps : List ℕ) → low ≤ 12 → All IsPort ps → All (λ p. low < p) ps → ExitsRise ps → IsShort low (length (flat_map port_words ps))
+slashes_short : (low : ℕ) (ps : List ℕ) → low ≤ 12 → All IsPort ps → All (λ p. low < p) ps → ExitsRise ps → IsShort low (length (flat_map slashed ps))
 slashes_short low [] most are above rise = record { ones = λ l. omega arith; twos = λ l. omega arith }
 slashes_short low (p ∷ ps) most are above rise =
     let within = (All-head IsPort p ps are).1 in
     let first = All-head (λ n. low < n) p ps above in
     let rest = slashes_short p ps within (All-tail IsPort p ps are) (AllPairs-head (λ a b. a < b) p ps rise) (AllPairs-tail (λ a b. a < b) p ps rise) in
-    let long : length (flat_map port_words (p ∷ ps)) ≡ (1 + length (decimal p)) + length (flat_map port_words ps) = omega (arith, length-append (port_words p) (flat_map port_words ps)) in
+    let long : length (flat_map slashed (p ∷ ps)) ≡ (1 + length (decimal p)) + length (flat_map slashed ps) = omega (arith, length-append (slashed p) (flat_map slashed ps)) in
     elim (cases_lt p 10) [
       | inl one ↦ (let d = one_digit p one in let r = rest.ones (omega arith) in record { ones = λ l. omega arith; twos = λ l. omega arith })
       | inr two ↦ (let d = two_digits p within in let r = rest.twos (omega arith) in record { ones = λ l. omega arith; twos = λ l. omega arith })
@@ -256,7 +258,7 @@ unfolding exits_text
 exits_short [] are = omega arith
 exits_short (p ∷ ps) are =
     let all = (slashes_short 0 (p ∷ ps) (omega arith) are.ports (All-weaker IsPort (λ n. 0 < n) (λ n is. let h = is.0 in omega arith) (p ∷ ps) are.ports) are.rise).ones (omega arith) in
-    omega (arith, length-append (port_words p) (flat_map port_words ps), length-append (decimal p) (flat_map port_words ps))
+    omega (arith, length-append (slashed p) (flat_map slashed ps), length-append (decimal p) (flat_map slashed ps))
 
 -- a pair is a printed word
 pair_printed : (r : RowOf) → IsSpelled r → IsWord (pair_word r)
@@ -553,7 +555,7 @@ entries_low = λ i d low.
     let at = get_or-range_with_len 0 13 i d (omega arith) in
     omega arith
 
-rows_good : (s : ScriptOf) (es : List EntryOf) (any : Bool) (x : ℕ) (t : TableOf) → IsTold s es → x < length es → IsTable es (numbering es) any x t → All (IsGood s) (member_rows s es x t)
+rows_good : (s : ScriptOf) (es : List EntryOf) (any : Bool) (x : ℕ) (t : TableOf) → IsTold s es → x < length es → IsTable es (numbering es) any x t → All (IsGood s) (member_rows s es x t.rows)
 rows_good s es any x t told low table =
     let name = (told.shown x nothing low).life in
     All-map (IsGood s) (row_form s (life_at es x) t.rows) (filter (is_entry es x) (range_with_len 0 13))
@@ -567,7 +569,7 @@ tables_good : (s : ScriptOf) (es : List EntryOf) (any : Bool) (x : ℕ) (ts : Li
 tables_good s es any x [] told few each = All-nil (IsGood s)
 tables_good s es any x (t ∷ ts) told few each =
     let here : x + 0 ≡ x = omega arith in
-    All-append (IsGood s) (member_rows s es x t) (table_forms s es (x + 1) ts)
+    All-append (IsGood s) (member_rows s es x t.rows) (table_forms s es (x + 1) ts)
     (rows_good s es any x t told (omega arith) (subst (λ (y : ℕ). IsTable es (numbering es) any y t) here (each 0 (omega arith))))
     (tables_good s es any (x + 1) ts told (omega arith) (λ i low.
     let next : x + suc i ≡ (x + 1) + i = omega arith in
@@ -589,7 +591,7 @@ part_good s p told tables =
     let from : i ≡ 0 + i = omega arith in
     subst (λ (y : ℕ). IsTable es (numbering es) s.any_routes y (table_at p.tables i)) from (tables.each i (omega arith))))))
 
-own_good : (s : ScriptOf) (parts : List Part) → AreParts s parts → All (IsGood s) (own_forms s parts)
+own_good : (s : ScriptOf) (parts : List Part) → AreParts s parts → All (IsGood s) (expect_forms s parts)
 own_good s parts are =
     let entries : Part → List EntryOf = λ p. p.entries in
     all_flat (IsGood s) (part_forms s) parts (λ i d low.
@@ -598,8 +600,8 @@ own_good s parts are =
     part_good s (get_or parts i d) (component_told s component.0 (get_or parts i d).entries are.kept (subst (IsComponent s.wires component.0) at component.1)) (are.tables i d low))
 
 -- each line of the text is printed words, and nothing is wrong with it by itself
-pub own_printed : (s : ScriptOf) (parts : List Part) → AreParts s parts → All IsPrintedForm (own_forms s parts)
-own_printed s parts are = All-weaker (IsGood s) IsPrintedForm (λ f is. is.0) (own_forms s parts) (own_good s parts are)
+pub own_printed : (s : ScriptOf) (parts : List Part) → AreParts s parts → All IsPrintedForm (expect_forms s parts)
+own_printed s parts are = All-weaker (IsGood s) IsPrintedForm (λ f is. is.0) (expect_forms s parts) (own_good s parts are)
 
-pub own_plain : (s : ScriptOf) (parts : List Part) → AreParts s parts → All (IsPlain s) (own_forms s parts)
-own_plain s parts are = All-weaker (IsGood s) (IsPlain s) (λ f is. is.1) (own_forms s parts) (own_good s parts are)
+pub own_plain : (s : ScriptOf) (parts : List Part) → AreParts s parts → All (IsPlain s) (expect_forms s parts)
+own_plain s parts are = All-weaker (IsGood s) (IsPlain s) (λ f is. is.1) (expect_forms s parts) (own_good s parts are)

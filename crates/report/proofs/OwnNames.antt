@@ -3,9 +3,9 @@ use Rattle.std.proofs.lemmas.List.Elements.{All-get_or}
 use Rattle.an_base.specs.Values.{LifeId}
 use Rattle.net_graph.specs.Wires.{uid_of, network}
 use Rattle.net_graph.proofs.ListLemmas.{AllPairs-front}
-use Rattle.net_script.specs.Words.{IsName}
+use Rattle.text_lines.specs.Words.{IsName}
 use Rattle.net_script.specs.Scripts.{ScriptOf, IsScript}
-use Rattle.net_script.proofs.GoodLemmas.{known_good, place_is}
+use Rattle.script_text.proofs.GoodLemmas.{known_good, place_is}
 use Rattle.report.proofs.ComponentLemmas.{uid_found}
 use Rattle.report.specs.Names.{life_text, name_at}
 use Rattle.report.proofs.OwnForms.{IsNamed}

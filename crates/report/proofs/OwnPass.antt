@@ -21,17 +21,18 @@ use Rattle.net_graph.proofs.CollectLemmas.{uid_one}
 use Rattle.net_graph.proofs.FarLemmas.{far_back}
 use Rattle.net_graph.proofs.WalkLemmas.{walk_back}
 use Rattle.net_graph.proofs.OneForest.{one_component, one_forest_of}
-use Rattle.net_graph.proofs.ListLemmas.{Contains-here, Contains-later, Contains-cons_cases, Contains-map, Any-from_map, AllPairs-head, AllPairs-tail}
+use Rattle.net_graph.proofs.ListLemmas.{Contains-here, Contains-later, Contains-cons_cases, Contains-map, Any-from_map}
+use Rattle.an_base.proofs.ListLemmas.{AllPairs-head, AllPairs-tail}
 use Rattle.net_graph.specs.declared.wiring.SwitchAt.{SwitchAt}
-use Rattle.net_script.specs.declared.table_draft.NumberAt.{NumberAt}
+use Rattle.table_script.specs.declared.table_draft.NumberAt.{NumberAt}
 use Rattle.net_script.specs.Rules.{place}
 use Rattle.net_script.specs.Scripts.{ScriptOf, IsScript}
-use Rattle.net_script.specs.Tables.{TablesOf}
-use Rattle.net_script.specs.TableDrafts.{TableDraftOf}
-use Rattle.net_script.specs.TableForms.{TableForm, ComponentLine, MemberLine, NumberLine, RowLine, EndLine}
-use Rattle.net_script.specs.TableRules.{row_of, tables_of, AreNumbersApart, number_of as drafted_number}
-use Rattle.net_script.specs.Words.{number_value}
-use Rattle.net_script.proofs.SpellLemmas.{decimal_value}
+use Rattle.table_script.specs.Tables.{TablesOf}
+use Rattle.table_script.specs.TableDrafts.{TableDraftOf}
+use Rattle.table_script.specs.TableForms.{TableForm, ComponentLine, MemberLine, NumberLine, RowLine, EndLine}
+use Rattle.table_script.specs.TableRules.{row_of, tables_of, AreNumbersApart, number_of as drafted_number}
+use Rattle.text_lines.specs.Words.{number_value}
+use Rattle.text_lines.proofs.SpellLemmas.{decimal_value}
 use Rattle.topo_graph.specs.Topology.{IsGraph, IsTree, nothing, entry_at, life_at, far_of}
 use Rattle.switch_numbering.specs.Numbering.{numbering}
 use Rattle.table_build.specs.Exits.{IsEntry, is_entry}
@@ -50,9 +51,12 @@ use Rattle.report.specs.Names.{life_text}
 use Rattle.report.specs.Rows.{rows_at}
 use Rattle.report.proofs.ListLemmas.{All-flat_map}
 use Rattle.report.proofs.PartLemmas.{IsPart, are_parts}
-use Rattle.report.proofs.ComponentLemmas.{walk_then, uid_is, number_is}
+use Rattle.report.proofs.ComponentLemmas.{uid_is, number_is}
+use Rattle.an_base.proofs.WalkLemmas.{walk_then}
 use Rattle.report.proofs.OwnNames.{life_named}
-use Rattle.report.proofs.OwnForms.{IsNamed, AreParts, pair_word, component_form, member_form, number_form, row_form, member_rows, table_forms, part_forms, own_forms, numbers_in, rows_in, drafted}
+use Rattle.report.proofs.OwnForms.{IsNamed, AreParts, numbers_in, rows_in, drafted}
+use Rattle.report.specs.Expect.{component_form, member_form, number_form, part_forms, expect_forms}
+use Rattle.report.specs.Rows.{pair_word, row_form, member_rows, table_forms}
 use Rattle.report.proofs.OwnApart.{own_numbers}
 use Rattle.report.proofs.OwnLines.{pair_says}
 
@@ -155,15 +159,15 @@ number_there s p i low high =
     (Contains-image (number_form s) (entry_at p.entries i, get_or (numbering p.entries) i 0) (zip p.entries (numbering p.entries)) (Contains-zip p.entries (numbering p.entries) i nothing 0 low high))))
 
 -- so has each entry of its table
-Contains-tables : (s : ScriptOf) (es : List EntryOf) (x : ℕ) (ts : List TableOf) (i n : ℕ) (f : TableForm) → i < length ts → n ≡ x + i → Contains (member_rows s es n (table_at ts i)) f → Contains (table_forms s es x ts) f
+Contains-tables : (s : ScriptOf) (es : List EntryOf) (x : ℕ) (ts : List TableOf) (i n : ℕ) (f : TableForm) → i < length ts → n ≡ x + i → Contains (member_rows s es n (table_at ts i).rows) f → Contains (table_forms s es x ts) f
 Contains-tables s es x [] i n f low at has = absurd (omega arith)
 Contains-tables s es x (t ∷ ts) zero n f low at has =
     let here : n ≡ x = omega arith in
-    Contains-append_left (member_rows s es x t) (table_forms s es (x + 1) ts) f (subst (λ (m : ℕ). Contains (member_rows s es m t) f) here has)
+    Contains-append_left (member_rows s es x t.rows) (table_forms s es (x + 1) ts) f (subst (λ (m : ℕ). Contains (member_rows s es m t.rows) f) here has)
 Contains-tables s es x (t ∷ ts) (suc i) n f low at has =
-    Contains-append_right (member_rows s es x t) (table_forms s es (x + 1) ts) f (Contains-tables s es (x + 1) ts i n f (omega arith) (omega arith) has)
+    Contains-append_right (member_rows s es x t.rows) (table_forms s es (x + 1) ts) f (Contains-tables s es (x + 1) ts i n f (omega arith) (omega arith) has)
 
-row_there : (s : ScriptOf) (p : Part) (i : ℕ) (f : TableForm) → i < length p.tables → Contains (member_rows s p.entries i (table_at p.tables i)) f → Contains (part_forms s p) f
+row_there : (s : ScriptOf) (p : Part) (i : ℕ) (f : TableForm) → i < length p.tables → Contains (member_rows s p.entries i (table_at p.tables i).rows) f → Contains (part_forms s p) f
 row_there s p i f low has =
     let numbers = map (number_form s) (zip p.entries (numbering p.entries)) in
     let tables = table_forms s p.entries 0 p.tables in
@@ -172,14 +176,14 @@ row_there s p i f low has =
     (Contains-append_right numbers tables f (Contains-tables s p.entries 0 p.tables i i f low (omega arith) has)))
 
 -- what holds of the lines of each table holds of the lines of all
-All-tables : (s : ScriptOf) (es : List EntryOf) (Q : TableForm → Type 0) (x : ℕ) (ts : List TableOf) → ((i n : ℕ) → i < length ts → n ≡ x + i → All Q (member_rows s es n (table_at ts i))) → All Q (table_forms s es x ts)
+All-tables : (s : ScriptOf) (es : List EntryOf) (Q : TableForm → Type 0) (x : ℕ) (ts : List TableOf) → ((i n : ℕ) → i < length ts → n ≡ x + i → All Q (member_rows s es n (table_at ts i).rows)) → All Q (table_forms s es x ts)
 All-tables s es Q x [] each = All-nil Q
 All-tables s es Q x (t ∷ ts) each =
-    All-append Q (member_rows s es x t) (table_forms s es (x + 1) ts) (each 0 x (omega arith) (omega arith))
+    All-append Q (member_rows s es x t.rows) (table_forms s es (x + 1) ts) (each 0 x (omega arith) (omega arith))
     (All-tables s es Q (x + 1) ts (λ i n low at. each (suc i) n (omega arith) (omega arith)))
 
 -- the other lines of a part say no rows
-part_rows : (s : ScriptOf) (P : RowOf → Type 0) (p : Part) → ((i : ℕ) → i < length p.tables → All (λ f. All P (form_rows s f)) (member_rows s p.entries i (table_at p.tables i))) → All (λ f. All P (form_rows s f)) (part_forms s p)
+part_rows : (s : ScriptOf) (P : RowOf → Type 0) (p : Part) → ((i : ℕ) → i < length p.tables → All (λ f. All P (form_rows s f)) (member_rows s p.entries i (table_at p.tables i).rows)) → All (λ f. All P (form_rows s f)) (part_forms s p)
 part_rows s P p each =
     let Q : TableForm → Type 0 = λ f. All P (form_rows s f) in
     let numbers = map (number_form s) (zip p.entries (numbering p.entries)) in
@@ -189,7 +193,7 @@ part_rows s P p each =
     (All-append Q numbers tables (All-map Q (number_form s) (zip p.entries (numbering p.entries)) (λ k d low. All-nil P))
     (All-tables s p.entries Q 0 p.tables (λ i n low at.
     let here : i ≡ n = omega arith in
-    subst (λ (m : ℕ). All Q (member_rows s p.entries m (table_at p.tables i))) here (each i low)))))
+    subst (λ (m : ℕ). All Q (member_rows s p.entries m (table_at p.tables i).rows)) here (each i low)))))
 
 -- ONE COMPONENT
 
@@ -249,7 +253,7 @@ range_has n e low =
     (e, omega arith, omega arith)
 
 -- the lines of a member say rows of its table
-own_lines : (s : ScriptOf) (p : Part) (part : IsPart s p) → IsScript s → (i : ℕ) → i < length p.tables → All (λ f. All (IsOwnRow s p part.root) (form_rows s f)) (member_rows s p.entries i (table_at p.tables i))
+own_lines : (s : ScriptOf) (p : Part) (part : IsPart s p) → IsScript s → (i : ℕ) → i < length p.tables → All (λ f. All (IsOwnRow s p part.root) (form_rows s f)) (member_rows s p.entries i (table_at p.tables i).rows)
 own_lines s p part kept i low =
     let t = table_at p.tables i in
     let low' : i < length p.entries = let e = part.tables.count in omega arith in
@@ -277,24 +281,24 @@ record IsOwn (s : ScriptOf) (parts : List Part) (r : RowOf) : Type 0 where
   is : IsPart s part
   own : IsOwnRow s part is.root r
 
-all_own : (s : ScriptOf) (parts : List Part) → AreParts s parts → All (IsOwn s parts) (rows_in s (own_forms s parts))
+all_own : (s : ScriptOf) (parts : List Part) → AreParts s parts → All (IsOwn s parts) (rows_in s (expect_forms s parts))
 all_own s parts are =
     let P : RowOf → Type 0 = IsOwn s parts in
-    subst (λ (rs : List RowOf). All P rs) (sym (rows_flat s (own_forms s parts)))
-    (All-flat_map P (form_rows s) (own_forms s parts)
+    subst (λ (rs : List RowOf). All P rs) (sym (rows_flat s (expect_forms s parts)))
+    (All-flat_map P (form_rows s) (expect_forms s parts)
     (All-flat_map (λ f. All P (form_rows s f)) (part_forms s) parts (λ k d low.
     let p = get_or parts k d in
     let part : IsPart s p = are_parts s parts are.kept are.trees are.tables k d low in
     part_rows s P p (λ i low'.
     All-weaker (λ f. All (IsOwnRow s p part.root) (form_rows s f)) (λ f. All P (form_rows s f))
     (λ f all. All-weaker (IsOwnRow s p part.root) P (λ r own. record { part = p; there = Contains-get_or parts k d low; is = part; own = own }) (form_rows s f) all)
-    (member_rows s p.entries i (table_at p.tables i)) (own_lines s p part are.kept i low')))))
+    (member_rows s p.entries i (table_at p.tables i).rows) (own_lines s p part are.kept i low')))))
 
 -- THE NUMBERS
 
 -- the tables of the lines
 abbrev own_tables : ScriptOf → List Part → TablesOf
-own_tables s parts = tables_of (length s.wires.switches) (drafted s (own_forms s parts))
+own_tables s parts = tables_of (length s.wires.switches) (drafted s (expect_forms s parts))
 
 drafted_at : (d : TableDraftOf) (x : ℕ) (m : NumberAt) → find (λ y. y.s == x) d.numbers ≡ Some m → drafted_number d x ≡ m.number
 unfolding drafted_number
@@ -303,7 +307,7 @@ drafted_at d x m e = ap (λ (o : Option NumberAt). unwrap_or (option_map (λ y. 
 -- they give the switch of a member its number
 number_at : (s : ScriptOf) (parts : List Part) (are : AreParts s parts) (p : Part) → Contains parts p → (part : IsPart s p) (i x : ℕ) → i < length p.entries → x < length s.wires.switches → IsEntryOf s.wires part.root x (entry_at p.entries i) → get_or (own_tables s parts).numbers x 0 ≡ get_or (numbering p.entries) i 0
 number_at s parts are p there part i x low in_x is =
-    let forms = own_forms s parts in
+    let forms = expect_forms s parts in
     let n = get_or (numbering p.entries) i 0 in
     let high : i < length (numbering p.entries) = let e = part.count in omega arith in
     let named = life_named s x (life_at p.entries i) are.kept in_x is.life in
@@ -377,7 +381,7 @@ entry_low es x entry graph (inl none) = omega arith
 entry_low es x entry graph (inr (far, e)) = let most = (graph.within x entry far e).port_most in omega arith
 
 -- a row of the table of a member is among the rows, at its switch
-row_said : (s : ScriptOf) (parts : List Part) (are : AreParts s parts) (p : Part) → Contains parts p → (part : IsPart s p) (i : ℕ) (low : i < length p.entries) (r : RowOf) → Contains (table_at p.tables i).rows r → IsRow p.entries (numbering p.entries) s.any_routes i r → Contains (rows_in s (own_forms s parts)) (record { at = (member_at s p part i low).0; entry = r.entry; to = r.to; exits = r.exits })
+row_said : (s : ScriptOf) (parts : List Part) (are : AreParts s parts) (p : Part) → Contains parts p → (part : IsPart s p) (i : ℕ) (low : i < length p.entries) (r : RowOf) → Contains (table_at p.tables i).rows r → IsRow p.entries (numbering p.entries) s.any_routes i r → Contains (rows_in s (expect_forms s parts)) (record { at = (member_at s p part i low).0; entry = r.entry; to = r.to; exits = r.exits })
 row_said s parts are p there part i low r has is =
     let t = table_at p.tables i in
     let entry = r.entry in
@@ -387,16 +391,16 @@ row_said s parts are p there part i low r has is =
     let small = entry_low p.entries i entry part.graph is.entry in
     let form = row_form s life t.rows entry in
     let says_it = row_of (place s.switch_names (life_text s life)) (number_value (decimal entry)) in
-    let stands : Contains (member_rows s p.entries i t) form =
+    let stands : Contains (member_rows s p.entries i t.rows) form =
     Contains-image (row_form s life t.rows) entry (filter (is_entry p.entries i) (range_with_len 0 13))
     (Contains-filter (is_entry p.entries i) entry (range_with_len 0 13) (entry_passes p.entries i entry is.entry) (range_has 13 entry small)) in
-    let has_form : Contains (own_forms s parts) form = Contains-flat_map (part_forms s) form p parts there (row_there s p i form (let e = part.tables.count in omega arith) stands) in
+    let has_form : Contains (expect_forms s parts) form = Contains-flat_map (part_forms s) form p parts there (row_there s p i form (let e = part.tables.count in omega arith) stands) in
     let in_form : Contains (form_rows s form) (says_it (pair_word r)) =
     Contains-image says_it (pair_word r) (map pair_word (rows_at t.rows entry))
     (Contains-image pair_word r (rows_at t.rows entry) (Contains-filter (λ x. x.entry == entry) r t.rows (eq-eqb r.entry entry refl) has)) in
-    let said : Contains (flat_map (form_rows s) (own_forms s parts)) (says_it (pair_word r)) = Contains-flat_map (form_rows s) (says_it (pair_word r)) form (own_forms s parts) has_form in_form in
-    subst (λ (q : RowOf). Contains (rows_in s (own_forms s parts)) q) (says s p part i member.0 entry r named small refl is)
-    (subst (λ (rs : List RowOf). Contains rs (says_it (pair_word r))) (sym (rows_flat s (own_forms s parts))) said)
+    let said : Contains (flat_map (form_rows s) (expect_forms s parts)) (says_it (pair_word r)) = Contains-flat_map (form_rows s) (says_it (pair_word r)) form (expect_forms s parts) has_form in_form in
+    subst (λ (q : RowOf). Contains (rows_in s (expect_forms s parts)) q) (says s p part i member.0 entry r named small refl is)
+    (subst (λ (rs : List RowOf). Contains rs (says_it (pair_word r))) (sym (rows_flat s (expect_forms s parts))) said)
 
 -- a row at a switch of a member is kept
 row_kept : (s : ScriptOf) (p : Part) (part : IsPart s p) (i : ℕ) (low : i < length p.entries) → get_or (members_of s.wires.switches p.entries) (member_at s p part i low).0 false ≡ true
@@ -464,7 +468,7 @@ part_passes s parts are p there part refusal is =
     refusal is
 
 -- so the tables that `expect` prints are not refused
-pub own_pass : (s : ScriptOf) (parts : List Part) → AreParts s parts → (text : List ℕ) → IsJudged s (tables_of (length s.wires.switches) (drafted s (own_forms s parts))) false text → ⊥
+pub own_pass : (s : ScriptOf) (parts : List Part) → AreParts s parts → (text : List ℕ) → IsJudged s (tables_of (length s.wires.switches) (drafted s (expect_forms s parts))) false text → ⊥
 own_pass s parts are text is =
     let before : List (List EntryOf) = map (λ (p : Ranked). p.entries) is.before in
     let one : before ++ (is.refused ∷ is.behind) ≡ map (λ (p : Part). p.entries) parts = one_forest_of s.wires (before ++ (is.refused ∷ is.behind)) (map (λ (p : Part). p.entries) parts) are.kept.wired is.trees are.trees in

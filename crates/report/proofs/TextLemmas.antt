@@ -1,56 +1,67 @@
-use Rattle.std.proofs.Common.{◌≡◌, ◌∙◌, sym, ap, subst, refl, ℕ, zero, suc, ◌+◌, ◌<◌, List, [], ◌∷◌, ◌++◌, Bool, true, false, arith, length, length-append, append_assoc, append-nil, add-one, get_or, take, map, All, inl, inr}
-use Rattle.std.specs.Prelude.{filter}
+use Rattle.std.proofs.Common.{◌≡◌, ◌∙◌, sym, ap, subst, refl, ℕ, ◌+◌, ◌<◌, List, [], ◌∷◌, ◌++◌, Bool, true, false, arith, length, length-append, append_assoc, append-nil, get_or, take, map, All, inl, inr}
+use Rattle.std.specs.Prelude.{filter, codes}
+use Rattle.std.specs.Fmt.{decimal}
 use Rattle.std.specs.List.{flat_map, zip, range_with_len}
 use Rattle.std.proofs.lemmas.Bool.{cases_eq}
-use Rattle.std.proofs.lemmas.List.{flat_map_more, take_more, map-append, get_or_push, get_or_append_left}
+use Rattle.std.proofs.lemmas.List.{flat_map_more, take_more, map_push, map-append, get_or_push, get_or_append_left}
 use Rattle.std.proofs.lemmas.List.Elements.{All-push, filter-append}
 use Rattle.std.proofs.lemmas.List.FromFn.{length-map-range_with_len}
-use Rattle.an_base.specs.Values.{EntryOf}
+use Rattle.std.proofs.lemmas.Grind.{flat_map-append}
+use Rattle.an_base.specs.Values.{LifeId, EntryOf}
+use Rattle.an_base.specs.Rows.{RowOf}
+use Rattle.an_base.proofs.ListLemmas.{places_more}
+use Rattle.text_lines.specs.Lines.{line_text}
+use Rattle.text_lines.proofs.FormTexts.{text_push, go_on, line_pieces}
 use Rattle.net_script.specs.Scripts.{ScriptOf}
+use Rattle.table_script.specs.TableForms.{TableForm, EndLine, table_words}
 use Rattle.switch_numbering.specs.Numbering.{numbering, number_at, proposals}
 use Rattle.table_build.specs.Tables.{TableOf, IsTable}
-use Rattle.report.specs.Rows.{row_lines, tables_lines}
-use Rattle.report.specs.Expect.{AreTables, Part, part_lines, component_lines}
+use Rattle.report.specs.Names.{life_text}
+use Rattle.report.specs.Pieces.{spaced_pair}
+use Rattle.report.specs.Rows.{pair_word, rows_at, row_form, member_rows, table_forms}
+use Rattle.report.specs.Expect.{AreTables, Part, component_form, member_form, number_form, part_forms, expect_forms, expect_text, table_text}
 
--- one pair more
-zip_suc : {X Y : Type 0} (xs : List X) (ys : List Y) (i : ℕ) (d : X) (e : Y) → i < length xs → i < length ys → zip (take (suc i) xs) (take (suc i) ys) ≡ zip (take i xs) (take i ys) ++ (get_or xs i d, get_or ys i e) ∷ []
-zip_suc [] ys i d e low low' = absurd (omega arith)
-zip_suc (x ∷ xs) [] i d e low low' = absurd (omega arith)
-zip_suc (x ∷ xs) (y ∷ ys) zero d e low low' = refl
-zip_suc (x ∷ xs) (y ∷ ys) (suc i) d e low low' = ap (λ z. (x, y) ∷ z) (zip_suc xs ys i d e (omega arith) (omega arith))
+-- PIECES OF A ROW'S LINE
 
--- the line of one number more
-pub numbers_more : (f : EntryOf × ℕ → List ℕ) (base text new : List ℕ) (es : List EntryOf) (ns : List ℕ) (i : ℕ) (e : EntryOf) (n : ℕ) → i < length es → i < length ns → e ≡ get_or es i e → n ≡ get_or ns i 0 → text ≡ base ++ flat_map f (zip (take i es) (take i ns)) → new ≡ text ++ f (e, n) → new ≡ base ++ flat_map f (zip (take (i + 1) es) (take (i + 1) ns))
-numbers_more f base text new es ns i e n low low' at is so_far one =
-    let pair : (EntryOf × ℕ) → List (EntryOf × ℕ) → List (EntryOf × ℕ) = λ m ms. ms ++ m ∷ [] in
-    let next : zip (take (i + 1) es) (take (i + 1) ns) ≡ zip (take i es) (take i ns) ++ (get_or es i e, get_or ns i 0) ∷ [] = rw add-one (zip_suc es ns i e 0 low low') in
-    let same : zip (take i es) (take i ns) ++ (get_or es i e, get_or ns i 0) ∷ [] ≡ zip (take i es) (take i ns) ++ (e, n) ∷ [] =
-    ap (λ (d : EntryOf). pair (d, get_or ns i 0) (zip (take i es) (take i ns))) (sym at) ∙ ap (λ (m : ℕ). pair (e, m) (zip (take i es) (take i ns))) (sym is) in
-    one ∙ ap (λ (t : List ℕ). t ++ f (e, n)) so_far ∙ flat_map_more f base (zip (take i es) (take i ns)) (e, n) ∙ ap (λ (z : List (EntryOf × ℕ)). base ++ flat_map f z) (sym (next ∙ same))
+-- a pair behind a space
+spaced_is : (row : RowOf) → spaced_pair row ≡ 32 ∷ pair_word row
+unfolding spaced_pair
+spaced_is row = simp append_assoc
 
--- one number more in a range
-range_more : (a n : ℕ) → range_with_len a (suc n) ≡ range_with_len a n ++ (a + n) ∷ []
-range_more a zero = let e : a + 0 ≡ a = omega arith in rw e refl
-range_more a (suc n) = let e : a + suc n ≡ (a + 1) + n = omega arith in rw e (ap (λ (ns : List ℕ). a ∷ ns) (range_more (a + 1) n))
+pairs_are : (rows : List RowOf) → flat_map spaced_pair rows ≡ flat_map (λ v. 32 ∷ v) (map pair_word rows)
+pairs_are [] = refl
+pairs_are (r ∷ rows) = rw (spaced_is r, pairs_are rows) refl
 
-range_next : (n : ℕ) → range_with_len 0 (n + 1) ≡ range_with_len 0 n ++ n ∷ []
-range_next n = let e : 0 + n ≡ n = omega arith in rw add-one (range_more 0 n ∙ ap (λ (k : ℕ). range_with_len 0 n ++ k ∷ []) e)
+-- the line of an entry, piece after piece
+pub row_pieces : (s : ScriptOf) (life : LifeId) (rows : List RowOf) (entry : ℕ) (t0 t1 t2 t3 t4 t5 t6 : List ℕ) → t1 ≡ t0 ++ codes "row " → t2 ≡ t1 ++ life_text s life → t3 ≡ t2 ++ codes " " → t4 ≡ t3 ++ decimal entry → t5 ≡ t4 ++ flat_map spaced_pair (rows_at rows entry) → t6 ≡ t5 ++ codes "\n" → t6 ≡ t0 ++ line_text (table_words (row_form s life rows entry))
+row_pieces s life rows entry t0 t1 t2 t3 t4 t5 t6 e1 e2 e3 e4 e5 e6 =
+    let pairs = flat_map (λ v. 32 ∷ v) (map pair_word (rows_at rows entry)) in
+    e6 ∙ ap (λ (t : List ℕ). t ++ 10 ∷ []) (e5 ∙ ap (λ (t : List ℕ). t ++ flat_map spaced_pair (rows_at rows entry)) (e4 ∙ ap (λ (t : List ℕ). t ++ decimal entry) (e3 ∙ ap (λ (t : List ℕ). t ++ 32 ∷ []) (e2 ∙ ap (λ (t : List ℕ). t ++ life_text s life) e1))))
+    ∙ ap (λ (ps : List ℕ). ((((t0 ++ codes "row ") ++ life_text s life) ++ 32 ∷ []) ++ decimal entry) ++ ps ++ 10 ∷ []) (pairs_are (rows_at rows entry))
+    ∙ joined (life_text s life) (decimal entry) pairs
+    ∙ ap (λ (t : List ℕ). t0 ++ t) (sym (line_pieces (codes "row") (life_text s life ∷ decimal entry ∷ map pair_word (rows_at rows entry))))
+  where
+    joined : (name at ps : List ℕ) → ((((t0 ++ codes "row ") ++ name) ++ 32 ∷ []) ++ at) ++ ps ++ 10 ∷ [] ≡ t0 ++ (codes "row" ++ (((32 ∷ name) ++ ((32 ∷ at) ++ ps)) ++ 10 ∷ []))
+    joined name at ps = simp append_assoc
+
+-- LINES OF ENTRIES
 
 -- the line of one entry more
-pub entries_more : (f : ℕ → List ℕ) (p : ℕ → Bool) (base text new : List ℕ) (n : ℕ) → p n ≡ true → text ≡ base ++ flat_map f (filter p (range_with_len 0 n)) → new ≡ text ++ f n → new ≡ base ++ flat_map f (filter p (range_with_len 0 (n + 1)))
+pub entries_more : (f : ℕ → TableForm) (p : ℕ → Bool) (base text new : List ℕ) (n : ℕ) → p n ≡ true → text ≡ base ++ table_text (map f (filter p (range_with_len 0 n))) → new ≡ text ++ line_text (table_words (f n)) → new ≡ base ++ table_text (map f (filter p (range_with_len 0 (n + 1))))
 entries_more f p base text new n passes so_far one =
     let last : filter p (n ∷ []) ≡ n ∷ [] = rw passes refl in
     let all : filter p (range_with_len 0 (n + 1)) ≡ filter p (range_with_len 0 n) ++ n ∷ [] =
-    ap (filter p) (range_next n) ∙ filter-append p (range_with_len 0 n) (n ∷ []) ∙ ap (λ (ns : List ℕ). filter p (range_with_len 0 n) ++ ns) last in
-    one ∙ ap (λ (t : List ℕ). t ++ f n) so_far ∙ flat_map_more f base (filter p (range_with_len 0 n)) n ∙ ap (λ (ns : List ℕ). base ++ flat_map f ns) (sym all)
+    ap (filter p) (places_more n) ∙ filter-append p (range_with_len 0 n) (n ∷ []) ∙ ap (λ (ns : List ℕ). filter p (range_with_len 0 n) ++ ns) last in
+    text_push table_words (map f (filter p (range_with_len 0 n))) (f n) base text new so_far one
+    ∙ ap (λ (fs : List TableForm). base ++ table_text fs) (sym (ap (map f) all ∙ map_push f (filter p (range_with_len 0 n)) n))
 
 -- a number that is no entry
-pub entries_same : (f : ℕ → List ℕ) (p : ℕ → Bool) (base text new : List ℕ) (n : ℕ) → p n ≡ false → text ≡ base ++ flat_map f (filter p (range_with_len 0 n)) → new ≡ text → new ≡ base ++ flat_map f (filter p (range_with_len 0 (n + 1)))
+pub entries_same : (f : ℕ → TableForm) (p : ℕ → Bool) (base text new : List ℕ) (n : ℕ) → p n ≡ false → text ≡ base ++ table_text (map f (filter p (range_with_len 0 n))) → new ≡ text → new ≡ base ++ table_text (map f (filter p (range_with_len 0 (n + 1))))
 entries_same f p base text new n fails so_far same =
     let last : filter p (n ∷ []) ≡ [] = rw fails refl in
     let all : filter p (range_with_len 0 (n + 1)) ≡ filter p (range_with_len 0 n) =
-    ap (filter p) (range_next n) ∙ filter-append p (range_with_len 0 n) (n ∷ []) ∙ ap (λ (ns : List ℕ). filter p (range_with_len 0 n) ++ ns) last ∙ append-nil (filter p (range_with_len 0 n)) in
-    same ∙ so_far ∙ ap (λ (ns : List ℕ). base ++ flat_map f ns) (sym all)
+    ap (filter p) (places_more n) ∙ filter-append p (range_with_len 0 n) (n ∷ []) ∙ ap (λ (ns : List ℕ). filter p (range_with_len 0 n) ++ ns) last ∙ append-nil (filter p (range_with_len 0 n)) in
+    same ∙ so_far ∙ ap (λ (ns : List ℕ). base ++ table_text (map f ns)) (sym all)
 
 -- there is a number for each entry
 pub numbered : (es : List EntryOf) → length (numbering es) ≡ length es
@@ -67,41 +78,53 @@ tables_more es any x ts t so_far is = record {
 }
 
 -- and its lines
-lines_more : (s : ScriptOf) (es : List EntryOf) (a : ℕ) (ts : List TableOf) (t : TableOf) → tables_lines s es a (ts ++ t ∷ []) ≡ tables_lines s es a ts ++ row_lines s es (a + length ts) t.rows
-lines_more s es a [] t = let e : a ≡ a + 0 = omega arith in append-nil (row_lines s es a t.rows) ∙ ap (λ (n : ℕ). row_lines s es n t.rows) e
-lines_more s es a (u ∷ ts) t =
+forms_more : (s : ScriptOf) (es : List EntryOf) (a : ℕ) (ts : List TableOf) (t : TableOf) → table_forms s es a (ts ++ t ∷ []) ≡ table_forms s es a ts ++ member_rows s es (a + length ts) t.rows
+forms_more s es a [] t = let e : a ≡ a + 0 = omega arith in append-nil (member_rows s es a t.rows) ∙ ap (λ (n : ℕ). member_rows s es n t.rows) e
+forms_more s es a (u ∷ ts) t =
     let e : (a + 1) + length ts ≡ a + length (u ∷ ts) = omega arith in
-    ap (λ (l : List ℕ). row_lines s es a u.rows ++ l) (lines_more s es (a + 1) ts t)
-    ∙ sym (append_assoc (row_lines s es a u.rows) (tables_lines s es (a + 1) ts) (row_lines s es ((a + 1) + length ts) t.rows))
-    ∙ ap (λ (n : ℕ). (row_lines s es a u.rows ++ tables_lines s es (a + 1) ts) ++ row_lines s es n t.rows) e
+    ap (λ (fs : List TableForm). member_rows s es a u.rows ++ fs) (forms_more s es (a + 1) ts t)
+    ∙ sym (append_assoc (member_rows s es a u.rows) (table_forms s es (a + 1) ts) (member_rows s es ((a + 1) + length ts) t.rows))
+    ∙ ap (λ (n : ℕ). (member_rows s es a u.rows ++ table_forms s es (a + 1) ts) ++ member_rows s es n t.rows) e
 
-pub tables_text : (s : ScriptOf) (es : List EntryOf) (x : ℕ) (ts : List TableOf) (t : TableOf) (base text new : List ℕ) → length ts ≡ x → text ≡ base ++ tables_lines s es 0 ts → new ≡ text ++ row_lines s es x t.rows → new ≡ base ++ tables_lines s es 0 (ts ++ t ∷ [])
+pub tables_text : (s : ScriptOf) (es : List EntryOf) (x : ℕ) (ts : List TableOf) (t : TableOf) (base text new : List ℕ) → length ts ≡ x → text ≡ base ++ table_text (table_forms s es 0 ts) → new ≡ text ++ table_text (member_rows s es x t.rows) → new ≡ base ++ table_text (table_forms s es 0 (ts ++ t ∷ []))
 tables_text s es x ts t base text new count so_far one =
     let e : length ts ≡ 0 + length ts = omega arith in
-    one ∙ ap (λ (u : List ℕ). u ++ row_lines s es x t.rows) so_far ∙ append_assoc base (tables_lines s es 0 ts) (row_lines s es x t.rows)
-    ∙ ap (λ (u : List ℕ). base ++ u) (ap (λ (n : ℕ). tables_lines s es 0 ts ++ row_lines s es n t.rows) (sym count ∙ e) ∙ sym (lines_more s es 0 ts t))
+    go_on table_words (table_forms s es 0 ts) (member_rows s es x t.rows) base text new so_far one
+    ∙ ap (λ (fs : List TableForm). base ++ table_text fs) (ap (λ (n : ℕ). table_forms s es 0 ts ++ member_rows s es n t.rows) (sym count ∙ e) ∙ sym (forms_more s es 0 ts t))
 
--- the lines of a component, one piece after another
-pub component_text : (t0 t1 t2 t3 a b c d : List ℕ) → t1 ≡ t0 ++ a → t2 ≡ (t1 ++ b) ++ c → t3 ≡ t2 ++ d → t3 ≡ t0 ++ (((a ++ b) ++ c) ++ d)
-component_text t0 t1 t2 t3 a b c d one two three =
-    three ∙ ap (λ (t : List ℕ). t ++ d) (two ∙ ap (λ (t : List ℕ). (t ++ b) ++ c) one) ∙ simp append_assoc
+-- the lines of a component, one after another
+pub component_text : (s : ScriptOf) (es : List EntryOf) (ts : List TableOf) (t0 t1 t2 t3 t4 : List ℕ) → t1 ≡ t0 ++ line_text (table_words (component_form s es)) → t2 ≡ t1 ++ table_text (map (member_form s) es) → t3 ≡ t2 ++ table_text (map (number_form s) (zip es (numbering es))) → t4 ≡ t3 ++ table_text (table_forms s es 0 ts) → t4 ≡ t0 ++ table_text (part_forms s (record { entries = es; tables = ts }))
+component_text s es ts t0 t1 t2 t3 t4 e1 e2 e3 e4 =
+    let members = map (member_form s) es in
+    let numbers = map (number_form s) (zip es (numbering es)) in
+    let tables = table_forms s es 0 ts in
+    let head : t1 ≡ t0 ++ table_text (component_form s es ∷ []) = e1 ∙ ap (λ (t : List ℕ). t0 ++ t) (sym (append-nil (line_text (table_words (component_form s es))))) in
+    let from_members = go_on table_words numbers tables t2 t3 t4 e3 e4 in
+    let from_head = go_on table_words members (numbers ++ tables) t1 t2 t4 e2 from_members in
+    go_on table_words (component_form s es ∷ []) (members ++ (numbers ++ tables)) t0 t1 t4 head from_head
 
 -- one component more
-pub parts_more : (s : ScriptOf) (any : Bool) (forest : List (List EntryOf)) (i : ℕ) (es : List EntryOf) (ts : List TableOf) (parts : List Part) (text new : List ℕ) → i < length forest → es ≡ get_or forest i es → AreTables es any (length es) ts → map (λ p. p.entries) parts ≡ take i forest → All (λ p. AreTables p.entries any (length p.entries) p.tables) parts → text ≡ flat_map (part_lines s) parts → new ≡ text ++ component_lines s es ts
-    → (all : List Part) × (map (λ p. p.entries) all ≡ take (i + 1) forest) × All (λ p. AreTables p.entries any (length p.entries) p.tables) all × (new ≡ flat_map (part_lines s) all)
+pub parts_more : (s : ScriptOf) (any : Bool) (forest : List (List EntryOf)) (i : ℕ) (es : List EntryOf) (ts : List TableOf) (parts : List Part) (text new : List ℕ) → i < length forest → es ≡ get_or forest i es → AreTables es any (length es) ts → map (λ p. p.entries) parts ≡ take i forest → All (λ p. AreTables p.entries any (length p.entries) p.tables) parts → text ≡ table_text (expect_forms s parts) → new ≡ text ++ table_text (part_forms s (record { entries = es; tables = ts }))
+    → (all : List Part) × (map (λ p. p.entries) all ≡ take (i + 1) forest) × All (λ p. AreTables p.entries any (length p.entries) p.tables) all × (new ≡ table_text (expect_forms s all))
 parts_more s any forest i es ts parts text new low at are so_far each text_is one =
     let part : Part = record { entries = es; tables = ts } in
-    let entries : Part → List EntryOf = λ p. p.entries in (
+    let entries : Part → List EntryOf = λ p. p.entries in
+    let forms : expect_forms s (parts ++ part ∷ []) ≡ expect_forms s parts ++ part_forms s part = flat_map-append (part_forms s) parts (part ∷ []) ∙ ap (λ (fs : List TableForm). expect_forms s parts ++ fs) (append-nil (part_forms s part)) in (
       parts ++ part ∷ [],
       map-append entries parts (part ∷ []) ∙ ap (λ (f : List (List EntryOf)). f ++ es ∷ []) so_far ∙ ap (λ (e : List EntryOf). take i forest ++ e ∷ []) at ∙ sym (take_more forest i es low),
       All-push (λ p. AreTables p.entries any (length p.entries) p.tables) parts part each are,
-      one ∙ ap (λ (t : List ℕ). t ++ component_lines s es ts) text_is ∙ flat_map_more (part_lines s) [] parts part,
+      go_on table_words (expect_forms s parts) (part_forms s part) [] text new text_is one ∙ ap table_text (sym forms),
     )
+
+-- and the last line
+pub ended_text : (s : ScriptOf) (parts : List Part) (text new : List ℕ) → text ≡ table_text (expect_forms s parts) → new ≡ text ++ line_text (table_words EndLine) → new ≡ expect_text s parts
+unfolding expect_text
+ended_text s parts text new so_far last = text_push table_words (expect_forms s parts) EndLine [] text new so_far last
 
 -- the text of one number more
 pub numbers_next : (f : ℕ → List ℕ) (base text new : List ℕ) (n : ℕ) → text ≡ base ++ flat_map f (range_with_len 0 n) → new ≡ text ++ f n → new ≡ base ++ flat_map f (range_with_len 0 (n + 1))
 numbers_next f base text new n so_far one =
-    one ∙ ap (λ (t : List ℕ). t ++ f n) so_far ∙ flat_map_more f base (range_with_len 0 n) n ∙ ap (λ (ns : List ℕ). base ++ flat_map f ns) (sym (range_next n))
+    one ∙ ap (λ (t : List ℕ). t ++ f n) so_far ∙ flat_map_more f base (range_with_len 0 n) n ∙ ap (λ (ns : List ℕ). base ++ flat_map f ns) (sym (places_more n))
 
 -- a text of seven pieces
 pub seven_pieces : (t0 t1 t2 t3 t4 t5 t6 t7 a b c d e f g : List ℕ) → t1 ≡ t0 ++ a → t2 ≡ t1 ++ b → t3 ≡ t2 ++ c → t4 ≡ t3 ++ d → t5 ≡ t4 ++ e → t6 ≡ t5 ++ f → t7 ≡ t6 ++ g → t7 ≡ t0 ++ ((((((a ++ b) ++ c) ++ d) ++ e) ++ f) ++ g)

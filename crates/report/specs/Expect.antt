@@ -1,64 +1,81 @@
-use Rattle.std.specs.Prelude.{◌≡◌, ◌==◌, ℕ, ◌<◌, List, [], ◌++◌, length, Bool, All, map, if◌then◌else◌, codes, slice_index_or}
+use Rattle.std.specs.Prelude.{◌≡◌, ◌==◌, ℕ, ◌<◌, List, [], ◌∷◌, ◌++◌, length, Bool, All, map, if◌then◌else◌, codes, slice_index_or}
 use Rattle.std.specs.Fmt.{decimal}
 use Rattle.std.specs.List.{flat_map, zip}
 use Rattle.an_base.specs.Values.{Place, EntryOf}
 use Rattle.an_base.specs.Rows.{RowOf}
 use Rattle.net_graph.specs.Forest.{IsForest}
+use Rattle.text_lines.specs.Grammar.{forms_text_by}
 use Rattle.net_script.specs.Scripts.{ScriptOf}
+use Rattle.table_script.specs.TableForms.{TableForm, ComponentLine, MemberLine, NumberLine, EndLine, table_words}
 use Rattle.topo_graph.specs.Topology.{entry_at}
 use Rattle.switch_numbering.specs.Numbering.{numbering}
 use Rattle.table_build.specs.Tables.{TableOf, IsTable}
 use Rattle.report.specs.Names.{life_text}
-use Rattle.report.specs.Rows.{tables_lines}
+use Rattle.report.specs.Rows.{table_forms}
+
+-- The text of `expect`, as lines of the forms from which tables are read.
 
 -- below the root, the parent and the own port to it
-unfoldable pub parent_words : ScriptOf → Place → List ℕ
-parent_words s p = if p.level == 0 then [] else (codes " parent " ++ life_text s p.parent ++ codes " port " ++ decimal p.port)
-
--- a member's level, and its parent
-unfoldable pub member_line : ScriptOf → EntryOf → List ℕ
-member_line s e = codes "member " ++ life_text s e.life ++ codes " level " ++ decimal e.position.level ++ parent_words s e.position ++ codes "\n"
-
--- a member's number
-unfoldable pub number_line : ScriptOf → EntryOf × ℕ → List ℕ
-number_line s m = codes "number " ++ life_text s m.0.life ++ codes " " ++ decimal m.1 ++ codes "\n"
+abbrev pub parent_words : ScriptOf → Place → List (List ℕ)
+parent_words script place =
+    if place.level == 0 then [] else (codes "parent" ∷ life_text script place.parent ∷ codes "port"
+    ∷ decimal place.port ∷ [])
 
 -- a component's root, and how many members it has
-unfoldable pub component_line : ScriptOf → List EntryOf → List ℕ
-component_line s es = codes "component " ++ life_text s (entry_at es 0).position.root ++ codes " members " ++ decimal (length es) ++ codes "\n"
+abbrev pub component_form : ScriptOf → List EntryOf → TableForm
+component_form script entries =
+    ComponentLine (life_text script (entry_at entries 0).position.root ∷ codes "members"
+    ∷ decimal (length entries) ∷ [])
 
--- a component: its root; its members by rising life; their numbers; and their tables
-abbrev pub component_lines : ScriptOf → List EntryOf → List TableOf → List ℕ
-component_lines s es ts = component_line s es ++ flat_map (member_line s) es ++ flat_map (number_line s) (zip es (numbering es)) ++ tables_lines s es 0 ts
+-- a member's level, and its parent
+abbrev pub member_form : ScriptOf → EntryOf → TableForm
+member_form script entry =
+    MemberLine (life_text script entry.life ∷ codes "level" ∷ decimal entry.position.level
+    ∷ parent_words script entry.position)
+
+-- a member's number
+abbrev pub number_form : ScriptOf → EntryOf × ℕ → TableForm
+number_form script member = NumberLine (life_text script member.0.life) (decimal member.1)
 
 -- the table of a member
 abbrev pub table_at : List TableOf → ℕ → TableOf
-table_at ts x = slice_index_or ts x (record { number = 0; rows = [] })
+table_at tables x = slice_index_or tables x (record { number = 0; rows = [] })
 
 -- the tables of the members below end
-pub record AreTables (es : List EntryOf) (any : Bool) (end : ℕ) (ts : List TableOf) : Type 0 where
-  pub count : length ts ≡ end
-  pub each : (x : ℕ) → x < end → IsTable es (numbering es) any x (table_at ts x)
+pub record AreTables (entries : List EntryOf) (any : Bool) (end : ℕ) (tables : List TableOf) : Type 0 where
+  pub count : length tables ≡ end
+  pub each : (x : ℕ) → x < end → IsTable entries (numbering entries) any x (table_at tables x)
 
 -- a component with the tables of its members
 pub record Part : Type 0 where
   pub entries : List EntryOf
   pub tables : List TableOf
 
-abbrev pub part_lines : ScriptOf → Part → List ℕ
-part_lines s p = component_lines s p.entries p.tables
+-- the lines of a component: its root; its members by rising life; their numbers; and their tables
+abbrev pub part_forms : ScriptOf → Part → List TableForm
+part_forms script part = component_form script part.entries ∷ (map (member_form script) part.entries
+    ++ (map (number_form script) (zip part.entries (numbering part.entries))
+    ++ table_forms script part.entries 0 part.tables))
 
 -- the rows of all its members
 abbrev pub all_rows : Part → List RowOf
-all_rows p = flat_map (λ t. t.rows) p.tables
+all_rows part = flat_map (λ table. table.rows) part.tables
 
--- the components, and the last line
+-- all lines but the last
+abbrev pub expect_forms : ScriptOf → List Part → List TableForm
+expect_forms script parts = flat_map (part_forms script) parts
+
+-- the text of lines of tables
+abbrev pub table_text : List TableForm → List ℕ
+table_text = forms_text_by table_words
+
+-- the lines of the components, and `end`
 unfoldable pub expect_text : ScriptOf → List Part → List ℕ
-expect_text s parts = flat_map (part_lines s) parts ++ codes "end\n"
+expect_text script parts = table_text (expect_forms script parts ++ EndLine ∷ [])
 
 -- what is expected of the script's network with all links up
-pub record IsExpectOf (s : ScriptOf) (text : List ℕ) : Type 0 where
+pub record IsExpectOf (script : ScriptOf) (text : List ℕ) : Type 0 where
   pub parts : List Part
-  pub trees : IsForest s.wires (map (λ p. p.entries) parts)
-  pub tables : All (λ p. AreTables p.entries s.any_routes (length p.entries) p.tables) parts
-  pub text_is : text ≡ expect_text s parts
+  pub trees : IsForest script.wires (map (λ part. part.entries) parts)
+  pub tables : All (λ part. AreTables part.entries script.any_routes (length part.entries) part.tables) parts
+  pub text_is : text ≡ expect_text script parts

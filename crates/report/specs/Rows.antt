@@ -1,45 +1,46 @@
-use Rattle.std.specs.Prelude.{◌≡◌, ◌==◌, ℕ, ◌+◌, ◌<◌, List, [], ◌∷◌, ◌++◌, length, filter, codes, slice_index_or}
+use Rattle.std.specs.Prelude.{◌==◌, ℕ, ◌+◌, List, [], ◌∷◌, ◌++◌, map, filter, codes}
 use Rattle.std.specs.Fmt.{decimal}
 use Rattle.std.specs.List.{flat_map, range_with_len}
 use Rattle.an_base.specs.Values.{LifeId, EntryOf}
 use Rattle.an_base.specs.Rows.{RowOf}
 use Rattle.net_script.specs.Scripts.{ScriptOf}
+use Rattle.table_script.specs.TableForms.{TableForm, RowLine}
 use Rattle.topo_graph.specs.Topology.{life_at}
 use Rattle.table_build.specs.Exits.{is_entry}
 use Rattle.table_build.specs.Tables.{TableOf}
 use Rattle.report.specs.Names.{life_text}
 
--- the numbers below end in decimal
-pub record AreDecimals (end : ℕ) (texts : List (List ℕ)) : Type 0 where
-  pub count : length texts ≡ end
-  pub each : (n : ℕ) → n < end → slice_index_or texts n [] ≡ decimal n
+-- Routing tables as lines of the forms from which tables are read.
 
 -- a port behind a slash
-abbrev pub port_words : ℕ → List ℕ
-port_words q = codes "/" ++ decimal q
+abbrev pub slashed : ℕ → List ℕ
+slashed port = codes "/" ++ decimal port
 
 -- the exits joined by `/`, or `-` where there are none
 unfoldable pub exits_text : List ℕ → List ℕ
 exits_text [] = codes "-"
-exits_text (p ∷ ps) = decimal p ++ flat_map port_words ps
+exits_text (port ∷ ports) = decimal port ++ flat_map slashed ports
 
--- a row in the line of its entry: the number of the target, and the exits
-unfoldable pub row_word : RowOf → List ℕ
-row_word r = codes " " ++ decimal r.to ++ codes ":" ++ exits_text r.exits
+-- a pair: the number of the target, a colon, and the exits
+abbrev pub pair_word : RowOf → List ℕ
+pair_word row = decimal row.to ++ (codes ":" ++ exits_text row.exits)
 
 -- the rows of an entry
 abbrev pub rows_at : List RowOf → ℕ → List RowOf
-rows_at rows entry = filter (λ r. r.entry == entry) rows
+rows_at rows entry = filter (λ row. row.entry == entry) rows
 
--- the line of an entry of a switch
-unfoldable pub row_line : ScriptOf → LifeId → List RowOf → ℕ → List ℕ
-row_line s life rows entry = codes "row " ++ life_text s life ++ codes " " ++ decimal entry ++ flat_map row_word (rows_at rows entry) ++ codes "\n"
+-- the line of an entry of a switch: a pair for each row
+abbrev pub row_form : ScriptOf → LifeId → List RowOf → ℕ → TableForm
+row_form script life rows entry =
+    RowLine (life_text script life) (decimal entry) (map pair_word (rows_at rows entry))
 
 -- the lines of the table of the member at x: one for each entry, 0 and the ports with a link
-unfoldable pub row_lines : ScriptOf → List EntryOf → ℕ → List RowOf → List ℕ
-row_lines s es x rows = flat_map (row_line s (life_at es x) rows) (filter (is_entry es x) (range_with_len 0 13))
+abbrev pub member_rows : ScriptOf → List EntryOf → ℕ → List RowOf → List TableForm
+member_rows script entries x rows =
+    map (row_form script (life_at entries x) rows) (filter (is_entry entries x) (range_with_len 0 13))
 
 -- the lines of the tables of the members from x on
-abbrev pub tables_lines : ScriptOf → List EntryOf → ℕ → List TableOf → List ℕ
-tables_lines s es x [] = []
-tables_lines s es x (t ∷ ts) = row_lines s es x t.rows ++ tables_lines s es (x + 1) ts
+abbrev pub table_forms : ScriptOf → List EntryOf → ℕ → List TableOf → List TableForm
+table_forms script entries x [] = []
+table_forms script entries x (table ∷ tables) =
+    member_rows script entries x table.rows ++ table_forms script entries (x + 1) tables

@@ -3,25 +3,26 @@ ghost use Rattle.std.specs.List.{list_any};
 ghost use Rattle.dep_check.specs.Channels.{place_in};
 ghost use Rattle.an_base.specs.Numbers.{AreNumbers};
 ghost use Rattle.net_graph.specs.Forest.{IsComponent, IsForest};
-ghost use Rattle.net_script.specs.Tables.{AreTablesOf, IsTables};
+ghost use Rattle.table_script.specs.Tables.{AreTablesOf, IsTables};
 ghost use Rattle.dep_check.specs.declared.refusal.CheckRefusal.TheVariants.{Cycle, IllegalExit, NotJoined};
 ghost use Rattle.dep_check.specs.declared.refusal.CheckRefusal.TheVariants as why;
 ghost use Rattle.dep_check.specs.Tables.{rank_at};
 ghost use Rattle.report.specs.Check.{channel_text, entry_text, IsJudged, Judges, members_of, name_of, number_of, number_ranks, numbers_of, rank_line, rank_lines, ranks_text, refusal_line, renumbered, rows_of};
 
-use crate::piece::{place_of, push_life, push_number};
+use crate::piece::{place_of, push_life};
 use an_base::entry::{Entries, Entry};
 use an_base::memory::OutOfMemory;
 use an_base::numbers::Numbers;
 use an_base::row::Row;
+use an_base::text::push_decimal;
 use dep_check::channel::{Channel, Channels};
 use dep_check::check::{Ranks, check};
 use dep_check::refusal::CheckRefusal;
 use net_graph::forest::trees;
 use net_graph::wiring::SwitchAt;
 use net_script::script::Script;
-use net_script::tables::Tables;
 use std::alloc::{AllocError, Global};
+use table_script::tables::Tables;
 use topo_graph::graph::Graph;
 
 /// What comes of checking the routing tables of a network.
@@ -137,7 +138,8 @@ struct Naming<'a> {
 impl Naming<'_> {
     // Appends the name of the switch that has a number.
     fn push(&self, alloc: Global, text: &mut Vec<u8>, number: u8) -> Result<(), AllocError>
-        ensures { OnOk result (text.new.items ≡ text.old.items ++ name_of self.now.script.now self.now.entries.now self.now.numbers.now number) }
+        ensures { OnOk result (text.new.items ≡ text.old.items
+            ++ name_of self.now.script.now self.now.entries.now self.now.numbers.now number) }
     {
         let Some(x) = place_in(self.numbers, number) else {
             return Ok(());
@@ -155,12 +157,13 @@ impl Naming<'_> {
         text: &mut Vec<u8>,
         channel: Channel,
     ) -> Result<(), AllocError>
-        ensures { OnOk result (text.new.items ≡ text.old.items ++ channel_text self.now.script.now self.now.entries.now self.now.numbers.now channel) }
+        ensures { OnOk result (text.new.items ≡ text.old.items
+            ++ channel_text self.now.script.now self.now.entries.now self.now.numbers.now channel) }
     {
         text.extend_from_slice(b" ")?;
         self.push(alloc, text, channel.at)?;
         text.extend_from_slice(b":")?;
-        push_number(alloc, text, u32::from(channel.port))
+        push_decimal(alloc, text, u64::from(channel.port))
     }
 
     // Appends the rank of a channel.
@@ -172,14 +175,15 @@ impl Naming<'_> {
         channel: Channel,
         rank: u16,
     ) -> Result<(), AllocError>
-        ensures { OnOk result (text.new.items ≡ text.old.items ++ rank_line self.now.script.now self.now.entries.now self.now.numbers.now channel rank) }
+        ensures { OnOk result (text.new.items ≡ text.old.items
+            ++ rank_line self.now.script.now self.now.entries.now self.now.numbers.now channel rank) }
     {
         text.extend_from_slice(b"rank ")?;
         self.push(alloc, text, channel.at)?;
         text.extend_from_slice(b" ")?;
-        push_number(alloc, text, u32::from(channel.port))?;
+        push_decimal(alloc, text, u64::from(channel.port))?;
         text.extend_from_slice(b" ")?;
-        push_number(alloc, text, u32::from(rank))?;
+        push_decimal(alloc, text, u64::from(rank))?;
         text.extend_from_slice(b"\n")
     }
 
@@ -191,7 +195,8 @@ impl Naming<'_> {
         ranks: &Ranks,
         channel: Channel,
     ) -> Result<(), AllocError>
-        ensures { OnOk result (text.new.items ≡ text.old.items ++ rank_lines self.now.script.now self.now.entries.now self.now.numbers.now channel (rank_at ranks.now channel)) }
+        ensures { OnOk result (text.new.items ≡ text.old.items
+            ++ rank_lines self.now.script.now self.now.entries.now self.now.numbers.now channel (rank_at ranks.now channel)) }
     {
         match ranks.rank(channel.at, channel.port) {
             Some(rank) => self.push_rank(alloc, text, channel, rank),
@@ -207,7 +212,8 @@ impl Naming<'_> {
         ranks: &Ranks,
         number: u8,
     ) -> Result<(), AllocError>
-        ensures { OnOk result (text.new.items ≡ text.old.items ++ number_ranks self.now.script.now self.now.entries.now self.now.numbers.now ranks.now number) }
+        ensures { OnOk result (text.new.items ≡ text.old.items
+            ++ number_ranks self.now.script.now self.now.entries.now self.now.numbers.now ranks.now number) }
     {
         'ports: for port in 0..13u8 {
             self.push_port(alloc, text, ranks, Channel { at: number, port })?;
@@ -218,7 +224,8 @@ impl Naming<'_> {
     // Appends the ranks of all channels, by rising number.
     #[tactic(auto, unfolding(crate::specs::Check::ranks_text))]
     fn push_ranks(&self, alloc: Global, text: &mut Vec<u8>, ranks: &Ranks) -> Result<(), AllocError>
-        ensures { OnOk result (text.new.items ≡ text.old.items ++ ranks_text self.now.script.now self.now.entries.now self.now.numbers.now ranks.now) }
+        ensures { OnOk result (text.new.items ≡ text.old.items
+            ++ ranks_text self.now.script.now self.now.entries.now self.now.numbers.now ranks.now) }
     {
         'numbers: for number in 0..127u8 {
             self.push_ranks_at(alloc, text, ranks, number)?;
@@ -234,7 +241,8 @@ impl Naming<'_> {
         text: &mut Vec<u8>,
         channels: &Channels,
     ) -> Result<(), AllocError>
-        ensures { OnOk result (text.new.items ≡ text.old.items ++ refusal_line self.now.script.now self.now.entries.now self.now.numbers.now (Cycle channels.now)) }
+        ensures { OnOk result (text.new.items ≡ text.old.items
+            ++ refusal_line self.now.script.now self.now.entries.now self.now.numbers.now (Cycle channels.now)) }
     {
         text.extend_from_slice(b"refused cycle")?;
         'channels: for channel in channels.as_slice() {
@@ -254,7 +262,8 @@ impl Naming<'_> {
         at: u8,
         entry: u8,
     ) -> Result<(), AllocError>
-        ensures { OnOk result (text.new.items ≡ text.old.items ++ refusal_line self.now.script.now self.now.entries.now self.now.numbers.now (NotJoined from to at entry)) }
+        ensures { OnOk result (text.new.items ≡ text.old.items
+            ++ refusal_line self.now.script.now self.now.entries.now self.now.numbers.now (NotJoined from to at entry)) }
     {
         text.extend_from_slice(b"refused pair ")?;
         self.push(alloc, text, from)?;
@@ -274,11 +283,12 @@ impl Naming<'_> {
         at: u8,
         entry: u8,
     ) -> Result<(), AllocError>
-        ensures { OnOk result (text.new.items ≡ text.old.items ++ entry_text self.now.script.now self.now.entries.now self.now.numbers.now at entry) }
+        ensures { OnOk result (text.new.items ≡ text.old.items
+            ++ entry_text self.now.script.now self.now.entries.now self.now.numbers.now at entry) }
     {
         self.push(alloc, text, at)?;
         text.extend_from_slice(b" entry ")?;
-        push_number(alloc, text, u32::from(entry))
+        push_decimal(alloc, text, u64::from(entry))
     }
 
     // Appends the line of an illegal exit.
@@ -292,14 +302,15 @@ impl Naming<'_> {
         to: u8,
         exit: u8,
     ) -> Result<(), AllocError>
-        ensures { OnOk result (text.new.items ≡ text.old.items ++ refusal_line self.now.script.now self.now.entries.now self.now.numbers.now (IllegalExit at entry to exit)) }
+        ensures { OnOk result (text.new.items ≡ text.old.items
+            ++ refusal_line self.now.script.now self.now.entries.now self.now.numbers.now (IllegalExit at entry to exit)) }
     {
         text.extend_from_slice(b"refused exit ")?;
         self.push_entry(alloc, text, at, entry)?;
         text.extend_from_slice(b" to ")?;
-        push_number(alloc, text, u32::from(to))?;
+        push_decimal(alloc, text, u64::from(to))?;
         text.extend_from_slice(b" by ")?;
-        push_number(alloc, text, u32::from(exit))?;
+        push_decimal(alloc, text, u64::from(exit))?;
         text.extend_from_slice(b"\n")?;
         Ok(())
     }
@@ -312,7 +323,8 @@ impl Naming<'_> {
         text: &mut Vec<u8>,
         refusal: &CheckRefusal,
     ) -> Result<(), OutOfMemory>
-        ensures line { OnOk result (text.new.items ≡ text.old.items ++ refusal_line self.now.script.now self.now.entries.now self.now.numbers.now refusal.now) }
+        ensures line { OnOk result (text.new.items ≡ text.old.items
+            ++ refusal_line self.now.script.now self.now.entries.now self.now.numbers.now refusal.now) }
         ensures told { OnOk result (refusal.now ≢ why.OutOfMemory) }
     {
         match refusal {
@@ -404,4 +416,26 @@ pub fn judge(alloc: Global, script: &Script, tables: &Tables) -> Result<Judgemen
 {
     let forest = trees(alloc, script.wiring())?;
     judge_all(alloc, script, tables, &forest)
+}
+
+#[cfg(test)]
+mod tests {
+    use super::*;
+    use std::test::Fail;
+    use table_script::table_reader::read_with_tables;
+
+    #[test]
+    fn the_tables_of_a_lone_switch_pass(rt: HostRuntime) -> Result<(), Fail> {
+        let bytes: &[u8] = b"autonet 1\nswitch A 000000000001\nend\nnumber A 1\nrow A 0\nend\n";
+        if bytes.len() > 1_000 {
+            return Err("long")?;
+        }
+        let Ok((script, tables)) = read_with_tables(rt.alloc(), bytes) else {
+            return Err("refused")?;
+        };
+        let judgement = judge(rt.alloc(), &script, &tables)?;
+        assert!(rt; judgement.passed);
+        assert_eq!(rt; judgement.text.as_slice(), b"ok\n".as_slice());
+        Ok(())
+    }
 }

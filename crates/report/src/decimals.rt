@@ -1,8 +1,8 @@
 ghost use Rattle.std.specs.Prelude.{◌≡◌, ◌++◌, IfOk, OnOk};
 ghost use Rattle.std.specs.Fmt.{decimal};
-ghost use Rattle.report.specs.Rows.{AreDecimals};
+ghost use Rattle.report.specs.Decimals.{AreDecimals};
 
-use an_base::text::Word;
+use an_base::text::{Word, push_decimal};
 use std::alloc::{AllocError, Global};
 use std::marker::Model;
 
@@ -10,8 +10,9 @@ use std::marker::Model;
 fn word_of(alloc: Global, n: u16) -> Result<Word, AllocError>
     ensures { IfOk result (λ word. word ≡ decimal n) }
 {
-    let number = format!(in alloc; "{n}")?;
-    Ok(Word::new(Vec::from_slice(alloc, number.as_bytes())?))
+    let mut word = Vec::new(alloc);
+    push_decimal(alloc, &mut word, u64::from(n))?;
+    Ok(Word::new(word))
 }
 
 // The numbers below 256 in decimal.
@@ -33,7 +34,7 @@ pub struct Decimals {
 
 impl Model for Decimals {
     ghost use Rattle.std.specs.Prelude.{List, ℕ};
-    ghost use Rattle.report.specs.Rows.{AreDecimals};
+    ghost use Rattle.report.specs.Decimals.{AreDecimals};
 
     ghost Value = { List (List ℕ) };
 

@@ -1,100 +1,102 @@
+//! What is expected of a script.
+
 ghost use Rattle.std.specs.Prelude.{◌≡◌, ◌≤◌, ◌++◌, List, All, length, map, IfOk, OnOk};
-ghost use Rattle.std.specs.List.{flat_map, zip};
+ghost use Rattle.std.specs.List.{zip};
+ghost use Rattle.text_lines.specs.Lines.{line_text};
+ghost use Rattle.table_script.specs.TableForms.{table_words};
 ghost use Rattle.switch_numbering.specs.Numbering.{numbering};
 ghost use Rattle.table_build.specs.Tables.{TableOf};
-ghost use Rattle.report.specs.Expect.{AreTables, component_line, component_lines, expect_text, IsExpectOf, member_line, number_line, parent_words, Part};
-ghost use Rattle.report.specs.Rows.{tables_lines};
+ghost use Rattle.report.specs.Expect.{AreTables, component_form, expect_text, IsExpectOf, member_form, number_form, Part, part_forms, table_text};
+ghost use Rattle.report.specs.Rows.{table_forms};
 
 use crate::decimals::Decimals;
-use crate::piece::{push_life, push_number};
+use crate::piece::life_word;
 use crate::row::push_row_lines;
 use an_base::entry::{Entries, Entry};
 use an_base::memory::OutOfMemory;
 use an_base::numbers::Numbers;
-use an_base::position::Position;
 use net_graph::forest::trees;
 use net_script::script::Script;
-use std::alloc::{AllocError, Global};
+use std::alloc::Global;
 use switch_numbering::numbering::number;
 use table_build::routing::Routing;
 use table_build::table::Table;
+use text_lines::spelling::{decimal, push_line};
 use topo_graph::graph::Graph;
 
-// Appends the parent of a position and the port to it, which the root does not have.
-#[tactic(auto, unfolding(crate::specs::Expect::parent_words))]
-fn push_parent(
-    alloc: Global,
-    text: &mut Vec<u8>,
-    script: &Script,
-    position: &Position,
-) -> Result<(), AllocError>
-    ensures { OnOk result (text.new.items ≡ text.old.items ++ parent_words script.now position.now) }
-{
-    if position.level == 0 {
-        return Ok(());
-    }
-    text.extend_from_slice(b" parent ")?;
-    push_life(alloc, text, script, position.parent)?;
-    text.extend_from_slice(b" port ")?;
-    push_number(alloc, text, u32::from(position.port))
-}
-
-// Appends the line of a member.
-#[tactic(auto, unfolding(crate::specs::Expect::member_line))]
+// Appends the line of a member: its level and, below the root, its parent and its port to it.
 fn push_member(
     alloc: Global,
     text: &mut Vec<u8>,
     script: &Script,
     entry: &Entry,
-) -> Result<(), AllocError>
-    ensures { OnOk result (text.new.items ≡ text.old.items ++ member_line script.now entry.now) }
+) -> Result<(), OutOfMemory>
+    ensures { OnOk result
+        (text.new.items ≡ text.old.items ++ line_text (table_words (member_form script.now entry.now))) }
 {
-    text.extend_from_slice(b"member ")?;
-    push_life(alloc, text, script, entry.life)?;
-    text.extend_from_slice(b" level ")?;
-    push_number(alloc, text, u32::from(entry.position.level))?;
-    push_parent(alloc, text, script, &entry.position)?;
-    text.extend_from_slice(b"\n")
+    let name = life_word(alloc, script, entry.life)?;
+    let level = decimal(alloc, u64::from(entry.position.level))?;
+    if entry.position.level == 0 {
+        return push_line(text, &[b"member", &name, b"level", &level]);
+    }
+    let parent = life_word(alloc, script, entry.position.parent)?;
+    let port = decimal(alloc, u64::from(entry.position.port))?;
+    push_line(
+        text,
+        &[
+            b"member", &name, b"level", &level, b"parent", &parent, b"port", &port,
+        ],
+    )
 }
 
-// Appends the lines of the members, and those of their numbers.
+// Appends the lines of the members.
 fn push_members(
     alloc: Global,
     text: &mut Vec<u8>,
     script: &Script,
     entries: &[Entry],
-    numbers: &[u8],
-) -> Result<(), AllocError>
-    requires { length numbers.now ≡ length entries.now }
-    ensures { OnOk result (text.new.items ≡ text.old.items
-        ++ flat_map (member_line script.now) entries.now
-        ++ flat_map (number_line script.now) (zip entries.now numbers.now)) }
+) -> Result<(), OutOfMemory>
+    ensures { OnOk result
+        (text.new.items ≡ text.old.items ++ table_text (map (member_form script.now) entries.now)) }
 {
     'members: for entry in entries {
         push_member(alloc, text, script, entry)?;
     }
-    'numbers: for (i, entry) in entries.iter().enumerate() {
-        push_numbered(alloc, text, script, entry, numbers[i])?;
-    }
     Ok(())
 }
 
-// Appends the number of a member.
-#[tactic(auto, unfolding(crate::specs::Expect::number_line))]
+// Appends the line of a member's number.
 fn push_numbered(
     alloc: Global,
     text: &mut Vec<u8>,
     script: &Script,
     entry: &Entry,
     number: u8,
-) -> Result<(), AllocError>
-    ensures { OnOk result (text.new.items ≡ text.old.items ++ number_line script.now (entry.now, number)) }
+) -> Result<(), OutOfMemory>
+    ensures { OnOk result (text.new.items ≡ text.old.items
+        ++ line_text (table_words (number_form script.now (entry.now, number)))) }
 {
-    text.extend_from_slice(b"number ")?;
-    push_life(alloc, text, script, entry.life)?;
-    text.extend_from_slice(b" ")?;
-    push_number(alloc, text, u32::from(number))?;
-    text.extend_from_slice(b"\n")
+    let name = life_word(alloc, script, entry.life)?;
+    let number = decimal(alloc, u64::from(number))?;
+    push_line(text, &[b"number", &name, &number])
+}
+
+// Appends the lines of the numbers of the members.
+fn push_numbers(
+    alloc: Global,
+    text: &mut Vec<u8>,
+    script: &Script,
+    entries: &[Entry],
+    numbers: &[u8],
+) -> Result<(), OutOfMemory>
+    requires { length numbers.now ≡ length entries.now }
+    ensures { OnOk result (text.new.items ≡ text.old.items
+        ++ table_text (map (number_form script.now) (zip entries.now numbers.now))) }
+{
+    'numbers: for (i, entry) in entries.iter().enumerate() {
+        push_numbered(alloc, text, script, entry, numbers[i])?;
+    }
+    Ok(())
 }
 
 // Appends the lines of the tables of the members.
@@ -110,7 +112,7 @@ fn push_tables(
     requires { numbers.now ≡ numbering component.now }
     ensures { OnOk result ((ts : List TableOf)
         × AreTables component.now any (length component.now) ts
-        × (text.new.items ≡ text.old.items ++ tables_lines script.now component.now 0 ts)) }
+        × (text.new.items ≡ text.old.items ++ table_text (table_forms script.now component.now 0 ts))) }
 {
     let graph = Graph::of(alloc, component)?;
     let routing = Routing::of(alloc, &graph, numbers)?;
@@ -123,23 +125,21 @@ fn push_tables(
 }
 
 // Appends the line of a component.
-#[tactic(auto, unfolding(crate::specs::Expect::component_line), using(std::proofs::lemmas::List::get_or_default))]
+#[tactic(auto, using(std::proofs::lemmas::List::get_or_default))]
 fn push_head(
     alloc: Global,
     text: &mut Vec<u8>,
     script: &Script,
     entries: &[Entry],
-) -> Result<(), AllocError>
+) -> Result<(), OutOfMemory>
     requires some { 1 ≤ length entries.now }
-    requires most { length entries.now ≤ 126 }
-    ensures { OnOk result (text.new.items ≡ text.old.items ++ component_line script.now entries.now) }
+    ensures { OnOk result
+        (text.new.items ≡ text.old.items ++ line_text (table_words (component_form script.now entries.now))) }
 {
-    text.extend_from_slice(b"component ")?;
     let first = &entries[0];
-    push_life(alloc, text, script, first.position.root)?;
-    text.extend_from_slice(b" members ")?;
-    push_number(alloc, text, entries.len() as u32)?;
-    text.extend_from_slice(b"\n")
+    let root = life_word(alloc, script, first.position.root)?;
+    let count = decimal(alloc, entries.len() as u64)?;
+    push_line(text, &[b"component", &root, b"members", &count])
 }
 
 // Appends the lines of a component.
@@ -153,17 +153,18 @@ fn push_component(
 ) -> Result<(), OutOfMemory>
     ensures { OnOk result ((ts : List TableOf)
         × AreTables component.now any (length component.now) ts
-        × (text.new.items ≡ text.old.items ++ component_lines script.now component.now ts)) }
+        × (text.new.items ≡ text.old.items
+        ++ table_text (part_forms script.now (record { entries = component.now; tables = ts })))) }
 {
     let entries = component.as_slice();
     let numbers = number(alloc, component)?;
     push_head(alloc, text, script, entries)?;
-    push_members(alloc, text, script, entries, numbers.as_slice())?;
+    push_members(alloc, text, script, entries)?;
+    push_numbers(alloc, text, script, entries, numbers.as_slice())?;
     push_tables(alloc, text, script, decimals, component, &numbers, any)
 }
 
 // The text of the components.
-#[tactic(auto, unfolding(crate::specs::Expect::expect_text))]
 fn text_of(
     alloc: Global,
     script: &Script,
@@ -180,7 +181,7 @@ fn text_of(
     'components: for component in forest {
         push_component(alloc, &mut text, script, &decimals, component, any)?;
     }
-    text.extend_from_slice(b"end\n")?;
+    push_line(&mut text, &[b"end"])?;
     Ok(text)
 }
 

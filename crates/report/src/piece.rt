@@ -1,20 +1,12 @@
-ghost use Rattle.std.specs.Prelude.{◌≡◌, ◌==◌, ◌++◌, position, OnOk};
-ghost use Rattle.std.specs.Fmt.{decimal};
+ghost use Rattle.std.specs.Prelude.{◌≡◌, ◌==◌, ◌++◌, position, OnOk, IfOk};
 ghost use Rattle.report.specs.Names.{switch_name, life_text};
 
 use an_base::life::Life;
+use an_base::text::push_decimal;
 use net_graph::wiring::SwitchAt;
-use net_script::names::Names;
 use net_script::script::Script;
 use std::alloc::{AllocError, Global};
-
-// Appends a number in decimal.
-pub(crate) fn push_number(alloc: Global, text: &mut Vec<u8>, n: u32) -> Result<(), AllocError>
-    ensures { OnOk result (text.new.items ≡ text.old.items ++ decimal n) }
-{
-    let number = format!(in alloc; "{n}")?;
-    text.extend_from_slice(number.as_bytes())
-}
+use text_lines::names::Names;
 
 // The place of the switch with this identifier.
 pub(crate) fn place_of(switches: &[SwitchAt], uid: u64) -> Option<usize>
@@ -49,7 +41,16 @@ pub(crate) fn push_life(
     text.extend_from_slice(name_of(script.switch_names(), switches, life.uid))?;
     if life.boot != 1 {
         text.extend_from_slice(b".")?;
-        push_number(alloc, text, life.boot)?;
+        push_decimal(alloc, text, u64::from(life.boot))?;
     }
     Ok(())
+}
+
+// The word for a life.
+pub(crate) fn life_word(alloc: Global, script: &Script, life: Life) -> Result<Vec<u8>, AllocError>
+    ensures { IfOk result (λ word. word.items ≡ life_text script.now life) }
+{
+    let mut word = Vec::new(alloc);
+    push_life(alloc, &mut word, script, life)?;
+    Ok(word)
 }

@@ -1,6 +1,10 @@
 ghost use Rattle.std.specs.Prelude.{◌≡◌, ◌<◌, ◌++◌, length, OnOk};
 ghost use Rattle.std.specs.List.{flat_map};
-ghost use Rattle.report.specs.Rows.{exits_text, port_words, row_line, row_lines, row_word, rows_at};
+ghost use Rattle.text_lines.specs.Lines.{line_text};
+ghost use Rattle.table_script.specs.TableForms.{table_words};
+ghost use Rattle.report.specs.Rows.{exits_text, slashed, row_form, member_rows, rows_at};
+ghost use Rattle.report.specs.Pieces.{spaced_pair};
+ghost use Rattle.report.specs.Expect.{table_text};
 
 use crate::decimals::Decimals;
 use crate::piece::push_life;
@@ -13,7 +17,7 @@ use topo_graph::graph::Graph;
 
 // Appends ports, each behind a slash.
 fn push_ports(text: &mut Vec<u8>, decimals: &Decimals, ports: &[u8]) -> Result<(), AllocError>
-    ensures { OnOk result (text.new.items ≡ text.old.items ++ flat_map port_words ports.now) }
+    ensures { OnOk result (text.new.items ≡ text.old.items ++ flat_map slashed ports.now) }
 {
     'ports: for port in ports {
         text.extend_from_slice(b"/")?;
@@ -36,10 +40,10 @@ fn push_exits(text: &mut Vec<u8>, decimals: &Decimals, exits: &[u8]) -> Result<(
     }
 }
 
-// Appends a row: the number of the target, and the exits.
-#[tactic(auto, unfolding(crate::specs::Rows::row_word))]
+// Appends a row behind a space: the number of the target, and the exits.
+#[tactic(auto, unfolding(crate::specs::Pieces::spaced_pair))]
 fn push_row(text: &mut Vec<u8>, decimals: &Decimals, row: &Row) -> Result<(), AllocError>
-    ensures { OnOk result (text.new.items ≡ text.old.items ++ row_word row.now) }
+    ensures { OnOk result (text.new.items ≡ text.old.items ++ spaced_pair row.now) }
 {
     text.extend_from_slice(b" ")?;
     decimals.push(text, row.to)?;
@@ -54,7 +58,7 @@ fn push_rows(
     rows: &[Row],
     entry: u8,
 ) -> Result<(), AllocError>
-    ensures { OnOk result (text.new.items ≡ text.old.items ++ flat_map row_word (rows_at rows.now entry)) }
+    ensures { OnOk result (text.new.items ≡ text.old.items ++ flat_map spaced_pair (rows_at rows.now entry)) }
 {
     'rows: for row in rows {
         if row.entry == entry {
@@ -65,7 +69,6 @@ fn push_rows(
 }
 
 // Appends the line of an entry of a switch.
-#[tactic(auto, unfolding(crate::specs::Rows::row_line))]
 fn push_row_line(
     alloc: Global,
     text: &mut Vec<u8>,
@@ -75,19 +78,20 @@ fn push_row_line(
     rows: &[Row],
     entry: u8,
 ) -> Result<(), AllocError>
-    ensures { OnOk result (text.new.items ≡ text.old.items ++ row_line script.now life rows.now entry) }
+    ensures { OnOk result (text.new.items ≡ text.old.items
+        ++ line_text (table_words (row_form script.now life rows.now entry))) }
 {
     text.extend_from_slice(b"row ")?;
     push_life(alloc, text, script, life)?;
     text.extend_from_slice(b" ")?;
     decimals.push(text, entry)?;
     push_rows(text, decimals, rows, entry)?;
-    text.extend_from_slice(b"\n")
+    text.extend_from_slice(b"\n")?;
+    Ok(())
 }
 
 /// Appends the lines of the table of the member at a place: one for each entry, 0 and the ports with
 /// a link, with the number of each other member and the exits towards it.
-#[tactic(auto, unfolding(crate::specs::Rows::row_lines))]
 pub fn push_row_lines(
     alloc: Global,
     text: &mut Vec<u8>,
@@ -98,7 +102,8 @@ pub fn push_row_lines(
     rows: &[Row],
 ) -> Result<(), AllocError>
     requires { x < length graph.now }
-    ensures { OnOk result (text.new.items ≡ text.old.items ++ row_lines script.now graph.now x rows.now) }
+    ensures { OnOk result (text.new.items ≡ text.old.items
+        ++ table_text (member_rows script.now graph.now x rows.now)) }
 {
     let life = graph.life(x);
     'entries: for entry in 0..13u8 {

@@ -4,7 +4,7 @@ use Rattle.std.specs.Prelude.{◌&&◌, ◌||◌, nat_le, not, is_some, option_c
 use Rattle.std.specs.Borrow.{Bor}
 use Rattle.an_base.specs.Values.{TopoOf}
 use Rattle.an_base.specs.declared.body.Body.{Body}
-use Rattle.ordered_link.specs.Receiving.{Receiving, accept, come, follow, follow_with, has_come, hold, last, verdict}
+use Rattle.ordered_link.specs.Receiving.{Receiving, accept, come, follow, follow_with, has_come, hold, last, verdict, accepted_by, after_verdict, follow_all, is_acknowledged, received}
 use Rattle.ordered_link.specs.declared.receiver.Verdict.{Verdict}
 use Rattle.ordered_link.specs.declared.receiver.Verdict.TheVariants as verdict
 use Rattle.epoch_core.specs.Log.{CardOf, OnPort, Log}
@@ -14,7 +14,7 @@ use Rattle.switch_core.specs.declared.session.Sessions.{Sessions}
 use Rattle.switch_core.specs.Switch.{SwitchOf, at_port}
 use Rattle.switch_core.specs.declared.control.Control.{Control}
 use Rattle.switch_core.specs.Sessions.{AreSessions, Receives, wanted}
-use Rattle.switch_core.specs.Steps.{accepted_by, accepts, after, after_verdict, all_added, follow_all, is_acknowledged, log_with, received, receives}
+use Rattle.switch_core.specs.Steps.{accepts, after, all_added, log_with, receives}
 use Rattle.switch_core.specs.Stands.{Accepts as AcceptsBody, AcceptsInTurn, HasAccepting, HasCore, HasJoined, Receives as ReceivesBody, Stands, accepting, in_turn}
 use Rattle.switch_core.proofs.SessionLemmas.{at_the_port}
 use Rattle.switch_core.proofs.TurnLemmas.{changed_twice}

@@ -4,13 +4,13 @@ use Rattle.std.specs.Prelude.{is_some}
 use Rattle.an_base.specs.Values.{EndId}
 use Rattle.an_base.specs.Frames.{CarryOf}
 use Rattle.an_base.specs.declared.body.Body.{Body}
-use Rattle.ordered_link.specs.Receiving.{Receiving, last}
+use Rattle.ordered_link.specs.Receiving.{Receiving, last, received}
 use Rattle.epoch_core.specs.Log.{CardOf, OnPort, Log, on_port}
 use Rattle.epoch_core.specs.Epoch.{has_moved, version}
 use Rattle.epoch_core.specs.StandsFor.{CoreOf}
 use Rattle.switch_core.specs.Switch.{SwitchOf, counts}
 use Rattle.switch_core.specs.declared.control.Control.{Control}
-use Rattle.switch_core.specs.Steps.{Sent, Step, ack_to, acks, after, all_pushed, answers_body, joins, on_carry, received, receives, still}
+use Rattle.switch_core.specs.Steps.{Sent, Step, ack_to, acks, after, all_pushed, answers_body, joins, on_carry, receives, still}
 use Rattle.switch_core.specs.Sound.{all_held}
 use Rattle.switch_core.specs.Bytes.{BytesOut, all_spelled}
 use Rattle.switch_core.specs.Stands.{Does, Done, HasAccepting, HasJoined, HasNumbers, HasRoom, Receives as ReceivesBody, Stands, answered}

@@ -5,10 +5,9 @@ use Rattle.std.proofs.lemmas.List.Sums.{sum_by-cons, sum-map}
 use Rattle.an_base.specs.declared.body.Body.{Body}
 use Rattle.ordered_link.specs.declared.receiver.Verdict.{Verdict}
 use Rattle.ordered_link.specs.declared.receiver.Verdict.TheVariants as verdict
-use Rattle.ordered_link.specs.Receiving.{Receiving, accept, come, follow, follow_with, has_come, hold, last, verdict}
+use Rattle.ordered_link.specs.Receiving.{Receiving, accept, come, follow, follow_with, has_come, hold, last, verdict, accepted_by, after_verdict, follow_all, received}
 use Rattle.port_monitor.specs.Histories.{externals}
 use Rattle.switch_core.specs.Switch.{at_port}
-use Rattle.switch_core.specs.Steps.{accepted_by, after_verdict, follow_all, received}
 use Rattle.switch_core.specs.Sound.{all_held, held_count, held_from}
 use Rattle.switch_core.proofs.SessionLemmas.{at_the_port, at_other_port}
 

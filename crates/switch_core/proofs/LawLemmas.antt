@@ -1,29 +1,25 @@
 use Rattle.std.proofs.Common.{◌≡◌, ◌≢◌, ◌∙◌, sym, ap, refl, ℕ, zero, suc, ◌+◌, ◌<◌, ◌≤◌, ◌==◌, arith, List, [], ◌∷◌, ◌++◌, append_assoc, append-nil, map, length, Option, Some, None, is_some, Bool, true, false, cond, ◌&&◌, nat_lt, ◌⊎◌, inl, inr}
-use Rattle.std.specs.declared.cmp.Ordering.{Ordering}
-use Rattle.std.specs.declared.cmp.Ordering.TheVariants.{Less, Equal, Greater}
-use Rattle.std.specs.Ordering.{is_eq, nat_cmp}
 use Rattle.std.proofs.lemmas.Bool.{and_left, and_right, cond_both, cond-false, eq-eqb, eqb-false, eqb-true, false≢true, true≢false, false_from_ne_true, le-ltb, ltb-true, ne_eqb}
-use Rattle.an_base.specs.Values.{EndId, LifeId, PeerAt, Place}
-use Rattle.an_base.specs.Order.{end_cmp, life_cmp}
+use Rattle.an_base.specs.Values.{EndId, PeerAt, Place}
 use Rattle.an_base.specs.Frames.{CarryOf}
 use Rattle.an_base.specs.declared.body.Body.{Body}
 use Rattle.an_base.specs.declared.body.Body.TheVariants.{Pos}
 use Rattle.an_base.specs.declared.frame.Frame.{Frame}
 use Rattle.an_base.specs.declared.frame.Frame.TheVariants.{Carry, Ack, Probe, Reply}
 use Rattle.an_base.specs.declared.port.Sample.{Sample}
-use Rattle.an_base.proofs.OrderLaws.{life_apart, nat_apart, then_equal}
+use Rattle.connectivity.proofs.EndLemmas.{same_end_is}
 use Rattle.connectivity.specs.Connections.{is_end, is_same_end}
 use Rattle.port_monitor.specs.declared.port.Port.{Port}
 use Rattle.port_monitor.specs.Ports.{good_peer_by, link_to, links_from}
 use Rattle.port_monitor.specs.Histories.{Replied, with_happening}
 use Rattle.ordered_link.specs.Sending.{Sending, acknowledge, is_outstanding, is_waiting, may_send, push, send_next, with_pushed}
-use Rattle.ordered_link.specs.Receiving.{untouched}
+use Rattle.ordered_link.specs.Receiving.{untouched, accepted_by}
 use Rattle.epoch_core.specs.Log.{CardOf, OnPort, on_port}
 use Rattle.epoch_core.specs.Epoch.{adds, pos_at, position}
 use Rattle.epoch_core.proofs.JoinLemmas.{position_none}
 use Rattle.epoch_core.proofs.LawLemmas.{on_port-append}
 use Rattle.switch_core.specs.Switch.{SwitchOf, at_port, card_of, counts, end_at, good_links, good_peer, ports_of}
-use Rattle.switch_core.specs.Steps.{Step, accepted_by, acknowledges, after, all_added, all_pushed, all_resent, answers_body, begun, clocked, fills, framed, goes_on, is_change_due, is_spent_by, joins, on_ack, on_carry, peer_among, probes, pushed, pushed_to, receives, sampled_by, sends_next, still}
+use Rattle.switch_core.specs.Steps.{Step, acknowledges, after, all_added, all_pushed, all_resent, answers_body, begun, clocked, fills, framed, goes_on, is_change_due, is_spent_by, joins, on_ack, on_carry, peer_among, probes, pushed, pushed_to, receives, sampled_by, sends_next, still}
 use Rattle.switch_core.proofs.CountLemmas.{joining_few, one_from}
 use Rattle.switch_core.proofs.PushLemmas.{push_pushed}
 use Rattle.switch_core.proofs.SessionLemmas.{at_other_port}
@@ -139,19 +135,7 @@ old_carry epoch port f s low = let e = joins_epoch epoch s in carry_lower port f
 pub old_ack : (epoch port older n : ℕ) (from to : EndId) (s : SwitchOf) → older < epoch → framed port (Ack older from to n) (joins epoch s).switch ≡ still (joins epoch s).switch
 old_ack epoch port older n from to s low = let e = joins_epoch epoch s in ack_lower port older n from to (joins epoch s).switch (omega (arith, low, e))
 
--- a test for equal tells
-equal_is : (o : Ordering) → is_eq o ≡ true → o ≡ Equal
-equal_is Equal is = refl
-equal_is Less is = absurd (false≢true is)
-equal_is Greater is = absurd (false≢true is)
-
--- so does the test of two ends
-same_end_is : (p q : EndId) → is_same_end p q ≡ true → p ≡ q
-same_end_is p q is =
-    let e = then_equal (life_cmp p.life q.life) (nat_cmp p.port q.port) (equal_is (end_cmp p q) is) in
-    ap (λ (l : LifeId). record { life = l; port = p.port }) (life_apart p.life q.life e.0) ∙ ap (λ n. record { life = q.life; port = n }) (nat_apart p.port q.port e.1)
-
--- so another end is told apart
+-- another end is told apart
 not_end : (o : Option EndId) (q : EndId) → o ≢ Some q → is_end o q ≡ false
 not_end None q other = refl
 not_end (Some p) q other = false_from_ne_true (is_same_end p q) (λ is. other (ap (λ (e : EndId). Some e) (same_end_is p q is)))

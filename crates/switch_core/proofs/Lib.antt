@@ -6,9 +6,11 @@ pub mod CountLemmas
 pub mod FarLemmas
 pub mod FillLemmas
 pub mod FinishLemmas
+pub mod GoingLemmas
 pub mod HeldLemmas
 pub mod JoinLemmas
 pub mod LawLemmas
+pub mod LinkLemmas
 pub mod LoadLemmas
 pub mod NoteLemmas
 pub mod PeerLemmas
@@ -16,6 +18,7 @@ pub mod PushLemmas
 pub mod ReceiveLemmas
 pub mod ResendLemmas
 pub mod SampleLemmas
+pub mod SendsLemmas
 pub mod SessionLemmas
 pub mod SoundLemmas
 pub mod SpentLemmas

@@ -3,7 +3,8 @@ use Rattle.std.proofs.lemmas.Bool.{and_parts, cond_both, true≢false, or_cases}
 use Rattle.an_base.specs.declared.body.Body.{Body}
 use Rattle.epoch_core.specs.Epoch.{finish}
 use Rattle.switch_core.specs.Switch.{SwitchOf, finish_of}
-use Rattle.switch_core.specs.Steps.{accepted_by, finishes_by, log_with, received, receives}
+use Rattle.ordered_link.specs.Receiving.{accepted_by, received}
+use Rattle.switch_core.specs.Steps.{finishes_by, log_with, receives}
 use Rattle.switch_core.specs.Sound.{IsSound}
 use Rattle.switch_core.proofs.CountLemmas.{log_length}
 use Rattle.switch_core.proofs.FinishLemmas.{finish_joined, finish_stays}
@@ -31,6 +32,7 @@ sound_receives works port k body s least most joined h =
       least = h.least;
       most = h.most;
       one_link = h.one_link;
+      links = h.links;
       unjoined = λ is. absurd (true≢false (sym joined ∙ is));
       due = due_with works port k body s h joined;
       probes = λ q. omega (arith, h.probes q);

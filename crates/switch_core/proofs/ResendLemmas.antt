@@ -5,7 +5,7 @@ use Rattle.std.proofs.lemmas.Bool.{eqb-true, le-leb, lt-leb, lt-ltb}
 use Rattle.std.proofs.lemmas.List.{drop_all, nil_from_length}
 use Rattle.std.proofs.lemmas.Option.{none-some, same_Some, slice_get-get_or}
 use Rattle.an_base.specs.Values.{EndId, PeerAt}
-use Rattle.ordered_link.specs.Sending.{Sending, SenderOf, IsKeptOf, IsOut, IsDue, highest, send_again}
+use Rattle.ordered_link.specs.Sending.{Sending, SenderOf, IsKeptOf, IsOut, IsDue, highest, send_again, is_due, due, due_from, first_due, first_of}
 use Rattle.ordered_link.specs.Session.{put_out}
 use Rattle.switch_core.specs.declared.control.Control.{Control}
 use Rattle.switch_core.specs.declared.session.Sessions.{Sessions}
@@ -13,7 +13,7 @@ use Rattle.switch_core.specs.Bytes.{BytesOut, all_spelled}
 use Rattle.switch_core.specs.Sessions.{AreSessions}
 use Rattle.switch_core.specs.Switch.{SwitchOf, at_port}
 use Rattle.switch_core.specs.Stands.{Carries, Does, Done, HasWindows, IsSame, Stands}
-use Rattle.switch_core.specs.Steps.{Sent, after, all_again, all_resent, is_due, due, due_from, first_due, first_of, resends_on, sends_again, sends_on, still}
+use Rattle.switch_core.specs.Steps.{Sent, after, all_again, all_resent, resends_on, sends_again, sends_on, still}
 use Rattle.switch_core.proofs.SessionLemmas.{at_the_port, session_at}
 use Rattle.switch_core.proofs.StandsLemmas.{does_nothing, does_then, spelled_append, stands_same, stands_sends}
 

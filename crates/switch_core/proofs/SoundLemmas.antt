@@ -10,12 +10,14 @@ use Rattle.connectivity.specs.Connections.{is_end, is_same_end}
 use Rattle.epoch_core.specs.Log.{CardOf, Log, on_port}
 use Rattle.epoch_core.specs.Epoch.{adds, finish, finished_as_root, given_by, or_else}
 use Rattle.switch_core.specs.Switch.{SwitchOf, counts, end_at, good_links, port_of, ports_of, started}
-use Rattle.switch_core.specs.Steps.{after, are_same_links, accepted_by, all_added, all_pushed, all_resent, answers_body, begun, clocked, framed, goes_on, is_change_due, is_spent_by, joins, loaded, on_ack, on_carry, probes, receives, sample_at, sampled_by, still}
+use Rattle.ordered_link.specs.Receiving.{accepted_by}
+use Rattle.switch_core.specs.Steps.{after, are_same_links, all_added, all_pushed, all_resent, answers_body, begun, clocked, framed, goes_on, is_change_due, is_spent_by, joins, loaded, on_ack, on_carry, probes, receives, sample_at, sampled_by, still}
 use Rattle.switch_core.specs.Sound.{IsSound}
 use Rattle.switch_core.proofs.CountLemmas.{added_few, joining_few, log_length, one_from}
 use Rattle.switch_core.proofs.FarLemmas.{hears, hears_nonce, hears_peer, sampled_nonce}
 use Rattle.switch_core.proofs.FinishLemmas.{first_or_else, given_names, root_names}
 use Rattle.switch_core.proofs.HeldLemmas.{came_more}
+use Rattle.switch_core.proofs.LinkLemmas.{hears_links, links_are}
 use Rattle.switch_core.proofs.ReceiveLemmas.{sound_receives}
 use Rattle.switch_core.proofs.WindowLemmas.{SendsUpTo, all_pushed_few, all_resent_few, none_more, on_ack_few}
 
@@ -26,6 +28,7 @@ sound_more n m s more h = record {
   least = h.least;
   most = h.most;
   one_link = h.one_link;
+  links = h.links;
   unjoined = h.unjoined;
   due = h.due;
   probes = λ port. omega (arith, more, h.probes port);
@@ -42,6 +45,7 @@ sound_started life epoch had any least most = record {
   least = least;
   most = most;
   one_link = λ port. omega arith;
+  links = λ _. refl;
   unjoined = λ _ _ port. refl;
   due = λ is. absurd (false≢true is);
   probes = λ port. omega arith;
@@ -58,6 +62,7 @@ sound_sends works more old new sends few h = subst (IsSound works) (sym sends.on
   least = h.least;
   most = h.most;
   one_link = h.one_link;
+  links = h.links;
   unjoined = h.unjoined;
   due = h.due;
   probes = h.probes;
@@ -78,6 +83,7 @@ sound_begun works epoch s some least most probes = record {
   least = least;
   most = most;
   one_link = λ port. one_from 1 port (ports_of s);
+  links = λ _. refl;
   unjoined = λ is. absurd (true≢false is);
   due = λ is. is;
   probes = probes;
@@ -154,6 +160,7 @@ sound_hears works port nonce from s h = record {
   least = h.least;
   most = h.most;
   one_link = h.one_link;
+  links = λ working. h.links working ∙ sym (hears_links port nonce from s);
   unjoined = λ not_joined working q. hears_peer port nonce q from s ∙ h.unjoined not_joined working q;
   due = h.due;
   probes = λ q. let e = hears_nonce port nonce q from s in omega (arith, e, h.probes q);
@@ -179,13 +186,14 @@ sound_framed works port (Reply from to nonce) s least most working h =
     cond_both (is_same_end to (end_at s port)) (still (hears port from nonce s)) (still s) (λ step. IsSound (suc works) step.switch)
     (λ _. sound_hears (suc works) port nonce from s stays) (λ _. stays)
 
--- At a clock each port was sampled. All is so but `unjoined`, which asks nothing of a switch that is spent
+-- At a clock each port was sampled. All is so but `links` and `unjoined`, which ask nothing of a switch that is spent
 pub sound_sampled : (works now : ℕ) (samples : List Sample) (s : SwitchOf) → IsSound works s → IsSound (suc works) (record (sampled_by now samples s) { spent = true })
 sound_sampled works now samples s h = record {
   me = h.me;
   least = h.least;
   most = h.most;
   one_link = h.one_link;
+  links = λ is. absurd (true≢false is);
   unjoined = λ _ is. absurd (true≢false is);
   due = h.due;
   probes = λ port. let more = sampled_nonce (sample_at samples port) (port_of s port) in omega (arith, more, h.probes port);
@@ -195,13 +203,14 @@ sound_sampled works now samples s h = record {
   pushed = h.pushed;
 }
 
--- nor of any that has joined
-pub sound_joined : (works : ℕ) (s : SwitchOf) → s.joined ≡ true → IsSound works (record s { spent = true }) → IsSound works s
-sound_joined works s joined h = record {
+-- and so of one that has joined with its good links
+pub sound_joined : (works : ℕ) (s : SwitchOf) → s.joined ≡ true → (s.spent ≡ false → s.card.links ≡ good_links s) → IsSound works (record s { spent = true }) → IsSound works s
+sound_joined works s joined links h = record {
   me = h.me;
   least = h.least;
   most = h.most;
   one_link = h.one_link;
+  links = links;
   unjoined = λ is. absurd (true≢false (sym joined ∙ is));
   due = h.due;
   probes = h.probes;
@@ -211,25 +220,37 @@ sound_joined works s joined h = record {
   pushed = h.pushed;
 }
 
--- where no change is due the epoch was joined
+-- where no change is due the epoch was joined, and the good links are those of before
 pub unchanged_joined : (before s : SwitchOf) → is_change_due before s ≡ false → before.joined ≡ true
 unchanged_joined before s unchanged = not-false before.joined (or_parts (not before.joined) (not (are_same_links (good_links before) (good_links s))) unchanged).0
 
+pub unchanged_links : (before s : SwitchOf) → is_change_due before s ≡ false → good_links before ≡ good_links s
+unchanged_links before s unchanged =
+    links_are (good_links before) (good_links s)
+    (not-false (are_same_links (good_links before) (good_links s)) (or_parts (not before.joined) (not (are_same_links (good_links before) (good_links s))) unchanged).1)
+
+-- so where no change is due a switch that was sampled is sound
+pub unchanged_sound : (works now : ℕ) (samples : List Sample) (s : SwitchOf) → is_change_due s (sampled_by now samples s) ≡ false → IsSound works s → IsSound (suc works) (sampled_by now samples s)
+unchanged_sound works now samples s unchanged h =
+    let u = sampled_by now samples s in
+    sound_joined (suc works) u (unchanged_joined s u unchanged) (λ working. h.links working ∙ unchanged_links s u unchanged) (sound_sampled works now samples s h)
+
 -- behind the probes the next epoch is joined, or what is due is sent again
-goes_sound : (works : ℕ) (before s : SwitchOf) → 1 ≤ works → s.joined ≡ before.joined → IsSound works (record s { spent = true }) → IsSound works (goes_on before s).switch
-goes_sound works before s some same sampled =
-    let again = all_resent s.card.links s in
-    cond_both (is_change_due before s) (joins (suc s.epoch) s) again (λ step. IsSound works step.switch)
-    (λ _. joining_sound works (suc s.epoch) s some sampled.least sampled.most sampled.probes)
-    (λ unchanged. sound_sends_none works s again.switch (all_resent_few s.card.links s) (sound_joined works s (same ∙ unchanged_joined before s unchanged) sampled))
+goes_sound : (works now : ℕ) (samples : List Sample) (s : SwitchOf) → IsSound works s → IsSound (suc works) (goes_on s (sampled_by now samples s)).switch
+goes_sound works now samples s h =
+    let u = sampled_by now samples s in
+    let again = all_resent u.card.links u in
+    let sampled = sound_sampled works now samples s h in
+    cond_both (is_change_due s u) (joins (suc u.epoch) u) again (λ step. IsSound (suc works) step.switch)
+    (λ _. joining_sound (suc works) (suc u.epoch) u (omega arith) sampled.least sampled.most sampled.probes)
+    (λ unchanged. sound_sends_none (suc works) u again.switch (all_resent_few u.card.links u) (unchanged_sound works now samples s unchanged h))
 
 -- a clock comes
 pub sound_clocked : (works now : ℕ) (samples : List Sample) (s : SwitchOf) → IsSound works s → IsSound (suc works) (clocked now samples s).switch
 sound_clocked works now samples s h =
     let u = sampled_by now samples s in
-    let sampled = sound_sampled works now samples s h in
     cond_both (is_spent_by s u) (still (record u { spent = true })) (after (record { switch = u; frames = probes u }) (goes_on s u)) (λ step. IsSound (suc works) step.switch)
-    (λ _. sampled) (λ _. goes_sound (suc works) s u (omega arith) refl sampled)
+    (λ _. sound_sampled works now samples s h) (λ _. goes_sound works now samples s h)
 
 -- a table is loaded
 pub sound_loaded : (works number : ℕ) (s : SwitchOf) → 1 ≤ number → number ≤ 126 → IsSound works s → IsSound works (loaded number s)
@@ -238,6 +259,7 @@ sound_loaded works number s least most h = record {
   least = least;
   most = most;
   one_link = h.one_link;
+  links = h.links;
   unjoined = h.unjoined;
   due = λ is. absurd (false≢true is);
   probes = h.probes;

@@ -10,7 +10,8 @@ use Rattle.port_monitor.specs.Histories.{Replied, with_happening}
 use Rattle.switch_core.specs.declared.control.Control.{Control}
 use Rattle.switch_core.specs.Bytes.{BytesOut}
 use Rattle.switch_core.specs.Switch.{SwitchOf, counts, end_at}
-use Rattle.switch_core.specs.Steps.{Step, after, accepted_by, all_added, all_resent, answers_body, framed, goes_on, is_change_due, is_spent_by, joins, on_ack, on_carry, probes, receives, sampled_by, still}
+use Rattle.ordered_link.specs.Receiving.{accepted_by}
+use Rattle.switch_core.specs.Steps.{Step, after, all_added, all_resent, answers_body, framed, goes_on, is_change_due, is_spent_by, joins, on_ack, on_carry, probes, receives, sampled_by, still}
 use Rattle.switch_core.specs.Stands.{Clocks, Does, HasRoom}
 use Rattle.switch_core.proofs.SoundLemmas.{joins_spent}
 use Rattle.switch_core.proofs.WindowLemmas.{all_pushed_few, all_resent_few, on_ack_few}
@@ -33,7 +34,7 @@ carry_spends_not port f s =
     (one_of (f.epoch == s.epoch) (answers_body port f.from f.k f.body s) (still s) s (body_spends_not port f.k f.from f.body s) refl)
 
 -- a frame spends none
-frame_spends_not : (port : ℕ) (frame : Frame) (s : SwitchOf) → SpendsNot s (framed port frame s)
+pub frame_spends_not : (port : ℕ) (frame : Frame) (s : SwitchOf) → SpendsNot s (framed port frame s)
 frame_spends_not port (Carry f) s = one_of (counts s port f.from f.to) (on_carry port f s) (still s) s (carry_spends_not port f s) refl
 frame_spends_not port (Ack epoch from to n) s = one_of (counts s port from to) (on_ack port from epoch n s) (still s) s (ap (λ (u : SwitchOf). u.spent) (on_ack_few port epoch n from s).only) refl
 frame_spends_not port (Probe from nonce) s = refl
@@ -44,7 +45,7 @@ pub works_on : (port : ℕ) (frame : Frame) (old new : Control) (before after : 
 works_on port frame old new before after room does = (does room.switch room.stands).0.spent ∙ frame_spends_not port frame room.switch ∙ room.working
 
 -- a clock spends the epochs exactly where a change is due that none is left for
-goes_spends_not : (before s : SwitchOf) → SpendsNot s (goes_on before s)
+pub goes_spends_not : (before s : SwitchOf) → SpendsNot s (goes_on before s)
 goes_spends_not before s = one_of (is_change_due before s) (joins (suc s.epoch) s) (all_resent s.card.links s) s (joins_spent (suc s.epoch) s) (ap (λ (u : SwitchOf). u.spent) (all_resent_few s.card.links s).only)
 
 clock_by : (b : Bool) (before s : SwitchOf) → s.spent ≡ false → (cond b (still (record s { spent = true })) (after (record { switch = s; frames = probes s }) (goes_on before s))).switch.spent ≡ b

@@ -10,7 +10,8 @@ use Rattle.switch_core.specs.Bytes.{BytesOut, all_spelled}
 use Rattle.switch_core.specs.Switch.{SwitchOf}
 use Rattle.switch_core.specs.Sound.{IsSound}
 use Rattle.switch_core.specs.Steps.{clocked, framed, loaded}
-use Rattle.switch_core.specs.Stands.{Clocks, Does, Done, Handles, HasRoom, HasState, Loads, Stands}
+use Rattle.switch_core.specs.Stands.{Clocks, Does, Done, HasRoom, HasState, Stands}
+use Rattle.switch_core.specs.Kept.{Handles, Loads}
 use Rattle.switch_core.proofs.SoundLemmas.{sound_clocked, sound_framed, sound_loaded, sound_more}
 
 -- a switch that works has room below the most clocks and frames
@@ -18,7 +19,7 @@ pub room : (works : ℕ) (c : Control) → works < 2 ^ 28 → c.spent ≡ false 
 room works c few working has = record { works = works; switch = has.switch; few = few; working = sym has.stands.spent ∙ working; stands = has.stands; sound = has.sound }
 
 -- what is sound after one more
-one_more : (works : ℕ) (s : SwitchOf) → IsSound (suc works) s → IsSound (works + 1) s
+pub one_more : (works : ℕ) (s : SwitchOf) → IsSound (suc works) s → IsSound (works + 1) s
 one_more works s sound = let e : suc works ≡ works + 1 = omega arith in subst (λ n. IsSound n s) e sound
 
 -- a clock more
@@ -30,12 +31,14 @@ clock_more works now samples old new before after spent has clocks = record {
 }
 
 -- a load
-pub load_more : (works : ℕ) (old new : Control) (t : TableOf) → HasState works old → Loads old new t → HasState works new
-load_more works old new t has loads = record {
-  switch = loaded t.number has.switch;
-  stands = loads.stands has.switch has.stands;
-  sound = sound_loaded works t.number has.switch loads.least loads.most has.sound;
-}
+pub load_more : (works : ℕ) (old new : Control) (t : TableOf) → HasState works old → ((s : SwitchOf) → Stands old s → Loads s (Stands new) t) → HasState works new
+load_more works old new t has loads =
+    let is = loads has.switch has.stands in
+    record {
+      switch = loaded t.number has.switch;
+      stands = is.stands;
+      sound = sound_loaded works t.number has.switch is.least is.most has.sound;
+    }
 
 -- a frame more
 pub frame_more : (works port : ℕ) (frame : Frame) (old new : Control) (before after : List BytesOut) → 1 ≤ port → port ≤ 12 → HasRoom old → HasState works old → Does (framed port frame) old new before after → HasState (works + 1) new
@@ -53,7 +56,7 @@ nothing_more works c has = record { switch = has.switch; stands = has.stands; so
 
 -- bytes of a frame are of no other, and are some
 pub frame_handled : (port : ℕ) (bytes : List ℕ) (frame : Frame) (s : SwitchOf) (new : Control) (before after : List BytesOut) → IsFrame frame → bytes ≡ spelling frame → before ≡ [] → Done new before after (framed port frame s)
-    → Handles port bytes s new (record { frames = after; noframe = false })
+    → Handles port bytes s (Stands new) (record { frames = after; noframe = false })
 frame_handled port bytes frame s new before after is spelled none done = record {
   frame = λ f is_f spelled_f.
       let same : frame ≡ f = one_frame frame f is is_f (sym spelled ∙ spelled_f) in
@@ -63,7 +66,7 @@ frame_handled port bytes frame s new before after is spelled none done = record 
 }
 
 -- bytes of no frame
-pub nothing_handled : (port : ℕ) (bytes : List ℕ) (s : SwitchOf) (c : Control) (out : List BytesOut) → IsNoFrame bytes → out ≡ [] → Stands c s → Handles port bytes s c (record { frames = out; noframe = true })
+pub nothing_handled : (port : ℕ) (bytes : List ℕ) (s : SwitchOf) (c : Control) (out : List BytesOut) → IsNoFrame bytes → out ≡ [] → Stands c s → Handles port bytes s (Stands c) (record { frames = out; noframe = true })
 nothing_handled port bytes s c out refused none stands = record {
   frame = λ f is_f spelled. absurd (refused f is_f (sym spelled));
   no_frame = λ given. (stands, ap (λ (xs : List BytesOut). record { frames = xs; noframe = true }) none);

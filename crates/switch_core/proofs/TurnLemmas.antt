@@ -4,14 +4,14 @@ use Rattle.std.proofs.lemmas.Bool.{eqb-true}
 use Rattle.std.proofs.lemmas.List.{drop-append-le}
 use Rattle.an_base.specs.declared.body.Body.{Body}
 use Rattle.ordered_link.specs.Sending.{Sending}
-use Rattle.ordered_link.specs.Receiving.{Receiving, follow, follow_with, last}
+use Rattle.ordered_link.specs.Receiving.{Receiving, follow, follow_with, last, follow_all}
 use Rattle.epoch_core.specs.Log.{CardOf, OnPort, Log}
 use Rattle.epoch_core.specs.Epoch.{adds}
 use Rattle.epoch_core.specs.StandsFor.{CoreOf, StandsFor, Accepts}
 use Rattle.switch_core.specs.declared.session.Sessions.{Sessions}
 use Rattle.switch_core.specs.Switch.{at_port}
 use Rattle.switch_core.specs.Sessions.{AreSessions, IsSessionOf, Receives, wanted}
-use Rattle.switch_core.specs.Steps.{accepts, after, all_added, follow_all, log_with, receives}
+use Rattle.switch_core.specs.Steps.{accepts, after, all_added, log_with, receives}
 use Rattle.switch_core.specs.Stands.{AcceptsInTurn}
 use Rattle.switch_core.proofs.SessionLemmas.{at_the_port}
 

@@ -4,10 +4,10 @@ use Rattle.an_base.specs.Values.{EndId, PeerAt}
 use Rattle.an_base.specs.declared.body.Body.{Body}
 use Rattle.epoch_core.specs.Log.{OnPort, on_port}
 use Rattle.epoch_core.proofs.LawLemmas.{on_port-append}
-use Rattle.ordered_link.specs.Sending.{Sending, acknowledge, forget, is_outstanding, is_waiting, may_send, next_to_send, push, send_again, send_next, sent_by_ack, with_pushed}
+use Rattle.ordered_link.specs.Sending.{Sending, acknowledge, forget, is_outstanding, is_waiting, may_send, next_to_send, push, send_again, send_next, sent_by_ack, with_pushed, due}
 use Rattle.ordered_link.specs.Session.{Numbered, put_out}
 use Rattle.switch_core.specs.Switch.{SwitchOf}
-use Rattle.switch_core.specs.Steps.{after, still, acknowledges, all_again, all_pushed, all_resent, due, fills, on_ack, peer_among, pushed, pushed_to, resends_on, sends_again, sends_next, sends_on}
+use Rattle.switch_core.specs.Steps.{after, still, acknowledges, all_again, all_pushed, all_resent, fills, on_ack, peer_among, pushed, pushed_to, resends_on, sends_again, sends_next, sends_on}
 use Rattle.switch_core.proofs.PushLemmas.{pushed_count, sent_pushed}
 
 -- all but what is sent is as it was

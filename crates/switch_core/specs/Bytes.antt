@@ -1,3 +1,5 @@
+-- The bytes of the frames that go out.
+
 use Rattle.std.specs.Prelude.{◌≡◌, ℕ, ◌≤◌, List, map, Bool}
 use Rattle.an_base.specs.declared.frame.Frame.{Frame}
 use Rattle.frame_codec.specs.Frames.{IsFrame}

@@ -1,3 +1,5 @@
+-- What is kept of the sessions at the ports stands for their two directions.
+
 use Rattle.std.specs.Prelude.{◌≡◌, ℕ, suc, ◌+◌, ◌-◌, ◌≤◌, slice_get, Option, Some}
 use Rattle.an_base.specs.declared.body.Body.{Body}
 use Rattle.ordered_link.specs.Sending.{Sending, SenderOf, IsKeptOf, IsOut, unused}
@@ -16,11 +18,14 @@ IsNew session = IsSessionOf session unused untouched
 
 -- of each port, from port 1
 abbrev pub AreSessions : Sessions → (ℕ → Sending) → (ℕ → Receiving) → Type 0
-AreSessions sessions sendings receivings = (i : ℕ) (session : Session) → slice_get sessions.items i ≡ Some session → IsSessionOf session (sendings (suc i)) (receivings (suc i))
+AreSessions sessions sendings receivings =
+    (i : ℕ) (session : Session) → slice_get sessions.items i ≡ Some session
+    → IsSessionOf session (sendings (suc i)) (receivings (suc i))
 
 -- what is so of what the sender of a port keeps
 abbrev pub OfSender : Sessions → ℕ → (SenderOf → Type 0) → Type 0
-OfSender sessions port P = (session : Session) → slice_get sessions.items (port - 1) ≡ Some session → P session.sender
+OfSender sessions port P =
+    (session : Session) → slice_get sessions.items (port - 1) ≡ Some session → P session.sender
 
 -- the number is that of an outstanding body of the port
 abbrev pub IsOutAt : Sessions → ℕ → ℕ → Type 0
@@ -28,18 +33,26 @@ IsOutAt sessions port k = (1 ≤ k) × OfSender sessions port (λ v. IsOut v k)
 
 -- what is sent changes by this, and the answer is that of what it was
 abbrev pub SendsBy : (Sending → Sending) → (Sending → Option ℕ) → Session → Session → Option ℕ → Type 0
-SendsBy change answer old new number = (t : Sending) (r : Receiving) → IsSessionOf old t r → IsSessionOf new (change t) r × (number ≡ answer t)
+SendsBy change answer old new number =
+    (t : Sending) (r : Receiving) → IsSessionOf old t r → IsSessionOf new (change t) r × (number ≡ answer t)
 
 -- what is received changes by this, and the answer is that of what it was
-abbrev pub ReceivesBy : {A : Type 0} → (Receiving → Receiving) → (Receiving → A) → Session → Session → A → Type 0
-ReceivesBy change answer old new value = (t : Sending) (r : Receiving) → IsSessionOf old t r → IsSessionOf new t (change r) × (value ≡ answer r)
+abbrev pub ReceivesBy : {A : Type 0} → (Receiving → Receiving) → (Receiving → A) → Session → Session → A
+    → Type 0
+ReceivesBy change answer old new value =
+    (t : Sending) (r : Receiving) → IsSessionOf old t r → IsSessionOf new t (change r) × (value ≡ answer r)
 
 -- and so at a port
 abbrev pub Sends : ℕ → (Sending → Sending) → (Sending → Option ℕ) → Sessions → Sessions → Option ℕ → Type 0
-Sends port change answer old new number = (t : ℕ → Sending) (r : ℕ → Receiving) → AreSessions old t r → AreSessions new (at_port port (change (t port)) t) r × (number ≡ answer (t port))
+Sends port change answer old new number =
+    (t : ℕ → Sending) (r : ℕ → Receiving) → AreSessions old t r
+    → AreSessions new (at_port port (change (t port)) t) r × (number ≡ answer (t port))
 
-abbrev pub Receives : {A : Type 0} → ℕ → (Receiving → Receiving) → (Receiving → A) → Sessions → Sessions → A → Type 0
-Receives port change answer old new value = (t : ℕ → Sending) (r : ℕ → Receiving) → AreSessions old t r → AreSessions new t (at_port port (change (r port)) r) × (value ≡ answer (r port))
+abbrev pub Receives : {A : Type 0} → ℕ → (Receiving → Receiving) → (Receiving → A) → Sessions → Sessions → A
+    → Type 0
+Receives port change answer old new value =
+    (t : ℕ → Sending) (r : ℕ → Receiving) → AreSessions old t r
+    → AreSessions new t (at_port port (change (r port)) r) × (value ≡ answer (r port))
 
 -- the held body that is wanted next
 abbrev pub wanted : Receiving → Option Body

@@ -1,34 +1,47 @@
+-- What is always so of a switch: bounds that keep its numbers far from their ends, and how its links stand to
+-- its ports.
+
 use Rattle.std.specs.Prelude.{◌≡◌, ◌==◌, ℕ, zero, suc, ◌+◌, ◌*◌, ◌<◌, ◌≤◌, List, map, sum, filter, length, None, false, true, is_some, if◌then◌else◌}
 use Rattle.an_base.specs.Values.{PeerAt}
 use Rattle.ordered_link.specs.Receiving.{Receiving, last}
 use Rattle.port_monitor.specs.Histories.{externals}
-use Rattle.switch_core.specs.Switch.{SwitchOf, port_of, good_peer, finish_of}
+use Rattle.switch_core.specs.Switch.{SwitchOf, port_of, good_links, good_peer, finish_of}
 
--- how many bodies with these numbers are held, so many from k
+-- how many bodies are held of so many numbers, from this one on
 abbrev pub held_from : ℕ → ℕ → Receiving → ℕ
-held_from zero k r = 0
-held_from (suc n) k r = (if is_some (r.held k) then 1 else 0) + held_from n (suc k) r
+held_from zero number receiving = 0
+held_from (suc more) number receiving =
+    (if is_some (receiving.held number) then 1 else 0) + held_from more (suc number) receiving
 
 abbrev pub held_count : Receiving → ℕ
-held_count r = held_from 8 (last r + 1) r
+held_count receiving = held_from 8 (last receiving + 1) receiving
 
 abbrev pub all_held : (ℕ → Receiving) → ℕ
 all_held receivings = sum (map (λ port. held_count (receivings port)) externals)
 
 -- the links at a port
 abbrev pub links_at : ℕ → List PeerAt → List PeerAt
-links_at port links = filter (λ l. l.port == port) links
+links_at port links = filter (λ link. link.port == port) links
 
--- What is always so of a switch after so many clocks and frames
-pub record IsSound (works : ℕ) (s : SwitchOf) : Type 0 where
-  pub me : s.card.me ≡ s.life
-  pub least : 1 ≤ s.number
-  pub most : s.number ≤ 126
-  pub one_link : (port : ℕ) → length (links_at port s.card.links) ≤ 1
-  pub unjoined : s.joined ≡ false → s.spent ≡ false → (port : ℕ) → good_peer s port ≡ None
-  pub due : s.load_due ≡ true → is_some (finish_of s) ≡ true
-  pub probes : (port : ℕ) → (port_of s port).far.nonce ≤ works
-  pub windows : (port : ℕ) → length (s.sendings port).sent ≤ 8
-  pub near : (port k : ℕ) → last (s.receivings port) + 8 < k → (s.receivings port).held k ≡ None
-  pub came : s.joined ≡ true → suc (length s.log + all_held s.receivings) ≤ works
-  pub pushed : (port : ℕ) → length (s.sendings port).pushed ≤ 1 + 4 * length s.log
+-- What is always so of a switch after so many clocks and frames:
+pub record IsSound (works : ℕ) (switch : SwitchOf) : Type 0 where
+  -- its card is of its life, and its number is one of 1 to 126
+  pub me : switch.card.me ≡ switch.life
+  pub least : 1 ≤ switch.number
+  pub most : switch.number ≤ 126
+  -- the links of its card are its good links, at most one at each port; before it has joined there is none
+  pub one_link : (port : ℕ) → length (links_at port switch.card.links) ≤ 1
+  pub links : switch.spent ≡ false → switch.card.links ≡ good_links switch
+  pub unjoined : switch.joined ≡ false → switch.spent ≡ false → (port : ℕ) → good_peer switch port ≡ None
+  -- where a load is due it has finished
+  pub due : switch.load_due ≡ true → is_some (finish_of switch) ≡ true
+  -- a probe went out for each clock at most, and eight bodies at most are outstanding at a port
+  pub probes : (port : ℕ) → (port_of switch port).far.nonce ≤ works
+  pub windows : (port : ℕ) → length (switch.sendings port).sent ≤ 8
+  -- no body is held that is more than eight numbers ahead, and each body that was accepted or is held came in
+  -- a frame
+  pub near : (port number : ℕ) → last (switch.receivings port) + 8 < number
+      → (switch.receivings port).held number ≡ None
+  pub came : switch.joined ≡ true → suc (length switch.log + all_held switch.receivings) ≤ works
+  -- and at each port at most four bodies were pushed for each one that was accepted, and one more
+  pub pushed : (port : ℕ) → length (switch.sendings port).pushed ≤ 1 + 4 * length switch.log

@@ -1,24 +1,22 @@
+-- What is kept of a switch stands for all that happened to it, and what the parts of its code do.
+
 use Rattle.std.specs.Prelude.{◌≡◌, ℕ, ◌+◌, ◌^◌, ◌<◌, ◌≤◌, List, [], ◌∷◌, ◌++◌, length, map, Option, Some, None, is_some, drop, Bool, true, false}
-use Rattle.an_base.specs.Values.{EndId, TopoOf}
-use Rattle.table_build.specs.Tables.{TableOf, IsTableOf}
+use Rattle.an_base.specs.Values.{EndId}
 use Rattle.an_base.specs.declared.body.Body.{Body}
 use Rattle.an_base.specs.declared.port.Sample.{Sample}
-use Rattle.an_base.specs.declared.frame.Frame.{Frame}
-use Rattle.frame_codec.specs.Frames.{IsFrame, IsNoFrame}
-use Rattle.frame_codec.specs.Spelling.{spelling}
 use Rattle.port_monitor.specs.Histories.{IsAfter}
 use Rattle.ordered_link.specs.Sending.{Sending}
 use Rattle.ordered_link.specs.Session.{put_out}
-use Rattle.ordered_link.specs.Receiving.{Receiving, last, verdict}
+use Rattle.ordered_link.specs.Receiving.{Receiving, last, verdict, accepted_by, is_acknowledged, follow_all}
 use Rattle.epoch_core.specs.Log.{CardOf, OnPort, Log, on_port}
 use Rattle.epoch_core.specs.StandsFor.{CoreOf, StandsFor}
 use Rattle.switch_core.specs.declared.session.Sessions.{Sessions}
 use Rattle.switch_core.specs.declared.control.Control.{Control}
 use Rattle.switch_core.specs.Sessions.{AreSessions}
-use Rattle.switch_core.specs.Switch.{StartOf, SwitchOf, at_port, finish_of}
-use Rattle.switch_core.specs.Steps.{Step, framed, carried_to, receives, accepted_by, all_added, is_acknowledged, log_with, follow_all, ack_to, sampled_by, probes, accepts, is_spent_by, clocked, loaded}
+use Rattle.switch_core.specs.Switch.{SwitchOf, at_port}
+use Rattle.switch_core.specs.Steps.{Step, carried_to, receives, all_added, log_with, ack_to, sampled_by, probes, accepts, is_spent_by, clocked}
 use Rattle.switch_core.specs.Sound.{IsSound}
-use Rattle.switch_core.specs.Bytes.{BytesOut, OutOf, all_spelled}
+use Rattle.switch_core.specs.Bytes.{BytesOut, all_spelled}
 
 -- what is kept of an epoch is that of the bodies that were accepted in it
 pub record HasCore (core : CoreOf) (card : CardOf) (log : Log) : Type 0 where
@@ -29,7 +27,7 @@ abbrev pub HasJoined : Option CoreOf → Bool → CardOf → Log → Type 0
 HasJoined None joined card log = joined ≡ false
 HasJoined (Some core) joined card log = (joined ≡ true) × HasCore core card log
 
--- what is kept is that of all that happened to the switch
+-- what is kept of a switch is that of all that happened to it
 pub record Stands (c : Control) (s : SwitchOf) : Type 0 where
   pub life : c.life ≡ s.life
   pub any : c.any ≡ s.any
@@ -81,28 +79,37 @@ IsSame old new = new ≡ record old { buffer = new.buffer }
 
 -- the body with this number of the session at a port went out
 abbrev pub Carries : Control → ℕ → EndId → ℕ → List BytesOut → List BytesOut → Type 0
-Carries c port peer k before after = (s : SwitchOf) → Stands c s → after ≡ before ++ all_spelled (map (carried_to s port peer) (put_out (s.sendings port) (Some k)))
+Carries c port peer k before after =
+    (s : SwitchOf) → Stands c s
+    → after ≡ before ++ all_spelled (map (carried_to s port peer) (put_out (s.sendings port) (Some k)))
 
 -- the core has versions left for a window of bodies
 abbrev pub HasAccepting : Option CoreOf → Type 0
 HasAccepting core = (c : CoreOf) × (core ≡ Some c) × (c.version + 8 ≤ 2 ^ 30)
 
 -- a body came to a session, and the bodies that were accepted by it added what they add
-pub record Receives (port k : ℕ) (body : Body) (old new : Control) (before after : List OnPort) (answer : Bool) : Type 0 where
+pub record Receives (port k : ℕ) (body : Body) (old new : Control) (before after : List OnPort)
+    (answer : Bool) : Type 0 where
   pub stands : (s : SwitchOf) → Stands old s → Stands new (receives port k body s)
-  pub sends : (s : SwitchOf) → Stands old s → after ≡ before ++ all_added s.card port (accepted_by k body (s.receivings port)) s.log
-  pub acknowledged : (s : SwitchOf) → Stands old s → answer ≡ is_acknowledged (verdict k body (s.receivings port))
+  pub sends : (s : SwitchOf) → Stands old s
+      → after ≡ before ++ all_added s.card port (accepted_by k body (s.receivings port)) s.log
+  pub acknowledged : (s : SwitchOf) → Stands old s
+      → answer ≡ is_acknowledged (verdict k body (s.receivings port))
   pub joined : is_some new.core ≡ true
 
 -- a wanted body that the receiver of a port has taken was accepted, and each held one that follows it
 abbrev pub in_turn : Body → Receiving → List Body
 in_turn body r = body ∷ drop (last r) (follow_all 7 r).accepted
 
-pub record AcceptsInTurn (port : ℕ) (body : Body) (old new : CoreOf) (old_sessions new_sessions : Sessions) (before after : List OnPort) : Type 0 where
-  pub core : (log : Log) (t : ℕ → Sending) (r : ℕ → Receiving) → StandsFor old log → AreSessions old_sessions t r → StandsFor new (log_with port (in_turn body (r port)) log)
-  pub sessions : (t : ℕ → Sending) (r : ℕ → Receiving) → AreSessions old_sessions t r → AreSessions new_sessions t (at_port port (follow_all 7 (r port)) r)
+pub record AcceptsInTurn (port : ℕ) (body : Body) (old new : CoreOf)
+    (old_sessions new_sessions : Sessions) (before after : List OnPort) : Type 0 where
+  pub core : (log : Log) (t : ℕ → Sending) (r : ℕ → Receiving) → StandsFor old log
+      → AreSessions old_sessions t r → StandsFor new (log_with port (in_turn body (r port)) log)
+  pub sessions : (t : ℕ → Sending) (r : ℕ → Receiving) → AreSessions old_sessions t r
+      → AreSessions new_sessions t (at_port port (follow_all 7 (r port)) r)
   pub card : new.card ≡ old.card
-  pub sends : (log : Log) (t : ℕ → Sending) (r : ℕ → Receiving) → StandsFor old log → AreSessions old_sessions t r → after ≡ before ++ all_added old.card port (in_turn body (r port)) log
+  pub sends : (log : Log) (t : ℕ → Sending) (r : ℕ → Receiving) → StandsFor old log
+      → AreSessions old_sessions t r → after ≡ before ++ all_added old.card port (in_turn body (r port)) log
 
 -- the acknowledgement of what was accepted at a port goes out
 abbrev pub answered : ℕ → EndId → SwitchOf → Step
@@ -110,13 +117,8 @@ answered port peer s = record { switch = s; frames = ack_to s port peer (last (s
 
 -- each port was sampled, and the probes went out
 abbrev pub probed : ℕ → List Sample → SwitchOf → Step
-probed now samples s = record { switch = sampled_by now samples s; frames = probes (sampled_by now samples s) }
-
--- what a switch was started with, what is kept, and how many clocks and frames came
-pub record KeptOf : Type 0 where
-  pub start : StartOf
-  pub control : Control
-  pub works : ℕ
+probed now samples s =
+    record { switch = sampled_by now samples s; frames = probes (sampled_by now samples s) }
 
 -- so many clocks and frames lead to what is kept
 pub record HasState (works : ℕ) (c : Control) : Type 0 where
@@ -134,38 +136,24 @@ pub record HasRoom (c : Control) : Type 0 where
   pub sound : IsSound works switch
 
 abbrev pub accepting : ℕ → Body → SwitchOf → SwitchOf
-accepting port body s = accepts port (in_turn body (s.receivings port)) (record s { receivings = at_port port (follow_all 7 (s.receivings port)) s.receivings })
+accepting port body s =
+    accepts port (in_turn body (s.receivings port))
+    (record s { receivings = at_port port (follow_all 7 (s.receivings port)) s.receivings })
 
 pub record Accepts (port : ℕ) (body : Body) (old new : Control) (before after : List OnPort) : Type 0 where
   pub stands : (s : SwitchOf) → Stands old s → Stands new (accepting port body s)
-  pub sends : (s : SwitchOf) → Stands old s → after ≡ before ++ all_added s.card port (in_turn body (s.receivings port)) s.log
+  pub sends : (s : SwitchOf) → Stands old s
+      → after ≡ before ++ all_added s.card port (in_turn body (s.receivings port)) s.log
   pub joined : is_some new.core ≡ true
 
--- a clock came to a switch; it is answered whether a change is due that no epoch is left for, and then the frames are to be dropped
-pub record IsClocked (now : ℕ) (samples : List Sample) (s : SwitchOf) (new : Control) (before after : List BytesOut) (spent : Bool) : Type 0 where
+-- a clock came to a switch; it is answered whether a change is due that no epoch is left for, and then the
+-- frames are to be dropped
+pub record IsClocked (now : ℕ) (samples : List Sample) (s : SwitchOf) (new : Control)
+    (before after : List BytesOut) (spent : Bool) : Type 0 where
   pub spends : spent ≡ is_spent_by s (sampled_by now samples s)
   pub stands : Stands new (clocked now samples s).switch
   pub out : spent ≡ false → after ≡ before ++ all_spelled (clocked now samples s).frames
 
 abbrev pub Clocks : ℕ → List Sample → Control → Control → List BytesOut → List BytesOut → Bool → Type 0
-Clocks now samples old new before after spent = (s : SwitchOf) → Stands old s → IsClocked now samples s new before after spent
-
--- the table of what was finished with was loaded
-pub record Loads (old new : Control) (t : TableOf) : Type 0 where
-  pub topo : TopoOf
-  pub finished : (s : SwitchOf) → Stands old s → finish_of s ≡ Some topo
-  pub is_table : (s : SwitchOf) → Stands old s → IsTableOf topo.entries topo.numbers s.any s.life t
-  pub stands : (s : SwitchOf) → Stands old s → Stands new (loaded t.number s)
-  pub least : 1 ≤ t.number
-  pub most : t.number ≤ 126
-
--- Bytes came by a port. Those of a frame are handled as this frame; those of none change nothing, which is told
-pub record Handles (port : ℕ) (bytes : List ℕ) (s : SwitchOf) (new : Control) (out : OutOf) : Type 0 where
-  pub frame : (f : Frame) → IsFrame f → bytes ≡ spelling f → Stands new (framed port f s).switch × (out ≡ record { frames = all_spelled (framed port f s).frames; noframe = false })
-  pub no_frame : IsNoFrame bytes → Stands new s × (out ≡ record { frames = []; noframe = true })
-
--- a clock came, and it is answered whether no epoch is left for a change that is due
-pub record Ticks (now : ℕ) (samples : List Sample) (s : SwitchOf) (new : Control) (out : OutOf) (spent : Bool) : Type 0 where
-  pub spends : spent ≡ is_spent_by s (sampled_by now samples s)
-  pub stands : Stands new (clocked now samples s).switch
-  pub frames : out ≡ record { frames = all_spelled (clocked now samples s).frames; noframe = false }
+Clocks now samples old new before after spent =
+    (s : SwitchOf) → Stands old s → IsClocked now samples s new before after spent

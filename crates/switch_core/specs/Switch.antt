@@ -1,3 +1,5 @@
+-- A switch in one life, by all that happened to it.
+
 use Rattle.std.specs.Prelude.{ℕ, ◌==◌, ◌&&◌, nat_lt, List, [], map, length, Option, None, Bool, false, if◌then◌else◌}
 use Rattle.std.specs.List.{list_any}
 use Rattle.an_base.specs.Values.{LifeId, EndId, PeerAt, TopoOf}
@@ -11,12 +13,11 @@ use Rattle.ordered_link.specs.Receiving.{Receiving, untouched}
 use Rattle.epoch_core.specs.Log.{CardOf, Log}
 use Rattle.epoch_core.specs.Epoch.{finish}
 
--- A switch in one life, with all that it ever needs of what happened to it:
--- who it is, and whether its tables have all legal routes or the least ones alone;
--- what happened at each port;
--- the epoch, and whether the life has joined it; with what it joined, and what it accepted since, the newest first;
--- at each port the two directions of the session of this epoch;
--- the number of the table that it loaded last, else the one that it had before; whether it is to load a table; the tick of its last clock; and whether its epochs are spent.
+-- What it ever needs of what happened to it: who it is, and whether its tables have all legal routes or the
+-- least ones alone; what happened at each port; the epoch, and whether the life has joined it; with what it
+-- joined, and what it accepted since, the newest first; at each port the two directions of the session of
+-- this epoch; the number of the table that it loaded last, else the one that it had before; whether it is to
+-- load a table; the tick of its last clock; and whether its epochs are spent.
 pub record SwitchOf : Type 0 where
   pub life : LifeId
   pub any : Bool
@@ -32,14 +33,30 @@ pub record SwitchOf : Type 0 where
   pub tick : ℕ
   pub spent : Bool
 
--- at power-on, in an epoch that it has not joined
+-- the card with which a life joins an epoch
 abbrev pub card_of : LifeId → ℕ → List PeerAt → CardOf
 card_of me proposed links = record { me = me; proposed = proposed; links = links }
 
+-- at power-on, in an epoch that it has not joined
 abbrev pub started : LifeId → ℕ → ℕ → Bool → SwitchOf
-started life epoch had any = record { life = life; any = any; ports = λ port. []; epoch = epoch; joined = false; card = card_of life had []; log = []; sendings = λ port. unused; receivings = λ port. untouched; number = had; load_due = false; tick = 0; spent = false }
+started life epoch had any = record {
+  life = life;
+  any = any;
+  ports = λ port. [];
+  epoch = epoch;
+  joined = false;
+  card = card_of life had [];
+  log = [];
+  sendings = λ port. unused;
+  receivings = λ port. untouched;
+  number = had;
+  load_due = false;
+  tick = 0;
+  spent = false;
+}
 
--- what it is started with: its life, an epoch, the number that it had before, and whether its tables have all legal routes
+-- what it is started with: its life, an epoch, the number that it had before, and whether its tables have all
+-- legal routes
 pub record StartOf : Type 0 where
   pub life : LifeId
   pub epoch : ℕ
@@ -47,47 +64,53 @@ pub record StartOf : Type 0 where
   pub any : Bool
 
 abbrev pub started_as : StartOf → SwitchOf
-started_as x = started x.life x.epoch x.had x.any
+started_as start = started start.life start.epoch start.had start.any
 
 -- the value at one port, and the others as they were
 abbrev pub at_port : {A : Type 0} → ℕ → A → (ℕ → A) → ℕ → A
-at_port port value values q = if q == port then value else values q
+at_port port value values other = if other == port then value else values other
 
 -- its end of the link at a port
 abbrev pub end_at : SwitchOf → ℕ → EndId
-end_at s port = record { life = s.life; port = port }
+end_at switch port = record { life = switch.life; port = port }
 
 -- what a port is after what happened there
 abbrev pub port_of : SwitchOf → ℕ → Port
-port_of s port = port_after (end_at s port) (s.ports port)
+port_of switch port = port_after (end_at switch port) (switch.ports port)
 
 -- the external ports, rising
 abbrev pub ports_of : SwitchOf → List Port
-ports_of s = map (port_of s) externals
+ports_of switch = map (port_of switch) externals
 
 -- its good links, rising
 abbrev pub good_links : SwitchOf → List PeerAt
-good_links s = links_after s.life s.ports
+good_links switch = links_after switch.life switch.ports
 
 -- the other end of a good link
 abbrev pub good_peer : SwitchOf → ℕ → Option EndId
-good_peer s port = good_peer_by (port_of s port).phase (port_of s port).far.conn
+good_peer switch port = good_peer_by (port_of switch port).phase (port_of switch port).far.conn
 
 -- a frame of a session counts where the port is good, its peer sent the frame, and this end is meant
 abbrev pub counts : SwitchOf → ℕ → EndId → EndId → Bool
-counts s port from to = is_end (good_peer s port) from && is_same_end to (end_at s port)
+counts switch port from to = is_end (good_peer switch port) from && is_same_end to (end_at switch port)
 
 -- what it has finished with in its present epoch
 abbrev pub finish_of : SwitchOf → Option TopoOf
-finish_of s = if s.joined then finish s.card s.log else None
+finish_of switch = if switch.joined then finish switch.card switch.log else None
 
 -- whether some body that was pushed is not acknowledged
 abbrev pub is_unacked : Sending → Bool
-is_unacked t = nat_lt t.acked (length t.pushed)
+is_unacked sending = nat_lt sending.acked (length sending.pushed)
 
 -- what it shows of itself
 abbrev pub view_of : Port → PortViewOf
-view_of p = record { state = state_of p; peer = peer_of p }
+view_of port = record { state = state_of port; peer = peer_of port }
 
 abbrev pub note_of : SwitchOf → NoteOf
-note_of s = record { life = s.life; epoch = s.epoch; ports = map view_of (ports_of s); load_due = s.load_due; unacked = list_any (λ port. is_unacked (s.sendings port)) externals }
+note_of switch = record {
+  life = switch.life;
+  epoch = switch.epoch;
+  ports = map view_of (ports_of switch);
+  load_due = switch.load_due;
+  unacked = list_any (λ port. is_unacked (switch.sendings port)) externals;
+}

@@ -10,7 +10,8 @@ ghost use Rattle.switch_core.specs.Switch.{counts, finish_of, good_links, note_o
 ghost use Rattle.switch_core.specs.Steps.{all_pushed, all_resent, answers_body, are_same_links, fills, framed, joins, on_ack, on_carry, peer_among, pushed, resends_on};
 ghost use Rattle.switch_core.specs.Bytes.{BytesOut};
 ghost use Rattle.switch_core.specs.Sessions.{IsOutAt};
-ghost use Rattle.switch_core.specs.Stands.{answered, Accepts, AcceptsInTurn, Clocks, Does, Loads, Handles, HasAccepting, HasNumbers, HasRoom, HasState, HasWindows, IsSame, MayJoin, Carries, probed, Receives, Stands};
+ghost use Rattle.switch_core.specs.Stands.{answered, Accepts, AcceptsInTurn, Clocks, Does, HasAccepting, HasNumbers, HasRoom, HasState, HasWindows, IsSame, MayJoin, Carries, probed, Receives, Stands};
+ghost use Rattle.switch_core.specs.Kept.{Handles, Loads};
 
 use crate::out::Frames;
 use crate::session::Sessions;
@@ -47,7 +48,7 @@ pub struct Control {
     pub load_due: bool,
     pub tick: u32,
     pub spent: bool,
-    pub buffer: Option<FrameBuf>,
+    pub buffer: FrameBuf,
 }
 
 // The other end of the link at a port, if there is one.
@@ -64,11 +65,17 @@ fn peer_of(links: &Links, port: u8) -> Option<End>
 }
 
 impl Control {
-    /// At power-on, without taking memory.
-    pub fn new(alloc: Global, life: Life, epoch: u64, had: u8, any: bool) -> Control
-        ensures { Stands result (started life epoch had any) }
+    /// At power-on, with the memory in which frames are spelled.
+    pub fn start(
+        alloc: Global,
+        life: Life,
+        epoch: u64,
+        had: u8,
+        any: bool,
+    ) -> Result<Control, OutOfMemory>
+        ensures { IfOk result (λ control. Stands control (started life epoch had any)) }
     {
-        Control {
+        Ok(Control {
             alloc,
             life,
             any,
@@ -81,23 +88,26 @@ impl Control {
             load_due: false,
             tick: 0,
             spent: false,
-            buffer: None,
-        }
+            buffer: FrameBuf::new(alloc)?,
+        })
     }
 
-    /// At power-on, with the memory in which frames are spelled.
-    pub fn start(
-        alloc: Global,
-        life: Life,
-        epoch: u64,
-        had: u8,
-        any: bool,
-    ) -> Result<Control, OutOfMemory>
-        ensures { IfOk result (λ c. Stands c (started life epoch had any)) }
+    /// As at power-on again, without taking memory.
+    pub fn restart(&mut self, life: Life, epoch: u64, had: u8, any: bool)
+        ensures { Stands self.new (started life epoch had any) }
     {
-        let mut control = Control::new(alloc, life, epoch, had, any);
-        control.buffer = Some(FrameBuf::new(alloc)?);
-        Ok(control)
+        let alloc = self.alloc;
+        self.life = life;
+        self.any = any;
+        self.monitor = Monitor::new(life);
+        self.epoch = epoch;
+        self.core = None;
+        self.links = Links::new();
+        self.sessions = Sessions::new(alloc);
+        self.number = had;
+        self.load_due = false;
+        self.tick = 0;
+        self.spent = false;
     }
 
     // The end of this switch at a port.
@@ -109,16 +119,6 @@ impl Control {
         End::new(self.life, port)
     }
 
-    // The buffer in which frames are spelled.
-    fn take_buffer(&mut self) -> Result<FrameBuf, OutOfMemory>
-        ensures { IsSame self.old self.new }
-    {
-        match self.buffer.take() {
-            Some(buffer) => Ok(buffer),
-            None => FrameBuf::new(self.alloc),
-        }
-    }
-
     // Puts a frame out by a port.
     fn put(&mut self, port: u8, frame: &Frame, out: &mut Frames) -> Result<(), OutOfMemory>
         requires least { 1 ≤ port }
@@ -126,10 +126,8 @@ impl Control {
         ensures same { OnOk result (IsSame self.old self.new) }
         ensures out { OnOk result (out.new ≡ out.old ++ record { port = port; bytes = spelling frame.now } ∷ []) }
     {
-        let mut buffer = self.take_buffer()?;
-        encode(frame, &mut buffer);
-        out.push(port, buffer.bytes())?;
-        self.buffer = Some(buffer);
+        encode(frame, &mut self.buffer);
+        out.push(port, self.buffer.bytes())?;
         Ok(())
     }
 
@@ -142,10 +140,8 @@ impl Control {
         ensures out { OnOk result (Carries self.old port peer k out.old out.new) }
     {
         let head = CarryHead::new(self.epoch, self.end_at(port), peer, k);
-        let mut buffer = self.take_buffer()?;
-        encode_carry(&head, self.sessions.body(port, k), &mut buffer);
-        out.push(port, buffer.bytes())?;
-        self.buffer = Some(buffer);
+        encode_carry(&head, self.sessions.body(port, k), &mut self.buffer);
+        out.push(port, self.buffer.bytes())?;
         Ok(())
     }
 
@@ -413,7 +409,8 @@ impl Control {
         requires most { port ≤ 12 }
         requires room { HasRoom self.old }
         requires none { out.old ≡ [] }
-        ensures handled { (s : SwitchOf) → Stands self.old s → IfOk result (λ is_frame. Handles port bytes.now s self.new (record { frames = out.new; noframe = not is_frame })) }
+        ensures handled { (s : SwitchOf) → Stands self.old s
+            → IfOk result (λ is_frame. Handles port bytes.now s (Stands self.new) (record { frames = out.new; noframe = not is_frame })) }
         ensures state { (works : ℕ) → HasState works self.old → OnOk result (HasState (works + 1) self.new) }
         ensures working { OnOk result (self.new.spent ≡ false) }
     {
@@ -551,11 +548,12 @@ impl Control {
     pub fn load(&mut self) -> Result<Table, OutOfMemory>
         requires state { (works : ℕ) × HasState works self.old }
         requires due { self.old.load_due ≡ true }
-        ensures ok { IfOk result (Loads self.old self.new) }
+        ensures ok { (s : SwitchOf) → Stands self.old s → IfOk result (Loads s (Stands self.new)) }
         ensures err { OnErr result (self.new ≡ self.old) }
     {
         let topo = self.finish().unwrap();
         let graph = Graph::of(self.alloc, topo.entries())?;
+        prove!(graph.entries().len() == topo.numbers().as_slice().len());
         let table = Table::build(self.alloc, &graph, topo.numbers(), self.life, self.any)?;
         self.number = table.number();
         self.load_due = false;

@@ -1,9 +1,8 @@
 //! The sessions of a switch, one at each port, each with its two directions.
 
 ghost use Rattle.std.specs.Prelude.{◌≡◌, ◌+◌, ◌-◌, ◌<◌, ◌≤◌, ◌^◌, ℕ, All, IfOk, IfSome, Some, length, slice_get};
-ghost use Rattle.ordered_link.specs.Sending.{IsOut, Sending, acknowledge, next_to_send, push, send_again, send_next, sent_by_ack, sent_by_push, unused};
+ghost use Rattle.ordered_link.specs.Sending.{IsOut, Sending, acknowledge, next_to_send, push, send_again, send_next, sent_by_ack, sent_by_push, unused, first_due};
 ghost use Rattle.ordered_link.specs.Receiving.{Receiving, come, follow, last, untouched, verdict};
-ghost use Rattle.switch_core.specs.Steps.{first_due};
 ghost use Rattle.std.specs.List.{list_any};
 ghost use Rattle.port_monitor.specs.Histories.{externals};
 ghost use Rattle.switch_core.specs.Switch.{at_port, is_unacked};

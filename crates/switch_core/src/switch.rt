@@ -2,7 +2,8 @@
 
 ghost use Rattle.std.specs.Prelude.{◌≡◌, ◌+◌, ◌<◌, ◌≤◌, ◌^◌, ℕ, IfOk, OnOk, OnErr, Err, [], false, true, option_copied};
 ghost use Rattle.switch_core.specs.Switch.{finish_of, note_of, started, started_as, SwitchOf};
-ghost use Rattle.switch_core.specs.Stands.{Handles, Loads, Stands, Ticks};
+ghost use Rattle.switch_core.specs.Stands.{Stands};
+ghost use Rattle.switch_core.specs.Kept.{Handles, IsLoadDue, IsWorking, Loads, StandsFor, Ticks, is_spent, load_due};
 ghost use Rattle.switch_core.specs.declared.switch.ClockRefusal.TheVariants as refusal;
 
 use crate::control::Control;
@@ -28,11 +29,11 @@ struct PowerOn {
 }
 
 impl PowerOn {
-    // What a switch keeps at power-on, without taking memory.
-    fn control(self, alloc: Global) -> Control
-        ensures { Stands result (started self.life self.epoch self.had self.any) }
+    // A switch is as at power-on again, without taking memory.
+    fn restart(self, control: &mut Control)
+        ensures { Stands control.new (started self.life self.epoch self.had self.any) }
     {
-        Control::new(alloc, self.life, self.epoch, self.had, self.any)
+        control.restart(self.life, self.epoch, self.had, self.any);
     }
 }
 
@@ -46,7 +47,8 @@ pub struct Switch {
 
 impl Model for Switch {
     ghost use Rattle.std.specs.Prelude.{◌≤◌};
-    ghost use Rattle.switch_core.specs.Stands.{HasState, KeptOf};
+    ghost use Rattle.switch_core.specs.Stands.{HasState};
+    ghost use Rattle.switch_core.specs.Kept.{KeptOf};
 
     ghost Value = { KeptOf };
 
@@ -87,7 +89,7 @@ impl Switch {
         requires least { 1 ≤ had }
         requires most { had ≤ 126 }
         ensures start { IfOk result (λ switch. switch.start ≡ record { life = life; epoch = epoch; had = had; any = any }) }
-        ensures stands { IfOk result (λ switch. Stands switch.control (started life epoch had any)) }
+        ensures stands { IfOk result (λ switch. StandsFor switch (started life epoch had any)) }
         ensures works { IfOk result (λ switch. switch.works ≡ 0) }
     {
         Ok(Switch {
@@ -109,16 +111,17 @@ impl Switch {
         requires least { 1 ≤ port }
         requires most { port ≤ 12 }
         requires works { self.old.works < 2 ^ 28 }
-        requires working { self.old.control.spent ≡ false }
+        requires working { IsWorking self.old }
         ensures start { self.new.start ≡ self.old.start }
         ensures works { self.new.works ≡ self.old.works + 1 }
-        ensures handled { (s : SwitchOf) → Stands self.old.control s → OnOk result (Handles port frame.now s self.new.control out.new) }
-        ensures working { OnOk result (self.new.control.spent ≡ false) }
-        ensures lost { OnErr result (Stands self.new.control (started_as self.old.start) × (out.new ≡ record { frames = []; noframe = false })) }
+        ensures handled { (s : SwitchOf) → StandsFor self.old s
+            → OnOk result (Handles port frame.now s (StandsFor self.new) out.new) }
+        ensures working { OnOk result (IsWorking self.new) }
+        ensures lost { OnErr result (StandsFor self.new (started_as self.old.start)) }
+        ensures nothing { OnErr result (out.new ≡ record { frames = []; noframe = false }) }
     {
         out.clear();
         self.works += 1;
-        let alloc = self.control.alloc;
         match self.control.handle(frame, port, &mut out.frames) {
             Ok(is_frame) => {
                 out.noframe = !is_frame;
@@ -126,7 +129,7 @@ impl Switch {
             }
             Err(OutOfMemory) => {
                 out.clear();
-                self.control = self.start.control(alloc);
+                self.start.restart(&mut self.control);
                 Err(OutOfMemory)
             }
         }
@@ -144,17 +147,19 @@ impl Switch {
         out: &mut Out,
     ) -> Result<(), ClockRefusal>
         requires works { self.old.works < 2 ^ 28 }
-        requires working { self.old.control.spent ≡ false }
+        requires working { IsWorking self.old }
         ensures start { self.new.start ≡ self.old.start }
         ensures works { self.new.works ≡ self.old.works + 1 }
-        ensures ok { (s : SwitchOf) → Stands self.old.control s → OnOk result (Ticks now samples.now s self.new.control out.new false) }
-        ensures working { OnOk result (self.new.control.spent ≡ false) }
-        ensures spent { (s : SwitchOf) → Stands self.old.control s → result ≡ Err refusal.EpochsSpent → Ticks now samples.now s self.new.control out.new true }
-        ensures lost { result ≡ Err refusal.OutOfMemory → Stands self.new.control (started_as self.old.start) × (out.new ≡ record { frames = []; noframe = false }) }
+        ensures ok { (s : SwitchOf) → StandsFor self.old s
+            → OnOk result (Ticks now samples.now s (StandsFor self.new) out.new false) }
+        ensures working { OnOk result (IsWorking self.new) }
+        ensures spent { (s : SwitchOf) → StandsFor self.old s → result ≡ Err refusal.EpochsSpent
+            → Ticks now samples.now s (StandsFor self.new) out.new true }
+        ensures lost { result ≡ Err refusal.OutOfMemory → StandsFor self.new (started_as self.old.start) }
+        ensures nothing { result ≡ Err refusal.OutOfMemory → out.new ≡ record { frames = []; noframe = false } }
     {
         out.clear();
         self.works += 1;
-        let alloc = self.control.alloc;
         match self.control.clock(now, samples, &mut out.frames) {
             Ok(false) => Ok(()),
             Ok(true) => {
@@ -163,7 +168,7 @@ impl Switch {
             }
             Err(OutOfMemory) => {
                 out.clear();
-                self.control = self.start.control(alloc);
+                self.start.restart(&mut self.control);
                 Err(ClockRefusal::OutOfMemory)
             }
         }
@@ -172,11 +177,12 @@ impl Switch {
     /// Loads the table of what the switch has finished with, which is due. Its number is proposed at
     /// the next join. After want of memory nothing has changed.
     pub fn load(&mut self) -> Result<TableFor, OutOfMemory>
-        requires { self.old.control.load_due ≡ true }
+        requires { IsLoadDue self.old }
         ensures start { self.new.start ≡ self.old.start }
         ensures works { self.new.works ≡ self.old.works }
-        ensures epoch { (s : SwitchOf) → Stands self.old.control s → IfOk result (λ loaded. loaded.epoch ≡ s.epoch) }
-        ensures ok { IfOk result (λ loaded. Loads self.old.control self.new.control loaded.table) }
+        ensures epoch { (s : SwitchOf) → StandsFor self.old s → IfOk result (λ loaded. loaded.epoch ≡ s.epoch) }
+        ensures ok { (s : SwitchOf) → StandsFor self.old s
+            → IfOk result (λ loaded. Loads s (StandsFor self.new) loaded.table) }
         ensures err { OnErr result (self.new ≡ self.old) }
     {
         let table = self.control.load()?;
@@ -188,23 +194,23 @@ impl Switch {
 
     /// What the switch has finished with in its present epoch; none exactly where it has not finished.
     pub fn finish(&self) -> Option<&TopoBody>
-        ensures { (s : SwitchOf) → Stands self.now.control s → option_copied result ≡ finish_of s }
+        ensures { (s : SwitchOf) → StandsFor self.now s → option_copied result ≡ finish_of s }
     {
         self.control.finish()
     }
 
     /// Whether it is to load a table.
     pub fn load_due(&self) -> bool
-        ensures due { result ≡ self.now.control.load_due }
-        ensures stands { (s : SwitchOf) → Stands self.now.control s → result ≡ s.load_due }
+        ensures due { result ≡ load_due self.now }
+        ensures stands { (s : SwitchOf) → StandsFor self.now s → result ≡ s.load_due }
     {
         self.control.load_due
     }
 
     /// Whether a clock has answered that the epochs are spent.
     pub fn is_spent(&self) -> bool
-        ensures spent { result ≡ self.now.control.spent }
-        ensures stands { (s : SwitchOf) → Stands self.now.control s → result ≡ s.spent }
+        ensures spent { result ≡ is_spent self.now }
+        ensures stands { (s : SwitchOf) → StandsFor self.now s → result ≡ s.spent }
     {
         self.control.spent
     }
@@ -218,7 +224,7 @@ impl Switch {
 
     /// What the switch shows of itself.
     pub fn note(&self) -> Note
-        ensures { (s : SwitchOf) → Stands self.now.control s → result ≡ note_of s }
+        ensures { (s : SwitchOf) → StandsFor self.now s → result ≡ note_of s }
     {
         self.control.note()
     }

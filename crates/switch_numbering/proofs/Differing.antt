@@ -1,3 +1,4 @@
+-- The numbers of entries are as many as the entries, within 1 to 126, and all different.
 use Rattle.std.proofs.Common.{◌≡◌, ◌∙◌, sym, ap, refl, ℕ, zero, suc, ◌+◌, ◌-◌, ◌<◌, ◌≤◌, List, [], ◌∷◌, length, take, filter, Bool, true, false, not, eqb, cond, arith, get_or, All, ◌||◌}
 use Rattle.std.specs.List.{range_with_len}
 use Rattle.std.proofs.lemmas.List.{get_or-take, length-take, length-map, get_or-map}
@@ -7,6 +8,10 @@ use Rattle.an_base.specs.Values.{EntryOf}
 use Rattle.an_base.specs.Numbers.{AreNumbers}
 use Rattle.switch_numbering.specs.Numbering.{proposals, is_proposed, all_numbers, free, is_first, others_before, number_at, numbering}
 use Rattle.switch_numbering.proofs.Counting.{others_fit, others_rise}
+
+-- there is a number for each entry
+pub length-numbering : (entries : List EntryOf) → length (numbering entries) ≡ length entries
+length-numbering entries = length-map-range_with_len (number_at (proposals entries)) 0 (length entries)
 
 -- what the test keeps of a range is in the range and passes the test
 record IsKept (f : ℕ → Bool) (a n v : ℕ) : Type 0 where

@@ -1,13 +1,12 @@
 ghost use Rattle.std.specs.Prelude.{◌≡◌, ◌<◌, ◌≤◌, IfOk};
+ghost use Rattle.an_base.specs.declared.limits.TheConstants.{MOST_NUMBER};
 ghost use Rattle.switch_numbering.specs.Numbering.{is_proposed, free, proposals, numbering};
 
 use an_base::entry::{Entries, Entry};
+use an_base::limits::MOST_NUMBER;
 use an_base::memory::OutOfMemory;
 use an_base::numbers::Numbers;
 use std::alloc::{AllocError, Global};
-
-/// The greatest number of a switch; the least is 1.
-pub const MOST_NUMBER: u8 = 126;
 
 // Whether one of the entries proposes this number.
 fn is_proposed_by(entries: &[Entry], number: u8) -> bool
@@ -67,7 +66,7 @@ mod tests {
     fn entry_of(uid: u64, proposed: u8) -> Entry
         requires uid { uid < 100 }
         requires least { 1 ≤ proposed }
-        requires most { proposed ≤ 126 }
+        requires most { proposed ≤ MOST_NUMBER }
         ensures { result.life ≡ record { uid = uid; boot = 1 } }
     {
         let life = Life::new(uid, 1);

@@ -1,10 +1,9 @@
-use Rattle.std.proofs.Common.{◌≡◌, ◌∙◌, sym, ap, subst, refl, ℕ, zero, suc, List, Some, Bool, true, false, Less, Equal, Greater, inl, inr}
-use Rattle.std.specs.declared.cmp.Ordering.{Ordering}
-use Rattle.std.specs.Ordering.{is_lt}
+use Rattle.std.proofs.Common.{◌≡◌, ◌∙◌, sym, subst, refl, ℕ, zero, suc, List, Some, Bool, true, false, inl, inr}
 use Rattle.std.proofs.lemmas.Bool.{cases_Bool}
-use Rattle.std.proofs.lemmas.Option.{same_Some}
 use Rattle.an_base.specs.Values.{EntryOf}
+use Rattle.an_base.proofs.OrderingLemmas.{less_is}
 use Rattle.topo_graph.specs.Topology.{far_of, IsGraph}
+use Rattle.topo_graph.proofs.FarLemmas.{one_far}
 use Rattle.updown.specs.Routes.{height_cmp, is_up_end}
 use Rattle.updown.proofs.RouteLemmas.{height_total, not_both_higher, leads_down}
 use Rattle.table_build.specs.Exits.{may_go_up}
@@ -15,18 +14,9 @@ use Rattle.table_build.proofs.WayLaws.{entry_up, way_next, way_far}
 abbrev pub Leads : List EntryOf → Bool → (ℕ × ℕ) → Type 0
 Leads es up a = (z q : ℕ) × (far_of es a.0 a.1 ≡ Some (z, q)) × (is_up_end es z a.0 ≡ up)
 
-less_is : (o : Ordering) → is_lt o ≡ true → o ≡ Less
-less_is Less e = refl
-less_is Equal e = absurd (cc)
-less_is Greater e = absurd (cc)
-
 -- what is higher than what is higher
 higher : (es : List EntryOf) (x y z : ℕ) → is_up_end es x y ≡ true → is_up_end es y z ≡ true → is_up_end es x z ≡ true
 higher es x y z a b = let less = (height_total es).trans x y z (less_is (height_cmp es x y) a) (less_is (height_cmp es y z) b) in rw less refl
-
--- a port leads to one place
-one_far : (es : List EntryOf) (x p z q w r : ℕ) → far_of es x p ≡ Some (z, q) → far_of es x p ≡ Some (w, r) → z ≡ w
-one_far es x p z q w r a b = ap (λ (f : ℕ × ℕ). f.0) (same_Some (z, q) (w, r) (sym a ∙ b))
 
 -- the next channel leads up only where the first does
 next_up : (es : List EntryOf) (any : Bool) (a b : ℕ × ℕ) → IsGraph es → LeadsOn es any a b → (w r : ℕ) × (far_of es b.0 b.1 ≡ Some (w, r)) × (is_up_end es w b.0 ≡ true → is_up_end es b.0 a.0 ≡ true)

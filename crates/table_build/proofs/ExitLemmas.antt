@@ -1,10 +1,10 @@
-use Rattle.std.proofs.Common.{◌≡◌, ◌≢◌, ◌∙◌, sym, ap, subst, refl, ℕ, suc, ◌+◌, ◌<◌, ◌≤◌, List, [], ◌∷◌, ◌++◌, Option, Some, None, Bool, true, false, arith, length, length-append, Contains, IsTrue, ◌⊎◌, inl, inr, ◌↔◌}
+use Rattle.std.proofs.Common.{◌≡◌, ◌≢◌, ◌∙◌, sym, subst, refl, ℕ, suc, ◌+◌, ◌<◌, ◌≤◌, List, [], ◌∷◌, ◌++◌, Option, Some, None, Bool, true, false, arith, length, length-append, Contains, IsTrue, ◌⊎◌, inl, inr, ◌↔◌}
 use Rattle.std.proofs.lemmas.Bool.{cases_eq, eqb-true, eq-eqb}
-use Rattle.std.proofs.lemmas.Option.{same_Some}
 use Rattle.std.proofs.lemmas.List.Elements.{All-nil, All-push, All-weaker, Contains-append_left, Contains-push}
 use Rattle.std.proofs.lemmas.List.Quantifiers.{all_pairs_push}
 use Rattle.an_base.specs.Values.{EntryOf}
 use Rattle.topo_graph.specs.Topology.{far_of, IsGraph}
+use Rattle.topo_graph.proofs.FarLemmas.{one_far}
 use Rattle.updown.specs.Routes.{is_up_end, HasLegal, HasDown, IsLeast}
 use Rattle.updown.specs.Lengths.{LengthsOf, length_at, behind_of, AreLengths}
 use Rattle.updown.proofs.RouteLemmas.{legal_first, legal_up, legal_down, down_first, down_more}
@@ -85,10 +85,6 @@ up_behind es x to p lengths graph are =
 -- and where it may not: nothing without a link, nor upward
 pub none_behind : (es : List EntryOf) (x to p : ℕ) → far_of es x p ≡ None → IsLeast (Behind es false x to p) None
 none_behind es x to p e = λ n (z, q, f, down, has). absurd (cc)
-
--- a port leads to one place
-one_far : (es : List EntryOf) (x p z q w r : ℕ) → far_of es x p ≡ Some (z, q) → far_of es x p ≡ Some (w, r) → z ≡ w
-one_far es x p z q w r a b = ap (λ (f : ℕ × ℕ). f.0) (same_Some (z, q) (w, r) (sym a ∙ b))
 
 pub up_not_behind : (es : List EntryOf) (x to p z q : ℕ) → far_of es x p ≡ Some (z, q) → is_up_end es z x ≡ true → IsLeast (Behind es false x to p) None
 up_not_behind es x to p z q e up = λ n (w, r, f, down, has). absurd (let not_up : is_up_end es z x ≡ false = subst (λ (v : ℕ). is_up_end es v x ≡ false) (one_far es x p w r z q f e) down in cc)

@@ -1,16 +1,16 @@
-use Rattle.std.proofs.Common.{◌≡◌, ◌≢◌, sym, ap, subst, refl, ℕ, zero, suc, ◌+◌, ◌-◌, ◌*◌, ◌<◌, ◌≤◌, List, [], ◌∷◌, Bool, true, false, cond, arith, length, inl, inr}
+use Rattle.std.proofs.Common.{◌≡◌, ◌≢◌, sym, ap, subst, refl, ℕ, zero, suc, ◌+◌, ◌-◌, ◌*◌, ◌<◌, ◌≤◌, List, [], ◌∷◌, ◌++◌, Some, Bool, true, false, cond, arith, length, length-append, append_assoc, inl, inr}
+use Rattle.std.proofs.lemmas.List.{append-nil}
 use Rattle.std.proofs.lemmas.Bool.{cases_Bool, cases_eq}
 use Rattle.std.specs.Ordering.{is_lt}
-use Rattle.std.specs.declared.cmp.Ordering.{Ordering}
-use Rattle.std.specs.declared.cmp.Ordering.TheVariants.{Less, Equal, Greater}
 use Rattle.an_base.specs.Values.{EntryOf}
-use Rattle.topo_graph.specs.Topology.{IsGraph, IsTree}
+use Rattle.an_base.proofs.OrderingLemmas.{less_is}
+use Rattle.topo_graph.specs.Topology.{far_of, IsGraph, IsTree}
 use Rattle.updown.specs.Routes.{is_up_end, height_cmp, LegalRoute, DownRoute}
-use Rattle.updown.proofs.RouteLemmas.{height_total, not_both_higher, leads_down, legal_first, down_first, down_legal}
+use Rattle.updown.proofs.RouteLemmas.{height_total, not_both_higher, leads_down, legal_first, legal_none, down_first, down_legal, down_none}
 use Rattle.table_build.specs.Exits.{LeadsTo, Begins, may_go_up}
-use Rattle.table_build.specs.Laws.{Follows}
-use Rattle.table_build.proofs.WayLaws.{entry_up, way_next, follow_way, shortest_exit}
-use Rattle.table_build.proofs.ShortestLaws.{has_shortest}
+use Rattle.table_build.specs.Laws.{Follows, IsShortest}
+use Rattle.table_build.proofs.WayLaws.{entry_up, way_far, way_next, follow_way, follow_nearer, shortest_exit}
+use Rattle.table_build.proofs.ShortestLaws.{has_shortest, shortest_route}
 use Rattle.table_build.proofs.TreeRoutes.{joined}
 
 -- how many numbers below n pass a test
@@ -53,11 +53,6 @@ higher es x y = is_up_end es y x
 
 abbrev depth : List EntryOf → ℕ → ℕ
 depth es x = count (higher es x) (length es)
-
-less_is : (o : Ordering) → is_lt o ≡ true → o ≡ Less
-less_is Less h = refl
-less_is Equal h = absurd (cc)
-less_is Greater h = absurd (cc)
 
 -- what is higher than a place above x is higher than x
 up_more : (es : List EntryOf) (y z x : ℕ) → is_up_end es y z ≡ true → is_up_end es z x ≡ true → is_up_end es y x ≡ true
@@ -109,6 +104,13 @@ legal_way : (es : List EntryOf) (up : Bool) (x : ℕ) (ps : List ℕ) (y : ℕ) 
 legal_way es true x ps y way = way
 legal_way es false x ps y way = down_legal es x ps y way
 
+-- no way has twice as many links as there are places
+pub way_short : (es : List EntryOf) (up : Bool) (x y : ℕ) (ps : List ℕ) → IsGraph es → x < length es → LeadsTo es up x ps y → length ps < 2 * length es
+way_short es up x y ps graph low way =
+    let short = legal_short es x y ps graph low (legal_way es up x ps y way) in
+    let few = depth_low es x low in
+    omega arith
+
 -- so whoever follows exits goes over few links
 pub follow_short : (es : List EntryOf) (any : Bool) (y x entry z out : ℕ) (ps : List ℕ) → IsGraph es → x < length es → Follows es any y x entry ps z out → length ps ≤ 2 * (length es - 1)
 follow_short es any y x entry z out ps graph low follows =
@@ -131,3 +133,46 @@ follow_exit es any y x z out ps graph tree low low' follows other =
     let on = follow_on es any y x 0 z out ps route.0 graph route.2 follows in
     let shortest = has_shortest es (may_go_up es z out) z y on.0 graph on.1 in
     shortest_exit es any (may_go_up es z out) z y shortest.0 other shortest.1
+
+-- one exit more is followed
+follow_more : (es : List EntryOf) (any : Bool) (y x entry z out p w q : ℕ) (ps : List ℕ) → Follows es any y x entry ps z out → Begins es any (may_go_up es z out) z y p → far_of es z p ≡ Some (w, q) → Follows es any y x entry (ps ++ p ∷ []) w q
+follow_more es any y x entry z out p w q [] (same, at) begins e =
+    let here : Begins es any (may_go_up es x entry) x y p = subst (λ (n : ℕ). Begins es any (may_go_up es n entry) n y p) (sym same) (subst (λ (o : ℕ). Begins es any (may_go_up es z o) z y p) (sym at) begins) in
+    (here, (w, q, subst (λ (n : ℕ). far_of es n p ≡ Some (w, q)) (sym same) e, (refl, refl)))
+follow_more es any y x entry z out p w q (p' ∷ ps) (first, (v, r, there, rest)) begins e = (first, (v, r, there, follow_more es any y v r z out p w q ps rest begins e))
+
+-- so whoever follows exits from entry 0 comes to the target
+module _ (es : List EntryOf) (any : Bool) (x y : ℕ) (graph : IsGraph es) (tree : IsTree es) (low : x < length es) (low' : y < length es) where
+  comes_in : (left z out : ℕ) (ps : List ℕ) → 2 * length es ≤ length ps + left → Follows es any y x 0 ps z out → (qs : List ℕ) × (last : ℕ) × Follows es any y x 0 (ps ++ qs) y last
+  comes_in zero z out ps few follows = let short = follow_short es any y x 0 z out ps graph low follows in absurd (omega arith)
+  comes_in (suc left) z out ps few follows = elim (cases_eq z y) [
+    | inl there ↦ ([], out, rw append-nil (subst (λ (n : ℕ). Follows es any y x 0 ps n out) there follows))
+    | inr before ↦ (
+        let exit = follow_exit es any y x z out ps graph tree low low' follows before in
+        let far = way_far es (may_go_up es z out) z y exit.0 exit.1.rest exit.1.way in
+        let size = length-append ps (exit.0 ∷ []) in
+        let rest = comes_in left far.0 far.1 (ps ++ exit.0 ∷ []) (omega arith) (follow_more es any y x 0 z out exit.0 far.0 far.1 ps follows exit.1 far.2) in
+        (exit.0 ∷ rest.0, rest.1, rw append_assoc at rest.2))
+  ]
+
+  pub follow_comes : (z out : ℕ) (ps : List ℕ) → Follows es any y x 0 ps z out → (qs : List ℕ) × (last : ℕ) × Follows es any y x 0 (ps ++ qs) y last
+  follow_comes z out ps follows = comes_in (2 * length es) z out ps (omega arith) follows
+
+  pub follow_done : (z out : ℕ) (ps : List ℕ) → Follows es any y x 0 ps z out → ((p : ℕ) → Begins es any (may_go_up es z out) z y p → ⊥) → z ≡ y
+  follow_done z out ps follows none = elim (cases_eq z y) [
+    | inl there ↦ there
+    | inr before ↦ absurd (let exit = follow_exit es any y x z out ps graph tree low low' follows before in none exit.0 exit.1)
+  ]
+
+-- of shortest ways in as many links as a shortest one has
+pub follow_least : (es : List EntryOf) (x y out : ℕ) (ps : List ℕ) → IsGraph es → IsTree es → x < length es → y < length es → Follows es false y x 0 ps y out → IsShortest es true x y (length ps)
+follow_least es x y out ps graph tree low low' follows =
+    let shortest = shortest_route es x y graph tree low low' in
+    let nearer = follow_nearer es y x 0 y out shortest.0 ps graph follows shortest.1 in
+    let none = nearer.2.least [] (stay es (may_go_up es y out) y) in
+    let same : shortest.0 ≡ length ps = omega arith in
+    subst (λ (n : ℕ). IsShortest es true x y n) same shortest.1
+  where
+    stay : (es : List EntryOf) (up : Bool) (y : ℕ) → LeadsTo es up y [] y
+    stay es true y = legal_none es y
+    stay es false y = down_none es y

@@ -9,3 +9,6 @@ pub mod CycleLaws
 pub mod ShortestLaws
 pub mod TableLaws
 pub mod LengthLaws
+pub mod MadeLists
+pub mod MadeExits
+pub mod MadeTables

@@ -1,15 +1,8 @@
 use Rattle.std.proofs.Common.{ap, zero, suc, List, [], ◌∷◌, ◌++◌, arith, All, AllPairs, map}
 use Rattle.std.specs.Prelude.{Any}
-use Rattle.std.proofs.lemmas.List.Elements.{All-head, All-tail, All-append, All-map, Contains-append_left, Contains-append_right}
+use Rattle.std.proofs.lemmas.List.Elements.{All-head, All-tail, All-append, All-map, Contains-append_right}
 use Rattle.std.proofs.lemmas.List.Kept.{AllPairs-cons}
-
--- the first element with each later one
-pub AllPairs-head : {X : Type 0} (R : X → X → Type 0) (x : X) (xs : List X) → AllPairs R (x ∷ xs) → All (R x) xs
-AllPairs-head R x xs pairs = λ k d low. pairs 0 (suc k) d (omega arith) (omega arith)
-
--- the later elements with one another
-pub AllPairs-tail : {X : Type 0} (R : X → X → Type 0) (x : X) (xs : List X) → AllPairs R (x ∷ xs) → AllPairs R xs
-AllPairs-tail R x xs pairs = λ i j d lt low. pairs (suc i) (suc j) d (omega arith) (omega arith)
+use Rattle.an_base.proofs.ListLemmas.{AllPairs-head, AllPairs-tail}
 
 -- the image of a list
 pub AllPairs-map : {X Y : Type 0} (R : Y → Y → Type 0) (f : X → Y) (xs : List X) → AllPairs (λ a b. R (f a) (f b)) xs → AllPairs R (map f xs)
@@ -23,10 +16,6 @@ AllPairs-append R [] ys front back across = back
 AllPairs-append R (x ∷ xs) ys front back across =
     AllPairs-cons R x (xs ++ ys) (All-append (R x) xs ys (AllPairs-head R x xs front) (All-head (λ z. All (R z) ys) x xs across))
     (AllPairs-append R xs ys (AllPairs-tail R x xs front) back (All-tail (λ z. All (R z) ys) x xs across))
-
--- an element of the first list, or of the second
-pub Any-front : {X : Type 0} (P : X → Type 0) (xs ys : List X) → Any P xs → Any P (xs ++ ys)
-Any-front P xs ys (k, x, low, is, p) = let h = Contains-append_left xs ys x (k, low, is) in (h.0, x, h.1, h.2, p)
 
 pub Any-back : {X : Type 0} (P : X → Type 0) (xs ys : List X) → Any P ys → Any P (xs ++ ys)
 Any-back P xs ys (k, x, low, is, p) = let h = Contains-append_right xs ys x (k, low, is) in (h.0, x, h.1, h.2, p)

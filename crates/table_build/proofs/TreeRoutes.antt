@@ -9,7 +9,7 @@ use Rattle.topo_graph.specs.Topology.{entry_at, life_at, level_at, far_of, IsGra
 use Rattle.topo_graph.proofs.TreeLemmas.{tree_stands}
 use Rattle.updown.specs.Routes.{is_up_end, HasLegal, HasDown}
 use Rattle.updown.proofs.RouteLemmas.{not_both_higher, down_here, down_zero, down_suc, down_on, legal_on, down_legal}
-use Rattle.table_build.proofs.WayLaws.{far_back}
+use Rattle.topo_graph.proofs.FarLemmas.{far_back}
 
 -- a lower level is higher up
 level_up : (a b : ℕ) (o : Ordering) → a < b → is_lt (ordering_then (nat_cmp a b) o) ≡ true

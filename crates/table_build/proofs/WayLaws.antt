@@ -1,23 +1,12 @@
 use Rattle.std.proofs.Common.{◌≡◌, ◌≢◌, ◌∙◌, sym, ap, subst, refl, ℕ, suc, ◌+◌, ◌≤◌, List, [], ◌∷◌, Some, Bool, true, false, arith, length, ◌==◌, inl, inr}
 use Rattle.std.proofs.lemmas.Bool.Decides.{nat_tests}
-use Rattle.std.proofs.lemmas.Option.{same_Some}
 use Rattle.an_base.specs.Values.{EntryOf}
-use Rattle.topo_graph.specs.Topology.{IsLink, end_at, far_of, IsGraph}
-use Rattle.topo_graph.proofs.FarLemmas.{one_place, far_is_link, link_is_far}
+use Rattle.topo_graph.specs.Topology.{far_of, IsGraph}
+use Rattle.topo_graph.proofs.FarLemmas.{one_far, far_back}
 use Rattle.updown.specs.Routes.{is_up_end}
 use Rattle.updown.proofs.RouteLemmas.{legal_first, legal_up, legal_down, down_first, down_more, legal_none, down_none}
 use Rattle.table_build.specs.Exits.{LeadsTo, Begins, may_go_up}
 use Rattle.table_build.specs.Laws.{IsShortest, Follows}
-
--- links lead back
-pub far_back : (es : List EntryOf) (x p z q : ℕ) → IsGraph es → far_of es x p ≡ Some (z, q) → far_of es z q ≡ Some (x, p)
-far_back es x p z q graph e =
-    let l = far_is_link es x p z q graph.rising e in
-    let back : IsLink es (end_at es z q) (end_at es x p) = record { there = l.2.back; back = l.2.there; apart = λ same. l.2.apart (sym same) } in
-    let f = link_is_far es (end_at es z q) (end_at es x p) graph back in
-    let z_is : f.0 ≡ z = one_place es f.0 z graph.rising f.2 l.1 f.4 in
-    let x_is : f.1 ≡ x = one_place es f.1 x graph.rising f.3 l.0 f.5 in
-    subst (λ (n : ℕ). far_of es n q ≡ Some (x, p)) z_is (f.6 ∙ ap (λ (n : ℕ). Some (n, p)) x_is)
 
 not_zero : (q : ℕ) → 1 ≤ q → (q == 0) ≡ false
 not_zero q least = grind (arith, nat_tests)
@@ -28,10 +17,6 @@ entry_up es x p z q graph e =
     let back = far_back es x p z q graph e in
     let within = graph.within z q (x, p) back in
     rw (not_zero q within.port_least, back) refl
-
--- a port leads to one place
-one_far : (es : List EntryOf) (x p z q w r : ℕ) → far_of es x p ≡ Some (z, q) → far_of es x p ≡ Some (w, r) → z ≡ w
-one_far es x p z q w r a b = ap (λ (f : ℕ × ℕ). f.0) (same_Some (z, q) (w, r) (sym a ∙ b))
 
 -- a way goes up only where it may
 abbrev pub May : Bool → Bool → Type 0

@@ -1,4 +1,6 @@
-use Rattle.std.specs.Prelude.{◌≡◌, ◌≢◌, ◌==◌, ◌||◌, ◌+◌, ◌<◌, ◌≤◌, ◌⊎◌, ℕ, List, ◌∷◌, Option, Some, None, Bool, true, false, All, Contains, length, is_some}
+-- Entries, and the ports that begin a way from there.
+use Rattle.std.specs.Prelude.{◌≡◌, ◌≢◌, ◌==◌, ◌||◌, ◌+◌, ◌<◌, ◌≤◌, ◌⊎◌, ℕ, List, ◌∷◌, Option, Some, None}
+use Rattle.std.specs.Prelude.{Bool, true, false, All, Contains, length, is_some}
 use Rattle.std.specs.Option.{option_map_or}
 use Rattle.an_base.specs.Values.{EntryOf}
 use Rattle.an_base.specs.Rows.{ExitsRise}
@@ -42,10 +44,14 @@ is_entry es x entry = (entry == 0) || is_some (far_of es x entry)
 abbrev pub may_go_up : List EntryOf → ℕ → ℕ → Bool
 may_go_up es x entry = (entry == 0) || option_map_or (λ far. is_up_end es x far.0) (far_of es x entry) false
 
--- what may follow a port on the way: behind a link upward any legal route, behind one downward links downward alone; and where the way may not go up, nothing behind a link upward
+-- what may follow a port on the way: behind a link upward any legal route, behind one downward links downward
+-- alone; and where the way may not go up, nothing behind a link upward
 abbrev pub Behind : List EntryOf → Bool → ℕ → ℕ → ℕ → ℕ → Type 0
-Behind es true x to p n = (z q : ℕ) × (far_of es x p ≡ Some (z, q)) × (((is_up_end es z x ≡ true) × HasLegal es z to n) ⊎ ((is_up_end es z x ≡ false) × HasDown es z to n))
-Behind es false x to p n = (z q : ℕ) × (far_of es x p ≡ Some (z, q)) × (is_up_end es z x ≡ false) × HasDown es z to n
+Behind es true x to p n =
+    (z q : ℕ) × (far_of es x p ≡ Some (z, q))
+    × (((is_up_end es z x ≡ true) × HasLegal es z to n) ⊎ ((is_up_end es z x ≡ false) × HasDown es z to n))
+Behind es false x to p n =
+    (z q : ℕ) × (far_of es x p ≡ Some (z, q)) × (is_up_end es z x ≡ false) × HasDown es z to n
 
 -- whether a port is an exit, from what is left behind it and from the least of the whole way
 abbrev pub is_next : Option ℕ → ℕ → Bool

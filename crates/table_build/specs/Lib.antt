@@ -2,3 +2,4 @@ pub mod Exits
 pub mod Routing
 pub mod Tables
 pub mod Laws
+pub mod Made

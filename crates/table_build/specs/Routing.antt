@@ -1,3 +1,4 @@
+-- What the tables of all members share.
 use Rattle.std.specs.Prelude.{◌≡◌, ℕ, ◌<◌, List, [], length, Option, Some, None, slice_index, slice_index_or}
 use Rattle.an_base.specs.Values.{EntryOf}
 use Rattle.updown.specs.Lengths.{LengthsOf, AreLengths}
@@ -16,7 +17,8 @@ pub record ArePlaces (numbers : List ℕ) (end : ℕ) (places : List (Option ℕ
 abbrev pub lengths_at : List LengthsOf → ℕ → LengthsOf
 lengths_at lengths y = slice_index_or lengths y (record { up = []; down = [] })
 
--- what the tables of all members share: the place of each number, and for each place the lengths of the routes to it
+-- what the tables of all members share: the place of each number, and for each place the lengths of the
+-- routes to it
 pub record RoutingOf : Type 0 where
   pub places : List (Option ℕ)
   pub lengths : List LengthsOf

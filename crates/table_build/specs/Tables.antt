@@ -1,4 +1,6 @@
-use Rattle.std.specs.Prelude.{◌≡◌, ◌≢◌, ◌==◌, ◌&&◌, ◌⊎◌, ℕ, ◌<◌, List, [], length, Bool, true, false, Some, All, AllPairs, Any, find, slice_index, if◌then◌else◌}
+-- Routing tables: rows, and the table of a member.
+use Rattle.std.specs.Prelude.{◌≡◌, ◌≢◌, ◌==◌, ◌&&◌, ◌⊎◌, ℕ, ◌<◌, List, [], length, Bool, true, false, Some}
+use Rattle.std.specs.Prelude.{All, AllPairs, Any, find, slice_index, if◌then◌else◌}
 use Rattle.std.specs.Option.{option_map_or}
 use Rattle.an_base.specs.Values.{LifeId, EntryOf}
 use Rattle.an_base.specs.Rows.{RowOf}
@@ -25,11 +27,14 @@ pub record IsRow (es : List EntryOf) (numbers : List ℕ) (any : Bool) (x : ℕ)
 abbrev pub IsBefore : RowOf → RowOf → Type 0
 IsBefore a b = (a.entry < b.entry) ⊎ ((a.entry ≡ b.entry) × (a.to < b.to))
 
--- the table of the member at x: one row for each entry and each number of another member, by rising entry and then by rising number
+-- the table of the member at x: one row for each entry and each number of another member, by rising entry and
+-- then by rising number
 pub record IsTable (es : List EntryOf) (numbers : List ℕ) (any : Bool) (x : ℕ) (t : TableOf) : Type 0 where
   pub number : t.number ≡ slice_index numbers x
   pub each : All (IsRow es numbers any x) t.rows
-  pub whole : (entry y : ℕ) → IsEntry es x entry → y < length es → y ≢ x → Any (λ r. (r.entry ≡ entry) × (r.to ≡ slice_index numbers y)) t.rows
+  pub whole :
+      (entry y : ℕ) → IsEntry es x entry → y < length es → y ≢ x
+      → Any (λ r. (r.entry ≡ entry) × (r.to ≡ slice_index numbers y)) t.rows
   pub rising : AllPairs IsBefore t.rows
 
 -- the table of a life of the graph
@@ -38,7 +43,8 @@ IsTableOf es numbers any me t = (x : ℕ) × (place_of es me ≡ Some x) × IsTa
 
 -- the exits of a table at an entry for a number, none where it has no such row
 abbrev pub exits_of : TableOf → ℕ → ℕ → List ℕ
-exits_of t entry number = option_map_or (λ r. r.exits) (find (λ r. (r.entry == entry) && (r.to == number)) t.rows) []
+exits_of t entry number =
+    option_map_or (λ r. r.exits) (find (λ r. (r.entry == entry) && (r.to == number)) t.rows) []
 
 -- the exits towards another member
 pub record IsWay (es : List EntryOf) (numbers : List ℕ) (any : Bool) (x : ℕ) (w : Way) : Type 0 where
@@ -49,7 +55,8 @@ pub record IsWay (es : List EntryOf) (numbers : List ℕ) (any : Bool) (x : ℕ)
   pub down : AreExits es any false x w.place w.down
 
 -- those towards the members with numbers below end
-pub record AreWays (es : List EntryOf) (numbers : List ℕ) (any : Bool) (x end : ℕ) (ways : List Way) : Type 0 where
+pub record AreWays (es : List EntryOf) (numbers : List ℕ) (any : Bool) (x end : ℕ) (ways : List Way)
+    : Type 0 where
   pub each : All (IsWay es numbers any x) ways
   pub below : All (λ w. w.number < end) ways
   pub whole : (y : ℕ) → y < length es → y ≢ x → slice_index numbers y < end → Any (λ w. w.place ≡ y) ways
@@ -60,8 +67,11 @@ abbrev pub row_of : ℕ → ℕ → Bool → Way → RowOf
 row_of at entry up w = record { at = at; entry = entry; to = w.number; exits = if up then w.up else w.down }
 
 -- the rows of the entries below end
-pub record AreRowsBelow (es : List EntryOf) (numbers : List ℕ) (any : Bool) (x end : ℕ) (rows : List RowOf) : Type 0 where
+pub record AreRowsBelow (es : List EntryOf) (numbers : List ℕ) (any : Bool) (x end : ℕ) (rows : List RowOf)
+    : Type 0 where
   pub each : All (IsRow es numbers any x) rows
   pub below : All (λ r. r.entry < end) rows
-  pub whole : (entry y : ℕ) → entry < end → IsEntry es x entry → y < length es → y ≢ x → Any (λ r. (r.entry ≡ entry) × (r.to ≡ slice_index numbers y)) rows
+  pub whole :
+      (entry y : ℕ) → entry < end → IsEntry es x entry → y < length es → y ≢ x
+      → Any (λ r. (r.entry ≡ entry) × (r.to ≡ slice_index numbers y)) rows
   pub rising : AllPairs IsBefore rows

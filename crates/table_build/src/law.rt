@@ -1,11 +1,13 @@
-ghost use Rattle.std.specs.Prelude.{◌≡◌, ◌≢◌, ◌+◌, ◌-◌, ◌*◌, ◌<◌, ◌≤◌, ℕ, suc, List, [], Bool, true, false, Some, length, slice_index};
-ghost use Rattle.an_base.specs.Values.{EntryOf};
+ghost use Rattle.std.specs.Prelude.{◌≡◌, ◌≢◌, ◌+◌, ◌-◌, ◌*◌, ◌<◌, ◌≤◌, ◌++◌, ℕ, suc, List, [], Bool, true};
+ghost use Rattle.std.specs.Prelude.{false, Some, Any, length, slice_index};
+ghost use Rattle.an_base.specs.Values.{EntryOf, LifeId, TopoOf};
 ghost use Rattle.an_base.specs.Numbers.{AreNumbers};
 ghost use Rattle.topo_graph.specs.Topology.{far_of, IsGraph, IsTree};
-ghost use Rattle.updown.specs.Routes.{HasLegal};
+ghost use Rattle.updown.specs.Routes.{HasLegal, LegalRoute};
 ghost use Rattle.table_build.specs.Exits.{AreExits, Begins, IsEntry, LeadsTo, may_go_up};
 ghost use Rattle.table_build.specs.Laws.{ChannelWalk, Follows, IsShortest};
-ghost use Rattle.table_build.specs.Tables.{exits_of, IsTable, TableOf};
+ghost use Rattle.table_build.specs.Tables.{exits_of, IsTable, IsTableOf, TableOf};
+ghost use Rattle.table_build.specs.Made.{table_of};
 
 /// Where the positions are the tree of the links, a legal route joins every two members.
 pub fn members_are_joined()
@@ -59,6 +61,23 @@ pub fn following_goes_on()
         → (p : ℕ) × Begins es any (may_go_up es z out) z y p }
 {}
 
+/// So what follows exits from entry 0 of a member towards another one reaches it. Wherever it is, it
+/// goes on to there, and where it has no exit it has come to it; it goes along a legal route, over at
+/// most 2 (n - 1) links, and where exits begin shortest routes over as many as a shortest one has.
+pub fn following_reaches()
+    ensures reached { (es : List EntryOf) (any : Bool) (y x z out : ℕ) (ps : List ℕ) → IsGraph es → IsTree es
+        → x < length es → y < length es → Follows es any y x 0 ps z out
+        → (qs : List ℕ) × (last : ℕ) × Follows es any y x 0 (ps ++ qs) y last }
+    ensures ended { (es : List EntryOf) (any : Bool) (y x z out : ℕ) (ps : List ℕ) → IsGraph es → IsTree es
+        → x < length es → y < length es → Follows es any y x 0 ps z out
+        → ((p : ℕ) → ¬ Begins es any (may_go_up es z out) z y p) → z ≡ y }
+    ensures legal { (es : List EntryOf) (any : Bool) (y x out : ℕ) (ps : List ℕ) → IsGraph es → x < length es
+        → Follows es any y x 0 ps y out → LegalRoute es x ps y × (length ps ≤ 2 * (length es - 1)) }
+    ensures shortest { (es : List EntryOf) (y x out : ℕ) (ps : List ℕ) → IsGraph es → IsTree es
+        → x < length es → y < length es → Follows es false y x 0 ps y out
+        → IsShortest es true x y (length ps) }
+{}
+
 /// No channel leads back to itself, over whatever members and numbers, whether packets take any
 /// legal route or shortest ones alone.
 pub fn no_channel_cycle()
@@ -77,7 +96,8 @@ pub fn members_have_exits()
 
 /// A table has the ports that begin a way, at each entry for the number of each other member.
 pub fn exits_begin_ways()
-    ensures { (es : List EntryOf) (numbers : List ℕ) (any : Bool) (x entry y : ℕ) (t : TableOf) → AreNumbers numbers
+    ensures { (es : List EntryOf) (numbers : List ℕ) (any : Bool) (x entry y : ℕ) (t : TableOf)
+        → AreNumbers numbers
         → length numbers ≡ length es → IsTable es numbers any x t → IsEntry es x entry → y < length es → y ≢ x
         → AreExits es any (may_go_up es x entry) x y (exits_of t entry (slice_index numbers y)) }
 {}
@@ -89,4 +109,17 @@ pub fn other_exits_are_none()
     ensures number { (es : List EntryOf) (numbers : List ℕ) (any : Bool) (x entry n : ℕ) (t : TableOf)
         → IsTable es numbers any x t
         → ((y : ℕ) → y < length es → y ≢ x → n ≢ slice_index numbers y) → exits_of t entry n ≡ [] }
+{}
+
+/// What is made of a topology for one of its members, by rule, is the routing table of that member, and
+/// there is no other. There is one number for each entry of the topology.
+pub fn what_is_made_is_the_table()
+    ensures made { (topo : TopoOf) (any : Bool) (life : LifeId) → IsGraph topo.entries
+        → AreNumbers topo.numbers
+        → length topo.numbers ≡ length topo.entries → Any (λ e. e.life ≡ life) topo.entries
+        → IsTableOf topo.entries topo.numbers any life (table_of topo any life) }
+    ensures only { (topo : TopoOf) (any : Bool) (life : LifeId) (table : TableOf) → IsGraph topo.entries
+        → AreNumbers topo.numbers
+        → length topo.numbers ≡ length topo.entries → IsTableOf topo.entries topo.numbers any life table
+        → table ≡ table_of topo any life }
 {}

@@ -10,7 +10,8 @@ use Rattle.std.proofs.lemmas.List.Elements.{Contains-get_or}
 use Rattle.an_base.specs.Values.{LifeId, EndId, PeerAt, EntryOf}
 use Rattle.an_base.specs.Order.{life_cmp, LivesRise, PortsRise}
 use Rattle.topo_graph.specs.Topology.{Names, IsLink, nothing, entry_at, life_at, end_at, place_of, is_to, names_at, joined_at, joined, link_at, far_of, IsGraph}
-use Rattle.topo_graph.proofs.PlaceLemmas.{place_found, place_is, same_life, life_passes}
+use Rattle.an_base.proofs.LifeLemmas.{same_life, life_passes}
+use Rattle.topo_graph.proofs.PlaceLemmas.{place_found, place_is}
 use Rattle.topo_graph.proofs.RowLemmas.{far_past}
 
 -- entries of one life are one
@@ -156,3 +157,17 @@ link_is_far es a b graph link =
   where
     end_of : LifeId → ℕ → EndId
     end_of f p = record { life = f; port = p }
+
+-- a port leads to one place
+pub one_far : (es : List EntryOf) (x p z q w r : ℕ) → far_of es x p ≡ Some (z, q) → far_of es x p ≡ Some (w, r) → z ≡ w
+one_far es x p z q w r a b = ap (λ (f : ℕ × ℕ). f.0) (same_Some (z, q) (w, r) (sym a ∙ b))
+
+-- and the far end leads back
+pub far_back : (es : List EntryOf) (x p z q : ℕ) → IsGraph es → far_of es x p ≡ Some (z, q) → far_of es z q ≡ Some (x, p)
+far_back es x p z q graph e =
+    let l = far_is_link es x p z q graph.rising e in
+    let back : IsLink es (end_at es z q) (end_at es x p) = record { there = l.2.back; back = l.2.there; apart = λ same. l.2.apart (sym same) } in
+    let f = link_is_far es (end_at es z q) (end_at es x p) graph back in
+    let z_is : f.0 ≡ z = one_place es f.0 z graph.rising f.2 l.1 f.4 in
+    let x_is : f.1 ≡ x = one_place es f.1 x graph.rising f.3 l.0 f.5 in
+    subst (λ (n : ℕ). far_of es n q ≡ Some (x, p)) z_is (f.6 ∙ ap (λ (n : ℕ). Some (n, p)) x_is)

@@ -11,6 +11,8 @@ use Rattle.std.proofs.lemmas.List.Sorted.{searchable_from_sorted}
 use Rattle.an_base.specs.Values.{LifeId, EntryOf}
 use Rattle.an_base.specs.Order.{life_cmp, LivesRise}
 use Rattle.an_base.proofs.OrderLaws.{life_total, life_apart}
+use Rattle.an_base.proofs.OrderingLemmas.{less_is}
+use Rattle.an_base.proofs.LifeLemmas.{same_life, life_passes}
 use Rattle.topo_graph.specs.Topology.{nothing, entry_at, life_at, place_of}
 use Rattle.std.specs.Prelude.{Any, IsSome, ◌↔◌, Option}
 use Rattle.std.proofs.lemmas.List.{get_or_default}
@@ -25,31 +27,11 @@ own_reverse Greater e = absurd (cc)
 pub life_same : (a : LifeId) → life_cmp a a ≡ Equal
 life_same a = own_reverse (life_cmp a a) (life_total.antisymm a a)
 
--- what the test of equality says
-equal_is : (o : Ordering) → is_eq o ≡ true → o ≡ Equal
-equal_is Less e = absurd (cc)
-equal_is Equal e = refl
-equal_is Greater e = absurd (cc)
-
 -- what is less is not equal
 less_not_equal : (o : Ordering) → is_lt o ≡ true → is_eq o ≡ false
 less_not_equal Less e = refl
 less_not_equal Equal e = absurd (cc)
 less_not_equal Greater e = refl
-
--- nor is its reverse less
-less_is : (o : Ordering) → is_lt o ≡ true → o ≡ Less
-less_is Less e = refl
-less_is Equal e = absurd (cc)
-less_is Greater e = absurd (cc)
-
--- lives that pass the test are one
-pub same_life : (a b : LifeId) → is_eq (life_cmp a b) ≡ true → a ≡ b
-same_life a b e = life_apart a b (equal_is (life_cmp a b) e)
-
--- and a life passes it
-pub life_passes : (a b : LifeId) → a ≡ b → is_eq (life_cmp a b) ≡ true
-life_passes a b e = rw e (ap is_eq (life_same b))
 
 -- lives rise along the entries
 pub rises : (es : List EntryOf) (x y : ℕ) → LivesRise es → x < y → y < length es → life_cmp (life_at es x) (life_at es y) ≡ Less

@@ -1,10 +1,15 @@
+-- Whether an entry stands where its neighbours put it. Only private functions cite this.
 use Rattle.std.specs.Prelude.{◌≡◌, ◌≢◌, ℕ, ◌+◌, ◌≤◌, List, Some}
 use Rattle.an_base.specs.Values.{EntryOf, Place}
 use Rattle.topo_graph.specs.Topology.{life_at, level_at, far_of}
 
--- What the port leads to is at most one level nearer than x, and where it is, it is not before the parent y, nor is it y by a lesser port.
+-- What the port leads to is at most one level nearer than x, and where it is, it is not before the parent y,
+-- nor is it y by a lesser port.
 abbrev pub IsAfter : List EntryOf → ℕ → ℕ → Place → ℕ → Type 0
-IsAfter es x y place o = (z q : ℕ) → far_of es x o ≡ Some (z, q) → (place.level ≤ level_at es z + 1) × (level_at es z + 1 ≡ place.level → (y ≤ z) × (y ≡ z → place.port ≤ o))
+IsAfter es x y place o =
+    (z q : ℕ) → far_of es x o ≡ Some (z, q)
+    → (place.level ≤ level_at es z + 1)
+    × (level_at es z + 1 ≡ place.level → (y ≤ z) × (y ≡ z → place.port ≤ o))
 
 -- the parent y is at the port, one level nearer
 pub record IsParent (es : List EntryOf) (x y : ℕ) (place : Place) : Type 0 where

@@ -1,3 +1,4 @@
+-- The far sides of all ports, as a graph keeps them. Only private functions cite this.
 use Rattle.std.specs.Prelude.{◌≡◌, ℕ, ◌<◌, List, Option, Some, None, [], length, slice_index_or}
 use Rattle.std.specs.Option.{option_and_then}
 use Rattle.an_base.specs.Values.{EntryOf, PeerAt}
@@ -15,11 +16,13 @@ cell_at rows x p = cell_of (slice_index_or rows x (record { cells = [] })) p
 
 -- the row has the first links of the entry at x
 abbrev pub HasLinks : List EntryOf → ℕ → List PeerAt → List (Option (ℕ × ℕ)) → Type 0
-HasLinks es x links cells = (p : ℕ) → slice_index_or cells p None ≡ option_and_then (joined es x) (link_at links p)
+HasLinks es x links cells =
+    (p : ℕ) → slice_index_or cells p None ≡ option_and_then (joined es x) (link_at links p)
 
 -- each link of the graph is within it
 abbrev pub LinksAreWithin : List EntryOf → ℕ → List (Option (ℕ × ℕ)) → Type 0
-LinksAreWithin es x cells = (p : ℕ) (far : ℕ × ℕ) → slice_index_or cells p None ≡ Some far → AreWithin es x p far
+LinksAreWithin es x cells =
+    (p : ℕ) (far : ℕ × ℕ) → slice_index_or cells p None ≡ Some far → AreWithin es x p far
 
 -- the table has the first entries
 pub record AreRows (es : List EntryOf) (rows : List PortRow) (end : ℕ) : Type 0 where

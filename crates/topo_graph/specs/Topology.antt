@@ -1,4 +1,6 @@
-use Rattle.std.specs.Prelude.{◌≡◌, ◌≢◌, ◌==◌, ◌&&◌, ℕ, ◌<◌, ◌≤◌, List, [], length, Option, Some, None, Bool, not, find, position, slice_index_or, Contains, if◌then◌else◌}
+-- The links of entries that name each other, and the tree of them.
+use Rattle.std.specs.Prelude.{◌≡◌, ◌≢◌, ◌==◌, ◌&&◌, ℕ, ◌<◌, ◌≤◌, List, [], length, Option, Some, None, Bool}
+use Rattle.std.specs.Prelude.{not, find, position, slice_index_or, Contains, if◌then◌else◌}
 use Rattle.std.specs.List.{list_any}
 use Rattle.std.specs.Option.{option_and_then}
 use Rattle.std.specs.Ordering.{is_eq}
@@ -8,7 +10,8 @@ use Rattle.an_base.specs.Tree.{Network, IsPlace}
 
 -- an entry of the life at the first end names the second end at the port of the first
 abbrev pub Names : List EntryOf → EndId → EndId → Type 0
-Names es a b = (e : EntryOf) × Contains es e × (e.life ≡ a.life) × Contains e.links (record { port = a.port; peer = b })
+Names es a b =
+    (e : EntryOf) × Contains es e × (e.life ≡ a.life) × Contains e.links (record { port = a.port; peer = b })
 
 -- a link of a topology: each of its ends names the other, and they are of two lives
 pub record IsLink (es : List EntryOf) (a b : EndId) : Type 0 where
@@ -18,7 +21,17 @@ pub record IsLink (es : List EntryOf) (a b : EndId) : Type 0 where
 
 -- no entry
 abbrev pub nothing : EntryOf
-nothing = record { life = record { uid = 0; boot = 0 }; position = record { root = record { uid = 0; boot = 0 }; level = 0; parent = record { uid = 0; boot = 0 }; port = 0 }; proposed = 0; links = [] }
+nothing = record {
+  life = record { uid = 0; boot = 0 };
+  position = record {
+    root = record { uid = 0; boot = 0 };
+    level = 0;
+    parent = record { uid = 0; boot = 0 };
+    port = 0;
+  };
+  proposed = 0;
+  links = [];
+}
 
 -- the entry at a place
 abbrev pub entry_at : List EntryOf → ℕ → EntryOf
@@ -47,9 +60,11 @@ is_to p e l = (l.port == p) && (is_eq (life_cmp l.peer.life e.life) && (l.peer.p
 abbrev pub names_at : List EntryOf → ℕ → ℕ → EndId → Bool
 names_at es x p e = list_any (is_to p e) (entry_at es x).links
 
--- the far place and port of a link that the entry at x names, where the far entry names it too, and is another
+-- the far place and port of a link that the entry at x names, where the far entry names it too, and is
+-- another
 abbrev pub joined_at : List EntryOf → ℕ → PeerAt → ℕ → Option (ℕ × ℕ)
-joined_at es x l y = if not (y == x) && names_at es y l.peer.port (end_at es x l.port) then Some (y, l.peer.port) else None
+joined_at es x l y =
+    if not (y == x) && names_at es y l.peer.port (end_at es x l.port) then Some (y, l.peer.port) else None
 
 abbrev pub joined : List EntryOf → ℕ → PeerAt → Option (ℕ × ℕ)
 joined es x l = option_and_then (joined_at es x l) (place_of es l.peer.life)

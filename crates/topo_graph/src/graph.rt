@@ -1,7 +1,9 @@
-ghost use Rattle.std.specs.Prelude.{◌≡◌, ◌↔◌, ◌<◌, ◌≤◌, length, ℕ, Any, IsTrue, IsSome, IfOk, IfSome, MatchOption};
+ghost use Rattle.std.specs.Prelude.{◌≡◌, ◌↔◌, ◌<◌, ◌≤◌, length, ℕ, Any, IsTrue, IsSome, IfOk, IfSome};
+ghost use Rattle.std.specs.Prelude.{MatchOption};
 ghost use Rattle.an_base.specs.Values.{EndId};
 ghost use Rattle.an_base.specs.Order.{LivesRise, PortsRise};
-ghost use Rattle.topo_graph.specs.Topology.{AreWithin, entry_at, far_of, is_to, IsLink, joined, level_at, life_at, place_of};
+ghost use Rattle.topo_graph.specs.Topology.{AreWithin, entry_at, far_of, is_to, IsLink, joined, level_at};
+ghost use Rattle.topo_graph.specs.Topology.{life_at, place_of};
 ghost use Rattle.topo_graph.specs.Table.{AreRows, cell_at, HasLinks, LinksAreWithin};
 ghost use Rattle.std.specs.List.{list_any};
 

@@ -4,8 +4,10 @@ use Rattle.std.specs.Ordering.{is_lt}
 use Rattle.an_base.specs.Values.{EntryOf}
 use Rattle.an_base.specs.Order.{life_cmp, IsBelow, LivesRise}
 use Rattle.an_base.proofs.OrderLaws.{life_apart}
-use Rattle.topo_report.specs.Report.{lesser_entry, put_by, put, least_entries, IsAtMost, TakesFirst}
-use Rattle.topo_report.proofs.LifeLaws.{below_from_greater, below_trans, at_most_trans, at_most_both}
+use Rattle.topo_report.specs.Report.{lesser_entry, put_by, put, least_entries, IsAtMost}
+use Rattle.topo_report.specs.Inside.{TakesFirst}
+use Rattle.an_base.proofs.LifeLemmas.{below_from_greater, below_trans}
+use Rattle.topo_report.proofs.LifeLaws.{at_most_trans, at_most_both}
 use Rattle.topo_report.proofs.Members.{In, Under, Rises, in_append, in_left, in_right, rises_from, lives_rise_from, rising_apart, same_members}
 use Rattle.topo_report.proofs.PutLemmas.{put_in, Has, put_has_new, put_has, put_rises, put_first}
 

@@ -3,7 +3,7 @@ use Rattle.std.proofs.lemmas.List.Elements.{Contains-get_or}
 use Rattle.std.proofs.lemmas.List.Kept.{AllPairs-cons}
 use Rattle.an_base.specs.Values.{EntryOf}
 use Rattle.an_base.specs.Order.{IsBelow, LivesRise}
-use Rattle.topo_report.proofs.LifeLaws.{below_same, below_both}
+use Rattle.an_base.proofs.LifeLemmas.{below_same, below_both}
 
 -- x is in a list, by recursion on the list
 abbrev pub In : {A : Type 0} → A → List A → Type 0

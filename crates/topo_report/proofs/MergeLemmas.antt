@@ -1,7 +1,8 @@
 use Rattle.std.proofs.Common.{◌≡◌, ◌∙◌, sym, ap, ℕ, zero, suc, ◌-◌, ◌<◌, ◌≤◌, List, [], ◌∷◌, ◌++◌, refl, true, false, append_assoc, append-nil, arith}
 use Rattle.an_base.specs.Values.{LifeId, EntryOf}
 use Rattle.an_base.specs.Order.{LivesRise}
-use Rattle.topo_report.specs.Report.{least_entries, is_of, kept, report_of, TakesFirst}
+use Rattle.topo_report.specs.Report.{least_entries, is_of, kept, report_of}
+use Rattle.topo_report.specs.Inside.{TakesFirst}
 use Rattle.topo_report.proofs.KeptLemmas.{kept-me, kept-other, kept-none}
 
 -- What was kept, and of what is left the own life and so many others, make up the report.

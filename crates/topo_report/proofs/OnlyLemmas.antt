@@ -1,7 +1,8 @@
 use Rattle.std.proofs.Common.{◌≡◌, ◌∙◌, sym, ap, refl, subst, ℕ, zero, suc, ◌≤◌, Bool, true, false, List, [], ◌∷◌, length, ◌⊎◌, inl, inr, arith}
 use Rattle.an_base.specs.Values.{LifeId, EntryOf}
 use Rattle.topo_report.specs.Report.{is_of, kept, others}
-use Rattle.topo_report.proofs.LifeLaws.{below_same, below_both, is_of-life}
+use Rattle.an_base.proofs.LifeLemmas.{below_same, below_both}
+use Rattle.topo_report.proofs.LifeLaws.{is_of-life}
 use Rattle.topo_report.proofs.Members.{In, Under, Rises}
 use Rattle.topo_report.proofs.KeptLemmas.{kept-me, kept-other, kept-none}
 use Rattle.topo_report.proofs.OtherLemmas.{others-me, others-other, others_in, others_have, CutAt, own_cut, other_cut, none_in}

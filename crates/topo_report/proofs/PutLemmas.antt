@@ -5,7 +5,8 @@ use Rattle.an_base.specs.Values.{EntryOf}
 use Rattle.an_base.specs.Order.{life_cmp, IsBelow}
 use Rattle.an_base.proofs.OrderLaws.{life_apart}
 use Rattle.topo_report.specs.Report.{lesser_entry, put_by, put, IsAtMost}
-use Rattle.topo_report.proofs.LifeLaws.{below_cmp, below_from_greater, below_trans, at_most_itself, lesser_is, lesser_entry-life}
+use Rattle.an_base.proofs.LifeLemmas.{below_cmp, below_from_greater, below_trans}
+use Rattle.topo_report.proofs.LifeLaws.{at_most_itself, lesser_is, lesser_entry-life}
 use Rattle.topo_report.proofs.Members.{In, Under, Rises}
 
 put_by_in : (x e f : EntryOf) (fs more : List EntryOf) (o : Ordering) → (In x more → (x ≡ e) ⊎ In x fs) → In x (put_by o e f fs more) → (x ≡ e) ⊎ In x (f ∷ fs)

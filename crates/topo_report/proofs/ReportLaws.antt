@@ -3,7 +3,8 @@ use Rattle.std.proofs.lemmas.List.Elements.{Contains-get_or, All-contains}
 use Rattle.an_base.specs.Values.{LifeId, EntryOf}
 use Rattle.an_base.specs.Order.{IsBelow}
 use Rattle.topo_report.specs.Report.{least_entries, is_of, kept, report_of, others, IsAtMost, Covers, IsCut, IsReport, AreLives}
-use Rattle.topo_report.proofs.LifeLaws.{below_same, is_of-life, at_most_both}
+use Rattle.an_base.proofs.LifeLemmas.{below_same}
+use Rattle.topo_report.proofs.LifeLaws.{is_of-life, at_most_both}
 use Rattle.topo_report.proofs.Members.{In, Rises, in_from, contains_from, in_swapped, rises_from, lives_rise_from, rising_apart}
 use Rattle.topo_report.proofs.PutLemmas.{Has}
 use Rattle.topo_report.proofs.LeastLemmas.{least_entries_in, least_entries_rise, least_entries_have, least_entries_same}

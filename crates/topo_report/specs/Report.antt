@@ -1,9 +1,13 @@
-use Rattle.std.specs.Prelude.{◌≡◌, ◌≢◌, ℕ, zero, suc, ◌+◌, ◌<◌, ◌≤◌, ◌⊎◌, List, [], ◌∷◌, ◌++◌, Bool, not, if◌then◌else◌, filter, length, All, Contains, IsTrue}
+-- The report of entries for a life: the least entry of each life that occurs, and what is cut of too many.
+use Rattle.std.specs.Prelude.{◌≡◌, ◌≢◌, ℕ, zero, suc, ◌≤◌, ◌⊎◌, List, [], ◌∷◌, Bool, not, if◌then◌else◌}
+use Rattle.std.specs.Prelude.{filter, length, All, Contains, IsTrue}
 use Rattle.std.specs.declared.cmp.Ordering.{Ordering}
 use Rattle.std.specs.declared.cmp.Ordering.TheVariants.{Less, Equal, Greater}
 use Rattle.std.specs.Ordering.{is_lt, is_le, is_eq}
 use Rattle.an_base.specs.Values.{LifeId, EntryOf}
 use Rattle.an_base.specs.Order.{life_cmp, entry_cmp, IsBelow, LivesRise}
+use Rattle.an_base.specs.declared.limits.TheConstants.{MOST_SWITCHES}
+use Rattle.topo_report.specs.declared.report.TheConstants.{MOST_OTHERS}
 
 -- a life, and a report that is made for it: entries by rising life
 pub record ReportOf : Type 0 where
@@ -12,82 +16,83 @@ pub record ReportOf : Type 0 where
 
 -- the lesser of two entries of one life
 abbrev pub lesser_entry : EntryOf → EntryOf → EntryOf
-lesser_entry e f = if is_lt (entry_cmp f e) then f else e
+lesser_entry one other = if is_lt (entry_cmp other one) then other else one
+
+-- an entry before the first of others, with it or behind it, as its life compares
+abbrev pub put_by : Ordering → EntryOf → EntryOf → List EntryOf → List EntryOf → List EntryOf
+put_by Less entry first others behind = entry ∷ first ∷ others
+put_by Equal entry first others behind = lesser_entry entry first ∷ others
+put_by Greater entry first others behind = first ∷ behind
 
 -- one more entry among entries by rising life: of its life the lesser stays
-abbrev pub put_by : Ordering → EntryOf → EntryOf → List EntryOf → List EntryOf → List EntryOf
-put_by Less e f fs more = e ∷ f ∷ fs
-put_by Equal e f fs more = lesser_entry e f ∷ fs
-put_by Greater e f fs more = f ∷ more
-
 abbrev pub put : EntryOf → List EntryOf → List EntryOf
-put e [] = e ∷ []
-put e (f ∷ fs) = put_by (life_cmp e.life f.life) e f fs (put e fs)
+put entry [] = entry ∷ []
+put entry (first ∷ others) = put_by (life_cmp entry.life first.life) entry first others (put entry others)
 
 -- for each life that occurs, the least of its entries, by rising life
 abbrev pub least_entries : List EntryOf → List EntryOf
 least_entries [] = []
-least_entries (e ∷ es) = put e (least_entries es)
+least_entries (first ∷ others) = put first (least_entries others)
 
--- the entry of this life, and the first so many of the others
+-- whether an entry is of this life
 abbrev pub is_of : LifeId → EntryOf → Bool
-is_of me e = is_eq (life_cmp e.life me)
+is_of me entry = is_eq (life_cmp entry.life me)
 
+-- the entries of this life, and the first so many of the others
 abbrev pub kept : LifeId → ℕ → List EntryOf → List EntryOf
-kept me n [] = []
-kept me zero (e ∷ es) = if is_of me e then e ∷ kept me zero es else kept me zero es
-kept me (suc n) (e ∷ es) = if is_of me e then e ∷ kept me (suc n) es else e ∷ kept me n es
+kept me room [] = []
+kept me zero (first ∷ rest) = if is_of me first then first ∷ kept me zero rest else kept me zero rest
+kept me (suc room) (first ∷ rest) =
+    if is_of me first then first ∷ kept me (suc room) rest else first ∷ kept me room rest
 
--- the least entry of each life; of more than 126 lives, the life itself and the 125 least others
+-- the least entry of each life; of too many lives, the life itself and the least others
 unfoldable pub report_of : LifeId → List EntryOf → List EntryOf
-report_of me entries = kept me 125 (least_entries entries)
+report_of me entries = kept me MOST_OTHERS (least_entries entries)
 
 -- the entries of the other lives
 abbrev pub others : LifeId → List EntryOf → List EntryOf
-others me entries = filter (λ e. not (is_of me e)) entries
+others me entries = filter (λ entry. not (is_of me entry)) entries
 
--- e is at most f
+-- the first is at most the second
 abbrev pub IsAtMost : EntryOf → EntryOf → Type 0
-IsAtMost e f = IsTrue (is_le (entry_cmp e f))
+IsAtMost one other = IsTrue (is_le (entry_cmp one other))
 
--- the report has an entry of f's life that is at most f
-pub record Covers (report : List EntryOf) (f : EntryOf) : Type 0 where
+-- the report has an entry of the same life that is at most this one
+pub record Covers (report : List EntryOf) (heard : EntryOf) : Type 0 where
   pub entry : EntryOf
   pub kept : Contains report entry
-  pub life : entry.life ≡ f.life
-  pub least : IsAtMost entry f
+  pub life : entry.life ≡ heard.life
+  pub least : IsAtMost entry heard
 
--- a life has no place in the report: it is another, and there are 125 others, each of them a lesser life
+-- a life has no place in the report: it is another, and the report is full of others, each a lesser life
 pub record IsCut (me : LifeId) (report : List EntryOf) (life : LifeId) : Type 0 where
   pub other : life ≢ me
-  pub full : length (others me report) ≡ 125
-  pub above : All (λ e. IsBelow e.life life) (others me report)
+  pub full : length (others me report) ≡ MOST_OTHERS
+  pub above : All (λ entry. IsBelow entry.life life) (others me report)
 
 -- what the report of entries is for a life
 pub record IsReport (me : LifeId) (entries report : List EntryOf) : Type 0 where
   -- its lives rise
   pub rising : LivesRise report
-  -- it keeps at most 125 others
-  pub most : length (others me report) ≤ 125
+  -- it keeps no more others than it may
+  pub most : length (others me report) ≤ MOST_OTHERS
   -- each of its entries is one of the entries
-  pub taken : (e : EntryOf) → Contains report e → Contains entries e
+  pub taken : (entry : EntryOf) → Contains report entry → Contains entries entry
   -- and is the least of its life
-  pub least : (e f : EntryOf) → Contains report e → Contains entries f → e.life ≡ f.life → IsAtMost e f
+  pub least :
+      (entry heard : EntryOf) → Contains report entry → Contains entries heard
+      → entry.life ≡ heard.life → IsAtMost entry heard
   -- each life of the entries is in it or has no place
-  pub whole : (f : EntryOf) → Contains entries f → Covers report f ⊎ IsCut me report f.life
+  pub whole : (heard : EntryOf) → Contains entries heard → Covers report heard ⊎ IsCut me report heard.life
 
--- the lives of all entries are among these, at most 126, of which the life itself is one
+-- the lives of all entries are among these, no more than one network has, of which the life itself is one
 pub record AreLives (me : LifeId) (entries : List EntryOf) (lives : List LifeId) : Type 0 where
-  pub most : length lives ≤ 126
+  pub most : length lives ≤ MOST_SWITCHES
   pub own : Contains lives me
-  pub all : (f : EntryOf) → Contains entries f → Contains lives f.life
+  pub all : (entry : EntryOf) → Contains entries entry → Contains lives entry.life
 
 -- the lists have the same members
 abbrev pub HaveSameMembers : List EntryOf → List EntryOf → Type 0
-HaveSameMembers xs ys = ((e : EntryOf) → Contains xs e → Contains ys e) × ((e : EntryOf) → Contains ys e → Contains xs e)
-
--- From two lists one life is taken, the first of all: e is its least entry, and us and vs are what is left of the lists.
-pub record TakesFirst (xs ys : List EntryOf) (e : EntryOf) (us vs : List EntryOf) : Type 0 where
-  pub least : least_entries (xs ++ ys) ≡ e ∷ least_entries (us ++ vs)
-  pub rising : LivesRise us × LivesRise vs
-  pub fewer : length us + length vs < length xs + length ys
+HaveSameMembers one other =
+    ((entry : EntryOf) → Contains one entry → Contains other entry)
+    × ((entry : EntryOf) → Contains other entry → Contains one entry)

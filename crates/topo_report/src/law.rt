@@ -17,27 +17,29 @@ pub fn one_report()
 /// Among at most 126 lives, the life itself being one, no life is left out.
 pub fn report_is_complete()
     ensures { (me : LifeId) (entries : List EntryOf) (lives : List LifeId) → AreLives me entries lives
-        → (f : EntryOf) → Contains entries f → Covers (report_of me entries) f }
+        → (heard : EntryOf) → Contains entries heard → Covers (report_of me entries) heard }
 {}
 
 /// Merging one after another is merging all at once, whatever was cut between.
 pub fn merging_in_turn_is_merging_at_once()
-    ensures { (me : LifeId) (xs ys : List EntryOf)
-        → report_of me (report_of me xs ++ ys) ≡ report_of me (xs ++ ys) }
+    ensures { (me : LifeId) (one other : List EntryOf)
+        → report_of me (report_of me one ++ other) ≡ report_of me (one ++ other) }
 {}
 
 /// Only what was merged counts, and neither its order nor how often.
 pub fn members_alone_count()
-    ensures { (me : LifeId) (xs ys : List EntryOf) → HaveSameMembers xs ys
-        → report_of me xs ≡ report_of me ys }
+    ensures { (me : LifeId) (one other : List EntryOf) → HaveSameMembers one other
+        → report_of me one ≡ report_of me other }
 {}
 
 /// Either order of merging gives the same report.
 pub fn merging_is_commutative()
-    ensures { (me : LifeId) (xs ys : List EntryOf) → report_of me (xs ++ ys) ≡ report_of me (ys ++ xs) }
+    ensures { (me : LifeId) (one other : List EntryOf)
+        → report_of me (one ++ other) ≡ report_of me (other ++ one) }
 {}
 
 /// The report of a report is the same report.
 pub fn report_is_idempotent()
-    ensures { (me : LifeId) (xs : List EntryOf) → report_of me (report_of me xs) ≡ report_of me xs }
+    ensures { (me : LifeId) (entries : List EntryOf)
+        → report_of me (report_of me entries) ≡ report_of me entries }
 {}

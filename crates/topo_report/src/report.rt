@@ -1,9 +1,12 @@
 ghost use Rattle.std.specs.Prelude.{◌≡◌, ◌≤◌, [], ◌∷◌, ◌++◌, length, MatchOption, OnOk, OnErr, IfOk};
 ghost use Rattle.an_base.specs.Order.{LivesRise};
-ghost use Rattle.topo_report.specs.Report.{lesser_entry, report_of, TakesFirst};
+ghost use Rattle.an_base.specs.declared.limits.TheConstants.{MOST_SWITCHES};
+ghost use Rattle.topo_report.specs.Report.{lesser_entry, report_of};
+ghost use Rattle.topo_report.specs.Inside.{TakesFirst};
 
-use an_base::entry::{Entries, Entry, MOST_ENTRIES};
+use an_base::entry::{Entries, Entry};
 use an_base::life::Life;
+use an_base::limits::MOST_SWITCHES;
 use an_base::memory::OutOfMemory;
 use std::alloc::Global;
 use std::cmp::Ordering;
@@ -31,7 +34,8 @@ fn take_first<'a>(
     requires mine { LivesRise mine.now }
     requires heard { LivesRise heard.now }
     ensures { MatchOption result (mine.now ++ heard.now ≡ [])
-        (λ (e, us, vs). TakesFirst mine.now heard.now e.now us.now vs.now) }
+        (λ (entry, mine_left, heard_left).
+        TakesFirst mine.now heard.now entry.now mine_left.now heard_left.now) }
 {
     match (mine.split_first(), heard.split_first()) {
         (None, None) => None,
@@ -56,11 +60,11 @@ fn merged<'a>(
 ) -> Result<Vec<Entry>, OutOfMemory>
     requires mine { LivesRise mine.now }
     requires heard { LivesRise heard.now }
-    requires mine_most { length mine.now ≤ 126 }
-    requires heard_most { length heard.now ≤ 126 }
+    requires mine_most { length mine.now ≤ MOST_SWITCHES }
+    requires heard_most { length heard.now ≤ MOST_SWITCHES }
     ensures { IfOk result (λ items. items.items ≡ report_of me (mine.now ++ heard.now)) }
 {
-    let most = MOST_ENTRIES.min(mine.len() + heard.len());
+    let most = MOST_SWITCHES.min(mine.len() + heard.len());
     let mut items = Vec::with_capacity(alloc, most)?;
     let mut room = MOST_OTHERS;
     'lives: while let Some((entry, mine_left, heard_left)) = take_first(mine, heard) {

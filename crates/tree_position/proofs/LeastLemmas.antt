@@ -1,12 +1,13 @@
 use Rattle.std.proofs.Common.{◌≡◌, ◌∙◌, sym, ap, refl, ℕ, zero, suc, ◌+◌, ◌<◌, List, [], ◌∷◌, ◌++◌, Option, Some, None, length, take, get_or, set, arith, append_assoc, append-nil, add-one, map, Bool, false, cond, eqb, inl, inr, get_or-set_same, get_or-set_other, IsTrue, Less, Equal, Greater, ◌⊎◌, Contains}
 use Rattle.std.specs.declared.cmp.Ordering.{Ordering}
-use Rattle.std.specs.Ordering.{is_lt, is_le, is_gt, ordering_reverse}
+use Rattle.std.specs.Ordering.{is_lt, is_le, ordering_reverse}
 use Rattle.std.specs.Cmp.{tied_itself, upto}
 use Rattle.std.proofs.lemmas.Bool.{cases_eq}
 use Rattle.std.proofs.lemmas.Bool.Decides.{nat_tests, Decides-eqb}
 use Rattle.std.specs.Prelude.{replicate}
 use Rattle.an_base.specs.Values.{Place, PeerAt}
 use Rattle.an_base.specs.Order.{position_cmp}
+use Rattle.an_base.proofs.OrderingLemmas.{not_above, at_most}
 use Rattle.an_base.proofs.OrderLaws.{position_total}
 use Rattle.tree_position.specs.Position.{OfferOf, candidate, candidates, lesser, least, noted, IsLeast}
 
@@ -81,16 +82,6 @@ lesser_is p q = by (position_cmp q p) refl
     by Less e = let is : lesser p q ≡ q = ap (λ (x : Ordering). cond (is_lt x) q p) e in record { either = inr is; first = rw is (ap is_le e); second = rw is (le_itself q) }
     by Equal e = let is : lesser p q ≡ p = ap (λ (x : Ordering). cond (is_lt x) q p) e in record { either = inl is; first = rw is (le_itself p); second = rw is (turned Equal e refl) }
     by Greater e = let is : lesser p q ≡ p = ap (λ (x : Ordering). cond (is_lt x) q p) e in record { either = inl is; first = rw is (le_itself p); second = rw is (turned Greater e refl) }
-
-not_above : (o : Ordering) → IsTrue (is_le o) → is_gt o ≡ false
-not_above Less e = refl
-not_above Equal e = refl
-not_above Greater e = absurd (cc)
-
-at_most : (o : Ordering) → is_gt o ≡ false → IsTrue (is_le o)
-at_most Less e = refl
-at_most Equal e = refl
-at_most Greater e = absurd (cc)
 
 le_chain : (p q r : Place) → IsTrue (is_le (position_cmp p q)) → IsTrue (is_le (position_cmp q r)) → IsTrue (is_le (position_cmp p r))
 le_chain p q r a b = at_most (position_cmp p r) (upto position_total p q r (not_above (position_cmp p q) a) (not_above (position_cmp q r) b))

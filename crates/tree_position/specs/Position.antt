@@ -1,8 +1,10 @@
-use Rattle.std.specs.Prelude.{◌==◌, ℕ, ◌+◌, List, [], ◌∷◌, ◌++◌, Option, Some, None, if◌then◌else◌, nat_lt, Contains}
+-- The position of a life: the least of its own as a root and of what the last offers on its links give.
+use Rattle.std.specs.Prelude.{◌==◌, ℕ, ◌+◌, List, [], ◌∷◌, ◌++◌, Option, Some, None, if◌then◌else◌, nat_lt}
+use Rattle.std.specs.Prelude.{Contains, IsTrue}
 use Rattle.std.specs.Ordering.{is_lt, is_le}
-use Rattle.std.specs.Prelude.{IsTrue}
 use Rattle.an_base.specs.Values.{LifeId, Place, PeerAt}
 use Rattle.an_base.specs.Order.{position_cmp}
+use Rattle.an_base.specs.declared.limits.TheConstants.{MOST_LEVEL}
 
 -- what a neighbour offers: its root, and its level
 pub record OfferOf : Type 0 where
@@ -19,13 +21,15 @@ pub record OffersOf : Type 0 where
 abbrev pub self_root : LifeId → Place
 self_root me = record { root = me; level = 0; parent = me; port = 0 }
 
--- what an offer on a link gives: the same root, one level further, behind this link; an offer of level 125 gives nothing, since no tree is deeper
+-- what an offer on a link gives: the same root, one level further, behind this link
 abbrev pub below_offer : PeerAt → OfferOf → Place
-below_offer link offer = record { root = offer.root; level = offer.level + 1; parent = link.peer.life; port = link.port }
+below_offer link offer =
+    record { root = offer.root; level = offer.level + 1; parent = link.peer.life; port = link.port }
 
+-- the position that the last offer on a link gives; one of the deepest level gives none: no tree is deeper
 abbrev pub candidate : PeerAt → Option OfferOf → List Place
 candidate link None = []
-candidate link (Some offer) = if nat_lt offer.level 125 then below_offer link offer ∷ [] else []
+candidate link (Some offer) = if nat_lt offer.level MOST_LEVEL then below_offer link offer ∷ [] else []
 
 -- the candidates of all links
 abbrev pub candidates : List PeerAt → List (Option OfferOf) → List Place
@@ -33,13 +37,14 @@ candidates [] offered = []
 candidates (link ∷ links) [] = []
 candidates (link ∷ links) (offer ∷ offered) = candidate link offer ++ candidates links offered
 
--- the lesser of two places, and the least of one and those of a list
+-- the lesser of two places; the first where they are alike
 abbrev pub lesser : Place → Place → Place
-lesser p q = if is_lt (position_cmp q p) then q else p
+lesser one other = if is_lt (position_cmp other one) then other else one
 
+-- the least of a place and those of a list
 abbrev pub least : Place → List Place → Place
-least p [] = p
-least p (q ∷ qs) = least (lesser p q) qs
+least first [] = first
+least first (second ∷ others) = least (lesser first second) others
 
 -- the least of the own position as a root and of the candidates
 abbrev pub position_of : LifeId → List PeerAt → List (Option OfferOf) → Place
@@ -49,9 +54,10 @@ position_of me links offered = least (self_root me) (candidates links offered)
 abbrev pub noted : List PeerAt → List (Option OfferOf) → ℕ → OfferOf → List (Option OfferOf)
 noted [] offered port offer = offered
 noted (link ∷ links) [] port offer = []
-noted (link ∷ links) (o ∷ offered) port offer = (if link.port == port then Some offer else o) ∷ noted links offered port offer
+noted (link ∷ links) (old ∷ offered) port offer =
+    (if link.port == port then Some offer else old) ∷ noted links offered port offer
 
--- p is one of the places, and none of them is less
-pub record IsLeast (p : Place) (places : List Place) : Type 0 where
-  pub one : Contains places p
-  pub least : (q : Place) → Contains places q → IsTrue (is_le (position_cmp p q))
+-- it is one of the places, and none of them is less
+pub record IsLeast (place : Place) (places : List Place) : Type 0 where
+  pub one : Contains places place
+  pub least : (other : Place) → Contains places other → IsTrue (is_le (position_cmp place other))

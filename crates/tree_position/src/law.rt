@@ -4,5 +4,5 @@ ghost use Rattle.tree_position.specs.Position.{least, IsLeast};
 
 /// The least of a place and a list of places is one of them, and none of them is less.
 pub fn least_is_least()
-    ensures { (p : Place) (qs : List Place) → IsLeast (least p qs) (p ∷ qs) }
+    ensures { (first : Place) (others : List Place) → IsLeast (least first others) (first ∷ others) }
 {}

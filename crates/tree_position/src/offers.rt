@@ -1,32 +1,31 @@
 ghost use Rattle.std.specs.Prelude.{◌≡◌, ◌≤◌, length, None, replicate, option_to_list};
+ghost use Rattle.an_base.specs.declared.limits.TheConstants.{LAST_PORT};
 ghost use Rattle.tree_position.specs.Position.{position_of, noted, candidate, least};
 
 use an_base::life::Life;
+use an_base::limits::{MOST_LEVEL, PORTS};
 use an_base::links::{Links, PortLink};
 use an_base::position::Position;
 use std::marker::Model;
 
-/// The deepest level of a tree; an offer of this level gives no position.
-pub const MOST_LEVEL: u8 = 125;
+// A place for each external port, and one for the switch itself, port 0.
+const PLACES: usize = PORTS + 1;
 
-/// What a neighbour offers: its root, and its level, 0 to 125.
+/// What a neighbour offers: its root, and its level.
 #[derive(Clone, Copy, Debug, PartialEq, Eq)]
 pub struct Offer {
     /// The neighbour's root.
     pub root: Life,
-    /// The neighbour's level, 0 to 125.
+    /// The neighbour's level. One of `MOST_LEVEL` or more gives no position, since no tree is deeper.
     pub level: u8,
 }
 
 impl Model for Offer {
-    ghost use Rattle.std.specs.Prelude.{◌≤◌};
     ghost use Rattle.tree_position.specs.Position.{OfferOf};
 
     ghost Value = { OfferOf };
 
     ghost view = { λ o. record { root = o.root; level = o.level } };
-
-    ghost invariant = { λ o. o.level ≤ 125 };
 
     ghost inverse = { λ v. record { root = v.root; level = v.level } };
 }
@@ -34,7 +33,6 @@ impl Model for Offer {
 impl Offer {
     /// The offer of this root and level.
     pub fn new(root: Life, level: u8) -> Self
-        requires { level ≤ 125 }
         ensures { result ≡ record { root = root; level = level } }
     {
         Offer { root, level }
@@ -47,7 +45,7 @@ impl Offer {
 pub struct Offers {
     me: Life,
     links: Links,
-    offers: [Option<Offer>; 13],
+    offers: [Option<Offer>; PLACES],
 }
 
 impl Model for Offers {
@@ -56,7 +54,11 @@ impl Model for Offers {
 
     ghost Value = { OffersOf };
 
-    ghost view = { λ o. record { me = o.me; links = o.links; offered = map (λ l. slice_index_or o.offers l.port None) o.links } };
+    ghost view = { λ o. record {
+      me = o.me;
+      links = o.links;
+      offered = map (λ l. slice_index_or o.offers l.port None) o.links;
+    } };
 }
 
 // The position that an offer on a link gives, if it gives one.
@@ -84,21 +86,26 @@ fn lesser_of(best: Position, found: Option<Position>) -> Position
 impl Offers {
     /// The links of a life, without an offer on any.
     pub fn new(me: Life, links: &Links) -> Self
-        ensures { result ≡ record { me = me; links = links.now; offered = replicate (length links.now) None } }
+        ensures { result ≡ record {
+          me = me;
+          links = links.now;
+          offered = replicate (length links.now) None;
+        } }
     {
         Offers {
             me,
             links: links.copy(),
-            offers: [None; 13],
+            offers: [None; PLACES],
         }
     }
 
-    /// Takes the root and level, 0 to 125, that were last offered on a port, at most 12. Other ports
+    /// Takes the root and level that were last offered on a port, at most `LAST_PORT`. Other ports
     /// keep theirs.
     pub fn note(&mut self, port: u8, root: Life, level: u8)
-        requires level { level ≤ 125 }
-        requires port { port ≤ 12 }
-        ensures { self.new ≡ record self.old { offered = noted self.old.links self.old.offered port (record { root = root; level = level }) } }
+        requires { port ≤ LAST_PORT }
+        ensures { self.new ≡ record self.old {
+          offered = noted self.old.links self.old.offered port (record { root = root; level = level });
+        } }
     {
         self.offers[usize::from(port)] = Some(Offer::new(root, level));
     }
@@ -141,6 +148,20 @@ mod tests {
             Position::new(Life::new(1, 1), 4, Life::new(5, 1), 2)
         );
         offers.note(2, Life::new(10, 1), 0);
+        assert_eq!(rt; offers.best(), Position::new(me, 0, me, 0));
+    }
+
+    #[test]
+    fn an_offer_of_level_125_gives_no_position(rt: HostRuntime) {
+        let me = Life::new(9, 1);
+        let root = Life::new(1, 1);
+        let parent = Life::new(5, 1);
+        let mut links = Links::new();
+        links.push(PortLink::new(12, End::new(parent, 1)));
+        let mut offers = Offers::new(me, &links);
+        offers.note(12, root, 124);
+        assert_eq!(rt; offers.best(), Position::new(root, 125, parent, 12));
+        offers.note(12, root, 125);
         assert_eq!(rt; offers.best(), Position::new(me, 0, me, 0));
     }
 }

@@ -1,8 +1,8 @@
-use Rattle.std.proofs.Common.{◌≡◌, ◌∙◌, sym, ap, subst, ℕ, List, ◌∷◌, Some, None, Bool, true, false, ◌↔◌, inl, inr, ◌&&◌}
+use Rattle.std.proofs.Common.{◌≡◌, subst, ℕ, List, ◌∷◌, Some, None, Bool, true, false, ◌↔◌, inl, inr, ◌&&◌}
 use Rattle.std.specs.Prelude.{not}
-use Rattle.std.proofs.lemmas.Option.{same_Some}
 use Rattle.an_base.specs.Values.{EntryOf}
 use Rattle.topo_graph.specs.Topology.{far_of}
+use Rattle.topo_graph.proofs.FarLemmas.{one_far}
 use Rattle.updown.specs.Routes.{is_up_end, LegalRoute, DownRoute}
 use Rattle.updown.proofs.RouteLemmas.{down_first, down_more, legal_first, legal_up, legal_down}
 
@@ -16,26 +16,22 @@ pub lead_none : (es : List EntryOf) (down : Bool) (x p : ℕ) (ps : List ℕ) �
 lead_none es true x p ps none (y, r) = absurd (let f = down_first es x p ps y r in let e = f.2 in cc)
 lead_none es false x p ps none (y, r) = absurd (let f = legal_first es x p ps y r in let e = f.2 in cc)
 
--- a port leads to one place
-lead_to : (es : List EntryOf) (x p z q w r : ℕ) → far_of es x p ≡ Some (z, q) → far_of es x p ≡ Some (w, r) → z ≡ w
-lead_to es x p z q w r a b = ap (λ (f : ℕ × ℕ). f.0) (same_Some (z, q) (w, r) (sym a ∙ b))
-
 -- none leads up after one down
 pub lead_blocked : (es : List EntryOf) (x p z q : ℕ) (ps : List ℕ) → far_of es x p ≡ Some (z, q) → is_up_end es z x ≡ true → LeadOn es true x (p ∷ ps) → ⊥
 lead_blocked es x p z q ps e up (y, r) =
-    absurd (let f = down_first es x p ps y r in let same = lead_to es x p f.0 f.1 z q f.2 e in let not_up : is_up_end es z x ≡ false = subst (λ (w : ℕ). is_up_end es w x ≡ false) same f.3 in cc)
+    absurd (let f = down_first es x p ps y r in let same = one_far es x p f.0 f.1 z q f.2 e in let not_up : is_up_end es z x ≡ false = subst (λ (w : ℕ). is_up_end es w x ≡ false) same f.3 in cc)
 
 -- behind a port the others lead on
 pub lead_next : (es : List EntryOf) (down up : Bool) (x p z q : ℕ) (ps : List ℕ) → far_of es x p ≡ Some (z, q) → is_up_end es z x ≡ up → (up && down) ≡ false → LeadOn es down x (p ∷ ps) ↔ LeadOn es (not up) z ps
 lead_next es true true x p z q ps e up not_both = absurd (cc)
 lead_next es true false x p z q ps e down not_both = (
-  λ (y, r). let f = down_first es x p ps y r in (y, subst (λ (w : ℕ). DownRoute es w ps y) (lead_to es x p f.0 f.1 z q f.2 e) f.4),
+  λ (y, r). let f = down_first es x p ps y r in (y, subst (λ (w : ℕ). DownRoute es w ps y) (one_far es x p f.0 f.1 z q f.2 e) f.4),
   λ (y, r). (y, down_more es x p ps y z q e down r),
 )
 lead_next es false true x p z q ps e up not_both = (
   λ (y, r).
       let f = legal_first es x p ps y r in
-      let same = lead_to es x p f.0 f.1 z q f.2 e in (
+      let same = one_far es x p f.0 f.1 z q f.2 e in (
         y,
         subst (λ (w : ℕ). LegalRoute es w ps y) same (elim f.3 [
           | inl legal ↦ legal.1
@@ -47,7 +43,7 @@ lead_next es false true x p z q ps e up not_both = (
 lead_next es false false x p z q ps e down not_both = (
   λ (y, r).
       let f = legal_first es x p ps y r in
-      let same = lead_to es x p f.0 f.1 z q f.2 e in (
+      let same = one_far es x p f.0 f.1 z q f.2 e in (
         y,
         subst (λ (w : ℕ). DownRoute es w ps y) same (elim f.3 [
           | inl legal ↦ absurd (let up : is_up_end es z x ≡ true = subst (λ (w : ℕ). is_up_end es w x ≡ true) same legal.0 in cc)

@@ -1,4 +1,4 @@
-use Rattle.std.proofs.Common.{◌≡◌, ◌∙◌, sym, ap, subst, refl, ℕ, ◌+◌, ◌<◌, List, [], ◌∷◌, Option, Some, None, Bool, false, arith, length, map, inl, inr, get_or}
+use Rattle.std.proofs.Common.{◌≡◌, ◌∙◌, sym, ap, subst, refl, ℕ, ◌+◌, ◌<◌, List, [], ◌∷◌, Option, Some, None, Bool, arith, length, map, inl, inr, get_or}
 use Rattle.std.specs.Prelude.{Any, not}
 use Rattle.std.specs.List.{prefix_len}
 use Rattle.std.specs.Option.{option_and_then}
@@ -11,7 +11,8 @@ use Rattle.std.proofs.lemmas.List.{length-map, get_or_default}
 use Rattle.an_base.specs.Values.{LifeId, EntryOf}
 use Rattle.an_base.specs.Order.{life_cmp}
 use Rattle.topo_graph.specs.Topology.{nothing, life_at, place_of, far_of, IsGraph}
-use Rattle.topo_graph.proofs.PlaceLemmas.{place_found, place_is, same_life, life_passes}
+use Rattle.an_base.proofs.LifeLemmas.{life_passes, lives_differ}
+use Rattle.topo_graph.proofs.PlaceLemmas.{place_found, place_is}
 use Rattle.topo_graph.proofs.FarLemmas.{link_is_far}
 use Rattle.updown.specs.Routes.{HasLink, HasLegal, HasDown, HasLegalFrom, HasDownFrom, IsLeast}
 use Rattle.updown.specs.Lengths.{LengthsOf, length_at, AreLengths}
@@ -65,21 +66,14 @@ are_distances es to y lives lengths at is all = record {
         (λ n (u, z, u_is, z_is, has). subst (λ (a : ℕ). HasDown es a y n) (same_Some u x (sym u_is ∙ e)) (subst (λ (b : ℕ). HasDown es u b n) (same_Some z y (sym z_is ∙ at)) has))
         (all.down x (place_is es x life e).0)
 
--- another life fails the test
-fails : (a b : LifeId) → (a ≡ b → ⊥) → is_eq (life_cmp a b) ≡ false
-fails a b other = elim (cases_Bool (is_eq (life_cmp a b))) [
-  | inl same ↦ absurd (other (same_life a b same))
-  | inr differ ↦ differ
-]
-
 -- the first life that is this one
 pub first_life : (lives : List LifeId) (life : LifeId) (i : ℕ) (d : LifeId) → i < length lives → ((k : ℕ) → k < i → get_or lives k d ≡ life → ⊥) → get_or lives i d ≡ life → Some i ≡ place_in lives life
 first_life lives life i d low before at =
-    let first = position_or_len_is (λ l. is_eq (life_cmp l life)) lives i d (omega arith) (λ k less. fails (get_or lives k d) life (before k less)) (λ _. life_passes (get_or lives i d) life at) in
+    let first = position_or_len_is (λ l. is_eq (life_cmp l life)) lives i d (omega arith) (λ k less. lives_differ (get_or lives k d) life (before k less)) (λ _. life_passes (get_or lives i d) life at) in
     rw first (grind (arith, nat_tests))
 
 -- no life is this one
 pub no_life : (lives : List LifeId) (life d : LifeId) → ((k : ℕ) → k < length lives → get_or lives k d ≡ life → ⊥) → None ≡ place_in lives life
 no_life lives life d none =
-    let first = position_or_len_is (λ l. is_eq (life_cmp l life)) lives (length lives) d (omega arith) (λ k less. fails (get_or lives k d) life (none k less)) (λ low. absurd (omega arith)) in
+    let first = position_or_len_is (λ l. is_eq (life_cmp l life)) lives (length lives) d (omega arith) (λ k less. lives_differ (get_or lives k d) life (none k less)) (λ low. absurd (omega arith)) in
     rw first (grind (arith, nat_tests))

@@ -6,8 +6,10 @@ use Rattle.std.proofs.lemmas.Bool.{cases_Bool}
 use Rattle.std.proofs.lemmas.List.Elements.{All-head, All-tail, All-cons, All-nil, All-weaker}
 use Rattle.std.proofs.lemmas.List.Kept.{AllPairs-cons}
 use Rattle.an_base.specs.Values.{EntryOf}
+use Rattle.an_base.proofs.ListLemmas.{AllPairs-head, AllPairs-tail}
 use Rattle.an_base.specs.Order.{life_cmp}
-use Rattle.an_base.proofs.OrderLaws.{life_total, life_apart, then_equal}
+use Rattle.an_base.proofs.OrderLaws.{life_total, life_apart}
+use Rattle.an_base.proofs.OrderingLemmas.{then_equal}
 use Rattle.topo_graph.specs.Topology.{life_at, level_at, far_of, IsGraph}
 use Rattle.topo_graph.proofs.FarLemmas.{one_place, far_is_link}
 use Rattle.updown.specs.Routes.{height_cmp, is_up_end, next_place, upward, LegalRoute, DownRoute, HasLegal, HasDown}
@@ -58,14 +60,6 @@ leads_down es x p z q graph e not_up = elim (cases_Bool (is_up_end es x z)) [
 -- where a port leads
 pub next_is : (es : List EntryOf) (x p z q : ℕ) → far_of es x p ≡ Some (z, q) → next_place es x p ≡ z
 next_is es x p z q e = ap (λ (o : Option (ℕ × ℕ)). (unwrap_or o (x, p)).0) e
-
--- the first element with each later one
-AllPairs-head : {X : Type 0} (R : X → X → Type 0) (x : X) (xs : List X) → AllPairs R (x ∷ xs) → All (R x) xs
-AllPairs-head R x xs pairs = λ k d low. pairs 0 (suc k) d (omega arith) (omega arith)
-
--- the later elements with one another
-AllPairs-tail : {X : Type 0} (R : X → X → Type 0) (x : X) (xs : List X) → AllPairs R (x ∷ xs) → AllPairs R xs
-AllPairs-tail R x xs pairs = λ i j d lt low. pairs (suc i) (suc j) d (omega arith) (omega arith)
 
 -- a later link may lead up only where an earlier one does
 abbrev pub FollowsUp : Bool → Bool → Type 0

@@ -1,9 +1,9 @@
 use Rattle.std.proofs.Common.{◌≡◌, ◌∙◌, sym, ap, subst, refl, ℕ, ◌+◌, ◌<◌, List, [], Option, Some, None, true, false, arith, length, set, inl, inr}
 use Rattle.std.proofs.lemmas.Bool.{cases_eq, cases_Bool}
-use Rattle.std.proofs.lemmas.Option.{same_Some}
 use Rattle.std.proofs.lemmas.List.{get_or-set_same, get_or-set_other, length-set}
 use Rattle.an_base.specs.Values.{EntryOf}
 use Rattle.topo_graph.specs.Topology.{far_of, IsGraph}
+use Rattle.topo_graph.proofs.FarLemmas.{one_far}
 use Rattle.updown.specs.declared.order.Height.{Height}
 use Rattle.updown.specs.Order.{place_at, IsDescent}
 use Rattle.updown.specs.Routes.{is_up_end, HasDown, HasLegal, IsLeast}
@@ -11,10 +11,6 @@ use Rattle.updown.specs.Lengths.{length_at, behind_of, Onward, AreDownSoFar, Are
 use Rattle.updown.proofs.RouteLemmas.{NextDown, NextLegal, down_zero, down_here, down_suc, down_on, legal_zero, legal_here, legal_suc, legal_on}
 use Rattle.updown.proofs.LeastLemmas.{least_has, least_iff, least_onward}
 use Rattle.updown.proofs.OrderLemmas.{position_is, place_low, later, earlier, down_bound, legal_bound}
-
--- a port leads to one place
-one_far : (es : List EntryOf) (x p z q w r : ℕ) → far_of es x p ≡ Some (z, q) → far_of es x p ≡ Some (w, r) → z ≡ w
-one_far es x p z q w r a b = ap (λ (f : ℕ × ℕ). f.0) (same_Some (z, q) (w, r) (sym a ∙ b))
 
 -- what is left behind a port, of routes downward
 pub behind_down : (es : List EntryOf) (down : List (Option ℕ)) (x to p : ℕ) → ((z q : ℕ) → far_of es x p ≡ Some (z, q) → is_up_end es z x ≡ false → IsLeast (HasDown es z to) (length_at down z)) → IsLeast (NextDown es x to p) (behind_of es [] down x p)

@@ -1,3 +1,4 @@
+-- The least lengths of routes to one life.
 use Rattle.std.specs.Prelude.{ℕ, List, Option, position}
 use Rattle.std.specs.Option.{option_and_then}
 use Rattle.std.specs.Ordering.{is_eq}

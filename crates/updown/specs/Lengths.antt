@@ -1,4 +1,6 @@
-use Rattle.std.specs.Prelude.{◌≡◌, ◌<◌, ◌≤◌, ℕ, zero, suc, min, List, Option, Some, None, length, slice_index_or, if◌then◌else◌}
+-- The least lengths of routes to one place.
+use Rattle.std.specs.Prelude.{◌≡◌, ◌<◌, ◌≤◌, ℕ, zero, suc, min, List, Option, Some, None, length}
+use Rattle.std.specs.Prelude.{slice_index_or, if◌then◌else◌}
 use Rattle.std.specs.Option.{option_and_then}
 use Rattle.an_base.specs.Values.{EntryOf}
 use Rattle.topo_graph.specs.Topology.{far_of}
@@ -10,7 +12,8 @@ use Rattle.updown.specs.Routes.{is_up_end, HasLegal, HasDown, IsLeast}
 abbrev pub length_at : List (Option ℕ) → ℕ → Option ℕ
 length_at lengths x = slice_index_or lengths x None
 
--- the lengths to one place: for each place that of a shortest legal route, and that of a shortest one with downward links alone
+-- the lengths to one place: for each place that of a shortest legal route, and that of a shortest one with
+-- downward links alone
 pub record LengthsOf : Type 0 where
   pub up : List (Option ℕ)
   pub down : List (Option ℕ)
@@ -22,7 +25,8 @@ pub record AreLengths (es : List EntryOf) (to : ℕ) (lengths : LengthsOf) : Typ
   pub up_count : length lengths.up ≡ length es
   pub down_count : length lengths.down ≡ length es
 
--- what is left to go behind the far end of a port: by any legal route behind an upward link, downward alone behind a downward one
+-- what is left to go behind the far end of a port: by any legal route behind an upward link, downward alone
+-- behind a downward one
 abbrev pub behind_at : List EntryOf → List (Option ℕ) → List (Option ℕ) → ℕ → (ℕ × ℕ) → Option ℕ
 behind_at es up down x far = length_at (if is_up_end es far.0 x then up else down) far.0
 
@@ -45,13 +49,17 @@ Onward es up down to x zero = x ≡ to
 Onward es up down to x (suc n) = (p : ℕ) × (behind_of es up down x p ≡ Some n)
 
 -- the table has the lengths of routes downward of the places of the order from i on
-pub record AreDownSoFar (es : List EntryOf) (to : ℕ) (order : List Height) (down : List (Option ℕ)) (i : ℕ) : Type 0 where
+pub record AreDownSoFar (es : List EntryOf) (to : ℕ) (order : List Height) (down : List (Option ℕ)) (i : ℕ)
+    : Type 0 where
   pub count : length down ≡ length es
-  pub known : (k : ℕ) → i ≤ k → k < length order → IsLeast (HasDown es (place_at order k) to) (length_at down (place_at order k))
+  pub known :
+      (k : ℕ) → i ≤ k → k < length order
+      → IsLeast (HasDown es (place_at order k) to) (length_at down (place_at order k))
   pub most : AreAtMost down 125
 
 -- the table has the lengths of legal routes of the places of the order before i
-pub record AreUpSoFar (es : List EntryOf) (to : ℕ) (order : List Height) (up : List (Option ℕ)) (i : ℕ) : Type 0 where
+pub record AreUpSoFar (es : List EntryOf) (to : ℕ) (order : List Height) (up : List (Option ℕ)) (i : ℕ)
+    : Type 0 where
   pub count : length up ≡ length es
   pub known : (k : ℕ) → k < i → IsLeast (HasLegal es (place_at order k) to) (length_at up (place_at order k))
   pub most : AreAtMost up 250

@@ -1,3 +1,4 @@
+-- Places from the highest to the lowest.
 use Rattle.std.specs.Prelude.{◌≡◌, ℕ, ◌<◌, ◌≤◌, List, length, All, Any, false, slice_index_or}
 use Rattle.an_base.specs.Values.{EntryOf}
 use Rattle.topo_graph.specs.Topology.{level_at}
@@ -21,4 +22,5 @@ pub record AreHeights (es : List EntryOf) (end : ℕ) (heights : List Height) : 
 -- all places, so that none is higher than one before it
 pub record IsDescent (es : List EntryOf) (order : List Height) : Type 0 where
   pub heights : AreHeights es (length es) order
-  pub falling : (i j : ℕ) → i ≤ j → j < length order → is_up_end es (place_at order j) (place_at order i) ≡ false
+  pub falling :
+      (i j : ℕ) → i ≤ j → j < length order → is_up_end es (place_at order j) (place_at order i) ≡ false

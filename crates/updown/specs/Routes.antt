@@ -1,4 +1,6 @@
-use Rattle.std.specs.Prelude.{◌≡◌, ◌≤◌, ℕ, List, [], ◌∷◌, Option, Some, None, Bool, false, All, AllPairs, IsTrue, length, unwrap_or, if◌then◌else◌}
+-- Up ends, and legal routes: those in which no upward link follows a downward one.
+use Rattle.std.specs.Prelude.{◌≡◌, ◌≤◌, ℕ, List, [], ◌∷◌, Option, Some, None, Bool, false, All, AllPairs}
+use Rattle.std.specs.Prelude.{IsTrue, length, unwrap_or, if◌then◌else◌}
 use Rattle.std.specs.declared.cmp.Ordering.{Ordering}
 use Rattle.std.specs.Ordering.{nat_cmp, ordering_then, is_lt}
 use Rattle.an_base.specs.Values.{LifeId, EndId, EntryOf}
@@ -7,7 +9,8 @@ use Rattle.topo_graph.specs.Topology.{IsLink, place_of, life_at, level_at, far_o
 
 -- how high the entries at two places stand: by level, then by life; the lesser is the higher
 abbrev pub height_cmp : List EntryOf → ℕ → ℕ → Ordering
-height_cmp es x y = ordering_then (nat_cmp (level_at es x) (level_at es y)) (life_cmp (life_at es x) (life_at es y))
+height_cmp es x y =
+    ordering_then (nat_cmp (level_at es x) (level_at es y)) (life_cmp (life_at es x) (life_at es y))
 
 -- of a link between x and y, whether x is the up end: the end of lower level, at equal level of lesser life
 abbrev pub is_up_end : List EntryOf → ℕ → ℕ → Bool
@@ -55,10 +58,12 @@ HasDown es x y n = (ps : List ℕ) × (length ps ≡ n) × DownRoute es x ps y
 
 -- the same between lives of the graph
 abbrev pub HasLegalFrom : List EntryOf → LifeId → LifeId → ℕ → Type 0
-HasLegalFrom es from to n = (x y : ℕ) × (place_of es from ≡ Some x) × (place_of es to ≡ Some y) × HasLegal es x y n
+HasLegalFrom es from to n =
+    (x y : ℕ) × (place_of es from ≡ Some x) × (place_of es to ≡ Some y) × HasLegal es x y n
 
 abbrev pub HasDownFrom : List EntryOf → LifeId → LifeId → ℕ → Type 0
-HasDownFrom es from to n = (x y : ℕ) × (place_of es from ≡ Some x) × (place_of es to ≡ Some y) × HasDown es x y n
+HasDownFrom es from to n =
+    (x y : ℕ) × (place_of es from ≡ Some x) × (place_of es to ≡ Some y) × HasDown es x y n
 
 -- the least number of which this holds, or none where it holds of none
 abbrev pub IsLeast : (ℕ → Type 0) → Option ℕ → Type 0

@@ -2,7 +2,8 @@ ghost use Rattle.std.specs.Prelude.{◌≡◌, ℕ, Some, None, length, IfOk};
 ghost use Rattle.topo_graph.specs.Topology.{IsGraph};
 ghost use Rattle.updown.specs.Order.{IsDescent};
 ghost use Rattle.updown.specs.Routes.{IsLeast};
-ghost use Rattle.updown.specs.Lengths.{AreAtMost, AreDownSoFar, AreLengths, AreUpSoFar, behind_of, length_at, lesser_of, Onward};
+ghost use Rattle.updown.specs.Lengths.{AreAtMost, AreDownSoFar, AreLengths, AreUpSoFar, behind_of, length_at};
+ghost use Rattle.updown.specs.Lengths.{lesser_of, Onward};
 
 use crate::order::{Descent, Height};
 use crate::route::is_up_end;

@@ -90,7 +90,7 @@ pub take_agrees : (w : WiresOf) (wire hand : ℕ) → LinksAgree w → LinksAgre
 take_agrees w wire hand agree = copied_agrees (held_from wire hand w) wire (taken_frame wire w) (held_agrees w wire hand agree)
 
 -- one side is set up or down: what is at the far sides stays
-up_far : (w : WiresOf) (up : Bool) (at b : ℕ) → (side_at (with_up up at w) b).far ≡ (side_at w b).far
+pub up_far : (w : WiresOf) (up : Bool) (at b : ℕ) → (side_at (with_up up at w) b).far ≡ (side_at w b).far
 up_far w up at b = by (cases_eq b at) (cases_lt at (length w.sides))
   where
     s : Side

@@ -5,3 +5,5 @@ pub mod FrameLemmas
 pub mod StoreLemmas
 pub mod WireLemmas
 pub mod AgreeLemmas
+pub mod FarLemmas
+pub mod BlockLemmas

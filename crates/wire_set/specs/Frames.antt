@@ -1,4 +1,6 @@
-use Rattle.std.specs.Prelude.{◌≡◌, ℕ, ◌+◌, ◌-◌, ◌<◌, ◌≤◌, List, [], ◌∷◌, ◌++◌, length, map, take, drop, slice_index_or, slice_set, IsSome}
+-- Queues of frames in the blocks of one region: what contracts see of them, and what each call makes of them.
+use Rattle.std.specs.Prelude.{◌≡◌, ℕ, ◌+◌, ◌-◌, ◌<◌, ◌≤◌, List, [], ◌∷◌, ◌++◌, length, map, take, drop}
+use Rattle.std.specs.Prelude.{slice_index_or, slice_set, IsSome}
 use Rattle.std.specs.List.{sum_by}
 use Rattle.frame_region.specs.Regions.{RegionOf, held_at, bytes_at, blocks_of}
 use Rattle.wire_set.specs.Queues.{QueuesOf, queue_at, slot}
@@ -9,53 +11,72 @@ pub record FramesOf : Type 0 where
   pub free : ℕ
   pub limit : ℕ
 
+-- the frames of a queue
 abbrev pub frames_at : FramesOf → ℕ → List (List ℕ)
-frames_at v q = slice_index_or v.queues q []
+frames_at frames queue = slice_index_or frames.queues queue []
 
--- frame number k, from 0, in a queue
+-- the frame at this place, from 0, in a queue
 abbrev pub frame : FramesOf → ℕ → ℕ → List ℕ
-frame v q k = slice_index_or (frames_at v q) k []
+frame frames queue place = slice_index_or (frames_at frames queue) place []
 
 -- how many blocks frames occupy
 abbrev pub blocks_in : List (List ℕ) → ℕ
 blocks_in frames = sum_by blocks_of frames
 
 abbrev pub occupied : FramesOf → ℕ
-occupied v = sum_by blocks_in v.queues
+occupied frames = sum_by blocks_in frames.queues
+
+-- free blocks and those that frames occupy are all that there are
+abbrev pub BlocksAddUp : FramesOf → Type 0
+BlocksAddUp frames = frames.free + occupied frames ≡ frames.limit
 
 -- a queue has other frames then
 abbrev pub with_frames : ℕ → List (List ℕ) → FramesOf → FramesOf
-with_frames q frames v = record v { queues = slice_set v.queues q frames }
+with_frames queue others frames = record frames { queues = slice_set frames.queues queue others }
 
+-- a queue has one more frame at its end
 abbrev pub append_to : ℕ → List ℕ → FramesOf → FramesOf
-append_to q bytes v = with_frames q (frames_at v q ++ bytes ∷ []) v
+append_to queue bytes frames = with_frames queue (frames_at frames queue ++ bytes ∷ []) frames
 
--- a frame is put at the end of a queue
+-- a frame is put at the end of a queue, and occupies its blocks
 abbrev pub put_frame : ℕ → List ℕ → FramesOf → FramesOf
-put_frame q bytes v = record (append_to q bytes v) { free = v.free - blocks_of bytes }
+put_frame queue bytes frames = record (append_to queue bytes frames) { free = frames.free - blocks_of bytes }
 
 -- the first frame of a queue is given up
 abbrev pub drop_first : ℕ → FramesOf → FramesOf
-drop_first q v = record (with_frames q (drop 1 (frames_at v q)) v) { free = v.free + blocks_of (frame v q 0) }
+drop_first queue frames =
+    record (with_frames queue (drop 1 (frames_at frames queue)) frames) {
+      free = frames.free + blocks_of (frame frames queue 0);
+    }
 
 -- all frames of a queue are given up
 abbrev pub clear : ℕ → FramesOf → FramesOf
-clear q v = record (with_frames q [] v) { free = v.free + blocks_in (frames_at v q) }
+clear queue frames =
+    record (with_frames queue [] frames) { free = frames.free + blocks_in (frames_at frames queue) }
 
--- the first, or the second, frame of a queue goes to the end of another one
+-- the first frame of a queue goes to the end of another one
 abbrev pub move_first : ℕ → ℕ → FramesOf → FramesOf
-move_first from to v = append_to to (frame v from 0) (with_frames from (drop 1 (frames_at v from)) v)
+move_first from to frames =
+    append_to to (frame frames from 0) (with_frames from (drop 1 (frames_at frames from)) frames)
 
+-- the second frame of a queue goes to the end of another one
 abbrev pub move_second : ℕ → ℕ → FramesOf → FramesOf
-move_second from to v = append_to to (frame v from 1) (with_frames from (take 1 (frames_at v from) ++ drop 2 (frames_at v from)) v)
+move_second from to frames =
+    append_to to (frame frames from 1)
+    (with_frames from (take 1 (frames_at frames from) ++ drop 2 (frames_at frames from)) frames)
 
 -- the frames under the slips of queues
 abbrev pub stored : RegionOf → QueuesOf → FramesOf
-stored r v = record { queues = map (map (bytes_at r)) v.queues; free = r.free; limit = v.places }
+stored region slips =
+    record { queues = map (map (bytes_at region)) slips.queues; free = region.free; limit = slips.places }
 
--- Each slip in a queue is held, and the free blocks are those that no frame in a queue occupies
-pub record IsStored (r : RegionOf) (v : QueuesOf) : Type 0 where
-  pub size : length r.held ≡ v.places
-  pub held : (a k : ℕ) → k < length (queue_at v a) → IsSome (held_at r (slot v a k))
-  pub some : (a k : ℕ) → k < length (queue_at v a) → 1 ≤ length (bytes_at r (slot v a k))
-  pub total : r.free + occupied (stored r v) ≡ v.places
+-- Each slip in a queue is held, and the free blocks are those that no frame in a queue occupies.
+pub record IsStored (region : RegionOf) (slips : QueuesOf) : Type 0 where
+  pub size : length region.held ≡ slips.places
+  pub held :
+      (queue place : ℕ) → place < length (queue_at slips queue)
+      → IsSome (held_at region (slot slips queue place))
+  pub some :
+      (queue place : ℕ) → place < length (queue_at slips queue)
+      → 1 ≤ length (bytes_at region (slot slips queue place))
+  pub total : region.free + occupied (stored region slips) ≡ slips.places

@@ -1,5 +1,8 @@
-use Rattle.std.specs.Prelude.{◌≡◌, ℕ, ◌-◌, ◌<◌, ◌≤◌, List, [], length, map, slice_index_or, slice_set, Option, Some, None}
+-- What only functions inside this crate cite: queues of slips that share their places.
+use Rattle.std.specs.Prelude.{◌≡◌, ℕ, ◌-◌, ◌<◌, ◌≤◌, List, [], length, map, slice_index_or, slice_set}
+use Rattle.std.specs.Prelude.{Option, Some, None}
 use Rattle.std.specs.List.{range_with_len}
+use Rattle.frame_region.specs.declared.region.TheConstants.{MOST_BLOCKS}
 use Rattle.frame_region.specs.Blocks.{block}
 use Rattle.wire_set.specs.declared.queue.Queue.{Queue}
 
@@ -8,24 +11,28 @@ pub record QueuesOf : Type 0 where
   pub queues : List (List ℕ)
   pub places : ℕ
 
+-- the slips of a queue
 abbrev pub queue_at : QueuesOf → ℕ → List ℕ
-queue_at v q = slice_index_or v.queues q []
+queue_at slips queue = slice_index_or slips.queues queue []
 
--- number k, from 0, in a queue
+-- the slip at this place, from 0, in a queue
 abbrev pub slot : QueuesOf → ℕ → ℕ → ℕ
-slot v q k = slice_index_or (queue_at v q) k 0
+slot slips queue place = slice_index_or (queue_at slips queue) place 0
 
 -- no slip is twice in the queues
 abbrev pub IsApart : QueuesOf → Type 0
-IsApart v = (a b i j : ℕ) → i < length (queue_at v a) → j < length (queue_at v b) → slot v a i ≡ slot v b j → (a ≡ b) × (i ≡ j)
+IsApart slips =
+    (queue other i j : ℕ) → i < length (queue_at slips queue) → j < length (queue_at slips other)
+    → slot slips queue i ≡ slot slips other j → (queue ≡ other) × (i ≡ j)
 
 -- a slip is in no queue
 abbrev pub IsNew : ℕ → QueuesOf → Type 0
-IsNew slip v = (a i : ℕ) → i < length (queue_at v a) → slot v a i ≡ slip → ⊥
+IsNew slip slips =
+    (queue place : ℕ) → place < length (queue_at slips queue) → slot slips queue place ≡ slip → ⊥
 
 -- a queue is another list then
 abbrev pub with_queue : ℕ → List ℕ → QueuesOf → QueuesOf
-with_queue q slips v = record v { queues = slice_set v.queues q slips }
+with_queue queue others slips = record slips { queues = slice_set slips.queues queue others }
 
 -- a queue of no slips
 abbrev pub empty : Queue
@@ -33,13 +40,15 @@ empty = record { first = 0; last = 0; count = 0 }
 
 -- the slips of a queue, as each names the next
 abbrev pub walk : List ℕ → Queue → List ℕ
-walk next q = map (λ k. block next q.first k) (range_with_len 0 q.count)
+walk next queue = map (λ place. block next queue.first place) (range_with_len 0 queue.count)
 
+-- the queue of this number
 abbrev pub queue_of : List Queue → ℕ → Queue
-queue_of queues a = slice_index_or queues a empty
+queue_of queues number = slice_index_or queues number empty
 
+-- the slip at this place, from 0, of the queue of this number
 abbrev pub item : List ℕ → List Queue → ℕ → ℕ → ℕ
-item next queues a k = block next (queue_of queues a).first k
+item next queues number place = block next (queue_of queues number).first place
 
 -- what the places show
 abbrev pub shown : List ℕ → List Queue → QueuesOf
@@ -48,9 +57,17 @@ shown next queues = record { queues = map (walk next) queues; places = length ne
 -- The places are sound: each slip of a queue lies in the place of its number, and no place is in two queues.
 pub record IsLinked (slips : List (Option ℕ)) (next : List ℕ) (queues : List Queue) : Type 0 where
   pub size : length slips ≡ length next
-  pub most : length next ≤ 1048576
-  pub few : (a : ℕ) → (queue_of queues a).count ≤ length next
-  pub within : (a k : ℕ) → k < (queue_of queues a).count → item next queues a k < length next
-  pub apart : (a b i j : ℕ) → i < (queue_of queues a).count → j < (queue_of queues b).count → item next queues a i ≡ item next queues b j → (a ≡ b) × (i ≡ j)
-  pub there : (a k : ℕ) → k < (queue_of queues a).count → slice_index_or slips (item next queues a k) None ≡ Some (item next queues a k)
-  pub last : (a : ℕ) → 1 ≤ (queue_of queues a).count → (queue_of queues a).last ≡ item next queues a ((queue_of queues a).count - 1)
+  pub most : length next ≤ MOST_BLOCKS
+  pub few : (number : ℕ) → (queue_of queues number).count ≤ length next
+  pub within :
+      (number place : ℕ) → place < (queue_of queues number).count
+      → item next queues number place < length next
+  pub apart :
+      (number other i j : ℕ) → i < (queue_of queues number).count → j < (queue_of queues other).count
+      → item next queues number i ≡ item next queues other j → (number ≡ other) × (i ≡ j)
+  pub there :
+      (number place : ℕ) → place < (queue_of queues number).count
+      → slice_index_or slips (item next queues number place) None ≡ Some (item next queues number place)
+  pub last :
+      (number : ℕ) → 1 ≤ (queue_of queues number).count
+      → (queue_of queues number).last ≡ item next queues number ((queue_of queues number).count - 1)

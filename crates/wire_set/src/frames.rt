@@ -1,6 +1,10 @@
 ghost use Rattle.std.specs.Prelude.{◌≡◌, ◌+◌, ◌<◌, ◌≤◌, [], length, replicate, IfOk, IfErr, OnOk, OnErr};
 ghost use Rattle.frame_region.specs.Regions.{blocks_of};
-ghost use Rattle.wire_set.specs.Frames.{FramesOf, clear, drop_first, frame, frames_at, move_first, move_second, occupied, put_frame};
+ghost use Rattle.frame_region.specs.declared.buffer.TheConstants.{MOST_FRAME};
+ghost use Rattle.frame_region.specs.declared.region.TheConstants.{MOST_BLOCKS};
+ghost use Rattle.wire_set.specs.Frames.{FramesOf, clear, drop_first, frame, frames_at, move_first};
+ghost use Rattle.wire_set.specs.Frames.{move_second};
+ghost use Rattle.wire_set.specs.Frames.{occupied, put_frame};
 
 use crate::queue::Queues;
 use an_base::memory::OutOfMemory;
@@ -27,11 +31,11 @@ impl Model for Frames {
 }
 
 impl Frames {
-    /// So many empty queues, and so many blocks, 1 to 1,048,576, all of them free.
+    /// So many empty queues, and so many blocks, at most 1,048,576, all of them free.
     pub fn new(alloc: Global, queues: usize, blocks: u32) -> Result<Self, OutOfMemory>
-        requires least { 1 ≤ blocks }
-        requires most { blocks ≤ 1048576 }
-        ensures { IfOk result (λ v. v ≡ record { queues = replicate queues []; free = blocks; limit = blocks }) }
+        requires { blocks ≤ MOST_BLOCKS }
+        ensures { IfOk result (λ frames. frames
+            ≡ record { queues = replicate queues []; free = blocks; limit = blocks }) }
     {
         Ok(Frames {
             region: Region::new(alloc, blocks)?,
@@ -51,7 +55,7 @@ impl Frames {
     pub fn len(&self, q: usize) -> u32
         requires { q < length self.now.queues }
         ensures len { result ≡ length (frames_at self.now q) }
-        ensures most { result ≤ 1048576 }
+        ensures most { result ≤ MOST_BLOCKS }
     {
         self.queues.len(q)
     }
@@ -61,10 +65,11 @@ impl Frames {
     pub fn put(&mut self, q: usize, bytes: &[u8]) -> Result<(), NoRoom>
         requires q { q < length self.old.queues }
         requires least { 1 ≤ length bytes.now }
-        requires most { length bytes.now ≤ 22591 }
+        requires most { length bytes.now ≤ MOST_FRAME }
         ensures ok { OnOk result (self.new ≡ put_frame q bytes.now self.old) }
         ensures room { OnOk result (blocks_of bytes.now ≤ self.old.free) }
-        ensures refused { IfErr result (λ r. r ≡ record { need = blocks_of bytes.now; free = self.old.free }) }
+        ensures refused { IfErr result (λ refusal.
+            refusal ≡ record { need = blocks_of bytes.now; free = self.old.free }) }
         ensures no_room { OnErr result (self.old.free < blocks_of bytes.now) }
         ensures err { OnErr result (self.new ≡ self.old) }
     {

@@ -1,6 +1,9 @@
-ghost use Rattle.std.specs.Prelude.{◌≡◌, ◌<◌, ℕ, List, length};
+ghost use Rattle.std.specs.Prelude.{◌≡◌, ◌<◌, ◌≤◌, ℕ, List, length};
 ghost use Rattle.net_graph.specs.Wires.{Wires, IsWired, far_at};
-ghost use Rattle.wire_set.specs.WireState.{LinksAgree, WiresOf, again_on, fail_at, lose_on, place, put_into, release_from, repair_at, side_at, side_of, start, swap_on, take_from};
+ghost use Rattle.wire_set.specs.Frames.{BlocksAddUp};
+ghost use Rattle.wire_set.specs.WireState.{HaveSameFarEnds, LinksAgree, WiresOf, again_on, fail_at, lose_on};
+ghost use Rattle.wire_set.specs.WireState.{place, put_into, release_from, repair_at, side_at, side_of, start};
+ghost use Rattle.wire_set.specs.WireState.{swap_on, take_from, wire_at};
 
 /// At the beginning each port has at its far side what the wiring has there, and its link, if it has
 /// one, is up.
@@ -13,12 +16,47 @@ pub fn ports_are_those_of_the_wiring()
 /// down at both. So it is at the beginning, and so it stays with whatever happens.
 pub fn a_link_is_up_at_both_its_ends()
     ensures start { (wires : Wires) (blocks : ℕ) → IsWired wires → LinksAgree (start wires blocks) }
-    ensures put { (w : WiresOf) (from wire : ℕ) (bytes : List ℕ) → LinksAgree w → LinksAgree (put_into from wire bytes w) }
-    ensures take { (w : WiresOf) (wire hand : ℕ) → LinksAgree w → LinksAgree (take_from wire hand w) }
-    ensures release { (w : WiresOf) (hand : ℕ) → LinksAgree w → LinksAgree (release_from hand w) }
-    ensures fail { (w : WiresOf) (at : ℕ) → LinksAgree w → LinksAgree (fail_at at w) }
-    ensures repair { (w : WiresOf) (at : ℕ) → LinksAgree w → LinksAgree (repair_at at w) }
-    ensures lose { (w : WiresOf) (wire n : ℕ) → LinksAgree w → LinksAgree (lose_on wire n w) }
-    ensures again { (w : WiresOf) (wire n : ℕ) → LinksAgree w → LinksAgree (again_on wire n w) }
-    ensures swap { (w : WiresOf) (wire n : ℕ) → LinksAgree w → LinksAgree (swap_on wire n w) }
+    ensures put { (state : WiresOf) (from wire : ℕ) (bytes : List ℕ)
+        → LinksAgree state → LinksAgree (put_into from wire bytes state) }
+    ensures take { (state : WiresOf) (wire hand : ℕ) → LinksAgree state → LinksAgree (take_from wire hand state) }
+    ensures release { (state : WiresOf) (hand : ℕ) → LinksAgree state → LinksAgree (release_from hand state) }
+    ensures fail { (state : WiresOf) (at : ℕ) → LinksAgree state → LinksAgree (fail_at at state) }
+    ensures repair { (state : WiresOf) (at : ℕ) → LinksAgree state → LinksAgree (repair_at at state) }
+    ensures lose { (state : WiresOf) (wire n : ℕ) → LinksAgree state → LinksAgree (lose_on wire n state) }
+    ensures again { (state : WiresOf) (wire n : ℕ) → LinksAgree state → LinksAgree (again_on wire n state) }
+    ensures swap { (state : WiresOf) (wire n : ℕ) → LinksAgree state → LinksAgree (swap_on wire n state) }
+{}
+
+/// No call changes what is at the far side of a port: it is always what the wiring has there.
+pub fn no_call_changes_a_far_end()
+    ensures put { (state : WiresOf) (from wire : ℕ) (bytes : List ℕ)
+        → HaveSameFarEnds state (put_into from wire bytes state) }
+    ensures take { (state : WiresOf) (wire hand : ℕ) → HaveSameFarEnds state (take_from wire hand state) }
+    ensures release { (state : WiresOf) (hand : ℕ) → HaveSameFarEnds state (release_from hand state) }
+    ensures fail { (state : WiresOf) (at : ℕ) → HaveSameFarEnds state (fail_at at state) }
+    ensures repair { (state : WiresOf) (at : ℕ) → HaveSameFarEnds state (repair_at at state) }
+    ensures lose { (state : WiresOf) (wire n : ℕ) → HaveSameFarEnds state (lose_on wire n state) }
+    ensures again { (state : WiresOf) (wire n : ℕ) → HaveSameFarEnds state (again_on wire n state) }
+    ensures swap { (state : WiresOf) (wire n : ℕ) → HaveSameFarEnds state (swap_on wire n state) }
+{}
+
+/// Free blocks and those that frames on the wires and in hands occupy are all blocks that there are:
+/// so it is at the beginning, and so it stays with whatever happens.
+pub fn free_and_occupied_blocks_add_up()
+    ensures start { (wires : Wires) (blocks : ℕ) → BlocksAddUp (start wires blocks).frames }
+    ensures put { (state : WiresOf) (from wire : ℕ) (bytes : List ℕ) → wire < length state.frames.queues
+        → BlocksAddUp state.frames → BlocksAddUp (put_into from wire bytes state).frames }
+    ensures take { (state : WiresOf) (wire hand : ℕ)
+        → wire < length state.frames.queues → hand < length state.frames.queues
+        → 1 ≤ length (wire_at state wire)
+        → BlocksAddUp state.frames → BlocksAddUp (take_from wire hand state).frames }
+    ensures release { (state : WiresOf) (hand : ℕ)
+        → BlocksAddUp state.frames → BlocksAddUp (release_from hand state).frames }
+    ensures fail { (state : WiresOf) (at : ℕ)
+        → BlocksAddUp state.frames → BlocksAddUp (fail_at at state).frames }
+    ensures repair { (state : WiresOf) (at : ℕ)
+        → BlocksAddUp state.frames → BlocksAddUp (repair_at at state).frames }
+    ensures told { (state : WiresOf) (wire n : ℕ) → BlocksAddUp state.frames
+        → BlocksAddUp (lose_on wire n state).frames × BlocksAddUp (again_on wire n state).frames
+        × BlocksAddUp (swap_on wire n state).frames }
 {}

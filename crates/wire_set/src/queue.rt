@@ -1,4 +1,7 @@
-ghost use Rattle.std.specs.Prelude.{◌≡◌, ◌≢◌, ◌+◌, ◌-◌, ◌<◌, ◌≤◌, ◌++◌, ◌∷◌, [], ℕ, length, take, drop, replicate, None, Some, IfOk, slice_index_or};
+ghost use Rattle.std.specs.Prelude.{◌≡◌, ◌≢◌, ◌+◌, ◌-◌, ◌<◌, ◌≤◌, ◌++◌, ◌∷◌, [], ℕ, length, take, drop};
+ghost use Rattle.std.specs.Prelude.{replicate};
+ghost use Rattle.std.specs.Prelude.{None, Some, IfOk, slice_index_or};
+ghost use Rattle.frame_region.specs.declared.region.TheConstants.{MOST_BLOCKS};
 ghost use Rattle.wire_set.specs.Queues.{QueuesOf, IsApart, IsNew, empty, queue_at, slot, with_queue};
 
 use an_base::memory::OutOfMemory;
@@ -34,7 +37,7 @@ impl Model for Queues {
 
 // The queue with one more slip at its end.
 fn appended(queue: Queue, number: u32) -> Queue
-    requires { queue.count ≤ 1048576 }
+    requires { queue.count ≤ MOST_BLOCKS }
     ensures first { queue.count ≡ 0 → result.first ≡ number }
     ensures kept { 1 ≤ queue.count → result.first ≡ queue.first }
     ensures last { result.last ≡ number }
@@ -80,7 +83,7 @@ fn shortened(queue: Queue, second: u32) -> Queue
 
 // So many empty queues.
 fn empty_queues(alloc: Global, queues: usize) -> Result<Vec<Queue>, OutOfMemory>
-    ensures { IfOk result (λ v. v.items ≡ replicate queues empty) }
+    ensures { IfOk result (λ all. all.items ≡ replicate queues empty) }
 {
     let mut all = Vec::with_capacity(alloc, queues)?;
     'queues: for _ in 0..queues {
@@ -95,7 +98,7 @@ fn empty_queues(alloc: Global, queues: usize) -> Result<Vec<Queue>, OutOfMemory>
 
 // So many empty places.
 fn empty_places(alloc: Global, places: u32) -> Result<Vec<Option<Slip>>, OutOfMemory>
-    ensures { IfOk result (λ v. length v.items ≡ places) }
+    ensures { IfOk result (λ all. length all.items ≡ places) }
 {
     let mut all = Vec::with_capacity(alloc, places as usize)?;
     'places: for _ in 0..places {
@@ -107,8 +110,8 @@ fn empty_places(alloc: Global, places: u32) -> Result<Vec<Option<Slip>>, OutOfMe
 impl Queues {
     /// So many empty queues with so many places, at most 1,048,576.
     pub fn new(alloc: Global, queues: usize, places: u32) -> Result<Self, OutOfMemory>
-        requires { places ≤ 1048576 }
-        ensures { IfOk result (λ v. v ≡ record { queues = replicate queues []; places = places }) }
+        requires { places ≤ MOST_BLOCKS }
+        ensures { IfOk result (λ all. all ≡ record { queues = replicate queues []; places = places }) }
     {
         Ok(Queues {
             slips: empty_places(alloc, places)?,
@@ -121,7 +124,7 @@ impl Queues {
     pub fn len(&self, q: usize) -> u32
         requires { q < length self.now.queues }
         ensures len { result ≡ length (queue_at self.now q) }
-        ensures most { result ≤ 1048576 }
+        ensures most { result ≤ MOST_BLOCKS }
         ensures apart { IsApart self.now }
     {
         self.queues[q].count
@@ -164,7 +167,8 @@ impl Queues {
     pub fn pop_second(&mut self, q: usize) -> Slip
         requires { 2 ≤ length (queue_at self.old q) }
         ensures slip { result ≡ slot self.old q 1 }
-        ensures rest { self.new ≡ with_queue q (take 1 (queue_at self.old q) ++ drop 2 (queue_at self.old q)) self.old }
+        ensures rest { self.new
+            ≡ with_queue q (take 1 (queue_at self.old q) ++ drop 2 (queue_at self.old q)) self.old }
         ensures apart { IsApart self.old }
         ensures place { result < self.old.places }
     {

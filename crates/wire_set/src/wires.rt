@@ -1,8 +1,19 @@
-ghost use Rattle.std.specs.Prelude.{◌≡◌, ◌+◌, ◌*◌, ◌<◌, ◌≤◌, ◌/◌, ◌%◌, ℕ, true, [], length, map, min, IfOk, ◌^◌, ◌-◌};
+ghost use Rattle.std.specs.Prelude.{◌≡◌, ◌+◌, ◌*◌, ◌<◌, ◌≤◌, ◌/◌, ◌%◌, ℕ, true, [], length, map, min, IfOk};
+ghost use Rattle.std.specs.Prelude.{◌^◌, ◌-◌};
 ghost use Rattle.std.specs.List.{range_with_len};
 ghost use Rattle.net_graph.specs.Wires.{far_at};
 ghost use Rattle.wire_set.specs.Frames.{clear, occupied};
-ghost use Rattle.wire_set.specs.WireState.{HasLink, IsUsed, WiresOf, again_on, copied_from, dropped_at, fail_at, far_place, hand_of, held_from, how_taken, is_link, is_second, link_set, lose_on, place, put_into, release_from, repair_at, side_at, side_of, start, swap_on, take_from, taken_frame, what_becomes, what_copy_becomes, wire_at, wire_out, with_up};
+ghost use Rattle.frame_region.specs.declared.buffer.TheConstants.{MOST_FRAME};
+ghost use Rattle.frame_region.specs.declared.region.TheConstants.{MOST_BLOCKS};
+ghost use Rattle.wire_set.specs.WireState.{HasLink, IsUsed, WiresOf, again_on, copied_from, dropped_at};
+ghost use Rattle.wire_set.specs.WireState.{fail_at};
+ghost use Rattle.wire_set.specs.WireState.{far_place, hand_of, held_from, how_taken, is_link, is_second};
+ghost use Rattle.wire_set.specs.WireState.{link_set};
+ghost use Rattle.wire_set.specs.WireState.{lose_on, place, put_into, release_from, repair_at, side_at};
+ghost use Rattle.wire_set.specs.WireState.{side_of};
+ghost use Rattle.wire_set.specs.WireState.{start, swap_on, take_from, taken_frame, what_becomes};
+ghost use Rattle.wire_set.specs.WireState.{what_copy_becomes};
+ghost use Rattle.wire_set.specs.WireState.{wire_at, wire_out, with_up};
 
 use crate::frames::Frames;
 use crate::side::{Loss, Put, Side, Taken};
@@ -52,8 +63,12 @@ fn far_place(far: Option<Far>) -> usize
 
 // The sides of all ports, with all links up.
 fn sides_of(alloc: Global, wiring: &Wiring) -> Result<Vec<Side>, OutOfMemory>
-    ensures sides { IfOk result (λ sides. sides.items ≡ map (λ at. side_of (far_at wiring.now (at / 13) (at % 13))) (range_with_len 0 (13 * length wiring.now.switches))) }
-    ensures far { IfOk result (λ sides. (at : ℕ) → at < 13 * length wiring.now.switches → is_link (far_at wiring.now (at / 13) (at % 13)) ≡ true → far_place (far_at wiring.now (at / 13) (at % 13)) < 13 * length wiring.now.switches) }
+    ensures sides { IfOk result (λ sides. sides.items
+        ≡ map (λ at. side_of (far_at wiring.now (at / 13) (at % 13)))
+        (range_with_len 0 (13 * length wiring.now.switches))) }
+    ensures far { IfOk result (λ sides. (at : ℕ) → at < 13 * length wiring.now.switches
+        → is_link (far_at wiring.now (at / 13) (at % 13)) ≡ true
+        → far_place (far_at wiring.now (at / 13) (at % 13)) < 13 * length wiring.now.switches) }
 {
     let count = PLACES * usize::from(wiring.count());
     let mut sides = Vec::with_capacity(alloc, count)?;
@@ -71,12 +86,11 @@ fn sides_of(alloc: Global, wiring: &Wiring) -> Result<Vec<Side>, OutOfMemory>
 }
 
 impl WireSet {
-    /// The wires of a wiring, with so many blocks for their frames, 1 to 1,048,576: all links are up, and
-    /// nothing is on the wires.
+    /// The wires of a wiring, with so many blocks for their frames, at most 1,048,576: all links are up,
+    /// and nothing is on the wires.
     pub fn begin(alloc: Global, wiring: &Wiring, blocks: u32) -> Result<Self, OutOfMemory>
-        requires least { 1 ≤ blocks }
-        requires most { blocks ≤ 1048576 }
-        ensures { IfOk result (λ w. w ≡ start wiring.now blocks) }
+        requires { blocks ≤ MOST_BLOCKS }
+        ensures { IfOk result (λ wires. wires ≡ start wiring.now blocks) }
     {
         let sides = sides_of(alloc, wiring)?;
         let frames = Frames::new(alloc, sides.len(), blocks)?;
@@ -89,7 +103,7 @@ impl WireSet {
     pub fn put(&mut self, s: u8, port: u8, bytes: &[u8]) -> Put
         requires link { HasLink self.old s port }
         requires least { 1 ≤ length bytes.now }
-        requires most { length bytes.now ≤ 22591 }
+        requires most { length bytes.now ≤ MOST_FRAME }
         ensures put { self.new ≡ put_into (place s port) (wire_out self.old s port) bytes.now self.old }
         ensures what { result ≡ what_becomes (place s port) (wire_out self.old s port) bytes.now self.old }
     {
@@ -211,7 +225,7 @@ impl WireSet {
         requires from { from < length self.old.sides }
         requires wire { wire < length self.old.sides }
         requires least { 1 ≤ length bytes.now }
-        requires most { length bytes.now ≤ 22591 }
+        requires most { length bytes.now ≤ MOST_FRAME }
         ensures put { self.new ≡ put_into from wire bytes.now self.old }
         ensures what { result ≡ what_becomes from wire bytes.now self.old }
     {
@@ -253,7 +267,7 @@ impl WireSet {
     fn copy(&mut self, wire: usize, bytes: &[u8]) -> Option<Put>
         requires link { is_link (side_at self.old wire).far ≡ true }
         requires least { 1 ≤ length bytes.now }
-        requires most { length bytes.now ≤ 22591 }
+        requires most { length bytes.now ≤ MOST_FRAME }
         ensures copied { self.new ≡ copied_from wire bytes.now self.old }
         ensures what { result ≡ what_copy_becomes wire bytes.now self.old }
     {

@@ -16,7 +16,7 @@ unwrap-channels-requires c =
     let levels = c.in_ok-levels.levels.items in
     let are : AreSteps wires c.args.rows.now None steps = rw c.deref.ensures.value at c.in_ok-steps.ensures in
     let late : (s : Channel) × IsSpot s × IsLinked steps s × (level_at levels s ≡ None) = rw (c.deref-2.ensures.value, c.if-not-are_all_ranked.true) at c.are_all_ranked.ensures in
-    some_cycle wires c.args.rows.now steps levels c.in_ok-wires.ensures.within are c.in_ok-levels.ensures late.0 late.1 late.2 late.3 c.in_ok-least_cycle.field-0 c.in_ok-least_cycle.ensures
+    some_cycle wires c.args.rows.now steps levels c.in_ok-wires.ensures.links.within are c.in_ok-levels.ensures late.0 late.1 late.2 late.3 c.in_ok-least_cycle.field-0 c.in_ok-least_cycle.ensures
 
 pub returns-then-not-are_all_ranked-clause-refused : goal.returns-then-not-are_all_ranked-clause-refused
 returns-then-not-are_all_ranked-clause-refused c =
@@ -26,7 +26,7 @@ returns-then-not-are_all_ranked-clause-refused c =
     let channels = c.unwrap-channels.result in
     let are : AreSteps wires rows None steps = rw c.deref.ensures.value at c.in_ok-steps.ensures in
     let least : IsLeastCycle (Step steps) channels = rw c.unwrap-channels.ensures at c.in_ok-least_cycle.ensures in
-    subst (λ (far : Channel → Option Channel). IsLeastCycle (LeadsTo far rows) channels) (fun_ext c.in_ok-wires.ensures.each) (least_leads wires rows steps c.in_ok-levels.levels.items c.in_ok-wires.ensures.within are c.in_ok-levels.ensures channels least)
+    subst (λ (far : Channel → Option Channel). IsLeastCycle (LeadsTo far rows) channels) (fun_ext c.in_ok-wires.ensures.each) (least_leads wires rows steps c.in_ok-levels.levels.items c.in_ok-wires.ensures.links.within are c.in_ok-levels.ensures channels least)
 
 pub returns-in-Some-clause-refused : goal.returns-in-Some-clause-refused
 returns-in-Some-clause-refused c =
@@ -39,7 +39,7 @@ returns-in-Some-clause-refused c =
     let are : AreSteps wires rows None steps = rw c.deref.ensures.value at c.in_ok-steps.ensures in
     let all : (s : Channel) → IsSpot s → IsLinked steps s → level_at levels s ≡ None → ⊥ = rw (c.deref-2.ensures.value, c.if-not-are_all_ranked.false) at c.are_all_ranked.ensures in
     let least : IsLeastGap (wire_at wires) numbers rows gap.from gap.to gap.at gap.entry = rw (c.deref-3.ensures.value, c.in-Some.is) at c.in_ok-gap.ensures in (
-      subst (λ (far : Channel → Option Channel). HasNoCycle (LeadsTo far rows)) (fun_ext c.in_ok-wires.ensures.each) (no_cycle wires rows steps levels c.in_ok-wires.ensures.within are c.in_ok-levels.ensures all),
+      subst (λ (far : Channel → Option Channel). HasNoCycle (LeadsTo far rows)) (fun_ext c.in_ok-wires.ensures.each) (no_cycle wires rows steps levels c.in_ok-wires.ensures.links.within are c.in_ok-levels.ensures all),
       subst (λ (far : Channel → Option Channel). IsLeastGap far numbers rows gap.from gap.to gap.at gap.entry) (fun_ext c.in_ok-wires.ensures.each) least,
     )
 
@@ -53,7 +53,7 @@ returns-in-Some-least_illegal-clause-refused c =
     let are : AreSteps wires rows None steps = rw c.deref.ensures.value at c.in_ok-steps.ensures in
     let all : (s : Channel) → IsSpot s → IsLinked steps s → level_at levels s ≡ None → ⊥ = rw (c.deref-2.ensures.value, c.if-not-are_all_ranked.false) at c.are_all_ranked.ensures in
     let joined : AllAreJoined (wire_at wires) numbers rows = rw (c.deref-3.ensures.value, c.in_default.is) at c.in_ok-gap.ensures in (
-      subst (λ (far : Channel → Option Channel). HasNoCycle (LeadsTo far rows)) (fun_ext c.in_ok-wires.ensures.each) (no_cycle wires rows steps levels c.in_ok-wires.ensures.within are c.in_ok-levels.ensures all),
+      subst (λ (far : Channel → Option Channel). HasNoCycle (LeadsTo far rows)) (fun_ext c.in_ok-wires.ensures.each) (no_cycle wires rows steps levels c.in_ok-wires.ensures.links.within are c.in_ok-levels.ensures all),
       subst (λ (far : Channel → Option Channel). AllAreJoined far numbers rows) (fun_ext c.in_ok-wires.ensures.each) joined,
       rw c.in-Some-least_illegal.is at c.least_illegal.ensures,
     )
@@ -69,8 +69,8 @@ returns-clause-passes c =
     let all : (s : Channel) → IsSpot s → IsLinked steps s → level_at levels s ≡ None → ⊥ = rw (c.deref-2.ensures.value, c.if-not-are_all_ranked.false) at c.are_all_ranked.ensures in
     let joined : AllAreJoined (wire_at wires) numbers rows = rw (c.deref-3.ensures.value, c.in_default.is) at c.in_ok-gap.ensures in
     record {
-      no_cycle = subst (λ (far : Channel → Option Channel). HasNoCycle (LeadsTo far rows)) (fun_ext c.in_ok-wires.ensures.each) (no_cycle wires rows steps levels c.in_ok-wires.ensures.within are c.in_ok-levels.ensures all);
+      no_cycle = subst (λ (far : Channel → Option Channel). HasNoCycle (LeadsTo far rows)) (fun_ext c.in_ok-wires.ensures.each) (no_cycle wires rows steps levels c.in_ok-wires.ensures.links.within are c.in_ok-levels.ensures all);
       joined = subst (λ (far : Channel → Option Channel). AllAreJoined far numbers rows) (fun_ext c.in_ok-wires.ensures.each) joined;
       legal = rw c.in_default-least_illegal.is at c.least_illegal.ensures;
-      ranked = subst (λ (far : Channel → Option Channel). AreRanks (IsChannel far) (LeadsTo far rows) (rank_at levels)) (fun_ext c.in_ok-wires.ensures.each) (are_ranks wires rows steps levels c.in_ok-wires.ensures.within are c.in_ok-levels.ensures all);
+      ranked = subst (λ (far : Channel → Option Channel). AreRanks (IsChannel far) (LeadsTo far rows) (rank_at levels)) (fun_ext c.in_ok-wires.ensures.each) (are_ranks wires rows steps levels c.in_ok-wires.ensures.links.within are c.in_ok-levels.ensures all);
     }

@@ -16,10 +16,10 @@ least_end-requires c =
 pub unwrap-end-requires : goal.unwrap-end-requires
 unwrap-end-requires c =
     let parted : IsLeastParted (wire_at c.args.wires.now) c.args.numbers.now c.args.rows.now 127 c.in-Some.pair = rw c.in-Some.is at c.in_ok-pair.ensures in
-    let end = some_end c.args.wires.now c.args.rows.now c.args.numbers.now c.in-Some.pair c.in_ok-steps.steps c.requires c.in_ok-steps.ensures c.as_slice-names.ensures.numbers parted c.in_ok-least_end.field-0 c.in_ok-least_end.ensures in
+    let end = some_end c.args.wires.now c.args.rows.now c.args.numbers.now c.in-Some.pair c.in_ok-steps.steps c.requires.within c.in_ok-steps.ensures c.as_slice-names.ensures.numbers parted c.in_ok-least_end.field-0 c.in_ok-least_end.ensures in
     rw end.1 refl
 
 pub returns : goal.returns
 returns c =
     let parted : IsLeastParted (wire_at c.args.wires.now) c.args.numbers.now c.args.rows.now 127 c.in-Some.pair = rw c.in-Some.is at c.in_ok-pair.ensures in
-    least_gap c.args.wires.now c.args.rows.now c.args.numbers.now c.in-Some.pair c.in_ok-steps.steps c.requires c.in_ok-steps.ensures c.as_slice-names.ensures.numbers parted c.unwrap-end.result (rw c.unwrap-end.ensures at c.in_ok-least_end.ensures)
+    least_gap c.args.wires.now c.args.rows.now c.args.numbers.now c.in-Some.pair c.in_ok-steps.steps c.requires.within c.in_ok-steps.ensures c.as_slice-names.ensures.numbers parted c.unwrap-end.result (rw c.unwrap-end.ensures at c.in_ok-least_end.ensures)

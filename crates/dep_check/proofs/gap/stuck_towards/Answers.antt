@@ -12,5 +12,5 @@ returns-then-is_none c = no_target (wire_at c.args.wires.now) c.args.numbers.now
 pub returns : goal.returns
 returns c = elim (option_cases (place_in c.args.numbers.now c.args.to)) [
   | inl none ↦ absurd (yes_none c.place_in.result (place_in c.args.numbers.now c.args.to) c.is_none.result c.place_in.ensures.place c.is_none.ensures c.if-is_none.false none)
-  | inr some ↦ first_parted c.args.wires.now c.args.rows.now c.args.numbers.now c.args.to c.in_ok-steps.steps c.in_ok-levels.levels.items c.requires c.in_ok-steps.ensures c.place_in.ensures.numbers (place_contained c.args.numbers.now c.args.to some.0 some.1).0 c.in_ok-levels.ensures c.first_stuck.result (rw c.deref.ensures.value at c.first_stuck.ensures)
+  | inr some ↦ first_parted c.args.wires.now c.args.rows.now c.args.numbers.now c.args.to c.in_ok-steps.steps c.requires.wires.within c.in_ok-steps.ensures c.place_in.ensures.numbers (place_contained c.args.numbers.now c.args.to some.0 some.1).0 c.in_ok-first.first c.in_ok-first.ensures
 ]

@@ -1,7 +1,9 @@
-use Rattle.std.proofs.Common.{◌≡◌}
-use Rattle.dep_check.specs.Search.{AreGoals}
+use Rattle.std.proofs.Common.{◌≡◌, length}
+use Rattle.dep_check.specs.declared.level.Rule.TheVariants.{Nearest}
+use Rattle.dep_check.specs.Search.{AreNearestBelow}
+use Rattle.dep_check.specs.Rounds.{AreDue}
 use Rattle.dep_check.proofs.level.nearest_to.Given as goal
 
--- the goals so far
-abbrev pub invariant-spots : goal.invariant-spots
-invariant-spots l = AreGoals (λ s. s ≡ l.goal) l.place l.goals.items
+-- the levels below the round, and what is due next
+abbrev pub invariant-rounds : goal.invariant-rounds
+invariant-rounds l = record { below : AreNearestBelow l.steps (λ s. s ≡ l.fn.goal) l.round l.levels.items; due : AreDue Nearest l.steps l.levels.items l.due.items; count : length l.levels.items ≡ 1651 }

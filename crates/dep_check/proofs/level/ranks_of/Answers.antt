@@ -1,24 +1,61 @@
-use Rattle.std.proofs.Common.{Some}
+use Rattle.std.proofs.Common.{◌≡◌, ◌∙◌, sym, ap, subst, ◌<◌, ◌+◌, ℕ, List, [], ◌∷◌, length, Some, arith}
 use Rattle.std.specs.Prelude.{Contains}
-use Rattle.dep_check.proofs.SpotLemmas.{level_there, level_contained}
+use Rattle.dep_check.specs.declared.channel.Channel.{Channel}
+use Rattle.dep_check.specs.declared.level.Rule.TheVariants.{Rank}
+use Rattle.dep_check.specs.Tables.{IsSpot, level_at}
+use Rattle.dep_check.specs.Rounds.{AddsDue, LeadsToOne, IsRaisedTo}
 use Rattle.dep_check.proofs.RankLemmas.{rank_first, rank_more, rank_done, rank_few}
+use Rattle.dep_check.proofs.RoundLemmas.{told_empty, told_some, due_rank, raised_all, raised_full, none_raised, some_raised}
 use Rattle.dep_check.proofs.level.ranks_of.Goals as goal
 
 pub rounds-init : goal.rounds-init
-rounds-init c = rank_first c.args.steps.now c.in_ok-levels.levels.items c.in_ok-levels.ensures
+rounds-init c = record {
+  below = rank_first c.args.steps.now c.in_ok-levels.levels.items c.in_ok-levels.ensures.none;
+  due = rw c.deref.ensures.value at c.in_ok-due.ensures;
+  count = c.in_ok-levels.ensures.count;
+}
 
-pub returns-then-not-is_level : goal.returns-then-not-is_level
-returns-then-not-is_level c =
-    let new = c.in_ok-new.new.items in
-    rank_done c.args.steps.now c.rounds.round c.rounds.levels.items new c.rounds.invariant (rw (c.deref.ensures.value) at c.in_ok-new.ensures)
-    (λ s spot e. absurd (let f = c.if-not-is_level.true in let t = c.is_level.ensures.1 (rw c.deref-in-rounds.ensures.value (level_contained new c.rounds.round s c.in_ok-new.ensures.count spot e)) in cc))
+pub raise-requires-clause-count : goal.raise-requires-clause-count
+raise-requires-clause-count c = c.rounds.invariant.count
+
+pub raise-requires-clause-spots : goal.raise-requires-clause-spots
+raise-requires-clause-spots c = λ s has. (c.rounds.invariant.due.each s (rw c.deref-in-rounds.ensures.value at has)).spot
+
+pub returns-then-is_empty : goal.returns-then-is_empty
+returns-then-is_empty c =
+    let steps = c.args.steps.now in
+    let r = c.rounds.round in
+    let old = c.rounds.levels.items in
+    let new = c.raise.new.levels.items in
+    let due = c.rounds.due.items in
+    let raised = c.in_ok-raised.raised.items in
+    let so_far = c.rounds.invariant.below in
+    let up : IsRaisedTo r old due new raised = rw c.deref-in-rounds.ensures.value at c.in_ok-raised.ensures in
+    rank_done steps r old new so_far (raised_all Rank steps r old new due raised c.rounds.invariant.due up)
+    (none_raised r old new due raised (told_empty c.is_empty.result _ (length raised) c.is_empty.ensures c.if-is_empty.true (ap (λ (xs : List Channel). length xs) c.as_slice.ensures.value)) (λ s n spot e. (so_far.ranked s n spot e).1) up)
+
+pub due_before-requires-clause-spots : goal.due_before-requires-clause-spots
+due_before-requires-clause-spots c = λ s has.
+    let up : IsRaisedTo c.rounds.round c.rounds.levels.items c.rounds.due.items c.raise.new.levels.items c.in_ok-raised.raised.items = rw c.deref-in-rounds.ensures.value at c.in_ok-raised.ensures in
+    (up.each s (rw c.deref-in-rounds-3.ensures.value at has)).0
 
 pub rounds-preserved : goal.rounds-preserved
 rounds-preserved c =
-    let new = c.in_ok-new.new.items in
-    let there : Contains new (Some c.rounds.round) = rw c.deref-in-rounds.ensures.value at (c.is_level.ensures.0 c.if-not-is_level.false) in
-    let s = level_there new c.rounds.round c.in_ok-new.ensures.count there in
-    rank_more c.args.steps.now c.rounds.round c.rounds.levels.items new c.rounds.invariant (rw (c.deref.ensures.value) at c.in_ok-new.ensures) s.0 s.1 s.2
+    let steps = c.args.steps.now in
+    let r = c.rounds.round in
+    let old = c.rounds.levels.items in
+    let new = c.raise.new.levels.items in
+    let due = c.rounds.due.items in
+    let raised = c.in_ok-raised.raised.items in
+    let so_far = c.rounds.invariant.below in
+    let up : IsRaisedTo r old due new raised = rw c.deref-in-rounds.ensures.value at c.in_ok-raised.ensures in
+    let s = some_raised r old new due raised (told_some c.is_empty.result _ (length raised) c.is_empty.ensures c.if-is_empty.false (ap (λ (xs : List Channel). length xs) c.as_slice.ensures.value)) up in
+    let more = rank_more steps r old new so_far (raised_all Rank steps r old new due raised c.rounds.invariant.due up) s.0 s.1 s.2 in
+    record {
+      below = more;
+      due = due_rank steps (r + 1) new raised c.in_ok-due-2.due.items (omega arith) more (raised_full r old new due raised (λ s n spot e. (so_far.ranked s n spot e).1) up) (rw (c.deref-in-rounds-2.ensures.value, c.deref-in-rounds-3.ensures.value) at c.in_ok-due-2.ensures);
+      count = up.count;
+    }
 
 pub unreachable-requires : goal.unreachable-requires
-unreachable-requires c = rank_few c.args.steps.now c.rounds.round c.rounds.levels.items c.rounds.invariant c.rounds-test.false
+unreachable-requires c = rank_few c.args.steps.now c.rounds.round c.rounds.levels.items c.rounds.invariant.below c.rounds-test.false

@@ -14,4 +14,4 @@ pub spots-preserved : goal.spots-preserved
 spots-preserved c = rw c.in_ok-push.ensures.items (wires_more (far_at c.args.graph.now c.args.numbers.now) c.spots.place c.spots.wires.items c.spot_at.result c.far_at.result c.spots.invariant c.spot_at.ensures.spot c.spot_at.ensures.place c.far_at.ensures.far (within_if c.far_at.result c.far_at.ensures.spot))
 
 pub returns : goal.returns
-returns c = all_wires c.args.graph.now c.args.numbers.now c.spots.wires.items c.spots.place c.count-count.ensures.graph c.as_slice-names.ensures.numbers (omega arith) c.spots.invariant
+returns c = all_wires c.args.graph.now c.args.numbers.now c.spots.wires.items c.spots.place c.count-count.ensures.graph c.as_slice-names.ensures.numbers c.requires (omega arith) c.spots.invariant

@@ -1,4 +1,4 @@
-use Rattle.std.proofs.Common.{◌≡◌, ◌-◌, drop}
+use Rattle.std.proofs.Common.{◌≡◌, drop}
 use Rattle.ordered_link.proofs.sender.drop_front.Given as goal
 
 abbrev pub invariant-dropped : goal.invariant-dropped

@@ -1,4 +1,4 @@
-use Rattle.report.specs.Rows.{AreDecimals}
+use Rattle.report.specs.Decimals.{AreDecimals}
 use Rattle.report.proofs.decimals.words_of.Given as goal
 
 -- the numbers so far

@@ -1,7 +1,8 @@
 use Rattle.std.proofs.Common.{◌∙◌, ◌++◌, ◌∷◌, [], ap, List}
 use Rattle.an_base.specs.Values.{EntryOf}
 use Rattle.an_base.specs.Rows.{RowOf}
-use Rattle.report.specs.Rows.{row_lines}
+use Rattle.report.specs.Rows.{member_rows}
+use Rattle.report.specs.Expect.{table_text}
 use Rattle.report.proofs.TextLemmas.{numbered, tables_more, tables_text}
 use Rattle.report.proofs.expect.push_tables.Goals as goal
 
@@ -19,5 +20,5 @@ members-preserved c =
     let table = c.in_ok-table.table in
     let is = rw (c.requires, c.in_ok-graph.ensures) at c.in_ok-table.ensures in
     let old = c.members.text.items in
-    let line = c.in_ok-push_row_lines.ensures ∙ ap (λ (rows : List RowOf). old ++ row_lines s c.in_ok-graph.graph c.members.x rows) c.as_slice.ensures ∙ ap (λ (g : List EntryOf). old ++ row_lines s g c.members.x table.rows) c.in_ok-graph.ensures in
+    let line = c.in_ok-push_row_lines.ensures ∙ ap (λ (rows : List RowOf). old ++ table_text (member_rows s c.in_ok-graph.graph c.members.x rows)) c.as_slice.ensures ∙ ap (λ (g : List EntryOf). old ++ table_text (member_rows s g c.members.x table.rows)) c.in_ok-graph.ensures in
     (i.0 ++ table ∷ [], tables_more es c.args.any c.members.x i.0 table i.1 is, tables_text s es c.members.x i.0 table c.args.text.now.items c.members.text.items c.push_row_lines.new.text.items i.1.count i.2 line)

@@ -4,7 +4,7 @@ use Rattle.frame_region.proofs.region.Region.new.Goals as goal
 
 pub invariant_of-result : goal.invariant_of-result
 invariant_of-result c =
-    start_kept _ _ _ _ c.requires.most (omega (arith, c.in_ok-bytes.ensures.len)) c.in_ok-next.ensures.count c.in_ok-next.ensures.next
+    start_kept _ _ _ _ c.requires (omega (arith, c.in_ok-bytes.ensures.len)) c.in_ok-next.ensures.count c.in_ok-next.ensures.next
     (c.in_ok-lens.ensures.items_if_clones_equal (λ y is. is))
 
 pub returns : goal.returns

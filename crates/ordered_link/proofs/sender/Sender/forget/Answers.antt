@@ -1,4 +1,4 @@
-use Rattle.std.proofs.Common.{rules, ◌≡◌, ◌≤◌, ◌∙◌, ◌-◌, subst, sym, refl, ap, arith, take, length, length-take}
+use Rattle.std.proofs.Common.{rules, ◌≤◌, ◌∙◌, ◌-◌, subst, sym, refl, ap, arith, take, length, length-take}
 use Rattle.ordered_link.specs.Sending.{IsKeptOf}
 use Rattle.ordered_link.proofs.SendingLemmas.{kept_forgotten, rotated}
 use Rattle.ordered_link.proofs.sender.Sender.forget.Goals as goal

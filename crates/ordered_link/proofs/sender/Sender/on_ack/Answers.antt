@@ -1,4 +1,4 @@
-use Rattle.std.proofs.Common.{rules, ◌≡◌, ◌-◌, ◌+◌, subst, sym, refl, ap, arith}
+use Rattle.std.proofs.Common.{rules, subst, sym, ap, arith}
 use Rattle.ordered_link.specs.Sending.{SenderOf, IsKeptOf, forget}
 use Rattle.ordered_link.proofs.SendingLemmas.{counted, outstanding}
 use Rattle.ordered_link.proofs.sender.Sender.on_ack.Goals as goal

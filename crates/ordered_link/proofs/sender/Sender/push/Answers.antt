@@ -1,4 +1,4 @@
-use Rattle.std.proofs.Common.{rules, ◌≡◌, subst, sym, refl}
+use Rattle.std.proofs.Common.{rules, subst, sym, refl}
 use Rattle.ordered_link.specs.Sending.{IsKeptOf, with_pushed}
 use Rattle.ordered_link.proofs.SendingLemmas.{kept_pushed, pushed_at_once, none_waits}
 use Rattle.ordered_link.proofs.sender.Sender.push.Goals as goal

@@ -1,23 +1,16 @@
-use Rattle.std.proofs.Common.{◌∙◌, sym, ap, subst, List, [], ◌∷◌, ◌++◌, ℕ, Option, map}
+use Rattle.std.proofs.Common.{◌∙◌, sym, ap, List, [], ◌∷◌, ◌++◌, ℕ, Option, map}
 use Rattle.an_base.specs.declared.body.Body.{Body}
 use Rattle.an_base.specs.declared.frame.Frame.TheVariants.{Carry}
 use Rattle.frame_codec.specs.Spelling.{carried}
 use Rattle.ordered_link.specs.Session.{numbered}
 use Rattle.switch_core.specs.Steps.{carried_to}
 use Rattle.switch_core.specs.Bytes.{all_spelled}
-use Rattle.switch_core.specs.declared.control.Control.{Control}
-use Rattle.switch_core.specs.declared.session.Sessions.{Sessions}
-use Rattle.switch_core.specs.Sessions.{AreSessions, IsOutAt}
 use Rattle.switch_core.proofs.StandsLemmas.{carried_spelled}
 use Rattle.switch_core.proofs.control.Control.carry.Goals as goal
 
-pub body-requires-clause-out : goal.body-requires-clause-out
-body-requires-clause-out c = subst (λ (x : Sessions). IsOutAt x c.args.port c.args.k) (sym (ap (λ (s : Control). s.sessions) c.in_ok-buffer.ensures)) c.requires.number
-
 pub returns-clause-out : goal.returns-clause-out
 returns-clause-out c s stands =
-    let sessions = subst (λ (x : Sessions). AreSessions x s.sendings s.receivings) (sym (ap (λ (x : Control). x.sessions) c.in_ok-buffer.ensures)) stands.sessions in
-    let there = c.body.ensures s.sendings s.receivings sessions in
+    let there = c.body.ensures s.sendings s.receivings stands.sessions in
     let spelled = c.bytes.ensures.all ∙ c.encode_carry.ensures.spelled
     ∙ carried_spelled c.args.self.now s c.args.port c.args.k c.args.peer c.end_at.result c.new-head.result c.body.result.now stands c.end_at.ensures c.new-head.ensures in
     c.in_ok-push.ensures.ok ∙ ap (λ (b : List ℕ). c.args.out.now ++ record { port = c.args.port; bytes = b } ∷ []) spelled

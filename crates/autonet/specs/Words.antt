@@ -1,0 +1,27 @@
+-- The answer of the program to the words of a call.
+
+use Rattle.std.specs.Prelude.{◌≡◌, ◌≢◌, ℕ, List, [], ◌∷◌, codes}
+use Rattle.autonet.specs.Answer.{Streams, IsAnswer, IsUsageAnswer, input_limit}
+use Rattle.autonet.specs.Expect.{gives_expected, refuses_script}
+use Rattle.autonet.specs.Check.{gives_judged, refuses_tables}
+use Rattle.autonet.specs.Flood.{gives_flooded}
+
+-- the answer to `expect`
+abbrev pub IsExpectAnswer : Streams → Streams → ℕ → Type 0
+IsExpectAnswer old new answer = IsAnswer input_limit gives_expected refuses_script old new answer
+
+-- the answer to `check`
+abbrev pub IsCheckAnswer : Streams → Streams → ℕ → Type 0
+IsCheckAnswer old new answer = IsAnswer input_limit gives_judged refuses_tables old new answer
+
+-- the answer to `flood`
+abbrev pub IsFloodAnswer : Streams → Streams → ℕ → Type 0
+IsFloodAnswer old new answer = IsAnswer input_limit gives_flooded refuses_script old new answer
+
+-- the answer to words: that of the command that they name, and the usage line where they name none
+pub record IsAnswerTo (words : List (List ℕ)) (old new : Streams) (answer : ℕ) : Type 0 where
+  pub expect : words ≡ codes "expect" ∷ [] → IsExpectAnswer old new answer
+  pub check : words ≡ codes "check" ∷ [] → IsCheckAnswer old new answer
+  pub flood : words ≡ codes "flood" ∷ [] → IsFloodAnswer old new answer
+  pub usage : words ≢ codes "expect" ∷ [] → words ≢ codes "check" ∷ [] → words ≢ codes "flood" ∷ []
+      → IsUsageAnswer old new answer

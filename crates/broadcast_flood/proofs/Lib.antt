@@ -1,0 +1,11 @@
+pub mod ListLemmas
+pub mod TurnLemmas
+pub mod TreeLemmas
+pub mod RootLemmas
+pub mod ChildLemmas
+pub mod UpLemmas
+pub mod DescentLemmas
+pub mod DownLemmas
+pub mod CycleLaws
+pub mod CopyLaws
+pub mod OneLaws

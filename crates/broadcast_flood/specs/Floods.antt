@@ -1,0 +1,90 @@
+-- How a broadcast goes: up to the root by parent links, and from there by every tree link downward.
+use Rattle.std.specs.Ordering.{nat_cmp, ordering_then, is_lt}
+use Rattle.std.specs.Prelude.{◌≡◌, ◌==◌, ◌+◌, ◌<◌, ◌⊎◌, ℕ, Bool, true, false, IsTrue, if◌then◌else◌}
+use Rattle.std.specs.Prelude.{List, [], ◌∷◌, ◌++◌, All, AllPairs, Contains, map, slice_index_or}
+use Rattle.std.specs.Prelude.{Option, Some, None}
+use Rattle.an_base.specs.Values.{LifeId, EntryOf}
+use Rattle.topo_graph.specs.Topology.{far_of, life_at, place_of}
+use Rattle.updown.specs.Routes.{height_cmp}
+use Rattle.broadcast_flood.specs.Tree.{parent_port, parent_of, IsDown}
+use Rattle.broadcast_flood.specs.declared.hop.FloodHop.{FloodHop}
+
+-- a hop: from the member at a place, by a port
+pub record HopOf : Type 0 where
+  pub place : ℕ
+  pub port : ℕ
+
+-- the hops up from a member to one that has no parent link, each by the parent link of who sends
+abbrev pub GoesUp : List EntryOf → ℕ → List HopOf → ℕ → Type 0
+GoesUp entries place [] top = (place ≡ top) × (parent_of entries place ≡ None)
+GoesUp entries place (hop ∷ hops) top =
+    (parent far_port : ℕ) × (hop ≡ record { place = place; port = parent_port entries place })
+    × (parent_of entries place ≡ Some (parent, far_port)) × GoesUp entries parent hops top
+
+-- by rising level of who sends, then by life, then by port
+abbrev pub IsBefore : List EntryOf → HopOf → HopOf → Type 0
+IsBefore entries hop later =
+    IsTrue (is_lt (ordering_then (height_cmp entries hop.place later.place) (nat_cmp hop.port later.port)))
+
+-- the hops down: every tree link downward, once
+pub record GoesDown (entries : List EntryOf) (hops : List HopOf) : Type 0 where
+  pub each : All (λ hop. IsDown entries hop.place hop.port) hops
+  pub whole :
+      (place port : ℕ) → IsDown entries place port → Contains hops (record { place = place; port = port })
+  pub in_order : AllPairs (IsBefore entries) hops
+
+-- the hops of a broadcast from the member at a place: up to the top, and then down
+pub record IsFlood (entries : List EntryOf) (from : ℕ) (ups downs : List HopOf) : Type 0 where
+  pub top : ℕ
+  pub up : GoesUp entries from ups top
+  pub down : GoesDown entries downs
+
+-- the k-th hop down
+abbrev pub down_hop : List HopOf → ℕ → HopOf
+down_hop downs k = slice_index_or downs k (record { place = 0; port = 0 })
+
+-- who sends the k-th hop down has its copy by then: the root, since the walk up ended there, and any other
+-- member from an earlier hop
+abbrev pub HasItsCopy : List EntryOf → List HopOf → ℕ → Type 0
+HasItsCopy entries downs k =
+    let sender = (down_hop downs k).place in
+    (parent_of entries sender ≡ None)
+    ⊎ ((j far_port : ℕ) × (j < k)
+    × (far_of entries (down_hop downs j).place (down_hop downs j).port ≡ Some (sender, far_port)))
+
+-- how many of the hops down arrive at a member
+abbrev pub is_at : ℕ → Option (ℕ × ℕ) → ℕ
+is_at member None = 0
+is_at member (Some far) = if far.0 == member then 1 else 0
+
+abbrev pub arrivals : List EntryOf → ℕ → List HopOf → ℕ
+arrivals entries member [] = 0
+arrivals entries member (hop ∷ hops) =
+    is_at member (far_of entries hop.place hop.port) + arrivals entries member hops
+
+-- how many copies a member gets: one where the walk up ends there, and one from each hop down that arrives
+-- there
+abbrev pub copies : List EntryOf → ℕ → List HopOf → ℕ → ℕ
+copies entries top downs member = (if member == top then 1 else 0) + arrivals entries member downs
+
+-- a hop by the life of who sends, up or down
+abbrev pub hop_at : List EntryOf → Bool → HopOf → FloodHop
+hop_at entries up hop = record { up = up; at = life_at entries hop.place; port = hop.port }
+
+-- a hop down from a life by a port
+abbrev pub down_at : LifeId → ℕ → FloodHop
+down_at life port = record { up = false; at = life; port = port }
+
+-- all hops of a broadcast from the entry of a life
+pub record IsBroadcast (entries : List EntryOf) (from : LifeId) (hops : List FloodHop) : Type 0 where
+  pub place : ℕ
+  pub member : place_of entries from ≡ Some place
+  pub ups : List HopOf
+  pub downs : List HopOf
+  pub flood : IsFlood entries place ups downs
+  pub hops_are : hops ≡ map (hop_at entries true) ups ++ map (hop_at entries false) downs
+
+-- the hops up alone
+abbrev pub AreHopsUp : List EntryOf → ℕ → List FloodHop → Type 0
+AreHopsUp entries from hops =
+    (ups : List HopOf) × (top : ℕ) × GoesUp entries from ups top × (hops ≡ map (hop_at entries true) ups)

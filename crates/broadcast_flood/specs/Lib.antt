@@ -1,0 +1,4 @@
+pub mod Tree
+pub mod Floods
+pub mod Kept
+pub mod Cycles

@@ -1,0 +1,283 @@
+ghost use Rattle.std.specs.Prelude.{◌≡◌, ◌↔◌, ◌<◌, ◌≤◌, ◌++◌, ℕ};
+ghost use Rattle.std.specs.Prelude.{Any, length, map, IfOk, IfSome, IsNone, OnOk};
+ghost use Rattle.topo_graph.specs.Topology.{IsGraph, IsTree, life_at};
+ghost use Rattle.broadcast_flood.specs.Kept.{AreChildren, AreHopsDown};
+ghost use Rattle.broadcast_flood.specs.Floods.{AreHopsUp, down_at, IsBroadcast};
+ghost use Rattle.broadcast_flood.specs.Tree.{AreChildPortsOf, IsParentPort};
+
+use crate::children::children_of;
+use crate::hop::FloodHop;
+use an_base::life::Life;
+use an_base::memory::OutOfMemory;
+use an_base::row::Exits;
+use std::alloc::Global;
+use std::marker::Model;
+use topo_graph::graph::Graph;
+use updown::order::Descent;
+
+// Adds the hops of a member to its children.
+fn push_hops(hops: &mut Vec<FloodHop>, at: Life, ports: &[u8]) -> Result<(), OutOfMemory>
+    ensures { OnOk result (hops.new.items ≡ hops.old.items ++ map (down_at at) ports.now) }
+{
+    'ports: for port in ports {
+        hops.push(FloodHop {
+            up: false,
+            at,
+            port: *port,
+        })?;
+    }
+    Ok(())
+}
+
+// The hops by every tree link downward, by rising level of who sends, then by life, then by port.
+fn hops_down(alloc: Global, graph: &Graph, children: &[Exits]) -> Result<Vec<FloodHop>, OutOfMemory>
+    requires graph { IsGraph graph.now }
+    requires children { AreChildren graph.now (length graph.now) children.now }
+    ensures { IfOk result (λ hops. AreHopsDown graph.now hops.items) }
+{
+    let descent = Descent::of(alloc, graph)?;
+    let mut hops = Vec::with_capacity(alloc, children.len())?;
+    'heights: for height in descent.as_slice() {
+        let ports = &children[usize::from(height.place)];
+        push_hops(&mut hops, graph.life(height.place), ports.as_slice())?;
+    }
+    Ok(hops)
+}
+
+/// How broadcasts go in a topology, whose spanning tree its positions are. Contracts see the entries.
+#[derive(Debug, Drop)]
+pub struct Flood<'a> {
+    graph: &'a Graph,
+    children: Vec<Exits>,
+    downs: Vec<FloodHop>,
+}
+
+impl<'a> Model for Flood<'a> {
+    ghost use Rattle.std.specs.Prelude.{List};
+    ghost use Rattle.an_base.specs.Values.{EntryOf};
+    ghost use Rattle.broadcast_flood.specs.Kept.{IsKept};
+
+    ghost Value = { List EntryOf };
+
+    ghost view = { λ f. f.graph.now };
+
+    ghost invariant = { λ f. IsKept f.graph.now f.children.items f.downs.items };
+}
+
+impl<'a> Flood<'a> {
+    /// How broadcasts go in a graph, whose positions are the tree of shortest walks to the least life.
+    pub fn of(alloc: Global, graph: &'a Graph) -> Result<Flood<'a>, OutOfMemory>
+        requires { IsTree graph.now }
+        ensures { IfOk result (λ flood. flood ≡ graph.now) }
+    {
+        let children = children_of(alloc, graph)?;
+        let downs = hops_down(alloc, graph, &children)?;
+        Ok(Flood {
+            graph,
+            children,
+            downs,
+        })
+    }
+
+    /// The port of the parent link of a member, None exactly for the root. It takes no memory.
+    pub fn parent_port(&self, life: Life) -> Option<u8>
+        requires { Any (λ e. e.life ≡ life) self.now }
+        ensures none { IsNone result ↔ (life ≡ life_at self.now 0) }
+        ensures port { IfSome result (IsParentPort self.now life) }
+    {
+        let x = self.graph.place(life).unwrap();
+        let port = self.graph.position(x).port();
+        if port == 0 { None } else { Some(port) }
+    }
+
+    /// The ports of the tree links from a member to its children, rising. It takes no memory.
+    pub fn child_ports(&self, life: Life) -> &[u8]
+        requires { Any (λ e. e.life ≡ life) self.now }
+        ensures { AreChildPortsOf self.now life result.now }
+    {
+        let x = self.graph.place(life).unwrap();
+        let ports = &self.children[usize::from(x)];
+        ports.as_slice()
+    }
+
+    // The hops up from the member at a place to the root, with room for those down.
+    fn hops_up(&self, alloc: Global, x: u8) -> Result<Vec<FloodHop>, OutOfMemory>
+        requires { x < length self.now }
+        ensures { IfOk result (λ hops. AreHopsUp self.now x hops.items) }
+    {
+        let level = usize::from(self.graph.level(x));
+        let mut hops = Vec::with_capacity(alloc, level + self.downs.len())?;
+        let mut at = x;
+        let mut port = self.graph.position(x).port();
+        'ups: while let Some((parent, _)) = self.graph.far_place(at, port) {
+            hops.push(FloodHop {
+                up: true,
+                at: self.graph.life(at),
+                port,
+            })?;
+            at = parent;
+            port = self.graph.position(parent).port();
+        }
+        Ok(hops)
+    }
+
+    /// The hops of a broadcast from a member: those up to the root by parent links, and then those by
+    /// every tree link downward, by rising level of the member that sends, then by life, then by port.
+    pub fn hops(&self, alloc: Global, from: Life) -> Result<Vec<FloodHop>, OutOfMemory>
+        requires { Any (λ e. e.life ≡ from) self.now }
+        ensures { IfOk result (λ hops. IsBroadcast self.now from hops.items) }
+    {
+        let x = self.graph.place(from).unwrap();
+        let mut hops = self.hops_up(alloc, x)?;
+        hops.extend_from_slice(&self.downs)?;
+        Ok(hops)
+    }
+}
+
+#[cfg(test)]
+mod tests {
+    use super::*;
+    use an_base::entry::{Entries, Entry};
+    use an_base::life::End;
+    use an_base::links::{Links, PortLink};
+    use an_base::position::Position;
+    use std::test::Fail;
+
+    // The life of this identifier, in its first boot.
+    fn life_of(uid: u64) -> Life
+        requires { uid < 100 }
+        ensures { result ≡ record { uid = uid; boot = 1 } }
+    {
+        Life::new(uid, 1)
+    }
+
+    // A link from a port to a port of this life.
+    fn link(port: u8, uid: u64, far: u8) -> PortLink
+        requires uid { uid < 100 }
+        requires least { 1 ≤ port }
+        requires most { port ≤ 12 }
+        requires far_least { 1 ≤ far }
+        requires far_most { far ≤ 12 }
+        ensures { result.port ≡ port }
+    {
+        PortLink::new(port, End::new(life_of(uid), far))
+    }
+
+    // The entry of this life, in the tree of life 1, with links at its ports 1 and 2.
+    fn entry(uid: u64, level: u8, parent: u64, port: u8, one: PortLink, two: PortLink) -> Entry
+        requires uid { uid < 100 }
+        requires level { level ≤ 125 }
+        requires parent { parent < 100 }
+        requires port { port ≤ 12 }
+        requires one { one.port ≡ 1 }
+        requires two { two.port ≡ 2 }
+        ensures { result.life ≡ record { uid = uid; boot = 1 } }
+    {
+        let mut links = Links::new();
+        links.push(one);
+        links.push(two);
+        Entry {
+            life: life_of(uid),
+            position: Position::new(life_of(1), level, life_of(parent), port),
+            proposed: 1,
+            links,
+        }
+    }
+
+    // Lives 1 and 2 with two links, which cross.
+    fn pair(rt: &HostRuntime) -> Result<Graph, Fail> {
+        let first = entry(1, 0, 1, 0, link(1, 2, 2), link(2, 2, 1));
+        let mut entries = Entries::of(rt.alloc(), first)?;
+        entries.push(entry(2, 1, 1, 1, link(1, 1, 2), link(2, 1, 1)))?;
+        Ok(Graph::of(rt.alloc(), &entries)?)
+    }
+
+    // A ring of lives 1, 2, 4 and 3, of which 4 is at level 2.
+    fn ring(rt: &HostRuntime) -> Result<Graph, Fail> {
+        let mut entries = Entries::of(rt.alloc(), entry(1, 0, 1, 0, link(1, 2, 1), link(2, 3, 1)))?;
+        entries.push(entry(2, 1, 1, 1, link(1, 1, 1), link(2, 4, 1)))?;
+        entries.push(entry(3, 1, 1, 1, link(1, 1, 2), link(2, 4, 2)))?;
+        entries.push(entry(4, 2, 2, 1, link(1, 2, 2), link(2, 3, 2)))?;
+        Ok(Graph::of(rt.alloc(), &entries)?)
+    }
+
+    // A hop up or down from a life by a port.
+    fn hop(up: bool, uid: u64, port: u8) -> FloodHop
+        requires { uid < 100 }
+    {
+        FloodHop {
+            up,
+            at: life_of(uid),
+            port,
+        }
+    }
+
+    // The hops of a broadcast from a life.
+    fn hops_from(rt: &HostRuntime, graph: &Graph, uid: u64) -> Result<Vec<FloodHop>, Fail>
+        requires { uid < 100 }
+    {
+        let life = life_of(uid);
+        let Some(_place) = graph.place(life) else {
+            return Err("no member".into());
+        };
+        if !graph.tree_ok() {
+            return Err("no tree".into());
+        }
+        let flood = Flood::of(rt.alloc(), graph)?;
+        Ok(flood.hops(rt.alloc(), life)?)
+    }
+
+    #[test]
+    fn a_parallel_link_is_no_tree_link(rt: HostRuntime) -> Result<(), Fail> {
+        let graph = pair(&rt)?;
+        let down = hop(false, 1, 2);
+        assert_eq!(rt; hops_from(&rt, &graph, 1)?.as_slice(), [down].as_slice());
+        assert_eq!(rt;
+            hops_from(&rt, &graph, 2)?.as_slice(),
+            [hop(true, 2, 1), down].as_slice()
+        );
+        Ok(())
+    }
+
+    #[test]
+    fn hops_go_up_to_the_root_and_down_by_level(rt: HostRuntime) -> Result<(), Fail> {
+        let graph = ring(&rt)?;
+        let hops = [
+            hop(true, 4, 1),
+            hop(true, 2, 1),
+            hop(false, 1, 1),
+            hop(false, 1, 2),
+            hop(false, 2, 2),
+        ];
+        assert_eq!(rt; hops_from(&rt, &graph, 4)?.as_slice(), hops.as_slice());
+        Ok(())
+    }
+
+    // The port to the parent of a life, and those to its children.
+    fn ports_of(rt: &HostRuntime, graph: &Graph, uid: u64) -> Result<(Option<u8>, Vec<u8>), Fail>
+        requires { uid < 100 }
+    {
+        let life = life_of(uid);
+        let Some(_place) = graph.place(life) else {
+            return Err("no member".into());
+        };
+        if !graph.tree_ok() {
+            return Err("no tree".into());
+        }
+        let flood = Flood::of(rt.alloc(), graph)?;
+        let children = Vec::from_slice(rt.alloc(), flood.child_ports(life))?;
+        Ok((flood.parent_port(life), children))
+    }
+
+    #[test]
+    fn members_know_their_parents_and_children(rt: HostRuntime) -> Result<(), Fail> {
+        let graph = ring(&rt)?;
+        let (parent, children) = ports_of(&rt, &graph, 1)?;
+        assert_eq!(rt; parent, None);
+        assert_eq!(rt; children.as_slice(), [1, 2].as_slice());
+        let (parent, children) = ports_of(&rt, &graph, 2)?;
+        assert_eq!(rt; parent, Some(1));
+        assert_eq!(rt; children.as_slice(), [2].as_slice());
+        Ok(())
+    }
+}

@@ -1,0 +1,108 @@
+ghost use Rattle.std.specs.Prelude.{◌≡◌, ◌<◌, length, false, Contains, IfOk, OnOk};
+ghost use Rattle.dep_check.specs.declared.channel.Channel.{Channel};
+ghost use Rattle.dep_check.specs.Tables.{IsSpot};
+ghost use Rattle.dep_check.specs.Search.{IsStep, Step};
+ghost use Rattle.dep_check.specs.Walks.{IsWalked, seen_at, Sees};
+
+use crate::channel::Channel;
+use crate::spot::{SPOTS, place_of};
+use crate::steps::Steps;
+use an_base::memory::OutOfMemory;
+use std::alloc::Global;
+
+/// No spot is seen.
+pub fn none_seen(alloc: Global) -> Result<Vec<bool>, OutOfMemory>
+    ensures none { IfOk result (λ seen. (s : Channel) → seen_at seen.items s ≡ false) }
+    ensures count { IfOk result (λ seen. length seen.items ≡ 1651) }
+{
+    let mut seen = Vec::with_capacity(alloc, usize::from(SPOTS))?;
+    'spots: for _ in 0..SPOTS {
+        seen.push(false)?;
+    }
+    Ok(seen)
+}
+
+/// Whether a spot is seen.
+pub fn is_seen(seen: &[bool], spot: Channel) -> bool
+    requires { IsSpot spot }
+    ensures { result ≡ seen_at seen.now spot }
+{
+    seen.get(place_of(spot)).copied().unwrap_or(false)
+}
+
+// Adds a spot to those that are seen, and where it was none to those that are still to be looked at.
+fn see(seen: &mut Vec<bool>, ahead: &mut Vec<Channel>, spot: Channel) -> Result<(), OutOfMemory>
+    requires count { length seen.old.items ≡ 1651 }
+    requires spot { IsSpot spot }
+    ensures { OnOk result (Sees (λ s. s ≡ spot) seen.old.items ahead.old.items
+        seen.new.items ahead.new.items) }
+{
+    let place = place_of(spot);
+    if !seen[place] {
+        ahead.push(spot)?;
+        seen[place] = true;
+    }
+    Ok(())
+}
+
+// The same of where the step by an exit leads, if there is one.
+fn see_exit(
+    steps: &Steps,
+    seen: &mut Vec<bool>,
+    ahead: &mut Vec<Channel>,
+    spot: Channel,
+    exit: u8,
+) -> Result<(), OutOfMemory>
+    requires count { length seen.old.items ≡ 1651 }
+    requires spot { IsSpot spot }
+    requires exit { exit < 13 }
+    ensures { OnOk result (Sees (IsStep steps.now spot exit) seen.old.items ahead.old.items
+        seen.new.items ahead.new.items) }
+{
+    if let Some(next) = steps.next(spot, exit) {
+        see(seen, ahead, next)?;
+    }
+    Ok(())
+}
+
+// The same of all that the steps from a spot lead to.
+fn see_next(
+    steps: &Steps,
+    seen: &mut Vec<bool>,
+    ahead: &mut Vec<Channel>,
+    spot: Channel,
+) -> Result<(), OutOfMemory>
+    requires count { length seen.old.items ≡ 1651 }
+    requires spot { IsSpot spot }
+    ensures { OnOk result (Sees (Step steps.now spot) seen.old.items ahead.old.items
+        seen.new.items ahead.new.items) }
+{
+    'exits: for exit in 0..13u8 {
+        see_exit(steps, seen, ahead, spot, exit)?;
+    }
+    Ok(())
+}
+
+/// Adds to the spots that are seen all to which steps lead from one, and tells whether packets get
+/// stuck at one that it added. It looks once at each step from a spot that it adds.
+pub fn walk(
+    alloc: Global,
+    steps: &Steps,
+    seen: &mut Vec<bool>,
+    start: Channel,
+) -> Result<bool, OutOfMemory>
+    requires count { length seen.old.items ≡ 1651 }
+    requires start { IsSpot start }
+    ensures { IfOk result (λ stuck. IsWalked steps.now start seen.old.items seen.new.items stuck) }
+{
+    let mut ahead = Vec::new(alloc);
+    see(seen, &mut ahead, start)?;
+    let mut stuck = false;
+    'ahead: while let Some(spot) = ahead.pop() {
+        if steps.is_stuck(spot) {
+            stuck = true;
+        }
+        see_next(steps, seen, &mut ahead, spot)?;
+    }
+    Ok(stuck)
+}

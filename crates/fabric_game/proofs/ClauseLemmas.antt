@@ -1,0 +1,143 @@
+use Rattle.std.specs.Prelude.{◌≡◌, ◌<◌, ◌≤◌, ℕ, length, List, [], ◌∷◌, Option, Some, None, slice_index_or, Bool, true, false, cond, refl, Contains, Any}
+use Rattle.std.proofs.Common.{sym, ◌∙◌, ap, subst, arith}
+use Rattle.std.proofs.lemmas.List.{append-nil}
+use Rattle.an_base.specs.Values.{LifeId, EntryOf, TopoOf}
+use Rattle.an_base.specs.Numbers.{AreNumbers}
+use Rattle.an_base.specs.declared.event.Event.{Event}
+use Rattle.net_script.specs.Scripts.{ScriptOf, IsScript}
+use Rattle.switch_numbering.specs.Numbering.{numbering}
+use Rattle.topo_graph.specs.Topology.{entry_at}
+use Rattle.epoch_core.specs.Epoch.{finish, own_entry}
+use Rattle.epoch_game.specs.Slice.{Node, Slice, Run, nobody}
+use Rattle.epoch_game.specs.Detection.{start}
+use Rattle.epoch_game.specs.Game.{Game, Play, begins, slice, HasFinished as FinishedIn}
+use Rattle.epoch_game.proofs.Basics.{none_some}
+use Rattle.epoch_game.proofs.StreamLemmas.{has_grown, nodes}
+use Rattle.epoch_game.proofs.FinishLemmas.{finish_earlier, finished_under, finished_alike}
+use Rattle.epoch_game.proofs.TopologyLemmas.{is_tree}
+use Rattle.epoch_game.proofs.GameLemmas.{play_run, later_run}
+use Rattle.switch_core.specs.Switch.{SwitchOf, finish_of}
+use Rattle.table_build.specs.Tables.{IsTableOf}
+use Rattle.switch_game.specs.Playing.{node_of}
+use Rattle.switch_game.proofs.Laws.{agrees, later, plays}
+use Rattle.table_build.specs.Made.{table_of}
+use Rattle.fabric_world.specs.World.{world_after}
+use Rattle.fabric_world.specs.Clauses.{FinishedAt, IsTopology, AreOnePicture, AreTopologies, switch_after}
+use Rattle.fabric_game.specs.Embedding.{IsEmbedded}
+use Rattle.fabric_game.specs.Lives.{powered}
+use Rattle.fabric_game.specs.Moves.{game_after}
+use Rattle.fabric_game.proofs.Firm.{places, AreFirm}
+use Rattle.table_build.proofs.MadeTables.{made_table}
+use Rattle.fabric_game.proofs.RangedBodies.{finish_ranged}
+use Rattle.fabric_game.proofs.EmbedLemmas.{all_ranged, embedded}
+use Rattle.switch_numbering.proofs.Differing.{length-numbering}
+
+-- who has finished in an epoch of the game has finished with that ever after
+finish_stays : (lives : List LifeId) (first : LifeId → ℕ) (g h : Game) (x : LifeId) (e : ℕ) (n : Node) (t : TopoOf) → Play lives (begins first) g → Play lives g h → g.nodes x e ≡ Some n → finish n.card n.log ≡ Some t
+    → (f : FinishedIn h x e) × (f.topology ≡ t)
+finish_stays lives first g h x e n t play more joined done =
+    let w = has_grown lives (slice e g) (slice e h) x n (later_run lives first g h e play more) joined in
+    (record { node = w.node; joined = w.joined; topology = t; finish = ap (λ c. finish c w.node.log) w.card ∙ finish_earlier n.card n.log w.node.log t w.log done }, refl)
+
+-- what a switch has finished with, its life has finished with in the game
+finish_by : (b : Bool) (g : Game) (x : LifeId) (s : SwitchOf) (t : TopoOf) → s.joined ≡ b → (s.joined ≡ true → g.nodes x s.epoch ≡ Some (node_of s)) → cond b (finish s.card s.log) None ≡ Some t → (g.nodes x s.epoch ≡ Some (node_of s)) × (finish s.card s.log ≡ Some t)
+finish_by true g x s t joined node is = (node joined, is)
+finish_by false g x s t joined node is = absurd (none_some is)
+
+pub finished_in : (script : ScriptOf) (lives : List LifeId) (h : List Event) (w : IsEmbedded script lives h) (x : LifeId) (e : ℕ) (t : TopoOf) → FinishedAt script h x e t → (f : FinishedIn (game_after script h) x e) × (f.topology ≡ t)
+finished_in script lives h w x e t f =
+    let m = w.moments f.before f.later f.moment in
+    let on = powered script in
+    let g = game_after script f.before in
+    let u = switch_after script f.before f.place in
+    let is : m.earlier.switches x ≡ u = ap m.earlier.switches (sym f.life_is) ∙ m.is_in.switches f.place f.within in
+    let at = agrees lives on m.earlier g x m.is_in.happens in
+    let s = m.earlier.switches x in
+    let done = finish_by s.joined g x s t refl at.joined (ap finish_of is ∙ f.finished) in
+    let epoch : s.epoch ≡ e = ap (λ (v : SwitchOf). v.epoch) is ∙ f.epoch_is in
+    let joined : g.nodes x e ≡ Some (node_of s) = ap (g.nodes x) (sym epoch) ∙ done.0 in
+    finish_stays lives on.epoch g (game_after script h) x e (node_of s) t (plays lives on m.earlier g m.is_in.happens) (later lives on m.earlier w.network g (game_after script h) m.is_in.happens m.since) joined done.1
+
+-- so it is a node of the final game
+pub record Done (lives : List LifeId) (s : Slice) (x : LifeId) (t : TopoOf) : Type 0 where
+  run : Run lives nobody s
+  node : Node
+  joined : s x ≡ Some node
+  finish_is : finish node.card node.log ≡ Some t
+
+pub done_in : (script : ScriptOf) (lives : List LifeId) (h : List Event) (w : IsEmbedded script lives h) (x : LifeId) (e : ℕ) (t : TopoOf) → FinishedAt script h x e t → Done lives (slice e (game_after script h)) x t
+done_in script lives h w x e t f =
+    let d = finished_in script lives h w x e t f in
+    record {
+      run = play_run lives (powered script).epoch (game_after script h) e (plays lives (powered script) w.network (game_after script h) w.is_in.happens);
+      node = d.0.node;
+      joined = d.0.joined;
+      finish_is = d.0.finish ∙ ap (λ (k : TopoOf). Some k) d.1;
+    }
+
+pub first_in : (xs : List EntryOf) (d : EntryOf) → 0 < length xs → Contains xs (slice_index_or xs 0 d)
+first_in [] d some = absurd (omega arith)
+first_in (x ∷ xs) d some = (0, omega arith, refl)
+
+-- a topology has a first entry
+has_first : (lives : List LifeId) (s : Slice) (x : LifeId) (t : TopoOf) → length lives ≤ 126 → Done lives s x t → Contains t.entries (entry_at t.entries 0)
+has_first lives s x t few d =
+    let u = finished_under lives s few d.run x d.node t d.joined d.finish_is in
+    let some = (u.entries (own_entry u.node.card u.node.log)).1 (record { life = u.root; node = u.node; reached = start; joined = u.joined; is = refl }) in
+    first_in t.entries _ (omega (arith, some.1))
+
+pub one_picture : (script : ScriptOf) (lives : List LifeId) → length lives ≤ 126 → IsScript script → AreFirm script lives → (h : List Event) → AreOnePicture script h
+one_picture script lives few kept firm h x y e t u fx fy root =
+    let w = embedded script lives kept firm h in
+    let s = slice e (game_after script h) in
+    let a = done_in script lives h w x e t fx in
+    let b = done_in script lives h w y e u fy in
+    finished_alike lives s x y a.node b.node t u (entry_at t.entries 0) (entry_at u.entries 0) few a.run a.joined b.joined a.finish_is b.finish_is (has_first lives s x t few a) (has_first lives s y u few b) root
+
+-- what is contained holds of some
+pub any_from : {A : Type 0} (P : A → Type 0) (xs : List A) (x : A) → P x → Contains xs x → Any P xs
+any_from P xs x holds has = (has.0, x, has.1, has.2, holds)
+
+-- a switch has finished now
+pub finished_now : (script : ScriptOf) (h : List Event) (topo : TopoOf) (s : ℕ) → s < places script → finish_of ((world_after script h).switches s) ≡ Some topo → FinishedAt script h ((world_after script h).switches s).life ((world_after script h).switches s).epoch topo
+finished_now script h topo s low is = record {
+  before = h;
+  later = [];
+  moment = sym (append-nil h);
+  place = s;
+  within = low;
+  life_is = refl;
+  epoch_is = refl;
+  finished = is;
+}
+
+-- what is finished has numbers within the ranges of frames
+are_numbered : (script : ScriptOf) (lives : List LifeId) → IsScript script → AreFirm script lives → (h : List Event) (x : LifeId) (epoch : ℕ) (t : TopoOf) → FinishedAt script h x epoch t → AreNumbers t.numbers
+are_numbered script lives kept firm h x epoch t f =
+    let u = switch_after script f.before f.place in
+    let r = all_ranged script lives kept firm f.before f.place f.within in
+    (finish_ranged u.card u.log t r.card_is r.log_is (by u.joined (finish u.card u.log) f.finished)).numbers
+  where
+    by : (b : Bool) (o : Option TopoOf) → cond b o None ≡ Some t → o ≡ Some t
+    by true o is = is
+    by false o is = absurd (none_some is)
+
+pub topologies : (script : ScriptOf) (lives : List LifeId) → length lives ≤ 126 → IsScript script → AreFirm script lives → (h : List Event) → AreTopologies script h
+topologies script lives few kept firm h x e t f =
+    let w = embedded script lives kept firm h in
+    let s = slice e (game_after script h) in
+    let d = done_in script lives h w x e t f in
+    let u = finished_under lives s few d.run x d.node t d.joined d.finish_is in
+    let tree = is_tree lives s x d.node t few d.run d.joined d.finish_is in
+    record {
+      graph = tree.0;
+      tree = tree.1;
+      member = any_from (λ e. e.life ≡ x) t.entries (own_entry d.node.card d.node.log) (nodes lives s d.run x d.node d.joined).0.me
+          ((u.entries (own_entry d.node.card d.node.log)).1 (record { life = x; node = d.node; reached = u.reached; joined = d.joined; is = refl }));
+      numbers = subst (λ (k : TopoOf). k.numbers ≡ numbering k.entries) (sym u.topology) refl;
+      different = are_numbered script lives kept firm h x e t f;
+    }
+
+-- the table of a topology for the life that it has
+pub topology_table : (life : LifeId) (t : TopoOf) (any : Bool) → IsTopology life t → IsTableOf t.entries t.numbers any life (table_of t any life)
+topology_table life t any is = made_table t any life is.graph is.different (ap (λ (ns : List ℕ). length ns) is.numbers ∙ length-numbering t.entries) is.member

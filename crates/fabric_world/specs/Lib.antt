@@ -1,0 +1,16 @@
+pub mod Packets
+pub mod PortStates
+pub mod Fabric
+pub mod Agree
+pub mod Lawful
+pub mod Effects
+pub mod Acts
+pub mod World
+pub mod Lines
+pub mod Histories
+pub mod Heard
+pub mod Turns
+pub mod Solo
+pub mod Clauses
+pub mod Sound
+pub mod Examples

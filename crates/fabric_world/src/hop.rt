@@ -1,0 +1,40 @@
+//! What becomes of a packet at one switch.
+
+/// Why a packet is dropped.
+#[derive(Clone, Copy, Debug, PartialEq, Eq)]
+pub enum DropCause {
+    /// The link of the host that sends is down, or its port does not show a host.
+    NoPort,
+    /// The switch has no table in use.
+    NoTable,
+    /// No host is at the port of the address.
+    NoHost,
+    /// Another host is at the port of the address.
+    WrongHost,
+    /// The row has no exit.
+    NoExit,
+    /// The link of the lowest exit is down.
+    LinkDown,
+}
+
+/// What becomes of a packet at one switch.
+#[derive(Clone, Copy, Debug, PartialEq, Eq)]
+pub enum Hop {
+    /// It goes on by an exit.
+    Went {
+        /// The exit, 1 to 12.
+        exit: u8,
+    },
+    /// It is delivered.
+    Delivered {
+        /// The port of the host, 1 to 12.
+        exit: u8,
+        /// The place of the host in the script, from 0.
+        host: u16,
+    },
+    /// It is dropped.
+    Dropped {
+        /// Why.
+        cause: DropCause,
+    },
+}

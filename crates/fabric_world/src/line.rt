@@ -1,0 +1,137 @@
+//! What is told of an event.
+
+use crate::hop::DropCause;
+use an_base::life::{End, Life};
+use an_base::port::PortState;
+use wire_set::side::Loss;
+
+/// One thing that is told of an event.
+#[derive(Clone, Copy, Debug)]
+pub enum Line {
+    /// A port changed its state.
+    Port {
+        /// The place of the switch in the script, from 0.
+        s: u8,
+        /// The port, 1 to 12.
+        port: u8,
+        /// The state.
+        state: PortState,
+        /// The other end, where it is known.
+        peer: Option<End>,
+    },
+    /// What came in is no frame.
+    NoFrame {
+        /// The place of the switch in the script, from 0.
+        s: u8,
+        /// The port by which it came, 1 to 12.
+        port: u8,
+    },
+    /// A switch joined an epoch.
+    Join {
+        /// The place of the switch in the script, from 0.
+        s: u8,
+        /// The epoch.
+        epoch: u64,
+    },
+    /// The epochs of a switch are spent.
+    Spent {
+        /// The place of the switch in the script, from 0.
+        s: u8,
+    },
+    /// A switch finished its epoch.
+    Finish {
+        /// The place of the switch in the script, from 0.
+        s: u8,
+        /// The epoch.
+        epoch: u64,
+        /// The root of the topology.
+        root: Life,
+        /// How many members it has, 1 to 126.
+        members: u8,
+    },
+    /// A frame that was put on the wire out of a port was lost.
+    Lost {
+        /// The place of the switch that sent it.
+        s: u8,
+        /// Its port, 1 to 12.
+        port: u8,
+        /// Why.
+        cause: Loss,
+    },
+    /// A switch loaded a table.
+    Load {
+        /// The place of the switch in the script, from 0.
+        s: u8,
+        /// The epoch of its topology.
+        epoch: u64,
+        /// The number of the switch there, 1 to 126.
+        number: u8,
+    },
+    /// A link went down.
+    Cut {
+        /// The place of a switch at it.
+        s: u8,
+        /// Its port, 1 to 12.
+        port: u8,
+        /// How many frames were dropped.
+        dropped: u32,
+    },
+    /// A link came up.
+    Mended {
+        /// The place of a switch at it.
+        s: u8,
+        /// Its port, 1 to 12.
+        port: u8,
+    },
+    /// A switch began its next life.
+    Restarted {
+        /// The place of the switch in the script, from 0.
+        s: u8,
+    },
+    /// A packet is under way.
+    Packet {
+        /// The number of the packet, from 1.
+        packet: u32,
+        /// The place of the host that sends it, from 0.
+        host: u16,
+        /// The place of the host to which it goes.
+        to: u16,
+        /// The address: 16 times the number of a switch, and the port of the host there.
+        address: u16,
+    },
+    /// A packet was dropped before its first hop.
+    Unsent {
+        /// The number of the packet, from 1.
+        packet: u32,
+        /// The place of the host that sends it, from 0.
+        host: u16,
+        /// The place of the host to which it was to go.
+        to: u16,
+        /// Why.
+        cause: DropCause,
+    },
+    /// A packet made a hop.
+    Moved {
+        /// The number of the packet, from 1.
+        packet: u32,
+        /// The place of the switch at which it was.
+        s: u8,
+        /// The epoch of the table in use there.
+        epoch: u64,
+        /// The port by which it came in, 1 to 12.
+        entry: u8,
+        /// The port by which it went out, 1 to 12.
+        exit: u8,
+        /// The place of the host to which it was delivered, at delivery.
+        host: Option<u16>,
+    },
+    /// A packet was dropped.
+    Fell {
+        /// The number of the packet, from 1.
+        packet: u32,
+        /// The place of the switch at which it was.
+        s: u8,
+        /// Why.
+        cause: DropCause,
+    },
+}

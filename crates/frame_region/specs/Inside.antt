@@ -1,0 +1,13 @@
+-- What only functions inside this crate cite.
+use Rattle.std.specs.Prelude.{◌≡◌, ℕ, ◌+◌, ◌*◌, ◌<◌, List, length, slice_index_or}
+use Rattle.frame_region.specs.Blocks.{needed, block, place}
+
+-- the bytes of a frame were written into the blocks of a chain, and no other block changed
+pub record IsWritten (next : List ℕ) (first : ℕ) (frame old new : List ℕ) : Type 0 where
+  pub count : length new ≡ length old
+  pub bytes :
+      (byte : ℕ) → byte < length frame
+      → slice_index_or new (place next first byte) 0 ≡ slice_index_or frame byte 0
+  pub others :
+      (other byte : ℕ) → byte < 64 → ((k : ℕ) → k < needed (length frame) → block next first k ≡ other → ⊥)
+      → slice_index_or new (64 * other + byte) 0 ≡ slice_index_or old (64 * other + byte) 0

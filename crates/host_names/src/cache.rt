@@ -1,0 +1,142 @@
+ghost use Rattle.std.specs.Prelude.{◌≡◌, ◌≤◌, [], ◌∷◌, All, find, IfOk, List, ℕ};
+ghost use Rattle.std.specs.Option.{ForSome};
+ghost use Rattle.host_names.specs.Caches.{ArrivalOf, choice_by, choice_of, is_from, kept_of, with_arrival};
+
+use crate::choice::Choice;
+use an_base::memory::OutOfMemory;
+use std::alloc::Global;
+use std::marker::Model;
+
+/// How many senders a host remembers.
+pub const PLACES: usize = 16;
+
+/// For how many ticks a host uses what it remembers of a sender.
+pub const TICKS: u32 = 64;
+
+// A sender, the address that its last packet came from, and the tick at which that came.
+#[derive(Clone, Copy, Debug)]
+struct Heard {
+    uid: u64,
+    address: u16,
+    tick: u32,
+}
+
+impl Model for Heard {
+    ghost use Rattle.host_names.specs.Caches.{ArrivalOf};
+
+    ghost Value = { ArrivalOf };
+
+    ghost view = { λ h. record { uid = h.uid; address = h.address; tick = h.tick } };
+
+    ghost inverse = { λ v. record { uid = v.uid; address = v.address; tick = v.tick } };
+}
+
+// The last arrival of a sender, if one is kept.
+fn last_of(heard: &[Heard], uid: u64) -> Option<Heard>
+    ensures { result ≡ find (is_from uid) heard.now }
+{
+    heard.iter().copied().find(|h| h.uid == uid)
+}
+
+// Where a host sends, by the last arrival of the one to whom it sends.
+fn choice_by(last: Option<Heard>, now: u32) -> Choice
+    requires { ForSome last (λ arrival. arrival.tick ≤ now) }
+    ensures { result ≡ choice_by now last }
+{
+    match last {
+        Some(last) if now - last.tick < TICKS => Choice::Known {
+            address: last.address,
+        },
+        _ => Choice::Broadcast,
+    }
+}
+
+/// What a host remembers of those that sent to it, which contracts see as a list of arrivals, the
+/// newest first: of each of at most 16 senders the last.
+#[derive(Debug, Drop)]
+pub struct Cache {
+    heard: Vec<Heard>,
+}
+
+impl Model for Cache {
+    ghost use Rattle.std.specs.Prelude.{◌≤◌, List, length, vec_capacity};
+    ghost use Rattle.host_names.specs.Caches.{ArrivalOf};
+    ghost use Rattle.host_names.specs.declared.cache.TheConstants.{PLACES};
+
+    ghost Value = { List ArrivalOf };
+
+    ghost view = { λ c. c.heard.items };
+
+    ghost invariant = { λ c. (length c.heard.items ≤ PLACES) × (PLACES ≤ vec_capacity c.heard) };
+}
+
+impl Cache {
+    /// A cache of nothing, with places for 16 senders.
+    pub fn new(alloc: Global) -> Result<Self, OutOfMemory>
+        ensures { IfOk result (λ cache. cache ≡ []) }
+    {
+        Ok(Cache {
+            heard: Vec::with_capacity(alloc, PLACES)?,
+        })
+    }
+
+    /// A packet from this sender arrives from this address at this tick, which is at least that of
+    /// each arrival before. The sender is now the latest, with this address and tick; where it is new
+    /// and 16 are kept, the one that was heard longest ago goes. It takes no memory.
+    pub fn arrived(&mut self, uid: u64, address: u16, now: u32)
+        requires { All (λ arrival. arrival.tick ≤ now) self.old }
+        ensures kept { self.new
+            ≡ with_arrival (record { uid = uid; address = address; tick = now }) self.old }
+        ensures ticks { All (λ arrival. arrival.tick ≤ now) self.new }
+
+        // Where it was what is kept after a list of arrivals, it is now what is kept after one more.
+        ensures after { (arrivals : List ArrivalOf) → self.old ≡ kept_of arrivals
+            → self.new ≡ kept_of (record { uid = uid; address = address; tick = now } ∷ arrivals) }
+    {
+        self.heard.retain(|h| h.uid != uid);
+        self.heard.truncate(PLACES - 1);
+        let heard = Heard {
+            uid,
+            address,
+            tick: now,
+        };
+        let _added = self.heard.insert(0, heard);
+    }
+
+    /// Where the host sends a packet for this identifier at a tick that is at least that of each
+    /// arrival: to the address that it remembers, for less than 64 ticks, else to all. It takes no
+    /// memory.
+    pub fn choose(&self, uid: u64, now: u32) -> Choice
+        requires { All (λ arrival. arrival.tick ≤ now) self.now }
+        ensures { result ≡ choice_of self.now uid now }
+    {
+        choice_by(last_of(&self.heard, uid), now)
+    }
+}
+
+#[cfg(test)]
+mod tests {
+    use super::*;
+    use std::test::Fail;
+
+    // A cache of packets from these senders, all at tick 0 from address 17.
+    fn heard_from(rt: &HostRuntime, uids: &[u64]) -> Result<Cache, Fail>
+        ensures { IfOk result (λ cache. (now : ℕ) → All (λ arrival. arrival.tick ≤ now) cache) }
+    {
+        let mut cache = Cache::new(rt.alloc())?;
+        'uids: for uid in uids {
+            cache.arrived(*uid, 17, 0);
+        }
+        Ok(cache)
+    }
+
+    #[test]
+    fn the_seventeenth_sender_takes_the_place_of_the_first(rt: HostRuntime) -> Result<(), Fail> {
+        let uids = [1, 2, 3, 4, 5, 6, 7, 8, 9, 10, 11, 12, 13, 14, 15, 16, 17];
+        let cache = heard_from(&rt, &uids)?;
+        assert_eq!(rt; cache.choose(1, 0), Choice::Broadcast);
+        assert_eq!(rt; cache.choose(2, 63), Choice::Known { address: 17 });
+        assert_eq!(rt; cache.choose(2, 64), Choice::Broadcast);
+        Ok(())
+    }
+}

@@ -1,5 +1,0 @@
-use Rattle.net_script.proofs.WalkJoined.{joined_by_walks}
-use Rattle.net_script.proofs.law.joined_by_walks.Goals as goal
-
-pub returns : goal.returns
-returns c = joined_by_walks

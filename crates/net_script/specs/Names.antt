@@ -1,6 +1,0 @@
-use Rattle.std.specs.Prelude.{ℕ, List, Option, position}
-use Rattle.std.specs.Str.{bytes_eq}
-
--- the place of a name
-unfoldable pub place_of : List (List ℕ) → List ℕ → Option ℕ
-place_of names name = position (λ n. bytes_eq n name) names

@@ -1,0 +1,50 @@
+-- How far a port and what it knows of the far end are from their goal, in clocks and in answers.
+
+use Rattle.std.specs.Prelude.{◌≡◌, ◌-◌, ◌==◌, ℕ, suc, [], ◌∷◌, Some, if◌then◌else◌}
+use Rattle.an_base.specs.Values.{EndId}
+use Rattle.an_base.specs.declared.port.Sample.{Sample}
+use Rattle.an_base.specs.declared.port.PortState.{PortState}
+use Rattle.an_base.specs.declared.port.PortState.TheVariants as state
+use Rattle.skeptic.specs.Skeptics.{SkepticOf, hold, failed}
+use Rattle.connectivity.specs.declared.conn.Conn.{Conn}
+use Rattle.connectivity.specs.declared.conn.Conn.TheVariants.{Who, Loop, Good}
+use Rattle.connectivity.specs.Connections.{ConnectivityOf, is_end, is_same_end}
+use Rattle.port_monitor.specs.declared.port.Phase.{Phase}
+use Rattle.port_monitor.specs.declared.port.Phase.TheVariants.{Dead, Checking, Host, Switch}
+use Rattle.port_monitor.specs.declared.port.Port.{Port}
+use Rattle.port_monitor.specs.Ports.{state_of, peer_of}
+use Rattle.port_monitor.specs.Histories.{History, Sampled, Replied}
+
+-- in how many clocks without a failure a port knows whether a host or a switch is there
+abbrev pub clocks_by : Phase → SkepticOf → ℕ
+clocks_by Dead status = suc (hold status) - status.run
+clocks_by Checking status = 1
+clocks_by Host status = 0
+clocks_by Switch status = 0
+
+abbrev pub clocks_left : Port → ℕ
+clocks_left p = clocks_by p.phase p.status
+
+-- after how many answers in a row by this end it is the peer for good: another peer is doubted first
+abbrev pub answers_by : EndId → Conn → ConnectivityOf → ℕ
+answers_by e Who far = if is_end far.candidate e then hold far.skeptic - far.streak else hold far.skeptic
+answers_by e (Loop peer) far = if is_same_end e peer then 0 else suc (hold (failed far.skeptic))
+answers_by e (Good peer) far = if is_same_end e peer then 0 else suc (hold (failed far.skeptic))
+
+abbrev pub answers_left : EndId → ConnectivityOf → ℕ
+answers_left e far = answers_by e far.conn far
+
+-- no clock had this sample
+abbrev pub HasNo : Sample → History → Type 0
+HasNo s [] = Unit {0}
+HasNo s (Sampled t ∷ history) = (t ≡ s → ⊥) × HasNo s history
+HasNo s (Replied from nonce ∷ history) = HasNo s history
+
+-- the state of a port that knows this end
+abbrev pub known_state : EndId → EndId → PortState
+known_state own peer = if peer.life.uid == own.life.uid then state.Loop else state.Good
+
+-- a port knows this end of a switch as the other one: as one of this switch, or of another switch
+pub record Knows (own peer : EndId) (p : Port) : Type 0 where
+  pub state : state_of p ≡ known_state own peer
+  pub peer_is : peer_of p ≡ Some peer

@@ -1,0 +1,4 @@
+pub mod GoodLemmas
+pub mod ChainLemmas
+pub mod CanonicalLemmas
+pub mod FormTextLemmas

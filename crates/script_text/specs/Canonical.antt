@@ -1,0 +1,98 @@
+use Rattle.std.specs.Prelude.{◌==◌, ℕ, Bool, List, [], ◌∷◌, ◌++◌, map, Option, Some, None, if◌then◌else◌, slice_index_or}
+use Rattle.std.specs.List.{zip}
+use Rattle.std.specs.Fmt.{decimal}
+use Rattle.an_base.specs.declared.event.Event.{Event}
+use Rattle.an_base.specs.declared.event.Event.TheVariants.{Fail, Repair, Lose, Again, Swap, Noise, Send, Restart}
+use Rattle.net_graph.specs.declared.wiring.SwitchAt.{SwitchAt}
+use Rattle.net_graph.specs.declared.wiring.LinkAt.{LinkAt}
+use Rattle.net_graph.specs.declared.wiring.HostOn.{HostOn}
+use Rattle.net_script.specs.declared.command.Command.{Command}
+use Rattle.net_script.specs.declared.command.LinkChange.TheVariants as link
+use Rattle.net_script.specs.declared.command.WireChange.TheVariants as wire
+use Rattle.net_script.specs.declared.setting.Setting.{Setting}
+use Rattle.net_script.specs.declared.setting.Setting.TheVariants.{Ticks, Events, Blocks, Epoch, Pace}
+use Rattle.text_lines.specs.Words.{hex_text}
+use Rattle.text_lines.specs.Lines.{lines_text}
+use Rattle.text_lines.specs.Grammar.{forms_text_by}
+use Rattle.net_script.specs.Scripts.{ScriptOf}
+use Rattle.net_script.specs.Forms.{Form, Number, AnyRoutes, SwitchLine, LinkLine, HostLine, ChangesLink, ChangesWire, Sends, Restarts, End, form_words, header_words}
+
+-- The canonical text of a script.
+
+-- the text of lines
+abbrev pub forms_text : List Form → List ℕ
+forms_text = forms_text_by form_words
+
+-- a setting that differs from its default
+abbrev pub setting_form : Setting → (number default : ℕ) → List Form
+setting_form setting number default = if number == default then [] else Number setting (decimal number) ∷ []
+
+-- the pace, where there is one
+abbrev pub pace_form : Option ℕ → List Form
+pace_form None = []
+pace_form (Some number) = Number Pace (decimal number) ∷ []
+
+-- all legal routes
+abbrev pub routes_form : Bool → List Form
+routes_form any = if any then AnyRoutes ∷ [] else []
+
+-- the settings that differ from the default, in order
+abbrev pub setting_forms : ScriptOf → List Form
+setting_forms script =
+    setting_form Ticks script.limits.ticks 4096
+    ++ (setting_form Events script.limits.events 2000000
+    ++ (setting_form Blocks script.limits.blocks 65536
+    ++ (setting_form Epoch script.epoch 0 ++ (pace_form script.pace ++ routes_form script.any_routes))))
+
+-- the number that a switch had last, where it is not 1
+abbrev pub had_word : ℕ → Option (List ℕ)
+had_word number = if number == 1 then None else Some (decimal number)
+
+-- the lines of a switch, a link and a host, in which names stand for places
+abbrev pub switch_form : List ℕ × SwitchAt → Form
+switch_form (name, added) = SwitchLine name (hex_text 12 added.uid) (had_word added.had)
+
+abbrev pub link_form : List (List ℕ) → LinkAt → Form
+link_form names added =
+    LinkLine (slice_index_or names added.a []) (decimal added.a_port) (slice_index_or names added.b []) (decimal added.b_port)
+
+abbrev pub host_form : List (List ℕ) → List ℕ × HostOn → Form
+host_form names (name, added) =
+    HostLine name (hex_text 12 added.uid) (slice_index_or names added.s []) (decimal added.port)
+
+-- the line of a command
+abbrev pub event_form : List (List ℕ) → List (List ℕ) → List ℕ → Event → Form
+event_form names hosts time (Fail node port) =
+    ChangesLink link.Fail time (slice_index_or names node []) (decimal port)
+event_form names hosts time (Repair node port) =
+    ChangesLink link.Repair time (slice_index_or names node []) (decimal port)
+event_form names hosts time (Lose node port count) =
+    ChangesWire wire.Lose time (slice_index_or names node []) (decimal port) (decimal count)
+event_form names hosts time (Again node port count) =
+    ChangesWire wire.Again time (slice_index_or names node []) (decimal port) (decimal count)
+event_form names hosts time (Swap node port count) =
+    ChangesWire wire.Swap time (slice_index_or names node []) (decimal port) (decimal count)
+event_form names hosts time (Noise node port count) =
+    ChangesWire wire.Noise time (slice_index_or names node []) (decimal port) (decimal count)
+event_form names hosts time (Send host to) =
+    Sends time (slice_index_or hosts host []) (slice_index_or hosts to [])
+event_form names hosts time (Restart node) = Restarts time (slice_index_or names node [])
+event_form names hosts time event = End
+
+abbrev pub command_form : ScriptOf → Command → Form
+command_form script command =
+    event_form script.switch_names script.names_of_hosts (decimal command.time) command.event
+
+-- the lines of a script after the first: the settings, the switches, the links, the hosts, the
+-- commands, each in their order, and `end`
+unfoldable pub forms_of : ScriptOf → List Form
+forms_of script =
+    setting_forms script
+    ++ (map switch_form (zip script.switch_names script.wires.switches)
+    ++ (map (link_form script.switch_names) script.wires.links
+    ++ (map (host_form script.switch_names) (zip script.names_of_hosts script.wires.hosts)
+    ++ (map (command_form script) script.commands ++ End ∷ []))))
+
+-- the canonical text of a script
+unfoldable pub canonical_text : ScriptOf → List ℕ
+canonical_text script = lines_text (header_words ∷ map form_words (forms_of script))

@@ -1,0 +1,13 @@
+pub mod WayModel
+pub mod Ways
+pub mod Receipts
+pub mod Sendings
+pub mod Directions
+pub mod Moves
+pub mod Resends
+pub mod Steps
+pub mod Keeps
+pub mod MovesRun
+pub mod Unused
+pub mod Asks
+pub mod Later

@@ -1,0 +1,70 @@
+-- What callers see of a switch: for which switch of the definition it stands, and what comes of a clock, a
+-- frame or a load.
+
+use Rattle.std.specs.Prelude.{◌≡◌, ℕ, ◌≤◌, List, [], length, Some, Bool, true, false}
+use Rattle.an_base.specs.Numbers.{AreNumbers}
+use Rattle.an_base.specs.Values.{TopoOf}
+use Rattle.an_base.specs.declared.frame.Frame.{Frame}
+use Rattle.an_base.specs.declared.port.Sample.{Sample}
+use Rattle.frame_codec.specs.Frames.{IsFrame, IsNoFrame}
+use Rattle.frame_codec.specs.Spelling.{spelling}
+use Rattle.topo_graph.specs.Topology.{IsGraph}
+use Rattle.table_build.specs.Tables.{TableOf, IsTableOf}
+use Rattle.switch_core.specs.declared.control.Control.{Control}
+use Rattle.switch_core.specs.Bytes.{OutOf, all_spelled}
+use Rattle.switch_core.specs.Switch.{StartOf, SwitchOf, finish_of}
+use Rattle.switch_core.specs.Steps.{clocked, framed, is_spent_by, loaded, sampled_by}
+use Rattle.switch_core.specs.Stands.{Stands}
+
+-- what it was started with, what is kept of what happened to it, and how many clocks and frames came
+pub record KeptOf : Type 0 where
+  pub start : StartOf
+  pub control : Control
+  pub works : ℕ
+
+-- what is kept is that of all that happened to this switch
+abbrev pub StandsFor : KeptOf → SwitchOf → Type 0
+StandsFor kept = Stands kept.control
+
+-- whether a clock has answered that the epochs are spent; it takes clocks and frames where none has
+abbrev pub is_spent : KeptOf → Bool
+is_spent kept = kept.control.spent
+
+abbrev pub IsWorking : KeptOf → Type 0
+IsWorking kept = is_spent kept ≡ false
+
+-- whether it is to load a table
+abbrev pub load_due : KeptOf → Bool
+load_due kept = kept.control.load_due
+
+abbrev pub IsLoadDue : KeptOf → Type 0
+IsLoadDue kept = load_due kept ≡ true
+
+-- Bytes came by a port to a switch that then is of this kind. Those of a frame are handled as this frame;
+-- those of none change nothing, which is told.
+pub record Handles (port : ℕ) (bytes : List ℕ) (s : SwitchOf) (Is : SwitchOf → Type 0)
+    (out : OutOf) : Type 0 where
+  pub frame : (frame : Frame) → IsFrame frame → bytes ≡ spelling frame
+      → Is (framed port frame s).switch
+      × (out ≡ record { frames = all_spelled (framed port frame s).frames; noframe = false })
+  pub no_frame : IsNoFrame bytes → Is s × (out ≡ record { frames = []; noframe = true })
+
+-- a clock came, and it is answered whether no epoch is left for a change that is due
+pub record Ticks (now : ℕ) (samples : List Sample) (s : SwitchOf) (Is : SwitchOf → Type 0) (out : OutOf)
+    (spent : Bool) : Type 0 where
+  pub spends : spent ≡ is_spent_by s (sampled_by now samples s)
+  pub stands : Is (clocked now samples s).switch
+  pub frames : out ≡ record { frames = all_spelled (clocked now samples s).frames; noframe = false }
+
+-- A table was loaded. It is that of the topology with which the switch has finished, which is a graph with as
+-- many different numbers of 1 to 126.
+pub record Loads (s : SwitchOf) (Is : SwitchOf → Type 0) (table : TableOf) : Type 0 where
+  pub topo : TopoOf
+  pub finished : finish_of s ≡ Some topo
+  pub graph : IsGraph topo.entries
+  pub numbers : AreNumbers topo.numbers
+  pub as_many : length topo.entries ≡ length topo.numbers
+  pub is_table : IsTableOf topo.entries topo.numbers s.any s.life table
+  pub stands : Is (loaded table.number s)
+  pub least : 1 ≤ table.number
+  pub most : table.number ≤ 126

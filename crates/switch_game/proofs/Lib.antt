@@ -1,0 +1,10 @@
+pub mod Streams
+pub mod Links
+pub mod Received
+pub mod Moves
+pub mod Own
+pub mod Played
+pub mod Steps
+pub mod Laws
+pub mod QuietLives
+pub mod Members

@@ -1,0 +1,83 @@
+-- The table of a topology, computed.
+use Rattle.std.specs.Prelude.{◌==◌, ◌&&◌, ℕ, zero, suc, ◌*◌, List, [], ◌∷◌, length, Bool, true, false, not}
+use Rattle.std.specs.Prelude.{Option, None, filter, position, slice_index, if◌then◌else◌}
+use Rattle.std.specs.List.{list_any, flat_map, range_with_len, find}
+use Rattle.std.specs.Option.{option_map_or}
+use Rattle.an_base.specs.Values.{LifeId, EntryOf, TopoOf}
+use Rattle.an_base.specs.Rows.{RowOf}
+use Rattle.topo_graph.specs.Topology.{place_of, far_of}
+use Rattle.updown.specs.Routes.{is_up_end}
+use Rattle.table_build.specs.Exits.{is_entry, may_go_up, passes}
+use Rattle.table_build.specs.Tables.{TableOf}
+
+-- the ports by which a packet may leave
+abbrev pub exit_ports : List ℕ
+exit_ports = range_with_len 1 12
+
+-- Whether so many links lead from x to y, along a legal route or, where the way may not go up, along downward
+-- links alone. A link upward is passed only where the way may go up.
+abbrev pub leads_in : List EntryOf → ℕ → ℕ → Bool → ℕ → Bool
+leads_in entries y zero up x = x == y
+leads_in entries y (suc links) up x =
+    list_any
+    (λ port. option_map_or
+    (λ far.
+    if is_up_end entries far.0 x
+    then (up && leads_in entries y links true far.0)
+    else leads_in entries y links false far.0)
+    (far_of entries x port) false)
+    exit_ports
+
+-- the length of a shortest such way; none has more than twice as many links as there are members
+abbrev pub shortest : List EntryOf → ℕ → Bool → ℕ → Option ℕ
+shortest entries y up x =
+    find (λ links. leads_in entries y links up x) (range_with_len 0 (2 * length entries))
+
+-- the same behind a port: any legal route behind an upward link, downward links alone behind a downward one
+abbrev pub left_behind : List EntryOf → ℕ → Bool → ℕ → ℕ × ℕ → Option ℕ
+left_behind entries y up x far =
+    if is_up_end entries far.0 x
+    then (if up then shortest entries y true far.0 else None)
+    else shortest entries y false far.0
+
+-- whether a port begins a way to another member; unless any way will do, a shortest one
+abbrev pub is_exit : List EntryOf → Bool → Bool → ℕ → ℕ → ℕ → Bool
+is_exit entries any up x y port =
+    not (x == y)
+    && passes any (option_map_or (left_behind entries y up x) (far_of entries x port) None)
+    (shortest entries y up x)
+
+abbrev pub exits_to : List EntryOf → Bool → Bool → ℕ → ℕ → List ℕ
+exits_to entries any up x y = filter (is_exit entries any up x y) exit_ports
+
+-- the row of the member at x for an entry and a number, if the number is that of another member
+abbrev pub row_to : TopoOf → Bool → ℕ → ℕ → ℕ → ℕ → List RowOf
+row_to topo any x entry number y =
+    if x == y then [] else record {
+      at = slice_index topo.numbers x;
+      entry = entry;
+      to = number;
+      exits = exits_to topo.entries any (may_go_up topo.entries x entry) x y;
+    } ∷ []
+
+abbrev pub rows_for : TopoOf → Bool → ℕ → ℕ → ℕ → List RowOf
+rows_for topo any x entry number =
+    option_map_or (row_to topo any x entry number) (position (λ other. other == number) topo.numbers) []
+
+-- the rows of the member at x, by rising entry and then by rising number
+abbrev pub rows_of : TopoOf → Bool → ℕ → List RowOf
+rows_of topo any x =
+    flat_map
+    (λ entry. flat_map (rows_for topo any x entry) (range_with_len 1 126))
+    (filter (is_entry topo.entries x) (range_with_len 0 13))
+
+-- the table of a member of a topology, and its number there
+abbrev pub number_in : TopoOf → LifeId → ℕ
+number_in topo me = option_map_or (slice_index topo.numbers) (place_of topo.entries me) 0
+
+unfoldable pub table_of : TopoOf → Bool → LifeId → TableOf
+table_of topo any me =
+    record {
+      number = number_in topo me;
+      rows = option_map_or (rows_of topo any) (place_of topo.entries me) [];
+    }

@@ -1,0 +1,11 @@
+pub mod PartLemmas
+pub mod LabelLemmas
+pub mod TableFormOf
+pub mod JoinedLemmas
+pub mod KeptLemmas
+pub mod TableLaws
+pub mod FinalLemmas
+pub mod PairLemmas
+pub mod NumberLineLemmas
+pub mod ReadyLemmas
+pub mod WalkJoined

@@ -1,0 +1,50 @@
+//! The components of links.
+
+ghost use Rattle.std.specs.Prelude.{◌≡◌, ◌==◌, ◌<◌, All, map, IfOk, if◌then◌else◌};
+ghost use Rattle.std.specs.List.{range_with_len};
+ghost use Rattle.net_graph.specs.Wires.{IsLink};
+ghost use Rattle.table_script.specs.Tables.{AreLabels};
+
+use an_base::memory::OutOfMemory;
+use net_graph::wiring::LinkAt;
+use std::alloc::Global;
+
+/// Labels of so many switches, by place, which are alike exactly for the switches of one component of the
+/// links.
+pub fn labels_of(alloc: Global, count: u8, links: &[LinkAt]) -> Result<Vec<u8>, OutOfMemory>
+    requires { All (IsLink count) links.now }
+    ensures { IfOk result (λ labels. AreLabels count links.now labels.items) }
+{
+    match links {
+        [] => places(alloc, count),
+        [link, rest @ ..] => {
+            let labels = labels_of(alloc, count, rest)?;
+            let from = labels[usize::from(link.b)];
+            let to = labels[usize::from(link.a)];
+            relabelled(alloc, &labels, from, to)
+        }
+    }
+}
+
+// The places of so many switches.
+fn places(alloc: Global, count: u8) -> Result<Vec<u8>, OutOfMemory>
+    ensures { IfOk result (λ places. places.items ≡ range_with_len 0 count) }
+{
+    let mut places = Vec::new(alloc);
+    'places: for s in 0..count {
+        places.push(s)?;
+    }
+    Ok(places)
+}
+
+// The labels, with one for another.
+fn relabelled(alloc: Global, labels: &[u8], from: u8, to: u8) -> Result<Vec<u8>, OutOfMemory>
+    ensures { IfOk result (λ v. v.items ≡ map (λ l. (if l == from then to else l)) labels.now) }
+{
+    Ok(
+        labels
+            .iter()
+            .map(|label| if *label == from { to } else { *label })
+            .collect(alloc)?,
+    )
+}

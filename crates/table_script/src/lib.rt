@@ -1,0 +1,14 @@
+//! Scripts with tables: a script, and after it lines that give the numbers of its switches and the rows
+//! of their routing tables.
+//!
+//! It stands on `an_base`, `net_graph`, `text_lines` and `net_script`. Its contract:
+//! `table_reader::read_with_tables` answers a script and tables exactly where the bytes are the text of
+//! such, and else the first faulty line with its first cause; no bytes are the text of two.
+#![tactic(auto)]
+
+mod component;
+pub mod law;
+mod table_draft;
+mod table_form;
+pub mod table_reader;
+pub mod tables;

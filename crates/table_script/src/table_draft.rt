@@ -1,0 +1,147 @@
+//! What the lines of tables say so far.
+
+ghost use Rattle.std.specs.Prelude.{◌≡◌, ◌<◌, ◌++◌, [], ◌∷◌, true, All, length, OnOk};
+ghost use Rattle.table_script.specs.TableDrafts.{no_tables};
+ghost use Rattle.table_script.specs.TableRules.{is_numbered, is_labelled, is_entered, number_of};
+
+use an_base::memory::OutOfMemory;
+use an_base::row::Row;
+use std::alloc::Global;
+use std::marker::Model;
+
+/// The number of a switch.
+#[derive(Clone, Copy, Debug, PartialEq, Eq)]
+pub struct NumberAt {
+    /// The switch, by its place.
+    pub s: u8,
+    /// Its number, 1 to 126.
+    pub number: u8,
+}
+
+/// An entry of a switch.
+#[derive(Clone, Copy, Debug, PartialEq, Eq)]
+pub struct EntryAt {
+    /// The switch, by its place.
+    pub s: u8,
+    /// The entry, 0 to 12.
+    pub entry: u8,
+}
+
+/// What so many lines of tables say.
+#[derive(Debug, Drop)]
+pub struct TableDraft {
+    numbers: Vec<NumberAt>,
+    entries: Vec<EntryAt>,
+    rows: Vec<Row>,
+    ended: bool,
+}
+
+impl Model for TableDraft {
+    ghost use Rattle.table_script.specs.TableDrafts.{TableDraftOf};
+
+    ghost Value = { TableDraftOf };
+
+    ghost view = { λ d. record {
+      numbers = d.numbers.items;
+      entries = d.entries.items;
+      rows = d.rows.items;
+      ended = d.ended;
+    } };
+}
+
+impl TableDraft {
+    /// What no lines say.
+    pub fn new(alloc: Global) -> Self
+        ensures { result ≡ no_tables }
+    {
+        TableDraft {
+            numbers: Vec::new(alloc),
+            entries: Vec::new(alloc),
+            rows: Vec::new(alloc),
+            ended: false,
+        }
+    }
+
+    /// Whether the last line came.
+    pub fn is_ended(&self) -> bool
+        ensures { result ≡ self.now.ended }
+    {
+        self.ended
+    }
+
+    /// Whether a switch had its number.
+    #[tactic(auto, unfolding(crate::specs::TableRules::is_numbered))]
+    pub fn is_numbered(&self, s: u8) -> bool
+        ensures { result ≡ is_numbered self.now s }
+    {
+        self.numbers.iter().any(|x| x.s == s)
+    }
+
+    /// Whether a switch whose label is that of s has the number.
+    #[tactic(auto, unfolding(crate::specs::TableRules::is_labelled))]
+    pub fn is_number_taken(&self, labels: &[u8], s: u8, number: u8) -> bool
+        requires all { All (λ x. x.s < length labels.now) self.now.numbers }
+        requires within { s < length labels.now }
+        ensures { result ≡ is_labelled labels.now self.now s number }
+    {
+        let label = labels[usize::from(s)];
+        self.numbers.iter().any(|x| x.number == number && labels[usize::from(x.s)] == label)
+    }
+
+    /// Whether an entry of a switch had its line.
+    #[tactic(auto, unfolding(crate::specs::TableRules::is_entered))]
+    pub fn is_entered(&self, s: u8, entry: u8) -> bool
+        ensures { result ≡ is_entered self.now s entry }
+    {
+        self.entries.iter().any(|x| x.s == s && x.entry == entry)
+    }
+
+    /// The number of a switch, 0 where it had no line.
+    #[tactic(auto, unfolding(crate::specs::TableRules::number_of))]
+    pub fn number_of(&self, s: u8) -> u8
+        ensures { result ≡ number_of self.now s }
+    {
+        self.numbers
+            .iter()
+            .find(|x| x.s == s)
+            .map_or(0, |x| x.number)
+    }
+
+    /// Adds the number of a switch. Where no memory is found nothing is added.
+    pub fn push_number(&mut self, number: NumberAt) -> Result<(), OutOfMemory>
+        ensures { OnOk result (self.new ≡ record self.old { numbers = self.old.numbers ++ number ∷ [] }) }
+    {
+        self.numbers.push(number)?;
+        Ok(())
+    }
+
+    /// Adds an entry of a switch. Where no memory is found nothing is added.
+    pub fn push_entry(&mut self, entry: EntryAt) -> Result<(), OutOfMemory>
+        ensures { OnOk result (self.new ≡ record self.old { entries = self.old.entries ++ entry ∷ [] }) }
+    {
+        self.entries.push(entry)?;
+        Ok(())
+    }
+
+    /// Adds a row. Where no memory is found nothing is added.
+    pub fn push_row(&mut self, row: Row) -> Result<(), OutOfMemory>
+        ensures { OnOk result (self.new ≡ record self.old { rows = self.old.rows ++ row ∷ [] }) }
+    {
+        self.rows.push(row)?;
+        Ok(())
+    }
+
+    /// Ends the tables.
+    pub fn end(&mut self)
+        ensures { self.new ≡ record self.old { ended = true } }
+    {
+        self.ended = true;
+    }
+
+    /// The rows, without taking memory.
+    pub fn into_rows(self) -> Vec<Row>
+        ensures { result.items ≡ self.rows }
+    {
+        self.rows
+    }
+}

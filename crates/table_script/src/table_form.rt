@@ -1,0 +1,280 @@
+//! The forms of lines of tables: what the words of a line add to what stands before it.
+
+ghost use Rattle.std.specs.Prelude.{◌≡◌, ◌≤◌, ◌<◌, ◌==◌, ◌++◌, [], ◌∷◌, true, false, map, length, codes, All, IfOk, IfSome, MatchResult, MatchOption};
+ghost use Rattle.std.specs.List.{slice_split, list_all, range_with_len};
+ghost use Rattle.net_script.specs.declared.cause.ScriptCause.TheVariants.{BadNumber};
+ghost use Rattle.text_lines.specs.Words.{number_value};
+ghost use Rattle.text_lines.specs.Faults.{unless};
+ghost use Rattle.table_script.specs.Tables.{AreLabels};
+ghost use Rattle.table_script.specs.TableForms.{NumberLine, RowLine, EndLine};
+ghost use Rattle.table_script.specs.TableRules.{are_ports, port_words, is_pair, are_pairs, row_of, entry_cause, is_numbered, IsKept};
+ghost use Rattle.table_script.specs.TableTexts.{AddsTableForm, IsFaultyTableForm};
+ghost use Rattle.table_script.specs.TableSteps.{ReadsTable, IsWrongTable};
+ghost use Rattle.text_lines.specs.Faults.{IsField};
+ghost use Rattle.text_lines.specs.Stops.{IsStep};
+
+use crate::table_draft::{EntryAt, NumberAt, TableDraft};
+use an_base::row::{Exits, Row};
+use net_script::cause::ScriptCause;
+use net_script::field::{known_switch, number_in};
+use net_script::form::ScriptStop;
+use net_script::script::Script;
+use text_lines::line::first_of;
+use text_lines::stop::Stop;
+use text_lines::word::{is, is_number, number_of};
+
+/// Adds what a line of tables of these words says. The labels are those of the components.
+pub fn read_table_form(
+    draft: &mut TableDraft,
+    script: &Script,
+    labels: &[u8],
+    words: &[&[u8]],
+) -> Result<(), ScriptStop>
+    requires labels { AreLabels (length script.now.wires.switches) script.now.wires.links labels.now }
+    requires kept { IsKept script.now draft.old }
+    ensures { IsStep result (AddsTableForm script.now draft.old (map (λ w. w.now) words.now) draft.new)
+        (IsFaultyTableForm script.now draft.old (map (λ w. w.now) words.now)) }
+{
+    match words {
+        [first, rest @ ..] => read_first_word(draft, script, labels, first, rest),
+        _ => Err(Stop::Fault(ScriptCause::UnknownWord)),
+    }
+}
+
+fn read_first_word(
+    draft: &mut TableDraft,
+    script: &Script,
+    labels: &[u8],
+    first: &[u8],
+    rest: &[&[u8]],
+) -> Result<(), ScriptStop>
+    requires labels { AreLabels (length script.now.wires.switches) script.now.wires.links labels.now }
+    requires kept { IsKept script.now draft.old }
+    ensures { IsStep result (AddsTableForm script.now draft.old (first.now
+        ∷ map (λ w. w.now) rest.now) draft.new)
+        (IsFaultyTableForm script.now draft.old (first.now ∷ map (λ w. w.now) rest.now)) }
+{
+    if is(first, "component") {
+        return Ok(());
+    }
+    if is(first, "member") {
+        return Ok(());
+    }
+    if is(first, "number") {
+        return read_number_words(draft, script, labels, rest);
+    }
+    if is(first, "row") {
+        return read_row_words(draft, script, rest);
+    }
+    if is(first, "end") && rest.is_empty() {
+        return read_table_end(draft, script);
+    }
+    Err(Stop::Fault(ScriptCause::UnknownWord))
+}
+
+fn read_number_words(
+    draft: &mut TableDraft,
+    script: &Script,
+    labels: &[u8],
+    words: &[&[u8]],
+) -> Result<(), ScriptStop>
+    requires labels { AreLabels (length script.now.wires.switches) script.now.wires.links labels.now }
+    requires kept { IsKept script.now draft.old }
+    ensures { IsStep result (AddsTableForm script.now draft.old (codes "number"
+        ∷ map (λ w. w.now) words.now) draft.new)
+        (IsFaultyTableForm script.now draft.old (codes "number" ∷ map (λ w. w.now) words.now)) }
+{
+    match words {
+        [name, n] => read_number_line(draft, script, labels, name, n),
+        _ => Err(Stop::Fault(ScriptCause::UnknownWord)),
+    }
+}
+
+#[tactic(auto, unfolding(crate::specs::TableRules::number_line_cause))]
+fn read_number_line(
+    draft: &mut TableDraft,
+    script: &Script,
+    labels: &[u8],
+    name: &[u8],
+    n: &[u8],
+) -> Result<(), ScriptStop>
+    requires labels { AreLabels (length script.now.wires.switches) script.now.wires.links labels.now }
+    requires kept { IsKept script.now draft.old }
+    ensures { IsStep result (ReadsTable script.now draft.old (NumberLine name.now n.now) draft.new)
+        (IsWrongTable script.now draft.old (NumberLine name.now n.now)) }
+{
+    let s = known_switch(script, name)?;
+    if draft.is_numbered(s) {
+        return Err(Stop::Fault(ScriptCause::NameTwice));
+    }
+    let number = number_in(n, 1, 126)? as u8;
+    if draft.is_number_taken(labels, s, number) {
+        return Err(Stop::Fault(ScriptCause::NameTwice));
+    }
+    draft.push_number(NumberAt { s, number })?;
+    Ok(())
+}
+
+fn read_row_words(
+    draft: &mut TableDraft,
+    script: &Script,
+    words: &[&[u8]],
+) -> Result<(), ScriptStop>
+    ensures { IsStep result (AddsTableForm script.now draft.old (codes "row"
+        ∷ map (λ w. w.now) words.now) draft.new)
+        (IsFaultyTableForm script.now draft.old (codes "row" ∷ map (λ w. w.now) words.now)) }
+{
+    match words {
+        [name, entry, pairs @ ..] => read_row_line(draft, script, name, entry, pairs),
+        _ => Err(Stop::Fault(ScriptCause::UnknownWord)),
+    }
+}
+
+#[tactic(auto, unfolding(crate::specs::TableRules::row_line_cause))]
+fn read_row_line(
+    draft: &mut TableDraft,
+    script: &Script,
+    name: &[u8],
+    entry: &[u8],
+    pairs: &[&[u8]],
+) -> Result<(), ScriptStop>
+    ensures { IsStep result
+        (ReadsTable script.now draft.old (RowLine name.now entry.now (map (λ w. w.now) pairs.now)) draft.new)
+        (IsWrongTable script.now draft.old (RowLine name.now entry.now (map (λ w. w.now) pairs.now))) }
+{
+    let s = known_switch(script, name)?;
+    let entry = entry_in(entry)?;
+    if draft.is_entered(s, entry) {
+        return Err(Stop::Fault(ScriptCause::NameTwice));
+    }
+    draft.push_entry(EntryAt { s, entry })?;
+    push_rows(draft, s, entry, 0, pairs)
+}
+
+// The entry that a word says.
+fn entry_in(word: &[u8]) -> Result<u8, ScriptCause>
+    ensures entry { IsField result (entry_cause word.now) (number_value word.now) }
+    ensures range { IfOk result (λ e. e ≤ 12) }
+{
+    if !is_number(word) {
+        return Err(ScriptCause::BadNumber);
+    }
+    match number_of(word) {
+        Some(entry) if entry <= 12 => Ok(entry as u8),
+        _ => Err(ScriptCause::PortRange),
+    }
+}
+
+// Adds the rows of pairs whose numbers rise, the first above one number.
+fn push_rows(
+    draft: &mut TableDraft,
+    s: u8,
+    entry: u8,
+    above: u8,
+    pairs: &[&[u8]],
+) -> Result<(), ScriptStop>
+    ensures { IsStep result
+        ((are_pairs above (map (λ w. w.now) pairs.now) ≡ true)
+        × (draft.new ≡ record draft.old {
+          rows = draft.old.rows
+              ++ map (row_of s entry) (map (λ w. w.now) pairs.now);
+        }))
+        (λ c. (are_pairs above (map (λ w. w.now) pairs.now) ≡ false) × (c ≡ BadNumber)) }
+{
+    match pairs {
+        [] => Ok(()),
+        [pair, rest @ ..] => {
+            let row = row_in(s, entry, pair)?;
+            let to = row.to;
+            if to <= above {
+                return Err(Stop::Fault(ScriptCause::BadNumber));
+            }
+            draft.push_row(row)?;
+            push_rows(draft, s, entry, to, rest)
+        }
+    }
+}
+
+// The row that a pair says.
+#[tactic(auto, unfolding(crate::specs::TableRules::is_pair))]
+fn row_in(s: u8, entry: u8, pair: &[u8]) -> Result<Row, ScriptCause>
+    ensures { IsField result (unless (is_pair pair.now) BadNumber) (row_of s entry pair.now) }
+{
+    let Some(colon) = first_of(pair, b':') else {
+        return Err(ScriptCause::BadNumber);
+    };
+    let to = number_in(&pair[..colon], 1, 126)? as u8;
+    let exits = exits_in(&pair[colon + 1..])?;
+    Ok(Row {
+        at: s,
+        entry,
+        to,
+        exits,
+    })
+}
+
+// The exits that a text says: none for `-`, else ports between slashes that rise.
+fn exits_in(text: &[u8]) -> Result<Exits, ScriptCause>
+    ensures { IsField result (unless (are_ports 0 (port_words text.now)) BadNumber)
+        (map number_value (port_words text.now)) }
+{
+    let mut exits = Exits::new();
+    if is(text, "-") {
+        return Ok(exits);
+    }
+    push_ports(&mut exits, 0, text)?;
+    Ok(exits)
+}
+
+// Adds ports that rise, the first above one number.
+fn push_ports(exits: &mut Exits, above: u8, text: &[u8]) -> Result<(), ScriptCause>
+    requires before { All (λ p. p ≤ above) exits.old }
+    requires room { length exits.old ≤ above }
+    requires most { above ≤ 12 }
+    ensures { MatchResult result
+        (λ _. (are_ports above (slice_split (λ c. c == 47) text.now) ≡ true)
+        × (exits.new ≡ exits.old ++ map number_value (slice_split (λ c. c == 47) text.now)))
+        (λ c. (are_ports above (slice_split (λ c. c == 47) text.now) ≡ false) × (c ≡ BadNumber)) }
+{
+    let (word, rest) = first_part(text);
+    let port = number_in(word, 1, 12)? as u8;
+    if port <= above {
+        return Err(ScriptCause::BadNumber);
+    }
+    exits.push(port);
+    match rest {
+        Some(rest) => push_ports(exits, port, rest),
+        None => Ok(()),
+    }
+}
+
+// What stands before the first slash, and what stands after it, if there is one.
+fn first_part(text: &[u8]) -> (&[u8], Option<&[u8]>)
+    ensures parts { MatchOption result.1 (slice_split (λ c. c == 47) text.now ≡ result.0.now ∷ [])
+        (λ rest. slice_split (λ c. c == 47) text.now ≡ result.0.now ∷ slice_split (λ c. c == 47) rest.now) }
+    ensures less { IfSome result.1 (λ rest. length rest.now < length text.now) }
+{
+    match first_of(text, b'/') {
+        Some(end) => (&text[..end], Some(&text[end + 1..])),
+        None => (text, None),
+    }
+}
+
+#[tactic(auto, unfolding(crate::specs::TableRules::are_numbered))]
+fn read_table_end(draft: &mut TableDraft, script: &Script) -> Result<(), ScriptStop>
+    ensures { IsStep result (ReadsTable script.now draft.old EndLine draft.new)
+        (IsWrongTable script.now draft.old EndLine) }
+{
+    if !are_numbered(draft, script.wiring().count()) {
+        return Err(Stop::Fault(ScriptCause::TablesShort));
+    }
+    draft.end();
+    Ok(())
+}
+
+// Whether each of so many switches had its number.
+fn are_numbered(draft: &TableDraft, count: u8) -> bool
+    ensures { result ≡ list_all (is_numbered draft.now) (range_with_len 0 count) }
+{
+    (0..count).all(|s| draft.is_numbered(s))
+}

@@ -1,0 +1,187 @@
+//! The reader of scripts with tables.
+
+ghost use Rattle.std.specs.Prelude.{◌≡◌, ◌≢◌, ◌<◌, ◌-◌, ◌^◌, length, map, IfOk, IfErr, OnOk};
+ghost use Rattle.std.specs.List.{range_with_len};
+ghost use Rattle.net_script.specs.declared.draft.Part.TheVariants.{After};
+ghost use Rattle.table_script.specs.Tables.{AreLabels, AreTablesOf};
+ghost use Rattle.table_script.specs.TableRules.{IsKept, number_of, tables_of};
+ghost use Rattle.table_script.specs.TableTexts.{AddsTable, IsFaultyTable, AddsTableWords, IsFaultyTableWords, AddsTold, IsFaultyTold, AreEnded, IsTextWith};
+ghost use Rattle.net_script.specs.Texts.{Adds, IsFaulty};
+ghost use Rattle.text_lines.specs.Stops.{IsStep};
+ghost use Rattle.table_script.specs.TableSteps.{told_of, IsReady, IsRefusalWith};
+
+use crate::component::labels_of;
+use crate::table_draft::TableDraft;
+use crate::table_form::read_table_form;
+use crate::tables::Tables;
+use an_base::memory::OutOfMemory;
+use net_script::cause::ScriptCause;
+use net_script::draft::{Draft, Part};
+use net_script::form::ScriptStop;
+use net_script::reader::{ReadRefusal, read_line};
+use net_script::script::Script;
+use std::alloc::Global;
+use text_lines::line::{are_line_bytes, first_line, words};
+use text_lines::stop::{Refusal, Stop};
+
+/// The most bytes of a line of tables, without what ends it.
+pub const MOST_TABLE_LINE: usize = 4_000;
+
+// What so many lines of a script and of tables say, and from the script's `end` on the labels of the
+// components.
+#[derive(Debug, Drop)]
+struct Reading {
+    script: Draft,
+    tables: TableDraft,
+    labels: Vec<u8>,
+}
+
+/// The script and the tables that the bytes are the text of: a script, lines of tables, and a second
+/// `end`. The time is linear in the bytes but for the look-ups of names, identifiers, numbers and entries.
+/// `OutOfMemory` says nothing of the bytes.
+pub fn read_with_tables(alloc: Global, bytes: &[u8]) -> Result<(Script, Tables), ReadRefusal>
+    requires few { length bytes.now < 2 ^ 32 - 1 }
+    ensures text { IfOk result (λ r. IsTextWith bytes.now r.0 r.1) }
+    ensures fault { IfErr result (IsRefusalWith bytes.now) }
+    ensures network { IfOk result (λ r. AreTablesOf r.0.wires r.1) }
+{
+    let mut reading = Reading {
+        script: Draft::new(alloc),
+        tables: TableDraft::new(alloc),
+        labels: Vec::new(alloc),
+    };
+    let mut rest = bytes;
+    let mut line = 1u32;
+    'lines: while let Some((first, after)) = first_line(rest) {
+        if let Err(stop) = read_told(&mut reading, alloc, first) {
+            return Err(stop.at(line));
+        }
+        line += 1;
+        rest = after;
+    }
+    if !reading.tables.is_ended() {
+        return Err(Refusal::Fault {
+            line,
+            cause: ScriptCause::NoEnd,
+        });
+    }
+    match finished(alloc, reading) {
+        Ok(read) => Ok(read),
+        Err(_error) => Err(Refusal::OutOfMemory),
+    }
+}
+
+// Adds what a line says.
+fn read_told(reading: &mut Reading, alloc: Global, line: &[u8]) -> Result<(), ScriptStop>
+    requires { IsReady reading.old }
+    ensures step { IsStep result (AddsTold (told_of reading.old) line.now (told_of reading.new))
+        (IsFaultyTold (told_of reading.old) line.now) }
+    ensures ready { OnOk result (IsReady reading.new) }
+{
+    match reading.script.part {
+        Part::Header => read_script_line(reading, alloc, line),
+        Part::Items => read_script_line(reading, alloc, line),
+        Part::After => read_table_line(
+            &mut reading.tables,
+            alloc,
+            &reading.script.script,
+            &reading.labels,
+            line,
+        ),
+    }
+}
+
+// Adds what a line of the script says.
+fn read_script_line(reading: &mut Reading, alloc: Global, line: &[u8]) -> Result<(), ScriptStop>
+    requires ready { IsReady reading.old }
+    requires before { reading.old.script.part ≢ After }
+    ensures step { IsStep result (Adds reading.old.script line.now reading.new.script) (IsFaulty reading.old.script line.now) }
+    ensures tables { reading.new.tables ≡ reading.old.tables }
+    ensures ready { OnOk result (IsReady reading.new) }
+{
+    read_line(&mut reading.script, alloc, line)?;
+    if reading.script.part == Part::After {
+        let wiring = reading.script.script.wiring();
+        reading.labels = labels_of(alloc, wiring.count(), wiring.links())?;
+    }
+    Ok(())
+}
+
+// Adds what a line of tables says.
+fn read_table_line(
+    draft: &mut TableDraft,
+    alloc: Global,
+    script: &Script,
+    labels: &[u8],
+    line: &[u8],
+) -> Result<(), ScriptStop>
+    requires labels { AreLabels (length script.now.wires.switches) script.now.wires.links labels.now }
+    requires kept { IsKept script.now draft.old }
+    ensures step { IsStep result (AddsTable script.now draft.old line.now draft.new) (IsFaultyTable script.now draft.old line.now) }
+    ensures kept { OnOk result (IsKept script.now draft.new) }
+{
+    if line.len() > MOST_TABLE_LINE {
+        return Err(Stop::Fault(ScriptCause::LineTooLong));
+    }
+    if !are_line_bytes(line) {
+        return Err(Stop::Fault(ScriptCause::NotAscii));
+    }
+    let words = words(alloc, line)?;
+    if words.is_empty() {
+        return Ok(());
+    }
+    read_table_words(draft, script, labels, &words)
+}
+
+// Adds what the words of a line of tables say, of which there are some.
+fn read_table_words(
+    draft: &mut TableDraft,
+    script: &Script,
+    labels: &[u8],
+    words: &[&[u8]],
+) -> Result<(), ScriptStop>
+    requires labels { AreLabels (length script.now.wires.switches) script.now.wires.links labels.now }
+    requires kept { IsKept script.now draft.old }
+    ensures step { IsStep result
+        (AddsTableWords draft.old.ended script.now draft.old (map (λ w. w.now) words.now) draft.new)
+        (IsFaultyTableWords draft.old.ended script.now draft.old (map (λ w. w.now) words.now)) }
+    ensures kept { OnOk result (IsKept script.now draft.new) }
+{
+    if draft.is_ended() {
+        return Err(Stop::Fault(ScriptCause::AfterEnd));
+    }
+    read_table_form(draft, script, labels, words)
+}
+
+// The script and the tables that the lines say.
+fn finished(alloc: Global, reading: Reading) -> Result<(Script, Tables), OutOfMemory>
+    requires ready { IsReady reading }
+    requires ended { AreEnded (told_of reading) }
+    ensures script { IfOk result (λ r. r.0 ≡ reading.script.script) }
+    ensures tables { IfOk result (λ r. r.1 ≡ tables_of (length reading.script.script.wires.switches) reading.tables) }
+    ensures network { IfOk result (λ r. AreTablesOf r.0.wires r.1) }
+{
+    let Reading {
+        script: draft,
+        tables,
+        labels: _,
+    } = reading;
+    let script = draft.script;
+    let numbers = numbers_of(alloc, &tables, script.wiring().count())?;
+    let tables = Tables::new(numbers, tables.into_rows());
+    Ok((script, tables))
+}
+
+// The numbers of so many switches, by place.
+fn numbers_of(alloc: Global, draft: &TableDraft, count: u8) -> Result<Vec<u8>, OutOfMemory>
+    ensures { IfOk result (λ v. v.items ≡ map (number_of draft.now) (range_with_len 0 count)) }
+{
+    let mut numbers = Vec::new(alloc);
+    'switches: for s in 0..count {
+        numbers.push(draft.number_of(s))?;
+    }
+    Ok(numbers)
+}
+
+#[cfg(test)]
+mod tests;

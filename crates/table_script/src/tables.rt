@@ -1,0 +1,52 @@
+//! The numbers of switches, and the rows of their routing tables.
+
+ghost use Rattle.std.specs.Prelude.{◌≡◌};
+ghost use Rattle.table_script.specs.Tables.{IsTables};
+
+use an_base::row::Row;
+use std::marker::Model;
+
+/// A number for each switch, by the switch's place, and rows of routing tables, in which a switch stands
+/// as its place. Each number, and each number to which a row leads, is 1 to 126; entries are 0 to 12; and
+/// no two rows have the same switch, entry and number.
+#[derive(Debug, Drop)]
+pub struct Tables {
+    numbers: Vec<u8>,
+    rows: Vec<Row>,
+}
+
+impl Model for Tables {
+    ghost use Rattle.table_script.specs.Tables.{TablesOf, IsTables};
+
+    ghost Value = { TablesOf };
+
+    ghost view = { λ t. record { numbers = t.numbers.items; rows = t.rows.items } };
+
+    ghost invariant = { λ t. IsTables (record { numbers = t.numbers.items; rows = t.rows.items }) };
+}
+
+impl Tables {
+    /// The tables of these numbers and rows, without taking memory.
+    pub fn new(numbers: Vec<u8>, rows: Vec<Row>) -> Self
+        requires { IsTables (record { numbers = numbers.items; rows = rows.items }) }
+        ensures { result ≡ record { numbers = numbers.items; rows = rows.items } }
+    {
+        Tables { numbers, rows }
+    }
+
+    /// The numbers, by the switch's place.
+    pub fn numbers(&self) -> &[u8]
+        ensures all { result.now ≡ self.now.numbers }
+        ensures kept { IsTables self.now }
+    {
+        &self.numbers
+    }
+
+    /// The rows, in the order of the text, in which `at` is the switch's place.
+    pub fn rows(&self) -> &[Row]
+        ensures all { result.now ≡ self.now.rows }
+        ensures kept { IsTables self.now }
+    {
+        &self.rows
+    }
+}

@@ -1,0 +1,121 @@
+//! The lines of a text, and the words of a line.
+
+ghost use Rattle.std.specs.Prelude.{◌≡◌, ◌<◌, ◌≤◌, ◌+◌, [], ◌∷◌, length, map, take, count_by, position, ◌==◌, IfOk, IfSome, IfNone};
+ghost use Rattle.std.specs.List.{list_all};
+ghost use Rattle.std.specs.Str.Lines.{strip_carriage_return};
+ghost use Rattle.text_lines.specs.Lines.{lines_of, words_of, parts_of, without_comment, is_line_byte, is_blank};
+
+use an_base::memory::OutOfMemory;
+use std::alloc::Global;
+
+/// The most bytes of a line, without what ends it.
+pub const MOST_LINE: usize = 200;
+
+/// The first line of the bytes, without what ends it, and the bytes after that. There is none where
+/// there are no bytes.
+pub fn first_line(bytes: &[u8]) -> Option<(&[u8], &[u8])>
+    ensures some { IfSome result (λ r. lines_of bytes.now ≡ r.0.now ∷ lines_of r.1.now) }
+    ensures less { IfSome result (λ r. length r.1.now < length bytes.now) }
+    ensures none { IfNone result (lines_of bytes.now ≡ []) }
+{
+    if bytes.is_empty() {
+        return None;
+    }
+    match first_of(bytes, b'\n') {
+        Some(end) => Some((without_return(&bytes[..end]), &bytes[end + 1..])),
+        None => Some((bytes, &bytes[bytes.len()..])),
+    }
+}
+
+/// Where a byte stands first, if it stands in the bytes.
+pub fn first_of(bytes: &[u8], byte: u8) -> Option<usize>
+    ensures { result ≡ position (λ c. c == byte) bytes.now }
+{
+    bytes.iter().position(|c| *c == byte)
+}
+
+// The bytes without the one carriage return at their end, if they have one.
+fn without_return(bytes: &[u8]) -> &[u8]
+    ensures { result.now ≡ strip_carriage_return bytes.now }
+{
+    match bytes {
+        [front @ .., b'\r'] => front,
+        _ => bytes,
+    }
+}
+
+/// Whether each byte may stand in a line: a tab, or 32 to 126.
+pub fn are_line_bytes(line: &[u8]) -> bool
+    ensures { result ≡ list_all is_line_byte line.now }
+{
+    line.iter().all(|c| is_line_byte(*c))
+}
+
+fn is_line_byte(c: u8) -> bool
+    ensures { result ≡ is_line_byte c }
+{
+    c == b'\t' || (b' '..=b'~').contains(&c)
+}
+
+/// The words of a line: the parts between its spaces and tabs, up to a `#`, that are not empty.
+pub fn words(alloc: Global, line: &[u8]) -> Result<Vec<&[u8]>, OutOfMemory>
+    ensures { IfOk result (λ v. map (λ w. w.now) v.items ≡ words_of line.now) }
+{
+    parts(alloc, before_comment(line))
+}
+
+// What stands before the first `#`.
+fn before_comment(line: &[u8]) -> &[u8]
+    ensures { result.now ≡ without_comment line.now }
+{
+    match first_of(line, b'#') {
+        Some(end) => &line[..end],
+        None => line,
+    }
+}
+
+// The parts between spaces and tabs that are not empty.
+fn parts(alloc: Global, line: &[u8]) -> Result<Vec<&[u8]>, OutOfMemory>
+    ensures { IfOk result (λ v. map (λ w. w.now) v.items ≡ parts_of line.now) }
+{
+    Ok(
+        line.split(|c| is_blank(*c))
+            .filter(|w| !w.is_empty())
+            .collect(alloc)?,
+    )
+}
+
+fn is_blank(c: u8) -> bool
+    ensures { result ≡ is_blank c }
+{
+    c == b' ' || c == b'\t'
+}
+
+/// The number, from 1, of the line in which a byte stands, or would stand after the last.
+pub fn line_of(bytes: &[u8], place: usize) -> usize
+    requires place { place ≤ length bytes.now }
+    ensures { result ≡ 1 + count_by (λ c. c == 10) (take place bytes.now) }
+{
+    1 + bytes[..place].iter().filter(|c| **c == b'\n').count()
+}
+
+#[cfg(test)]
+mod tests {
+    use super::*;
+    use std::test::Fail;
+
+    #[test]
+    fn a_byte_stands_in_the_line_after_the_feeds_before_it(rt: HostRuntime) {
+        assert_eq!(rt; line_of(b"", 0), 1);
+        assert_eq!(rt; line_of(b"a\n\nb", 1), 1);
+        assert_eq!(rt; line_of(b"a\n\nb", 3), 3);
+    }
+
+    #[test]
+    fn words_stand_between_blanks_before_a_comment(rt: HostRuntime) -> Result<(), Fail> {
+        let words = words(rt.alloc(), b" a\tbc # d")?;
+        assert_eq!(rt; words.len(), 2);
+        assert_eq!(rt; words[1], b"bc".as_slice());
+        Ok(())
+    }
+}

@@ -1,0 +1,90 @@
+//! The spelling of lines, numbers and identifiers.
+
+ghost use Rattle.std.specs.Prelude.{if◌then◌else◌, nat_lt, ◌≡◌, ◌<◌, ◌++◌, [], ◌∷◌, map, OnOk, IfOk};
+ghost use Rattle.std.specs.Fmt.{decimal};
+ghost use Rattle.text_lines.specs.Words.{hex_text, hex_glyph};
+ghost use Rattle.text_lines.specs.Lines.{line_text};
+
+use an_base::memory::OutOfMemory;
+use an_base::text::push_decimal;
+use std::alloc::Global;
+
+/// Appends a line of words: they are joined by one space each, and a line feed follows. Where no memory
+/// is found nothing is said of the text.
+pub fn push_line(text: &mut Vec<u8>, words: &[&[u8]]) -> Result<(), OutOfMemory>
+    ensures { OnOk result
+        (text.new.items ≡ text.old.items ++ line_text (map (λ w. w.now) words.now)) }
+{
+    'words: for (i, word) in words.iter().enumerate() {
+        push_space(text, i)?;
+        text.extend_from_slice(word)?;
+    }
+    text.push(b'\n')?;
+    Ok(())
+}
+
+// Appends a space where words stand before this place.
+fn push_space(text: &mut Vec<u8>, place: usize) -> Result<(), OutOfMemory>
+    ensures { OnOk result (text.new.items ≡ text.old.items ++ (if nat_lt 0 place then 32 ∷ [] else [])) }
+{
+    if place > 0 {
+        text.push(b' ')?;
+    }
+    Ok(())
+}
+
+/// A number in decimal.
+pub fn decimal(alloc: Global, number: u64) -> Result<Vec<u8>, OutOfMemory>
+    ensures { IfOk result (λ text. text.items ≡ decimal number) }
+{
+    let mut text = Vec::new(alloc);
+    push_decimal(alloc, &mut text, number)?;
+    Ok(text)
+}
+
+/// An identifier in twelve hexadecimal digits, the last twelve where it has more.
+pub fn identifier(alloc: Global, uid: u64) -> Result<Vec<u8>, OutOfMemory>
+    ensures { IfOk result (λ text. text.items ≡ hex_text 12 uid) }
+{
+    let mut text = Vec::new(alloc);
+    push_hex(&mut text, 12, uid)?;
+    Ok(text)
+}
+
+// Appends the last so many hexadecimal digits of a number.
+fn push_hex(text: &mut Vec<u8>, digits: u8, number: u64) -> Result<(), OutOfMemory>
+    ensures { OnOk result (text.new.items ≡ text.old.items ++ hex_text digits number) }
+{
+    if digits > 0 {
+        push_hex(text, digits - 1, number / 16)?;
+        text.push(hex_glyph((number % 16) as u8))?;
+    }
+    Ok(())
+}
+
+fn hex_glyph(digit: u8) -> u8
+    requires { digit < 16 }
+    ensures { result ≡ hex_glyph digit }
+{
+    if digit < 10 {
+        b'0' + digit
+    } else {
+        b'a' + (digit - 10)
+    }
+}
+
+#[cfg(test)]
+mod tests {
+    use super::*;
+    use std::test::Fail;
+
+    #[test]
+    fn a_line_has_its_words(rt: HostRuntime) -> Result<(), Fail> {
+        let mut text = Vec::new(rt.alloc());
+        let number = decimal(rt.alloc(), 120)?;
+        let uid = identifier(rt.alloc(), 0xab)?;
+        push_line(&mut text, &[b"A", &number, &uid])?;
+        assert_eq!(rt; text.as_slice(), b"A 120 0000000000ab\n".as_slice());
+        Ok(())
+    }
+}
