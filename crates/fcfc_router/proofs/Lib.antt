@@ -1,0 +1,8 @@
+pub mod RangeLemmas
+pub mod BitLemmas
+pub mod CountLaws
+pub mod OrderLaws
+pub mod TreeLemmas
+pub mod ShownLemmas
+pub mod OneGrant
+pub mod AskedLaws

@@ -1,0 +1,57 @@
+-- The calls of a router in order, and what they say of each packet.
+use Rattle.std.specs.Prelude.{◌≡◌, ◌≢◌, ◌==◌, ◌+◌, ◌<◌, ◌≤◌, ℕ, List, [], ◌∷◌, ◌++◌, Option, Some, None, All, length, if◌then◌else◌}
+use Rattle.an_base.specs.Rows.{ArePorts, ExitsRise}
+use Rattle.fcfc_router.specs.declared.router.Grant.{Grant}
+use Rattle.fcfc_router.specs.Router.{RequestOf, IsGranted}
+
+-- the condition of asking: there is room, the packet does not wait, and the ports are 1 to 12 of 1 to 12,
+-- rising
+pub record MayAsk (most : ℕ) (waiting : List RequestOf) (request : RequestOf) : Type 0 where
+  pub room : length waiting < most
+  pub new : All (λ other. other.packet ≢ request.packet) waiting
+  pub some : 1 ≤ length request.ports
+  pub ports : ArePorts request.ports
+  pub rising : ExitsRise request.ports
+
+-- a call: a request comes last; or a grant is asked for with these ports free, and this is the answer
+pub data Call : Type 0 where
+  Ask : (request : RequestOf) → Call
+  Grants : (free : ℕ) → (answer : Option Grant) → Call
+
+-- the calls lead from those who wait before to those who wait behind
+abbrev pub Leads : ℕ → List RequestOf → List Call → List RequestOf → Type 0
+Leads most old [] new = old ≡ new
+Leads most old (Ask request ∷ calls) new =
+    MayAsk most old request × Leads most (old ++ (request ∷ [])) calls new
+Leads most old (Grants free answer ∷ calls) new =
+    (next : List RequestOf) × IsGranted free old next answer × Leads most next calls new
+
+-- 1 where the two are one packet
+abbrev pub counts : ℕ → ℕ → ℕ
+counts a b = if a == b then 1 else 0
+
+-- how often a packet asked
+abbrev pub asked : ℕ → List Call → ℕ
+asked packet [] = 0
+asked packet (Ask request ∷ calls) = counts request.packet packet + asked packet calls
+asked packet (Grants free answer ∷ calls) = asked packet calls
+
+-- and how often it was granted
+abbrev pub is_granted : ℕ → Option Grant → ℕ
+is_granted packet None = 0
+is_granted packet (Some grant) = counts grant.packet packet
+
+abbrev pub granted : ℕ → List Call → ℕ
+granted packet [] = 0
+granted packet (Ask request ∷ calls) = granted packet calls
+granted packet (Grants free answer ∷ calls) = is_granted packet answer + granted packet calls
+
+-- how often it waits
+abbrev pub waits : ℕ → List RequestOf → ℕ
+waits packet [] = 0
+waits packet (request ∷ waiting) = counts request.packet packet + waits packet waiting
+
+-- it asked in these calls, and was not granted since
+abbrev pub WaitsSince : List Call → RequestOf → Type 0
+WaitsSince calls request =
+    (before after : List Call) × (calls ≡ before ++ (Ask request ∷ after)) × (granted request.packet after ≡ 0)

@@ -1,0 +1,4 @@
+pub mod Router
+pub mod Calls
+pub mod Tree
+pub mod Shown

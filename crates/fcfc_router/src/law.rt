@@ -1,0 +1,34 @@
+ghost use Rattle.std.specs.Prelude.{◌≡◌, ◌≢◌, ◌+◌, ◌≤◌, ℕ, List, [], ◌∷◌, ◌++◌, Option, Some};
+ghost use Rattle.fcfc_router.specs.declared.router.Grant.{Grant};
+ghost use Rattle.fcfc_router.specs.Router.{RequestOf, CanGo, Gets, IsGranted};
+ghost use Rattle.fcfc_router.specs.Calls.{Call, Leads, WaitsSince, asked, granted, waits};
+ghost use Rattle.fcfc_router.specs.Calls.Call.{Ask, Grants};
+
+/// Nobody is passed over: where one asked, has not been granted since, and a packet that asked after it
+/// is granted, no port that the first one named is free at that call.
+pub fn nobody_is_passed_over()
+    ensures { (most free : ℕ) (before between : List Call) (request : RequestOf) (grant : Grant) (end : List RequestOf)
+        → Leads most [] (before ++ (Ask request ∷ (between ++ (Grants free (Some grant) ∷ [])))) end
+        → granted request.packet between ≡ 0 → grant.packet ≢ request.packet → 1 ≤ asked grant.packet between
+        → CanGo free request → ⊥ }
+{}
+
+/// A packet is granted as often as it asked, but for once where it still waits.
+pub fn granted_as_often_as_asked()
+    ensures { (most packet : ℕ) (calls : List Call) (end : List RequestOf) → Leads most [] calls end
+        → (asked packet calls ≡ granted packet calls + waits packet end) × (waits packet end ≤ 1) }
+{}
+
+/// Who is granted asked for it and was not granted since, and gets the lowest port that it named and that
+/// is free at that call.
+pub fn granted_what_it_asked_for()
+    ensures { (most free : ℕ) (calls : List Call) (grant : Grant) (end : List RequestOf)
+        → Leads most [] (calls ++ (Grants free (Some grant) ∷ [])) end
+        → (request : RequestOf) × WaitsSince calls request × Gets free request grant }
+{}
+
+/// A grant is fixed by the free ports and by who waits.
+pub fn one_grant()
+    ensures { (free : ℕ) (old new other : List RequestOf) (answer instead : Option Grant)
+        → IsGranted free old new answer → IsGranted free old other instead → (answer ≡ instead) × (new ≡ other) }
+{}

@@ -1,0 +1,188 @@
+ghost use Rattle.std.specs.Prelude.{◌≡◌, ◌≢◌, ◌<◌, ◌≤◌, [], ◌∷◌, ◌++◌, length, vec_capacity, IfOk};
+ghost use Rattle.an_base.specs.Rows.{ArePorts, ExitsRise};
+ghost use Rattle.fcfc_router.specs.Router.{IsGranted, IsLowest};
+ghost use Rattle.fcfc_router.specs.Calls.{MayAsk};
+ghost use Rattle.fcfc_router.specs.Shown.{HasSets, ports_of, set_at, shown};
+
+use crate::tree::PortTree;
+use an_base::memory::OutOfMemory;
+use std::alloc::Global;
+use std::marker::Model;
+
+/// A packet that is let go, and the port by which it goes.
+#[derive(Clone, Copy, Debug, PartialEq, Eq)]
+pub struct Grant {
+    /// The packet.
+    pub packet: u32,
+    /// The port, 1 to 12.
+    pub port: u8,
+}
+
+// A place for a request: the packet and the set of its ports, which is empty where nobody waits there.
+#[derive(Clone, Copy, Debug)]
+struct Slot {
+    packet: u32,
+    ports: u16,
+}
+
+/// The requests that wait at a switch, which contracts see as a list, oldest first.
+#[derive(Debug, Drop)]
+pub struct Router {
+    // In the order of asking. The place of a request that was granted stays empty until the places end.
+    slots: Vec<Slot>,
+    tree: PortTree,
+    most: u32,
+}
+
+impl Model for Router {
+    ghost use Rattle.std.specs.Prelude.{vec_capacity};
+    ghost use Rattle.fcfc_router.specs.Shown.{RouterOf, shown, IsIndex};
+
+    ghost Value = { RouterOf };
+
+    ghost view = { λ r. record { most = r.most; waiting = shown r.slots.items } };
+
+    ghost invariant = { λ r. IsIndex r.most (vec_capacity r.slots) r.slots.items r.tree };
+}
+
+// The set of these ports.
+fn set_of(ports: &[u8]) -> u16
+    requires ports { ArePorts ports.now }
+    requires rising { ExitsRise ports.now }
+    ensures { ports_of result ≡ ports.now }
+{
+    let mut set = 0;
+    'ports: for port in ports {
+        set |= 1u16 << *port;
+    }
+    set
+}
+
+// The lowest port of a set that is not empty.
+fn lowest_of(set: u16) -> u8
+    requires { set ≢ 0 }
+    ensures lowest { IsLowest set result }
+    ensures below { result < 16 }
+{
+    set.trailing_zeros() as u8
+}
+
+// The set of ports at a place, which is empty behind the last one.
+fn set_at(slots: &[Slot], place: usize) -> u16
+    ensures { result ≡ set_at slots.now place }
+{
+    match slots.get(place) {
+        Some(slot) => slot.ports,
+        None => 0,
+    }
+}
+
+// Moves those that wait to the first places, in their order.
+fn close_gaps(slots: &mut Vec<Slot>, tree: &mut PortTree)
+    ensures sets { HasSets slots.new.items tree.new }
+    ensures shown { shown slots.new.items ≡ shown slots.old.items }
+    ensures count { length slots.new.items ≡ length (shown slots.old.items) }
+    ensures places { length tree.new ≡ length tree.old }
+    ensures capacity { vec_capacity slots.new ≡ vec_capacity slots.old }
+{
+    slots.retain(|slot| slot.ports != 0);
+    'places: for place in 0..tree.places() {
+        tree.put(place, set_at(slots, place));
+    }
+}
+
+// Sees to it that a place is left for one more request.
+fn make_room(slots: &mut Vec<Slot>, tree: &mut PortTree)
+    requires sets { HasSets slots.old.items tree.old }
+    requires used { length slots.old.items ≤ length tree.old }
+    requires room { length (shown slots.old.items) < length tree.old }
+    ensures sets { HasSets slots.new.items tree.new }
+    ensures shown { shown slots.new.items ≡ shown slots.old.items }
+    ensures free { length slots.new.items < length tree.new }
+    ensures places { length tree.new ≡ length tree.old }
+    ensures capacity { vec_capacity slots.new ≡ vec_capacity slots.old }
+{
+    if slots.len() == tree.places() {
+        close_gaps(slots, tree);
+    }
+}
+
+impl Router {
+    /// A router at which nobody waits, with room for so many requests, 1 to 10,012.
+    pub fn new(alloc: Global, most: u32) -> Result<Self, OutOfMemory>
+        requires least { 1 ≤ most }
+        requires limit { most ≤ 10012 }
+        ensures { IfOk result (λ router. router ≡ record { most = most; waiting = [] }) }
+    {
+        let places = (most as usize + most as usize / 2).next_power_of_two();
+        Ok(Router {
+            slots: Vec::with_capacity(alloc, places)?,
+            tree: PortTree::new(alloc, places)?,
+            most,
+        })
+    }
+
+    /// A packet that does not wait asks for one of these ports, 1 to 12 of 1 to 12, rising. It comes last.
+    /// It takes no memory.
+    pub fn ask(&mut self, packet: u32, ports: &[u8])
+        requires { MayAsk self.old.most self.old.waiting (record { packet = packet; ports = ports.now }) }
+        ensures { self.new ≡ record self.old { waiting = self.old.waiting ++ (record { packet = packet; ports = ports.now } ∷ []) } }
+    {
+        self.ask_set(packet, set_of(ports));
+    }
+
+    /// The same for a set of ports: bit `p` says that port `p` is in it.
+    pub fn ask_set(&mut self, packet: u32, ports: u16)
+        requires { MayAsk self.old.most self.old.waiting (record { packet = packet; ports = ports_of ports }) }
+        ensures { self.new ≡ record self.old { waiting = self.old.waiting ++ (record { packet = packet; ports = ports_of ports } ∷ []) } }
+    {
+        make_room(&mut self.slots, &mut self.tree);
+        let place = self.slots.len();
+        self.tree.put(place, ports);
+        match self.slots.push(Slot { packet, ports }) {
+            Ok(()) => (),
+            Err(_) => unreachable!(),
+        }
+    }
+
+    /// The oldest request that names a free port, with the lowest free port that it names: bit `p` of
+    /// `free` says that port `p` is free. That request goes. None exactly where no request names a free
+    /// port, and then nothing changes. It takes no memory.
+    pub fn grant(&mut self, free: u16) -> Option<Grant>
+        ensures granted { IsGranted free self.old.waiting self.new.waiting result }
+        ensures most { self.new.most ≡ self.old.most }
+    {
+        let place = self.tree.first(free)?;
+        let slot = self.slots[place];
+        self.slots[place] = Slot {
+            packet: slot.packet,
+            ports: 0,
+        };
+        self.tree.put(place, 0);
+        Some(Grant {
+            packet: slot.packet,
+            port: lowest_of(slot.ports & free),
+        })
+    }
+}
+
+#[cfg(test)]
+mod tests {
+    use super::*;
+    use std::test::Fail;
+
+    #[test]
+    fn the_oldest_that_can_go_goes_by_the_lowest_port(rt: HostRuntime) -> Result<(), Fail> {
+        let mut router = Router::new(rt.alloc(), 3)?;
+        assert!(rt; router.grant(u16::MAX) == None);
+        router.ask(7, &[2, 12]);
+        router.ask(8, &[1, 2, 3]);
+        router.ask(9, &[3]);
+        assert!(rt; router.grant(0b10001) == None);
+        assert!(rt; router.grant(0b1010) == Some(Grant { packet: 8, port: 1 }));
+        assert!(rt; router.grant(0b1000) == Some(Grant { packet: 9, port: 3 }));
+        assert!(rt; router.grant(u16::MAX) == Some(Grant { packet: 7, port: 2 }));
+        assert!(rt; router.grant(u16::MAX) == None);
+        Ok(())
+    }
+}
