@@ -3,6 +3,8 @@ pub mod OrderLaws
 pub mod LifeLemmas
 pub mod ListLemmas
 pub mod MemberLemmas
+pub mod PairLemmas
+pub mod FlatMapLemmas
 pub mod PigeonLemmas
 pub mod TestLemmas
 pub mod WalkLemmas

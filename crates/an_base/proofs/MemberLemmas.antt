@@ -1,7 +1,9 @@
 -- Members of lists, and lists that are one since they rise and have the same members.
-use Rattle.std.proofs.Common.{◌≡◌, ◌∙◌, sym, ap, subst, refl, List, [], ◌∷◌, arith, AllPairs, Contains, ◌⊎◌, inl, inr}
+use Rattle.std.proofs.Common.{◌≡◌, ◌∙◌, sym, ap, subst, refl, List, [], ◌∷◌, arith, map, AllPairs, Contains, ◌⊎◌, inl, inr}
+use Rattle.std.specs.Prelude.{Any}
+use Rattle.std.proofs.lemmas.List.{length-map, get_or-map}
 use Rattle.std.proofs.lemmas.List.Elements.{All-contains, Contains-append_right, Contains-append_cases, Contains-push_cases}
-use Rattle.an_base.proofs.ListLemmas.{AllPairs-head, AllPairs-tail}
+use Rattle.an_base.proofs.ListLemmas.{AllPairs-head, AllPairs-tail, Any-later, Any-cons_cases}
 
 -- the first element is a member
 pub Contains-here : {X : Type 0} (x : X) (xs : List X) → Contains (x ∷ xs) x
@@ -56,3 +58,23 @@ one_rising {X = X} R (x ∷ xs) (y ∷ ys) one xs_rise ys_rise there here =
       | inl is ↦ absurd (not_self (subst (λ u. R u x) (sym same) (subst (λ u. R y u) (sym is) (after z has))))
       | inr later ↦ later
     ]
+
+-- the image of a member
+pub Contains-image : {X Y : Type 0} (f : X → Y) (xs : List X) (x : X) → Contains xs x → Contains (map f xs) (f x)
+Contains-image {X = X} {Y = Y} f xs x (k, low, at) = (k, omega (arith, length-map {A = X} {B = Y}), get_or-map f xs k x (f x) low ∙ ap f at)
+
+-- the image of a list has a value where an element has it
+pub Contains-map : {X Y : Type 0} (f : X → Y) (xs : List X) (y : Y) → Any (λ x. f x ≡ y) xs → Contains (map f xs) y
+Contains-map f [] y any = absurd (let l = any.2 in omega arith)
+Contains-map f (x ∷ xs) y any = elim (Any-cons_cases (λ z. f z ≡ y) x xs any) [
+  | inl is ↦ subst (λ z. Contains (f x ∷ map f xs) z) is (Contains-here (f x) (map f xs))
+  | inr later ↦ Contains-later (f x) y (map f xs) (Contains-map f xs y later)
+]
+
+-- and an element has it where the image has a value
+pub Any-from_map : {X Y : Type 0} (f : X → Y) (xs : List X) (y : Y) → Contains (map f xs) y → Any (λ x. f x ≡ y) xs
+Any-from_map f [] y has = absurd (let l = has.1 in omega arith)
+Any-from_map f (x ∷ xs) y has = elim (Contains-cons_cases (f x) y (map f xs) has) [
+  | inl is ↦ (0, x, omega arith, refl, is)
+  | inr later ↦ Any-later (λ z. f z ≡ y) x xs (Any-from_map f xs y later)
+]

@@ -13,7 +13,8 @@ pub record Network : Type 0 where
 
 -- some port of the node leads to the other
 abbrev pub Neighbours : Network → ℕ → ℕ → Type 0
-Neighbours network node other = (port : ℕ) × (far_port : ℕ) × (network.far node port ≡ Some (other, far_port))
+Neighbours network node other =
+    (port : ℕ) × (far_port : ℕ) × (network.far node port ≡ Some (other, far_port))
 
 -- a walk of so many links from a node to another
 abbrev pub Walk : Network → ℕ → ℕ → ℕ → Type 0
@@ -39,7 +40,8 @@ pub record IsBelowParent (network : Network) (top node above : ℕ) (place : Pla
       → IsTrue (is_le (life_cmp (network.life above) (network.life other)))
   pub port : (far_port : ℕ) × (network.far node place.port ≡ Some (above, far_port))
   pub least_port :
-      (own_port far_port : ℕ) → network.far node own_port ≡ Some (above, far_port) → place.port ≤ own_port
+      (own_port far_port : ℕ) → network.far node own_port ≡ Some (above, far_port)
+      → place.port ≤ own_port
 
 -- the place of a node in the tree of shortest walks to the node at its top
 pub record IsPlace (network : Network) (top node : ℕ) (place : Place) : Type 0 where
@@ -51,7 +53,8 @@ pub record IsPlace (network : Network) (top node : ℕ) (place : Place) : Type 0
 -- a port leads to a node that there is
 abbrev pub IsClosed : Network → Type 0
 IsClosed network =
-    (node port other far_port : ℕ) → network.far node port ≡ Some (other, far_port) → other < network.count
+    (node port other far_port : ℕ) → network.far node port ≡ Some (other, far_port)
+    → other < network.count
 
 -- no two nodes that there are have one life
 abbrev pub HasLivesApart : Network → Type 0

@@ -1,4 +1,4 @@
-//! The limits that several layers share. Contracts and definitions cite them by these names.
+//! The limits that several layers share.
 
 /// How many external ports a switch has.
 pub const PORTS: usize = 12;

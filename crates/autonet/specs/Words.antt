@@ -5,6 +5,7 @@ use Rattle.autonet.specs.Answer.{Streams, IsAnswer, IsUsageAnswer, input_limit}
 use Rattle.autonet.specs.Expect.{gives_expected, refuses_script}
 use Rattle.autonet.specs.Check.{gives_judged, refuses_tables}
 use Rattle.autonet.specs.Flood.{gives_flooded}
+use Rattle.autonet.specs.Flow.{AreFlowWords, gives_flow}
 
 -- the answer to `expect`
 abbrev pub IsExpectAnswer : Streams → Streams → ℕ → Type 0
@@ -18,10 +19,15 @@ IsCheckAnswer old new answer = IsAnswer input_limit gives_judged refuses_tables 
 abbrev pub IsFloodAnswer : Streams → Streams → ℕ → Type 0
 IsFloodAnswer old new answer = IsAnswer input_limit gives_flooded refuses_script old new answer
 
+-- the answer to `flow B`
+abbrev pub IsFlowAnswer : ℕ → Streams → Streams → ℕ → Type 0
+IsFlowAnswer room old new answer = IsAnswer input_limit (gives_flow room) refuses_script old new answer
+
 -- the answer to words: that of the command that they name, and the usage line where they name none
 pub record IsAnswerTo (words : List (List ℕ)) (old new : Streams) (answer : ℕ) : Type 0 where
   pub expect : words ≡ codes "expect" ∷ [] → IsExpectAnswer old new answer
   pub check : words ≡ codes "check" ∷ [] → IsCheckAnswer old new answer
   pub flood : words ≡ codes "flood" ∷ [] → IsFloodAnswer old new answer
+  pub flow : (room : ℕ) → AreFlowWords words room → IsFlowAnswer room old new answer
   pub usage : words ≢ codes "expect" ∷ [] → words ≢ codes "check" ∷ [] → words ≢ codes "flood" ∷ []
-      → IsUsageAnswer old new answer
+      → ((room : ℕ) → ¬ AreFlowWords words room) → IsUsageAnswer old new answer

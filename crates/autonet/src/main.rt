@@ -9,6 +9,7 @@ mod check;
 mod command;
 mod expect;
 mod flood;
+mod flow;
 mod input;
 mod law;
 mod status;

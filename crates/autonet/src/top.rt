@@ -1,10 +1,12 @@
-ghost use Rattle.std.specs.Prelude.{◌≡◌, ◌≤◌, ◌↔◌, [], ◌∷◌, IsTrue};
+ghost use Rattle.std.specs.Prelude.{◌≡◌, ◌≢◌, ◌≤◌, ◌↔◌, ℕ, List, [], ◌∷◌, IfSome, IsTrue, MatchOption};
 ghost use Rattle.autonet.specs.Answer.{streams};
+ghost use Rattle.autonet.specs.Flow.{AreFlowWords};
 ghost use Rattle.autonet.specs.Words.{IsAnswerTo};
 
 use crate::check::autonet_check;
 use crate::expect::autonet_expect;
 use crate::flood::autonet_flood;
+use crate::flow::autonet_flow;
 use crate::status::{Status, finish};
 use an_base::text::Word;
 use outside::sink::Sink;
@@ -12,6 +14,7 @@ use outside::source::Source;
 use std::alloc::Global;
 use std::sync::Wait;
 use std::thread::Threads;
+use text_lines::word::number_between;
 
 // Whether the words are one word, of these bytes.
 fn is_word(words: &[Word], bytes: &[u8]) -> bool
@@ -23,8 +26,33 @@ fn is_word(words: &[Word], bytes: &[u8]) -> bool
     }
 }
 
+// The second of two words, of which the first has these bytes.
+fn word_after<'a>(words: &'a [Word], bytes: &[u8]) -> Option<&'a Word>
+    ensures { MatchOption result ((word : List ℕ) → words.now ≢ bytes.now ∷ word ∷ [])
+        (λ word. words.now ≡ bytes.now ∷ word.now ∷ []) }
+{
+    let [first, word] = words else {
+        return None;
+    };
+    if first.as_bytes() == bytes {
+        return Some(word);
+    }
+    None
+}
+
+// B, where the words are `flow B` with B from 1 to 16.
+fn room_of(words: &[Word]) -> Option<u16>
+    ensures words { MatchOption result ((room : ℕ) → ¬ AreFlowWords words.now room) (AreFlowWords words.now) }
+    ensures range { IfSome result (λ room. (1 ≤ room) × (room ≤ 16)) }
+{
+    let word = word_after(words, b"flow")?;
+    let room = number_between(word.as_bytes(), 1, 16)?;
+    Some(room as u16)
+}
+
 /// Answers the words after the program's name. The answer is the number of a status, whose line
 /// goes to err. Words that are no command leave the source and out alone.
+#[tactic(auto, using(crate::proofs::TopLemmas::answers_expect, crate::proofs::TopLemmas::answers_check, crate::proofs::TopLemmas::answers_flood, crate::proofs::TopLemmas::answers_flow, crate::proofs::TopLemmas::answers_usage))]
 pub fn autonet<R: Threads + Wait + Sync, S: Source, O: Sink, E: Sink>(
     _rt: &R,
     alloc: Global,
@@ -46,6 +74,9 @@ pub fn autonet<R: Threads + Wait + Sync, S: Source, O: Sink, E: Sink>(
     if is_word(words, b"flood") {
         return autonet_flood(alloc, source, out, err);
     }
+    if let Some(room) = room_of(words) {
+        return autonet_flow(alloc, room, source, out, err);
+    }
     finish(alloc, err, Status::Usage)
 }
 
@@ -65,6 +96,12 @@ mod tests {
     const TWO_FLOODED: &[u8] =
         b"flood A\ndown A 1\ncopies 2\nflood B\nup B 1\ndown A 1\ncopies 2\nend\n";
 
+    const SENT: &[u8] = b"autonet 1\nswitch A 000000000001\nswitch B 000000000002\nlink A 1 B 2\n\
+        host H 010000000001 A 12\nhost G 010000000002 B 12\nat 0 send H G\nat 1 send G G\nend\n";
+
+    const SENT_FLOWED: &[u8] = b"local 2 B\nmove 1 A out 1\narrive 1 B\n\
+        end moves 1 arrived 1 local 1 unjoined 0\n";
+
     const USAGE: &[u8] =
         b"usage: autonet expect, run, replay, check, flow B, flood or gen SEED N\n";
 
@@ -81,6 +118,11 @@ mod tests {
 
     const RANKS: &[u8] = b"rank A 1 1\nrank A 2 1\nrank B 1 2\nrank B 2 0\nrank C 1 2\nrank C 2 0\n\
         rank D 1 3\nrank D 2 3\nok\n";
+
+    // The first tables of two switches, before the rows of B.
+    const TWO_BEFORE: &[u8] = b"number A 1\nnumber B 2\nrow A 0 2:1\nrow A 1 2:-\n";
+
+    const REFUSED: &[u8] = b"autonet: tables refused\n";
 
     // The streams of a call: the input, how much one read gives, and the calls that fail.
     #[derive(Drop)]
@@ -144,6 +186,17 @@ mod tests {
     }
 
     #[test]
+    fn packets_go_until_all_have_arrived(rt: HostRuntime) -> Result<(), Fail> {
+        for room in [b"1".as_slice(), b"16".as_slice()] {
+            let mut streams = Streams::new(rt.alloc(), SENT, 100)?;
+            assert_eq!(rt; answer(&rt, rt.alloc(), &[b"flow", room], &mut streams)?, 0);
+            assert_eq!(rt; streams.out.bytes(), SENT_FLOWED);
+            assert_eq!(rt; streams.err.bytes(), b"".as_slice());
+        }
+        Ok(())
+    }
+
+    #[test]
     fn the_empty_network_has_no_component(rt: HostRuntime) -> Result<(), Fail> {
         let mut streams = Streams::new(rt.alloc(), b"autonet 1\nend\n", 100)?;
         assert_eq!(rt; answer(&rt, rt.alloc(), &[b"expect"], &mut streams)?, 0);
@@ -152,19 +205,41 @@ mod tests {
     }
 
     #[test]
-    fn tables_pass_or_the_least_cycle_is_named(rt: HostRuntime) -> Result<(), Fail> {
-        for (exits, code, out, err) in [
-            (b"-".as_slice(), 0, RANKS, b"".as_slice()),
+    fn tables_pass_or_the_first_fault_is_named(rt: HostRuntime) -> Result<(), Fail> {
+        for (parts, code, out, err) in [
             (
-                b"2".as_slice(),
+                [RING_BEFORE, b"-".as_slice(), RING_BEHIND],
+                0,
+                RANKS,
+                b"".as_slice(),
+            ),
+            (
+                [RING_BEFORE, b"2".as_slice(), RING_BEHIND],
                 8,
                 b"refused cycle A:1 B:2 D:2 C:1\n".as_slice(),
-                b"autonet: tables refused\n".as_slice(),
+                REFUSED,
+            ),
+            (
+                [TWO, TWO_BEFORE, b"row B 1 1:-\nend\n".as_slice()],
+                8,
+                b"refused pair B to A at B entry 0\n".as_slice(),
+                REFUSED,
+            ),
+            (
+                [
+                    TWO,
+                    TWO_BEFORE,
+                    b"row B 0 1:1\nrow B 1 1:1\nend\n".as_slice(),
+                ],
+                8,
+                b"refused exit B entry 1 to 1 by 1\n".as_slice(),
+                REFUSED,
             ),
         ] {
-            let mut input = RING_BEFORE.to_vec(rt.alloc())?;
-            input.extend_from_slice(exits)?;
-            input.extend_from_slice(RING_BEHIND)?;
+            let mut input = Vec::new(rt.alloc());
+            for part in parts {
+                input.extend_from_slice(part)?;
+            }
             let mut streams = Streams::new(rt.alloc(), &input, 100)?;
             assert_eq!(rt; answer(&rt, rt.alloc(), &[b"check"], &mut streams)?, code);
             assert_eq!(rt; streams.out.bytes(), out);
@@ -179,6 +254,8 @@ mod tests {
             [].as_slice(),
             [b"run".as_slice()].as_slice(),
             [b"expect".as_slice(), b"now".as_slice()].as_slice(),
+            [b"flow".as_slice()].as_slice(),
+            [b"flow".as_slice(), b"17".as_slice()].as_slice(),
             [b"Expect".as_slice()].as_slice(),
             [b"".as_slice()].as_slice(),
         ] {

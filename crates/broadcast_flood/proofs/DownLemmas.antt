@@ -14,13 +14,14 @@ use Rattle.updown.specs.Order.{IsDescent}
 use Rattle.updown.specs.Routes.{height_cmp}
 use Rattle.updown.proofs.OrderLemmas.{position_is}
 use Rattle.updown.proofs.RouteLemmas.{height_total}
-use Rattle.table_build.proofs.ListLemmas.{AllPairs-map}
+use Rattle.an_base.proofs.PairLemmas.{AllPairs-map}
+use Rattle.an_base.proofs.MemberLemmas.{Contains-image}
+use Rattle.an_base.proofs.FlatMapLemmas.{Contains-flat_map, All-flat_map, AllPairs-flat_map, flat_map-more}
 use Rattle.broadcast_flood.specs.Tree.{parent_port, IsDown, AreChildPorts}
 use Rattle.broadcast_flood.specs.Floods.{HopOf, IsBefore, hop_at, down_at}
 use Rattle.broadcast_flood.specs.Kept.{AreChildren, AreHopsDown}
 use Rattle.broadcast_flood.specs.declared.hop.FloodHop.{FloodHop}
 use Rattle.broadcast_flood.proofs.DescentLemmas.{falls}
-use Rattle.broadcast_flood.proofs.ListLemmas.{Contains-map, Contains-flat_map, All-flat_map, AllPairs-flat_map, flat_map-more}
 use Rattle.broadcast_flood.proofs.TreeLemmas.{down_far}
 
 -- a hop by a port of the member at a place
@@ -75,7 +76,7 @@ module _ (es : List EntryOf) (children : List (List ℕ)) (order : List Height) 
       let there : Contains order h = (k.0, k.1, get_or_default order k.0 h (record { level = 0; place = 0 }) k.1) in
       let port_there = (are.each x within.place).whole port down in
       Contains-flat_map (hops_of children) order h (hop_by x port) there
-      (subst (λ (y : ℕ). Contains (map (hop_by y) (get_or children y [])) (hop_by x port)) (sym k.2) (Contains-map (hop_by x) (get_or children x []) port port_there))
+      (subst (λ (y : ℕ). Contains (map (hop_by y) (get_or children y [])) (hop_by x port)) (sym k.2) (Contains-image (hop_by x) (get_or children x []) port port_there))
 
   in_order_down : AllPairs (IsBefore es) (flat_map (hops_of children) order)
   in_order_down = AllPairs-flat_map (IsBefore es) (hops_of children) order

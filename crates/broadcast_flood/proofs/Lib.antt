@@ -1,4 +1,3 @@
-pub mod ListLemmas
 pub mod TurnLemmas
 pub mod TreeLemmas
 pub mod RootLemmas

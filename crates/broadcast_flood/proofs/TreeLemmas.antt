@@ -1,9 +1,6 @@
 -- Parent links lead up, and their far sides lead down.
-use Rattle.std.proofs.Common.{◌≡◌, ◌+◌, subst, refl, ℕ, ◌<◌, List, Some, true, arith, inl, inr}
-use Rattle.std.specs.Ordering.{nat_cmp, ordering_then, is_lt}
-use Rattle.std.specs.declared.cmp.Ordering.{Ordering}
+use Rattle.std.proofs.Common.{◌≡◌, ◌+◌, subst, refl, ℕ, List, Some, true, arith, inl, inr}
 use Rattle.std.proofs.lemmas.Bool.{cases_eq}
-use Rattle.std.proofs.lemmas.Bool.Decides.{nat_tests}
 use Rattle.an_base.specs.Values.{EntryOf}
 use Rattle.an_base.specs.Order.{life_cmp}
 use Rattle.topo_graph.specs.Topology.{life_at, level_at, far_of, IsGraph, IsTree}
@@ -11,10 +8,7 @@ use Rattle.topo_graph.proofs.FarLemmas.{far_back, one_far}
 use Rattle.topo_graph.proofs.TreeLemmas.{tree_stands}
 use Rattle.updown.specs.Routes.{is_up_end}
 use Rattle.broadcast_flood.specs.Tree.{parent_port, parent_of, IsDownTo}
-
--- a lower level is higher up
-level_up : (a b : ℕ) (o : Ordering) → a < b → is_lt (ordering_then (nat_cmp a b) o) ≡ true
-level_up a b o less = grind (arith, nat_tests)
+use Rattle.table_build.proofs.TreeRoutes.{level_up}
 
 -- the root has no parent link
 pub root_none : (es : List EntryOf) (y q : ℕ) → IsGraph es → IsTree es → parent_of es 0 ≡ Some (y, q) → ⊥

@@ -1,23 +1,13 @@
 -- Steps between channels that never turn from a link downward to one upward have no cycle.
-use Rattle.std.proofs.Common.{◌≡◌, sym, subst, refl, ℕ, zero, suc, List, Some, true, false, inl, inr}
+use Rattle.std.proofs.Common.{◌≡◌, sym, subst, ℕ, zero, suc, List, Some, true, false, inl, inr}
 use Rattle.std.proofs.lemmas.Bool.{cases_Bool}
 use Rattle.an_base.specs.Values.{EntryOf}
-use Rattle.an_base.proofs.OrderingLemmas.{less_is}
 use Rattle.topo_graph.specs.Topology.{far_of, IsGraph}
 use Rattle.topo_graph.proofs.FarLemmas.{one_far}
-use Rattle.updown.specs.Routes.{height_cmp, is_up_end}
-use Rattle.updown.proofs.RouteLemmas.{height_total, not_both_higher, leads_down}
+use Rattle.updown.specs.Routes.{is_up_end}
+use Rattle.updown.proofs.RouteLemmas.{leads_down}
 use Rattle.broadcast_flood.specs.Cycles.{Walk}
-
--- what is higher than what is higher
-higher : (es : List EntryOf) (x y z : ℕ) → is_up_end es x y ≡ true → is_up_end es y z ≡ true → is_up_end es x z ≡ true
-higher es x y z a b =
-    let less = (height_total es).trans x y z (less_is (height_cmp es x y) a) (less_is (height_cmp es y z) b) in
-    rw less refl
-
--- nothing is higher than itself
-not_itself : (es : List EntryOf) (x : ℕ) → is_up_end es x x ≡ true → ⊥
-not_itself es x up = absurd (let not_up = not_both_higher es x x up in cc)
+use Rattle.table_build.proofs.CycleLaws.{higher, not_itself}
 
 -- the link of the channel leads up
 abbrev pub IsUpward : List EntryOf → (ℕ × ℕ) → Type 0

@@ -137,67 +137,15 @@ impl<'a> Flood<'a> {
 #[cfg(test)]
 mod tests {
     use super::*;
-    use an_base::entry::{Entries, Entry};
-    use an_base::life::End;
-    use an_base::links::{Links, PortLink};
-    use an_base::position::Position;
+    use an_base::entry::Entries;
     use std::test::Fail;
-
-    // The life of this identifier, in its first boot.
-    fn life_of(uid: u64) -> Life
-        requires { uid < 100 }
-        ensures { result ≡ record { uid = uid; boot = 1 } }
-    {
-        Life::new(uid, 1)
-    }
-
-    // A link from a port to a port of this life.
-    fn link(port: u8, uid: u64, far: u8) -> PortLink
-        requires uid { uid < 100 }
-        requires least { 1 ≤ port }
-        requires most { port ≤ 12 }
-        requires far_least { 1 ≤ far }
-        requires far_most { far ≤ 12 }
-        ensures { result.port ≡ port }
-    {
-        PortLink::new(port, End::new(life_of(uid), far))
-    }
-
-    // The entry of this life, in the tree of life 1, with links at its ports 1 and 2.
-    fn entry(uid: u64, level: u8, parent: u64, port: u8, one: PortLink, two: PortLink) -> Entry
-        requires uid { uid < 100 }
-        requires level { level ≤ 125 }
-        requires parent { parent < 100 }
-        requires port { port ≤ 12 }
-        requires one { one.port ≡ 1 }
-        requires two { two.port ≡ 2 }
-        ensures { result.life ≡ record { uid = uid; boot = 1 } }
-    {
-        let mut links = Links::new();
-        links.push(one);
-        links.push(two);
-        Entry {
-            life: life_of(uid),
-            position: Position::new(life_of(1), level, life_of(parent), port),
-            proposed: 1,
-            links,
-        }
-    }
+    use topo_graph::sample::{entry, life_of, link, ring, two_links};
 
     // Lives 1 and 2 with two links, which cross.
     fn pair(rt: &HostRuntime) -> Result<Graph, Fail> {
-        let first = entry(1, 0, 1, 0, link(1, 2, 2), link(2, 2, 1));
+        let first = entry(1, 0, 1, 0, two_links(link(1, 2, 2), link(2, 2, 1)));
         let mut entries = Entries::of(rt.alloc(), first)?;
-        entries.push(entry(2, 1, 1, 1, link(1, 1, 2), link(2, 1, 1)))?;
-        Ok(Graph::of(rt.alloc(), &entries)?)
-    }
-
-    // A ring of lives 1, 2, 4 and 3, of which 4 is at level 2.
-    fn ring(rt: &HostRuntime) -> Result<Graph, Fail> {
-        let mut entries = Entries::of(rt.alloc(), entry(1, 0, 1, 0, link(1, 2, 1), link(2, 3, 1)))?;
-        entries.push(entry(2, 1, 1, 1, link(1, 1, 1), link(2, 4, 1)))?;
-        entries.push(entry(3, 1, 1, 1, link(1, 1, 2), link(2, 4, 2)))?;
-        entries.push(entry(4, 2, 2, 1, link(1, 2, 2), link(2, 3, 2)))?;
+        entries.push(entry(2, 1, 1, 1, two_links(link(1, 1, 2), link(2, 1, 1))))?;
         Ok(Graph::of(rt.alloc(), &entries)?)
     }
 
@@ -241,7 +189,7 @@ mod tests {
 
     #[test]
     fn hops_go_up_to_the_root_and_down_by_level(rt: HostRuntime) -> Result<(), Fail> {
-        let graph = ring(&rt)?;
+        let graph = ring(rt.alloc())?;
         let hops = [
             hop(true, 4, 1),
             hop(true, 2, 1),
@@ -271,7 +219,7 @@ mod tests {
 
     #[test]
     fn members_know_their_parents_and_children(rt: HostRuntime) -> Result<(), Fail> {
-        let graph = ring(&rt)?;
+        let graph = ring(rt.alloc())?;
         let (parent, children) = ports_of(&rt, &graph, 1)?;
         assert_eq!(rt; parent, None);
         assert_eq!(rt; children.as_slice(), [1, 2].as_slice());

@@ -11,7 +11,7 @@ use Rattle.dep_check.specs.Cycles.{Walk}
 use Rattle.dep_check.specs.Tables.{IsSpot, place_of, level_at, WiresAreWithin}
 use Rattle.dep_check.specs.Search.{IsStepOf, Step, IsRaised, AreRaised, Reaches, AreNearest, AreNearestBelow}
 use Rattle.dep_check.specs.Rounds.{AreGoals}
-use Rattle.dep_check.proofs.Pigeons.{pigeons}
+use Rattle.an_base.proofs.PigeonLemmas.{pigeons}
 use Rattle.dep_check.proofs.SpotLemmas.{option_cases, place_low, one_spot}
 
 -- what a step leads to is a spot

@@ -1,4 +1,3 @@
-pub mod Pigeons
 pub mod SpotLemmas
 pub mod StepLemmas
 pub mod PushLemmas

@@ -1,3 +1,4 @@
+-- The answer is one: ranks are one, a refusal is one, and what passes is not refused.
 use Rattle.std.proofs.Common.{◌≡◌, ◌∙◌, sym, ap, subst, refl, ℕ, zero, suc, ◌<◌, ◌≤◌, List, [], ◌∷◌, Option, Some, true, arith, Less, Equal, Greater, inl, inr, ◌⊎◌}
 use Rattle.std.specs.declared.cmp.Ordering.{Ordering}
 use Rattle.std.specs.Ordering.{nat_cmp, ordering_then, ordering_reverse, is_le}
@@ -49,7 +50,7 @@ one_cycle Step (c ∷ cs) (d ∷ ds) a b =
         let lists = list_same cs ds (both_equal (lists_total channel_total) cs ds (a.from.least ds here.from.closed (omega arith)) (here.from.least cs a.from.closed (omega arith))) in
         rw (same, lists) refl
 
-no_empty : (Step : Channel → Channel → Type 0) (cs : List Channel) → IsLeastCycle Step cs → HasNoCycle Step → ⊥
+pub no_empty : (Step : Channel → Channel → Type 0) (cs : List Channel) → IsLeastCycle Step cs → HasNoCycle Step → ⊥
 no_empty Step [] a none = a
 no_empty Step (c ∷ cs) a none = none c cs a.from.closed
 

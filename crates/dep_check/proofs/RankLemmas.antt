@@ -7,7 +7,7 @@ use Rattle.dep_check.specs.declared.level.Rule.TheVariants.{Rank}
 use Rattle.dep_check.specs.Cycles.{Path, IsCycle}
 use Rattle.dep_check.specs.Tables.{IsSpot, place_of, level_at}
 use Rattle.dep_check.specs.Search.{Step, IsStepOf, IsLinked, IsRaised, AreRaised, IsRanked, AreRanked, AreRankedBelow}
-use Rattle.dep_check.proofs.Pigeons.{pigeons}
+use Rattle.an_base.proofs.PigeonLemmas.{pigeons}
 use Rattle.dep_check.proofs.SpotLemmas.{option_cases, place_low, one_spot}
 use Rattle.dep_check.proofs.LevelLemmas.{step_spot, none_is, few_levels}
 

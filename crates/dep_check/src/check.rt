@@ -13,6 +13,7 @@ use crate::refusal::CheckRefusal;
 use crate::spot::{SPOTS, spot_at};
 use crate::steps::Steps;
 use crate::wires::wires_of;
+use an_base::limits::{LAST_PORT, MOST_NUMBER};
 use an_base::memory::OutOfMemory;
 use an_base::numbers::Numbers;
 use an_base::row::Row;
@@ -44,7 +45,7 @@ impl Ranks {
     pub fn rank(&self, at: u8, port: u8) -> Option<u16>
         ensures { result ≡ rank_at self.now (record { at = at; port = port }) }
     {
-        if at > 126 || port > 12 {
+        if at > MOST_NUMBER || port > LAST_PORT {
             return None;
         }
         level_of(&self.levels, Channel { at, port })
@@ -111,6 +112,3 @@ pub fn check(
     }
     Ok(Ranks { levels })
 }
-
-#[cfg(test)]
-mod tests;

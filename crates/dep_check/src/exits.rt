@@ -7,6 +7,7 @@ ghost use Rattle.dep_check.specs.Targets.{AreByTarget};
 use crate::channel::Channel;
 use crate::spot::{SPOTS, place_of};
 use crate::targets::RowsByTarget;
+use an_base::limits::{LAST_PORT, MOST_NUMBER};
 use an_base::memory::OutOfMemory;
 use an_base::row::Row;
 use std::alloc::Global;
@@ -62,7 +63,7 @@ fn add_row(table: &mut Vec<PortSet>, row: &Row)
     ensures { (rows : List RowOf) (to : Option ℕ) (k : ℕ) → row_at rows k ≡ row.now → Counts to row.now
         → AreExitsBelow rows to k table.old.items → AreExitsBelow rows to (k + 1) table.new.items }
 {
-    if row.at > 126 || row.entry > 12 {
+    if row.at > MOST_NUMBER || row.entry > LAST_PORT {
         return;
     }
     let place = place_of(Channel {

@@ -44,10 +44,11 @@ pub fn one_answer()
         → rank_at ranks channel ≡ rank_at others channel }
 {}
 
-/// Rows that pass, from wherever they are, bring each packet to its target. What goes on for more
-/// than so many links leaves by an exit whose channel has at least that rank; so each following of
-/// the rows ends. Where a following from one switch to another cannot go on, it is at its target;
-/// and from wherever it is, it goes on to there.
+/// Rows that pass, from wherever they are, bring each packet from one switch to another to its target.
+/// Where a following goes on for more than so many links, the row that it begins with has an exit
+/// whose channel has at least that rank; so each following of the rows ends. A following from one
+/// switch to another that cannot go on is at its target; and from wherever one is, some following
+/// goes on to there.
 pub fn packets_reach_their_targets()
     ensures bounded { (es : List EntryOf) (numbers : List ℕ) (rows : List RowOf) (ranks : List (Option ℕ))
         (to links : ℕ) (start end : Channel)

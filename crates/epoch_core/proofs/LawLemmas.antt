@@ -11,6 +11,7 @@ use Rattle.epoch_core.specs.Log.{CardOf, OnPort, Log, on_port, is_claimed}
 use Rattle.epoch_core.specs.Epoch.{version, position, report, is_stable, is_root, has_moved, is_named, finish, pos_at, positions_of, told, answer_to, answers, sent_up, sent_down, topo_down, claiming, passed_on, adds, sent, went_out}
 use Rattle.epoch_core.specs.Laws.{moves, topos}
 use Rattle.epoch_core.proofs.AcceptLemmas.{adds-topo, finish-topo, finish-finished}
+use Rattle.std.proofs.lemmas.Bool.{eqb-true}
 
 -- the version counts what changed the position
 raised : (b : Bool) (v m : ℕ) → v ≡ 1 + m → cond b (suc v) v ≡ 1 + cond b (suc m) m
@@ -116,11 +117,7 @@ count-up : (q : ℕ) (b : Bool) (port : ℕ) (es : List EntryOf) → count q (co
 count-up q true port es = one_if (port == q) (Stable es) refl
 count-up q false port es = refl
 
--- among links by rising port at most one has a port
-same_port : (a q : ℕ) → (a == q) ≡ true → a ≡ q
-same_port a q is = grind (arith, nat_tests)
-
-other_port : (a q : ℕ) → q < a → (a == q) ≡ false
+pub other_port : (a q : ℕ) → q < a → (a == q) ≡ false
 other_port a q above = grind (arith, nat_tests)
 
 none_above : (t : TopoOf) (q : ℕ) (links : List PeerAt) → ((i : ℕ) (d : PeerAt) → i < length links → q < (get_or links i d).port) → count q (map (passed_on t) links) ≡ 0
@@ -134,7 +131,7 @@ one_if_here true t bs none most = let zero_more = none refl in omega (arith, zer
 one_if_here false t bs none most = most
 
 above_first : (k : PeerAt) (q : ℕ) (links : List PeerAt) → PortsRise (k ∷ links) → (k.port == q) ≡ true → (i : ℕ) (d : PeerAt) → i < length links → q < (get_or links i d).port
-above_first k q links rise is i d low = let first = rise 0 (suc i) d (omega arith) (omega arith) in let same = same_port k.port q is in omega (arith, first, same)
+above_first k q links rise is i d low = let first = rise 0 (suc i) d (omega arith) (omega arith) in let same = eqb-true k.port q is in omega (arith, first, same)
 
 one_at : (t : TopoOf) (q : ℕ) (links : List PeerAt) → PortsRise links → count q (map (passed_on t) links) ≤ 1
 one_at t q [] rise = omega arith

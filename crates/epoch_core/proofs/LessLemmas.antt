@@ -1,7 +1,8 @@
+-- The position of a life only gets less while what it hears only lowers what is offered.
 use Rattle.std.proofs.Common.{◌≡◌, ◌∙◌, sym, ap, subst, refl, arith, ℕ, ◌+◌, ◌<◌, List, [], ◌∷◌, ◌++◌, inl, inr, Bool, true, false, cond, map, Option, Some, None, IsTrue, Less, Equal, Greater}
 use Rattle.std.specs.Prelude.{◌==◌, nat_lt}
 use Rattle.std.specs.declared.cmp.Ordering.{Ordering}
-use Rattle.std.specs.Ordering.{nat_cmp, ordering_then, is_le, is_gt}
+use Rattle.std.specs.Ordering.{nat_cmp, ordering_then, is_le}
 use Rattle.std.specs.Cmp.{upto, tied_itself}
 use Rattle.std.proofs.lemmas.Bool.Decides.{nat_tests}
 use Rattle.an_base.specs.Values.{Place, PeerAt, PosOf}
@@ -15,16 +16,8 @@ use Rattle.topo_report.proofs.Members.{In, in_from, contains_from, in_append, in
 use Rattle.epoch_core.specs.Log.{CardOf, OnPort, Log, on_port, last_pos}
 use Rattle.epoch_core.specs.Epoch.{offer_of, offer_on, position}
 use Rattle.epoch_core.specs.Laws.{IsAtMost, Lowers, OnlyLowers}
-
-not_above : (o : Ordering) → IsTrue (is_le o) → is_gt o ≡ false
-not_above Less le = refl
-not_above Equal le = refl
-not_above Greater le = absurd (cc)
-
-at_most : (o : Ordering) → is_gt o ≡ false → IsTrue (is_le o)
-at_most Less low = refl
-at_most Equal low = refl
-at_most Greater low = absurd (cc)
+use Rattle.an_base.proofs.OrderingLemmas.{not_above, at_most}
+use Rattle.std.proofs.lemmas.Bool.{eqb-true, ltb-true, lt-ltb}
 
 pub at_most_itself : (p : Place) → IsAtMost p p
 at_most_itself p = ap is_le (tied_itself position_total p)
@@ -57,12 +50,6 @@ below_less k n o le =
     (tied_itself life_total k.peer.life) (same_number k.port)
     (ap (λ (c : Ordering). is_le (ordering_then (life_cmp n.root o.root) c)) (one_level n.level o.level) ∙ le)
 
-low_is : (a b : ℕ) → nat_lt a b ≡ true → a < b
-low_is a b is = grind (arith, nat_tests)
-
-is_low : (a b : ℕ) → a < b → nat_lt a b ≡ true
-is_low a b is = grind (arith, nat_tests)
-
 -- for a candidate there was there is one that is no greater
 candidate_less : (k : PeerAt) (new old : Option OfferOf) → Keeps new old → (q : Place) → In q (candidate k old) → (r : Place) × (In r (candidate k new)) × (IsAtMost r q)
 candidate_less k new None keeps q i = absurd i
@@ -74,7 +61,7 @@ candidate_less k (Some n) (Some o) keeps q i = by (nat_lt o.level 125) refl i
     by true is (inr j) = absurd j
     by true is (inl j) = (
       below_offer k n,
-      subst (λ (b : Bool). In (below_offer k n) (cond b (below_offer k n ∷ []) [])) (sym (is_low n.level 125 (keeps.1 (low_is o.level 125 is)))) (inl refl),
+      subst (λ (b : Bool). In (below_offer k n) (cond b (below_offer k n ∷ []) [])) (sym (lt-ltb n.level 125 (keeps.1 (ltb-true o.level 125 is)))) (inl refl),
       subst (λ (p : Place). IsAtMost (below_offer k n) p) (sym j) (below_less k n o keeps.0),
     )
 
@@ -114,15 +101,12 @@ keeps_body (Answer b) bs o is low = subst (λ (p : Option PosOf). Keeps (offer_o
 keeps_body (Stable es) bs o is low = subst (λ (p : Option PosOf). Keeps (offer_of p) (offer_of o)) (sym is) (keeps_itself (offer_of o))
 keeps_body (Topo t) bs o is low = subst (λ (p : Option PosOf). Keeps (offer_of p) (offer_of o)) (sym is) (keeps_itself (offer_of o))
 
-same_port : (a b : ℕ) → (a == b) ≡ true → a ≡ b
-same_port a b is = grind (arith, nat_tests)
-
 keeps_item : (x : OnPort) (log : Log) → Lowers (last_pos (on_port x.port log)) x.body → (k : PeerAt) → Keeps (offer_on (x ∷ log) k) (offer_on log k)
 keeps_item x log low k = by (x.port == k.port) refl
   where
     by : (b : Bool) → (x.port == k.port) ≡ b → Keeps (offer_of (last_pos (cond b (x.body ∷ on_port k.port log) (on_port k.port log)))) (offer_on log k)
     by false is = keeps_itself (offer_on log k)
-    by true is = keeps_body x.body (on_port k.port log) (last_pos (on_port k.port log)) refl (subst (λ (p : ℕ). Lowers (last_pos (on_port p log)) x.body) (same_port x.port k.port is) low)
+    by true is = keeps_body x.body (on_port k.port log) (last_pos (on_port k.port log)) refl (subst (λ (p : ℕ). Lowers (last_pos (on_port p log)) x.body) (eqb-true x.port k.port is) low)
 
 pub position-less : (c : CardOf) (later log : Log) → OnlyLowers (later ++ log) → IsAtMost (position c (later ++ log)) (position c log)
 position-less c [] log low = at_most_itself (position c log)

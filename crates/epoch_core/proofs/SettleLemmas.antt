@@ -1,8 +1,7 @@
-use Rattle.std.proofs.Common.{◌≡◌, ◌∙◌, sym, ap, subst, refl, ℕ, List, [], ◌∷◌, ◌++◌, Bool, true, false, cond, map, Option, Some, None, length}
+use Rattle.std.proofs.Common.{◌≡◌, ◌∙◌, sym, ap, subst, refl, ℕ, List, [], ◌∷◌, ◌++◌, Bool, true, false, cond, map, Option, Some, None}
 use Rattle.std.specs.Prelude.{not, ◌&&◌, is_some, OnOk, Result, Ok, Err}
 use Rattle.std.specs.List.{list_all, flat_map}
-use Rattle.std.proofs.lemmas.List.FromFn.{length-map-range_with_len}
-use Rattle.switch_numbering.specs.Numbering.{numbering, number_at, proposals}
+use Rattle.switch_numbering.specs.Numbering.{numbering}
 use Rattle.an_base.specs.Values.{Place, EntryOf, TopoOf}
 use Rattle.tree_position.specs.Position.{self_root}
 use Rattle.topo_report.specs.Report.{report_of}
@@ -11,6 +10,7 @@ use Rattle.epoch_core.specs.Epoch.{is_settled, is_stable, is_root, is_same, fini
 use Rattle.epoch_core.specs.Heard.{HasHeard}
 use Rattle.epoch_core.specs.StandsFor.{CoreOf, StandsFor}
 use Rattle.epoch_core.specs.Steps.{HasNoted, Settles, FinishesAsRoot, entry_of, topology_by, unless_finished}
+pub use Rattle.switch_numbering.proofs.Differing.{length-numbering}
 
 -- once it is seen whether the life is stable, and whether it has finished, the core stands for the log
 pub stands_settled : (core : CoreOf) (x : OnPort) (log : Log) (now : Bool) (f : Option TopoOf) → HasNoted core x log → now ≡ is_stable core.card (x ∷ log) → f ≡ finish core.card (x ∷ log) → StandsFor (record core { is_stable = now; finish = f }) (x ∷ log)
@@ -95,10 +95,6 @@ settles_as_root old now new before after settled stable is_own f = record {
 pub on_ok_with : {T E : Type 0} {P Q : Type 0} {H R : Log → Type 0} (r : Result T E) → OnOk r P → ((log : Log) → H log → OnOk r (R log)) → (P → ((log : Log) → H log → R log) → Q) → OnOk r Q
 on_ok_with (Ok v) p all f = f p all
 on_ok_with (Err e) p all f = p
-
--- as many numbers as entries
-pub length-numbering : (entries : List EntryOf) → length (numbering entries) ≡ length entries
-length-numbering entries = length-map-range_with_len (number_at (proposals entries)) 0 (length entries)
 
 -- a root that has not finished finishes with its report and the numbering of it
 pub finishes_as_root : (old new : CoreOf) (entries : List EntryOf) (numbers : List ℕ) (t : TopoOf) (before after : List OnPort) → is_some old.finish ≡ false

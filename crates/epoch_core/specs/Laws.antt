@@ -6,6 +6,7 @@ use Rattle.an_base.specs.Values.{Place, PosOf}
 use Rattle.an_base.specs.Order.{life_cmp, position_cmp}
 use Rattle.an_base.specs.declared.body.Body.{Body}
 use Rattle.an_base.specs.declared.body.Body.TheVariants.{Pos, Answer, Stable, Topo}
+use Rattle.an_base.specs.declared.limits.TheConstants.{MOST_LEVEL}
 use Rattle.epoch_core.specs.Log.{CardOf, OnPort, Log, on_port, last_pos}
 use Rattle.epoch_core.specs.Epoch.{position, version, has_moved, is_stable}
 
@@ -36,7 +37,7 @@ IsAtMost one other = IsTrue (is_le (position_cmp one other))
 -- that one gave a place it gives one
 pub record OffersLess (old new : PosOf) : Type 0 where
   pub offer : IsTrue (is_le (ordering_then (life_cmp new.root old.root) (nat_cmp new.level old.level)))
-  pub gives : old.level < 125 → new.level < 125
+  pub gives : old.level < MOST_LEVEL → new.level < MOST_LEVEL
 
 abbrev pub Lowers : Option PosOf → Body → Type 0
 Lowers None body = ⊤

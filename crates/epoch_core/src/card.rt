@@ -1,4 +1,5 @@
 ghost use Rattle.std.specs.Prelude.{◌≡◌, ◌≤◌};
+ghost use Rattle.an_base.specs.declared.limits.TheConstants.{MOST_NUMBER};
 
 use an_base::entry::Entry;
 use an_base::life::Life;
@@ -17,19 +18,20 @@ pub struct Card {
 impl Model for Card {
     ghost use Rattle.std.specs.Prelude.{◌≤◌};
     ghost use Rattle.epoch_core.specs.Log.{CardOf};
+    ghost use Rattle.an_base.specs.declared.limits.TheConstants.{MOST_NUMBER};
 
     ghost Value = { CardOf };
 
     ghost view = { λ c. record { me = c.me; proposed = c.proposed; links = c.links } };
 
-    ghost invariant = { λ c. (1 ≤ c.proposed) × (c.proposed ≤ 126) };
+    ghost invariant = { λ c. (1 ≤ c.proposed) × (c.proposed ≤ MOST_NUMBER) };
 }
 
 impl Card {
     /// A life, the number that it proposes for itself, 1 to 126, and its links.
     pub fn new(me: Life, proposed: u8, links: &Links) -> Self
         requires least { 1 ≤ proposed }
-        requires most { proposed ≤ 126 }
+        requires most { proposed ≤ MOST_NUMBER }
         ensures { result ≡ record { me = me; proposed = proposed; links = links.now } }
     {
         Card {

@@ -1,6 +1,7 @@
 ghost use Rattle.std.specs.Prelude.{◌≡◌, ◌≤◌, ℕ, [], ◌∷◌, ◌++◌, map, OnOk, IfOk, None, Some, option_copied};
 ghost use Rattle.std.specs.List.{list_any, flat_map};
 ghost use Rattle.std.specs.Ordering.{is_eq};
+ghost use Rattle.an_base.specs.declared.limits.TheConstants.{LAST_PORT, MOST_NUMBER};
 ghost use Rattle.an_base.specs.Order.{life_cmp};
 ghost use Rattle.an_base.specs.declared.body.Body.TheVariants.{Pos, Answer, Stable, Topo};
 ghost use Rattle.tree_position.specs.Position.{self_root};
@@ -99,7 +100,7 @@ impl Core {
         sends: &mut Sends,
     ) -> Result<Core, OutOfMemory>
         requires least { 1 ≤ proposed }
-        requires most { proposed ≤ 126 }
+        requires most { proposed ≤ MOST_NUMBER }
         ensures card { IfOk result (λ core. core.card ≡ record { me = me; proposed = proposed; links = links.now }) }
         ensures epoch { IfOk result (λ core. core.epoch ≡ epoch) }
         ensures version { IfOk result (λ core. core.version ≡ 1) }
@@ -132,7 +133,7 @@ impl Core {
     /// claim, where the life has finished now. After want of memory the core is only good to be
     /// dropped.
     pub fn accept(&mut self, port: u8, body: Body, sends: &mut Sends) -> Result<(), OutOfMemory>
-        requires port { port ≤ 12 }
+        requires port { port ≤ LAST_PORT }
         requires room { self.old.version ≤ MOST_VERSION }
         ensures { OnOk result (Accepts self.old self.new (record { port = port; body = body }) sends.old sends.new) }
     {
@@ -189,7 +190,7 @@ impl Core {
         told: PosBody,
         sends: &mut Sends,
     ) -> Result<(), OutOfMemory>
-        requires port { port ≤ 12 }
+        requires port { port ≤ LAST_PORT }
         requires room { self.old.version ≤ MOST_VERSION }
         ensures { OnOk result (Accepts self.old self.new (record { port = port; body = Pos told }) sends.old sends.new) }
     {
@@ -209,7 +210,7 @@ impl Core {
         answer: AnswerBody,
         sends: &mut Sends,
     ) -> Result<(), OutOfMemory>
-        requires { port ≤ 12 }
+        requires { port ≤ LAST_PORT }
         ensures { OnOk result (Accepts self.old self.new (record { port = port; body = Answer answer }) sends.old sends.new) }
     {
         self.ports.note_answer(port, answer);
@@ -223,7 +224,7 @@ impl Core {
         entries: Entries,
         sends: &mut Sends,
     ) -> Result<(), OutOfMemory>
-        requires { port ≤ 12 }
+        requires { port ≤ LAST_PORT }
         ensures { OnOk result (Accepts self.old self.new (record { port = port; body = Stable entries }) sends.old sends.new) }
     {
         self.ports.note_report(port, entries);

@@ -1,5 +1,6 @@
 ghost use Rattle.std.specs.Prelude.{◌≡◌, ◌≤◌, ◌&&◌, ◌||◌, not, [], ◌∷◌, ◌++◌, map, OnOk, IfOk, option_copied};
 ghost use Rattle.std.specs.List.{list_all, flat_map};
+ghost use Rattle.an_base.specs.declared.limits.TheConstants.{LAST_PORT};
 ghost use Rattle.an_base.specs.declared.body.Body.TheVariants.{Pos, Answer, Stable, Topo};
 ghost use Rattle.topo_report.specs.Report.{report_of};
 ghost use Rattle.epoch_core.specs.Log.{Log, on_port, last_report};
@@ -69,7 +70,7 @@ impl Ports {
 
     /// A position came on a port, 0 to 12.
     pub fn note_position(&mut self, port: u8, told: PosBody)
-        requires { port ≤ 12 }
+        requires { port ≤ LAST_PORT }
         ensures { (log : Log) → HasHeard self.old log → HasHeard self.new (record { port = port; body = Pos told } ∷ log) }
     {
         let i = usize::from(port);
@@ -82,7 +83,7 @@ impl Ports {
 
     /// An answer came on a port, 0 to 12.
     pub fn note_answer(&mut self, port: u8, answer: AnswerBody)
-        requires { port ≤ 12 }
+        requires { port ≤ LAST_PORT }
         ensures { (log : Log) → HasHeard self.old log → HasHeard self.new (record { port = port; body = Answer answer } ∷ log) }
     {
         let i = usize::from(port);
@@ -95,7 +96,7 @@ impl Ports {
 
     /// A report came on a port, 0 to 12.
     pub fn note_report(&mut self, port: u8, entries: Entries)
-        requires { port ≤ 12 }
+        requires { port ≤ LAST_PORT }
         ensures { (log : Log) → HasHeard self.old log → HasHeard self.new (record { port = port; body = Stable entries } ∷ log) }
     {
         let i = usize::from(port);
@@ -109,7 +110,7 @@ impl Ports {
 
     /// What was heard on a port, 0 to 12.
     fn heard_on(&self, port: u8) -> Heard
-        requires { port ≤ 12 }
+        requires { port ≤ LAST_PORT }
         ensures { (log : Log) → HasHeard self.now log → result ≡ heard_of (on_port port log) }
     {
         self.heard[usize::from(port)]
@@ -117,7 +118,7 @@ impl Ports {
 
     /// The last report on a port, 0 to 12.
     fn report_on(&self, port: u8) -> Option<&Entries>
-        requires { port ≤ 12 }
+        requires { port ≤ LAST_PORT }
         ensures { (log : Log) → HasHeard self.now log → option_copied result ≡ last_report (on_port port log) }
     {
         self.reports[usize::from(port)].as_ref()

@@ -1,3 +1,4 @@
+-- Truth values, options and numbers by test.
 use Rattle.std.proofs.Common.{◌≡◌, ◌⊎◌, inl, inr, refl, ℕ, Some, None, Bool, true, false, arith}
 use Rattle.std.specs.Prelude.{◌==◌}
 use Rattle.std.proofs.lemmas.Bool.Decides.{nat_tests}
@@ -11,10 +12,6 @@ some_same a b e = cc
 
 pub none_some : {A : Type 0} {a : A} → None ≡ Some a → ⊥
 none_some e = absurd (cc)
-
--- numbers by test
-pub number_same : (a b : ℕ) → (a == b) ≡ true → a ≡ b
-number_same a b is = grind (arith, nat_tests)
 
 pub number_itself : (a : ℕ) → (a == a) ≡ true
 number_itself a = grind (arith, nat_tests)

@@ -20,14 +20,15 @@ use Rattle.epoch_game.proofs.Lists.{earlier_itself, earlier_nil}
 use Rattle.epoch_game.proofs.Moments.{version_least, version_grows, one_position, at_whole, number}
 use Rattle.epoch_game.proofs.Nodes.{decide_life}
 use Rattle.epoch_game.proofs.StreamLemmas.{one_end}
-use Rattle.epoch_game.proofs.Orders.{LifeAtMost, root_at_most, level_at_most, given}
+use Rattle.epoch_game.proofs.Orders.{LifeAtMost, root_at_most, level_at_most, given, nat_le}
 use Rattle.epoch_game.proofs.OfferLemmas.{at_most_self}
-use Rattle.epoch_game.proofs.ImproveLemmas.{no_offers, only_improves}
+use Rattle.epoch_game.proofs.ImproveLemmas.{only_improves}
 use Rattle.epoch_game.proofs.EpochLaws.{EpochLaws}
 use Rattle.epoch_game.proofs.LeavingLemmas.{own_root, lasting_state, never_state, stable_last}
 use Rattle.epoch_game.proofs.MemberLemmas.{Reach, start as Reach-start, next as Reach-next, Detected, members, offers_present, had_root, report_holds}
 use Rattle.epoch_game.proofs.StateLemmas.{node, node_is, Linked, me_is, mom, joined, stable_on, plain, gives_at, gives_is, Content, laws}
 use Rattle.epoch_game.proofs.ContentLemmas.{link_on, content, all_true}
+use Rattle.epoch_core.proofs.JoinLemmas.{position_none}
 
 -- a state in which r was once a stable root
 pub record Rooted (lives : List LifeId) (s : Slice) (r : LifeId) : Type 0 where
@@ -215,9 +216,6 @@ second_of c e x le = sym (ap (λ (o : Ordering). is_le (ordering_then o e)) x) �
 nat_same : (a b : ℕ) → a ≡ b → nat_cmp a b ≡ Equal
 nat_same a b e = grind (arith, nat_tests)
 
-nat_at_most : (a b : ℕ) → IsTrue (is_le (nat_cmp a b)) → a ≤ b
-nat_at_most a b le = grind (arith, nat_tests)
-
 life_same : (a b : LifeId) → a ≡ b → life_cmp a b ≡ Equal
 life_same a b e = subst (λ (c : LifeId). life_cmp a c ≡ Equal) e (tied_itself life_total a)
 
@@ -225,7 +223,7 @@ pub parent_least : (p q : Place) → p.root ≡ q.root → p.level ≡ q.level �
 parent_least p q root level le =
     let rest = rest_le (life_cmp p.root q.root) (nat_cmp p.level q.level) (life_cmp p.parent q.parent) (nat_cmp p.port q.port) (life_same p.root q.root root) (nat_same p.level q.level level) le in (
       first_of (life_cmp p.parent q.parent) (nat_cmp p.port q.port) rest,
-      λ e. nat_at_most p.port q.port (second_of (life_cmp p.parent q.parent) (nat_cmp p.port q.port) (life_same p.parent q.parent e) rest),
+      λ e. nat_le p.port q.port (second_of (life_cmp p.parent q.parent) (nat_cmp p.port q.port) (life_same p.parent q.parent e) rest),
     )
 
 pub tree_place : (lives : List LifeId) (s : Slice) (r x : LifeId) (d : Rooted lives s r) → Reached s r x → IsTreePlace s r x (place s x)
@@ -268,7 +266,7 @@ root_least lives s r x d h =
 root_version : (lives : List LifeId) (s : Slice) (r : LifeId) (d : Rooted lives s r) (h : Log) → Earlier h (node s r).log → version (node s r).card h ≡ version (node s r).card (node s r).log
 root_version lives s r d h e =
     let c = (node s r).card in
-    let own : place s r ≡ position c [] = own_root c (node s r).log ((member lives s r r d start).root ∙ sym (me_is lives s d.run r)) ∙ sym (no_offers c) in
+    let own : place s r ≡ position c [] = own_root c (node s r).log ((member lives s r r d start).root ∙ sym (me_is lives s d.run r)) ∙ sym (position_none c) in
     let now : version c (node s r).log ≡ 1 = (only_improves lives s d.few d.run).once r (node s r) (node s r).log [] (member lives s r r d start).joined (earlier_itself (node s r).log) (earlier_nil (node s r).log) own in
     let low = version_grows c h (node s r).log e in
     let first = version_least c h in

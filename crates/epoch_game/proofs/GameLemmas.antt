@@ -10,10 +10,11 @@ use Rattle.epoch_core.specs.Epoch.{finish, sent}
 use Rattle.epoch_game.specs.Slice.{Earlier, Node, Slice, nobody, with_node, Names, IsCardOf, Run, none as Run-none, joins as Run-joins, accepts as Run-accepts}
 use Rattle.epoch_game.specs.Leaving.{WasStableRoot}
 use Rattle.epoch_game.specs.Game.{Game, slice, begins, with_node_in, with_present, with_loaded, after_join, after_accept, after_load, MayJoin, Play, none, joins, accepts, loads, HasFinished, IsDetectedIn}
-use Rattle.epoch_game.proofs.Basics.{number_same, none_some, bool_cases}
+use Rattle.epoch_game.proofs.Basics.{none_some, bool_cases}
 use Rattle.epoch_game.proofs.Nodes.{node_cases}
 use Rattle.epoch_game.proofs.StreamLemmas.{has_grown}
 use Rattle.epoch_game.proofs.FinishLemmas.{is_detected, finish_earlier}
+use Rattle.std.proofs.lemmas.Bool.{eqb-true}
 
 -- no life has a node in an epoch above its present one
 abbrev pub NoneAhead : Game → Type 0
@@ -41,7 +42,7 @@ node_in g e x n y f m is =
     ⊎_elim
     (λ (same : (e == f) ≡ true).
     let at : with_node (slice f g) x n y ≡ Some m = sym (ap (λ (b : Bool). cond b (with_node (slice f g) x n y) (g.nodes y f)) same) ∙ is in
-    ⊎_elim (λ (w : (x ≡ y) × (n ≡ m)). inl (number_same e f same, w.0, w.1)) (λ (w : (x ≡ y → ⊥) × (g.nodes y f ≡ Some m)). inr w.1) (node_cases (slice f g) x y n m at))
+    ⊎_elim (λ (w : (x ≡ y) × (n ≡ m)). inl (eqb-true e f same, w.0, w.1)) (λ (w : (x ≡ y → ⊥) × (g.nodes y f ≡ Some m)). inr w.1) (node_cases (slice f g) x y n m at))
     (λ (other : (e == f) ≡ false). inr (sym (ap (λ (b : Bool). cond b (with_node (slice f g) x n y) (g.nodes y f)) other) ∙ is))
     (bool_cases (e == f))
 
@@ -76,7 +77,7 @@ run_join : (lives : List LifeId) (s : Slice) (h : Game) (x : LifeId) (e f : ℕ)
 run_join lives s h x e f c ahead may known ok run =
     ⊎_elim
     (λ (is : (e == f) ≡ true).
-    let same = number_same e f is in
+    let same = eqb-true e f is in
     let free : h.nodes x f ≡ None = none_of (h.nodes x f) (λ n a. let low = ahead x f n a in let up = may.greater in absurd (omega (arith, low, up, same))) in
     subst (Run lives s) (slice_here h e f x (record { card = c; log = [] }) is) (Run-joins (slice f h) x c run free known ok))
     (λ (is : (e == f) ≡ false). subst (Run lives s) (slice_else h e f x (record { card = c; log = [] }) is) run)
@@ -87,7 +88,7 @@ run_accept : (lives : List LifeId) (s : Slice) (h : Game) (x z : LifeId) (p q : 
 run_accept lives s h x z p q n m b f sx sz lx lz sends run =
     ⊎_elim
     (λ (is : (h.present x == f) ≡ true).
-    let same = number_same (h.present x) f is in
+    let same = eqb-true (h.present x) f is in
     subst (Run lives s) (slice_here h (h.present x) f x new is)
     (Run-accepts (slice f h) x z p q n m b run (subst (λ (i : ℕ). h.nodes x i ≡ Some n) same sx) (subst (λ (i : ℕ). h.nodes z i ≡ Some m) same sz) lx lz sends))
     (λ (is : (h.present x == f) ≡ false). subst (Run lives s) (slice_else h (h.present x) f x new is) run)
@@ -145,7 +146,7 @@ loaded_cases : (g : Game) (x : LifeId) (e : ℕ) (y : LifeId) (f : ℕ) → with
 loaded_cases g x e y f is = by (is_eq (life_cmp x y)) refl is
   where
     by_epoch : (c : Bool) → (e == f) ≡ c → x ≡ y → cond c true (g.loaded y f) ≡ true → ((x ≡ y) × (e ≡ f)) ⊎ (g.loaded y f ≡ true)
-    by_epoch true a at b = inl (at, number_same e f a)
+    by_epoch true a at b = inl (at, eqb-true e f a)
     by_epoch false a at b = inr b
 
     by : (c : Bool) → is_eq (life_cmp x y) ≡ c → cond c (cond (e == f) true (g.loaded y f)) (g.loaded y f) ≡ true → ((x ≡ y) × (e ≡ f)) ⊎ (g.loaded y f ≡ true)

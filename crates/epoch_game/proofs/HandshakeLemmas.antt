@@ -1,3 +1,4 @@
+-- What a life knows of a neighbour that has answered its version.
 use Rattle.std.proofs.Common.{◌≡◌, ℕ, suc, ◌≤◌, ◌<◌, true, sym, ap, ◌∙◌, subst, ⊎_elim, arith}
 use Rattle.std.proofs.lemmas.Bool.{cases_lt}
 use Rattle.an_base.specs.Values.{LifeId, Place}

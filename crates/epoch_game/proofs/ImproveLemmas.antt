@@ -1,4 +1,4 @@
-use Rattle.std.proofs.Common.{◌≡◌, ◌∙◌, ◌⊎◌, inl, inr, sym, ap, refl, subst, ⊎_elim, ℕ, suc, ◌≤◌, List, [], ◌∷◌, length, get_or, Option, Some, None, Bool, true, false, true≢false, cond, map, arith}
+use Rattle.std.proofs.Common.{◌≡◌, ◌∙◌, ◌⊎◌, inl, inr, sym, ap, refl, subst, ⊎_elim, ℕ, suc, ◌≤◌, List, [], ◌∷◌, length, get_or, Option, Some, None, Bool, true, false, true≢false, cond, arith}
 use Rattle.std.specs.Prelude.{◌==◌, ◌≢◌, not, AllPairs}
 use Rattle.std.proofs.lemmas.Bool.Decides.{nat_tests}
 use Rattle.std.proofs.lemmas.List.Elements.{Contains-get_or}
@@ -10,14 +10,14 @@ use Rattle.tree_position.specs.Position.{self_root, position_of, lesser}
 use Rattle.topo_report.proofs.Members.{In, in_from}
 use Rattle.topo_report.proofs.DistinctLemmas.{AreApart, length-le_from_apart}
 use Rattle.epoch_core.specs.Log.{CardOf, OnPort, Log, on_port, last_pos}
-use Rattle.epoch_core.specs.Epoch.{version, position, is_same, sent, offer_on}
+use Rattle.epoch_core.specs.Epoch.{version, position, is_same, sent}
 use Rattle.epoch_core.specs.Laws.{IsAtMost}
 use Rattle.epoch_core.proofs.LessLemmas.{at_most_itself, at_most_trans}
 use Rattle.epoch_core.proofs.EpochLemmas.{IsQuiet, position-quiet, is_same-itself}
 use Rattle.epoch_game.specs.Slice.{Earlier, Node, Slice, nobody, with_node, link_at, Names, IsCardOf, Run, none, joins, accepts}
 use Rattle.epoch_game.specs.Streams.{told_on, Shows}
 use Rattle.epoch_game.specs.Improving.{Had, behind_link, OnlyImproves}
-use Rattle.epoch_game.proofs.Basics.{number_same, number_itself, some_same, none_some}
+use Rattle.epoch_game.proofs.Basics.{number_itself, some_same, none_some}
 use Rattle.epoch_game.proofs.Lists.{earlier_itself, earlier_trans, earlier_total}
 use Rattle.epoch_game.proofs.ViewLemmas.{HasLink, shown}
 use Rattle.epoch_game.proofs.Moments.{version_cases, version_grows, one_position}
@@ -25,6 +25,8 @@ use Rattle.epoch_game.proofs.Nodes.{decide_life, node_here, node_else, node_case
 use Rattle.epoch_game.proofs.StreamLemmas.{nodes}
 use Rattle.epoch_game.proofs.Orders.{Before, same_at_most, antisym, at_most_before, not_both, lesser_cases, lesser_first, lesser_second, given, given_at_most, before_given}
 use Rattle.epoch_game.proofs.OfferLemmas.{behind, step, one_port}
+use Rattle.std.proofs.lemmas.Bool.{eqb-true}
+use Rattle.epoch_core.proofs.JoinLemmas.{position_none}
 
 -- the least of all that was ever offered, whatever its level
 abbrev pub best_with : Body → Option EndId → ℕ → Place → Place
@@ -153,7 +155,7 @@ moved_pos lives t x z p q n m b few run sx sz lx lz next least count = record { 
     fr = next_pos m.card q m.log (on_port p n.log) b (has_link z m.card q x p (nodes lives t run z m sz).0 lz) next
 
     others_by : (k : PeerAt) (g : Bool) → (p == k.port) ≡ g → In k n.card.links → (k ≡ k0) ⊎ (last_pos (cond g (Pos b ∷ on_port k.port n.log) (on_port k.port n.log)) ≡ last_pos (on_port k.port n.log))
-    others_by k true e i = inl (one_port 0 n.card.links k k0 (rises x n.card card) i in_links (sym (number_same p k.port e)))
+    others_by k true e i = inl (one_port 0 n.card.links k k0 (rises x n.card card) i in_links (sym (eqb-true p k.port e)))
     others_by k false e i = inr refl
 
     now : last_pos (on_port p log) ≡ Some b
@@ -255,17 +257,6 @@ counted_grows t s p g h = record { lives = h.lives; apart = h.apart; count = h.c
 abbrev pub Improving : Slice → Type 0
 Improving s = (Least s) × (Count s)
 
-pub no_offers : (c : CardOf) → position c [] ≡ self_root c.me
-no_offers c = none_of c.links (self_root c.me)
-  where
-    none_of : (ks : List PeerAt) (p : Place) → Rattle.tree_position.specs.Position.least p (Rattle.tree_position.specs.Position.candidates ks (map (offer_on []) ks)) ≡ p
-    none_of [] p = refl
-    none_of (k ∷ ks) p = none_more ks p
-      where
-        none_more : (ks : List PeerAt) (p : Place) → Rattle.tree_position.specs.Position.least p (Rattle.tree_position.specs.Position.candidates ks (map (offer_on []) ks)) ≡ p
-        none_more [] p = refl
-        none_more (k ∷ ks) p = none_more ks p
-
 kept_join : (lives : List LifeId) (t : Slice) (x : LifeId) (c : CardOf) → Improving t → t x ≡ None → IsCardOf x c → Improving (with_node t x (record { card = c; log = [] }))
 kept_join lives t x c old free card = (least, count)
   where
@@ -276,7 +267,7 @@ kept_join lives t x c old free card = (least, count)
     grows y k e = (k, node_else t x y new (λ w. none_some (sym free ∙ ap t w ∙ e)) ∙ e, refl, earlier_itself k.log)
 
     start : (h : Log) → h ≡ [] → position c h ≡ self_root c.me
-    start h e = ap (position c) e ∙ no_offers c
+    start h e = ap (position c) e ∙ position_none c
 
     least : Least (with_node t x new)
     least y n e h i =
@@ -292,7 +283,7 @@ kept_join lives t x c old free card = (least, count)
       count = refl;
       had = λ y i. ⊎_elim
           (λ (k : y ≡ x). subst (Had (with_node t x new) c.me 0) (sym k)
-          (record { node = new; joined = node_here t x new; moment = []; earlier = refl; root = ap (λ (p : Place). p.root) (no_offers c); level = subst (λ (p : Place). p.level ≤ 0) (sym (no_offers c)) (omega arith) }))
+          (record { node = new; joined = node_here t x new; moment = []; earlier = refl; root = ap (λ (p : Place). p.root) (position_none c); level = subst (λ (p : Place). p.level ≤ 0) (sym (position_none c)) (omega arith) }))
           (λ (k : ⊥). absurd k) i;
     }
 
@@ -411,7 +402,7 @@ best_offered c (x ∷ l) p e b at last = by_port (x.port == p) refl last (λ old
     by_body (Topo t) f n at_f is_n lp old = old lp
 
     by_port : (g : Bool) → (x.port == p) ≡ g → last_pos (cond g (x.body ∷ on_port p l) (on_port p l)) ≡ Some b → (last_pos (on_port p l) ≡ Some b → IsAtMost (best c l) (behind k0 b)) → IsAtMost (best c (x ∷ l)) (behind k0 b)
-    by_port true g lp old = by_body x.body (link_at x.port c.links) x.port (ap (λ (i : ℕ). link_at i c.links) (number_same x.port p g) ∙ at) (number_same x.port p g) lp old
+    by_port true g lp old = by_body x.body (link_at x.port c.links) x.port (ap (λ (i : ℕ). link_at i c.links) (eqb-true x.port p g) ∙ at) (eqb-true x.port p g) lp old
     by_port false g lp old = at_most_trans (best c (x ∷ l)) (best c l) (behind k0 b) (best_less c l (x ∷ l) (inr (earlier_itself l))) (old lp)
 
 apart_pairs : (xs : List LifeId) → AreApart xs → AllPairs (λ a b. a ≢ b) xs

@@ -1,3 +1,4 @@
+-- The last moment of a root at a life, and who left it first.
 use Rattle.std.proofs.Common.{◌≡◌, ℕ, zero, suc, ◌≤◌, ◌<◌, true, sym, ap, ◌∙◌, subst, ⊎_elim, arith}
 use Rattle.std.proofs.lemmas.Bool.{cases_lt}
 use Rattle.an_base.specs.Values.{LifeId, Place}

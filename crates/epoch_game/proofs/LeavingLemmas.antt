@@ -13,9 +13,9 @@ use Rattle.epoch_core.specs.Laws.{IsAtMost}
 use Rattle.epoch_game.specs.Slice.{Earlier, Node, Slice, nobody, with_node, link_at, Names, Run, none, joins, accepts}
 use Rattle.epoch_game.specs.Streams.{positions_in, answers_in}
 use Rattle.epoch_game.specs.Leaving.{WasStableRoot, IsStableUnder, HasLeft, LeftUnstable, NobodyLeaves}
-use Rattle.epoch_game.proofs.Basics.{number_same, number_itself, none_some, bool_cases}
+use Rattle.epoch_game.proofs.Basics.{number_itself, none_some, bool_cases}
 use Rattle.epoch_game.proofs.Lists.{earlier_itself}
-use Rattle.epoch_game.proofs.Moments.{version_grows, at, at_cases, at_earlier, at_grows, at_whole, number}
+use Rattle.epoch_game.proofs.Moments.{version_grows, at, at_cases, at_earlier, at_grows, at_whole, number, earlier_length}
 use Rattle.epoch_game.proofs.Nodes.{decide_life, node_here, node_else, node_cases, not_own, has_link}
 use Rattle.epoch_game.proofs.StreamLemmas.{nodes}
 use Rattle.epoch_game.proofs.Orders.{Before, LifeAtMost, lesser_cases, le_or_lt, le_lt_trans, root_at_most, level_at_most}
@@ -25,6 +25,7 @@ use Rattle.epoch_game.proofs.HandshakeLemmas.{Lasting, IsLast, lasting_step, lif
 use Rattle.epoch_game.proofs.EpochLaws.{EpochLaws}
 use Rattle.epoch_game.proofs.LeaverLemmas.{NeverStable, IsLeaver, find_last, neighbour_left, nobody_leaves}
 use Rattle.epoch_game.proofs.StateLemmas.{or_blank, node, IsBlank, node_joined, node_is, Linked, turned, me_is, mom, improves_at, law_seen, law_answered, law_stable, Settled, stable_at, stable_from, stable_on, Content, laws, no_content}
+use Rattle.std.proofs.lemmas.Bool.{eqb-true}
 
 -- Once stable, a life stays stable while its version stays.
 abbrev pub LastingIn : Node → Type 0
@@ -92,7 +93,7 @@ lasting_new lives s x p z q b l few run lk is v st = stable_from c new (λ k i. 
     }
 
     each : (k : PeerAt) (g : Bool) → (p == k.port) ≡ g → Settled l (version c l) k.port → Settled new (version c new) k.port
-    each k true e o = subst (Settled new (version c new)) (number_same p k.port e) (settled_by (b ∷ on_port p l) p here (by_body b refl))
+    each k true e o = subst (Settled new (version c new)) (eqb-true p k.port e) (settled_by (b ∷ on_port p l) p here (by_body b refl))
     each k false e o =
         settled_by (on_port k.port l) k.port (ap (λ (g : Bool). cond g (b ∷ on_port k.port l) (on_port k.port l)) e) (o.answered ∙ ap Some v, o.reported)
 
@@ -497,16 +498,13 @@ length_at (x ∷ l) i e =
     (λ (w : (i ≤ length l) × (at (x ∷ l) i ≡ at l i)). ap length w.1 ∙ old w.0)
     (at_cases x l i)
 
-length_earlier : (h l : Log) → Earlier h l → length h ≤ length l
-length_earlier h l e = (number h l e).0
-
 has_left : (s : Slice) (r y : LifeId) (h : HasLeft s r y) → LeaverIn (node s y) r (length h.last)
 has_left s r y h =
     subst (λ (a : Node). LeaverIn a r (length h.last)) (sym (node_is s y h.node h.joined)) (record {
       last = record {
         within = (number h.last h.node.log h.earlier).0;
         root = ap (λ a. (position h.node.card a).root) (number h.last h.node.log h.earlier).1 ∙ h.root;
-        most = λ k hk e. subst (λ n. n ≤ length h.last) (length_at h.node.log k hk) (length_earlier (at h.node.log k) h.last (h.most (at h.node.log k) (at_earlier h.node.log k) e));
+        most = λ k hk e. subst (λ n. n ≤ length h.last) (length_at h.node.log k hk) (earlier_length (at h.node.log k) h.last (h.most (at h.node.log k) (at_earlier h.node.log k) e));
       };
       left = h.left;
     })

@@ -1,3 +1,4 @@
+-- Earlier lists are the ends of later ones.
 use Rattle.std.proofs.Common.{◌⊎◌, inl, inr, List, [], ◌∷◌, ◌++◌, refl, sym, subst}
 use Rattle.epoch_game.specs.Slice.{Earlier}
 

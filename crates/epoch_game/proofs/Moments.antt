@@ -104,7 +104,7 @@ pub at_whole : (l : Log) → at l (length l) ≡ l
 at_whole [] = refl
 at_whole (x ∷ l) = ⊎_elim (λ w. w.1) (λ w. let a = w.0 in absurd (omega (arith, a))) (at_cases x l (length (x ∷ l)))
 
-earlier_length : (h l : Log) → Earlier h l → length h ≤ length l
+pub earlier_length : (h l : Log) → Earlier h l → length h ≤ length l
 earlier_length h [] e = subst (λ i. length i ≤ 0) (sym e) (omega arith)
 earlier_length h (x ∷ l) (inl e) = subst (λ i. length i ≤ length (x ∷ l)) (sym e) (omega arith)
 earlier_length h (x ∷ l) (inr e) = let old = earlier_length h l e in omega (arith, old)

@@ -1,3 +1,4 @@
+-- The nodes of a slice, and the link at a port of a node.
 use Rattle.std.proofs.Common.{◌≡◌, ◌⊎◌, inl, inr, ℕ, List, [], ◌∷◌, Some, Bool, true, false, true≢false, cond, refl, sym, ap, ◌∙◌, subst, ⊎_elim, arith}
 use Rattle.std.specs.Prelude.{◌==◌, ◌≢◌, All}
 use Rattle.std.specs.Ordering.{is_eq}
@@ -7,9 +8,10 @@ use Rattle.an_base.proofs.LifeLemmas.{life_passes, same_life}
 use Rattle.topo_report.proofs.Members.{In, contains_from}
 use Rattle.epoch_core.specs.Log.{CardOf}
 use Rattle.epoch_game.specs.Slice.{Node, Slice, with_node, link_at, Names, IsCardOf}
-use Rattle.epoch_game.proofs.Basics.{bool_cases, some_same, number_same}
+use Rattle.epoch_game.proofs.Basics.{bool_cases, some_same}
 use Rattle.epoch_game.proofs.SentLemmas.{RiseFrom, rise_from}
 use Rattle.epoch_game.proofs.ViewLemmas.{HasLink}
+use Rattle.std.proofs.lemmas.Bool.{eqb-true}
 
 pub life_ne : (x y : LifeId) → is_eq (life_cmp x y) ≡ false → x ≡ y → ⊥
 life_ne x y f e = true≢false (sym (life_passes x y e) ∙ f)
@@ -49,7 +51,7 @@ link_found p [] e at = absurd (cc)
 link_found p (k ∷ ks) e at = by (k.port == p) refl at (λ found. link_found p ks e found)
   where
     by : (b : Bool) → (k.port == p) ≡ b → cond b (Some k.peer) (link_at p ks) ≡ Some e → (link_at p ks ≡ Some e → LinkAt p ks e) → LinkAt p (k ∷ ks) e
-    by true is found rest = record { link = k; in_links = inl refl; port = number_same k.port p is; peer = some_same k.peer e found }
+    by true is found rest = record { link = k; in_links = inl refl; port = eqb-true k.port p is; peer = some_same k.peer e found }
     by false is found rest = let r = rest found in record { link = r.link; in_links = inr r.in_links; port = r.port; peer = r.peer }
 
 -- no link of x leads to x

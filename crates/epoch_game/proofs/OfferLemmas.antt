@@ -1,6 +1,6 @@
 use Rattle.std.proofs.Common.{◌≡◌, ◌∙◌, ◌⊎◌, inl, inr, sym, ap, refl, subst, ⊎_elim, ℕ, ◌<◌, ◌≤◌, List, [], ◌∷◌, Option, Some, None, Bool, true, false, cond, map, arith}
 use Rattle.std.specs.Prelude.{◌==◌, nat_lt}
-use Rattle.std.proofs.lemmas.Bool.{cases_lt}
+use Rattle.std.proofs.lemmas.Bool.{cases_lt, ltb-true, lt-ltb}
 use Rattle.std.proofs.lemmas.Bool.Decides.{nat_tests}
 use Rattle.an_base.specs.Values.{Place, PeerAt, PosOf}
 use Rattle.tree_position.specs.Position.{self_root, below_offer, candidate, candidates, lesser}
@@ -24,17 +24,11 @@ pub record Offered (l : Log) (k : PeerAt) (b : PosOf) : Type 0 where
   pub last : last_pos (on_port k.port l) ≡ Some b
   pub level : b.level < 125
 
-low_is : (a b : ℕ) → nat_lt a b ≡ true → a < b
-low_is a b is = grind (arith, nat_tests)
-
-is_low : (a b : ℕ) → a < b → nat_lt a b ≡ true
-is_low a b is = grind (arith, nat_tests)
-
 -- the candidate of a link
 in_candidate : (k : PeerAt) (b : PosOf) (o : Option PosOf) → o ≡ Some b → b.level < 125 → In (behind k b) (candidate k (offer_of o))
 in_candidate k b o is low =
     subst (λ (p : Option PosOf). In (behind k b) (candidate k (offer_of p))) (sym is)
-    (subst (λ (g : Bool). In (behind k b) (cond g (behind k b ∷ []) [])) (sym (is_low b.level 125 low)) (inl refl))
+    (subst (λ (g : Bool). In (behind k b) (cond g (behind k b ∷ []) [])) (sym (lt-ltb b.level 125 low)) (inl refl))
 
 record FromOffer (k : PeerAt) (o : Option PosOf) (q : Place) : Type 0 where
   told : PosOf
@@ -47,7 +41,7 @@ from_candidate k None q i = absurd i
 from_candidate k (Some b) q i = by (nat_lt b.level 125) refl i
   where
     by : (g : Bool) → nat_lt b.level 125 ≡ g → In q (cond g (behind k b ∷ []) []) → FromOffer k (Some b) q
-    by true e (inl is) = record { told = b; last = refl; level = low_is b.level 125 e; is = is }
+    by true e (inl is) = record { told = b; last = refl; level = ltb-true b.level 125 e; is = is }
     by true e (inr j) = absurd j
     by false e j = absurd j
 

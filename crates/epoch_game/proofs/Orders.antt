@@ -109,7 +109,7 @@ LifeAtMost a b = IsTrue (is_le (life_cmp a b))
 pub root_at_most : (p q : Place) → IsAtMost p q → LifeAtMost p.root q.root
 root_at_most p q le = first_le (life_cmp p.root q.root) (ordering_then (nat_cmp p.level q.level) (ordering_then (life_cmp p.parent q.parent) (nat_cmp p.port q.port))) le
 
-nat_le : (a b : ℕ) → IsTrue (is_le (nat_cmp a b)) → a ≤ b
+pub nat_le : (a b : ℕ) → IsTrue (is_le (nat_cmp a b)) → a ≤ b
 nat_le a b le = grind (arith, nat_tests)
 
 second_le : (a b : Ordering) → a ≡ Equal → IsTrue (is_le (ordering_then a b)) → IsTrue (is_le b)

@@ -1,6 +1,5 @@
 use Rattle.std.proofs.Common.{◌≡◌, ◌∙◌, sym, ap, refl, arith, ℕ, suc, ◌<◌, ◌≤◌, List, [], ◌∷◌, ◌++◌, length, get_or, Bool, true, false, cond, map, filter, Option, Some, None, reverse, append_assoc}
 use Rattle.std.specs.Prelude.{◌==◌, ◌&&◌, not, is_some}
-use Rattle.std.proofs.lemmas.Bool.Decides.{nat_tests}
 use Rattle.std.proofs.lemmas.List.{reverse-append}
 use Rattle.an_base.specs.Values.{EndId, Place, PeerAt, EntryOf, TopoOf}
 use Rattle.an_base.specs.Order.{PortsRise}
@@ -8,9 +7,10 @@ use Rattle.an_base.specs.declared.body.Body.{Body}
 use Rattle.an_base.specs.declared.body.Body.TheVariants.{Pos, Answer, Stable, Topo}
 use Rattle.epoch_core.specs.Log.{CardOf, OnPort, Log, on_port, is_claimed}
 use Rattle.epoch_core.specs.Epoch.{version, position, report, is_stable, is_root, has_moved, finish, pos_at, positions_of, answer_to, told, answers, sent_up, sent_down, topo_down, passed_on, adds, sent}
-use Rattle.epoch_core.proofs.LawLemmas.{on_port-append}
+use Rattle.epoch_core.proofs.LawLemmas.{on_port-append, other_port}
 use Rattle.epoch_game.specs.Slice.{link_at}
-use Rattle.epoch_game.proofs.Basics.{number_same, number_itself}
+use Rattle.epoch_game.proofs.Basics.{number_itself}
+use Rattle.std.proofs.lemmas.Bool.{eqb-true}
 
 -- the ports rise, from above low
 abbrev pub RiseFrom : ℕ → List PeerAt → Type 0
@@ -23,9 +23,6 @@ rise_from low (k ∷ ks) rise above = (
   above 0 k (omega arith),
   rise_from k.port ks (λ i j d less within. rise (suc i) (suc j) d (omega arith) (omega arith)) (λ i d within. rise 0 (suc i) d (omega arith) (omega arith)),
 )
-
-other_port : (a q : ℕ) → q < a → (a == q) ≡ false
-other_port a q above = grind (arith, nat_tests)
 
 -- what is made of a link goes out on its port
 abbrev KeepsPort : (PeerAt → OnPort) → Type 0
@@ -65,7 +62,7 @@ one_on f g q low [] e keeps rise at = absurd (cc)
 one_on f g q low (k ∷ ks) e keeps rise at = by (k.port == q) refl at (λ found. one_on f g q k.port ks e keeps rise.1 found)
   where
     by : (b : Bool) → (k.port == q) ≡ b → cond b (Some k.peer) (link_at q ks) ≡ Some e → (link_at q ks ≡ Some e → OneOn f g q ks) → OneOn f g q (k ∷ ks)
-    by true is found rest = record { link = k; port = number_same k.port q is; only = here f g q k ks (g k) keeps rise.1 (number_same k.port q is) }
+    by true is found rest = record { link = k; port = eqb-true k.port q is; only = here f g q k ks (g k) keeps rise.1 (eqb-true k.port q is) }
     by false is found rest = let r = rest found in record { link = r.link; port = r.port; only = further f g q k ks (g k) keeps is ∙ r.only }
 
 filter-all : {A : Type 0} (xs : List A) → filter (λ x. true) xs ≡ xs
@@ -118,7 +115,7 @@ none_if false = refl
 
 answer_flag : (port q v : ℕ) (p : Place) (h : Bool) → (port == q) ≡ h
     → cond h (Answer (record { version = v; to_parent = (port == p.port) }) ∷ []) [] ≡ cond h (Answer (record { version = v; to_parent = (q == p.port) }) ∷ []) []
-answer_flag port q v p true is = ap (λ (n : ℕ). Answer (record { version = v; to_parent = (n == p.port) }) ∷ []) (number_same port q is)
+answer_flag port q v p true is = ap (λ (n : ℕ). Answer (record { version = v; to_parent = (n == p.port) }) ∷ []) (eqb-true port q is)
 answer_flag port q v p false is = refl
 
 answer_is : (port q : ℕ) (p : Place) (b : Body) → on_port q (answer_to port p b) ≡ cond (port == q) (answer_on q p b) []

@@ -1,7 +1,7 @@
 use Rattle.std.proofs.Common.{◌≡◌, ◌⊎◌, inl, inr, ℕ, ◌≤◌, ◌<◌, List, [], ◌∷◌, length, Option, Some, None, Bool, true, false, true≢false, cond, refl, sym, ap, ◌∙◌, subst, ⊎_elim, arith}
 use Rattle.std.specs.Prelude.{◌==◌, ◌&&◌, ◌||◌, not, is_some, nat_lt}
 use Rattle.std.specs.List.{list_all}
-use Rattle.std.proofs.lemmas.Bool.{cases_lt, lt-ltb, le-ltb}
+use Rattle.std.proofs.lemmas.Bool.{cases_lt, lt-ltb, le-ltb, eqb-true}
 use Rattle.std.proofs.lemmas.Bool.Decides.{nat_tests}
 use Rattle.an_base.specs.Values.{LifeId, Place, PeerAt, EntryOf, PosOf}
 use Rattle.an_base.specs.declared.body.Body.{Body}
@@ -15,7 +15,7 @@ use Rattle.epoch_game.specs.Slice.{Earlier, Node, Slice, nobody, link_at, Names,
 use Rattle.epoch_game.specs.Streams.{positions_in, answers_in, told_on, AnswersFrom, HasNoAnswer, ShowsFar}
 use Rattle.epoch_game.proofs.Lists.{earlier_trans}
 use Rattle.epoch_game.proofs.Moments.{version_cases, version_least, version_grows, version_had, one_position, on_port_grows, positions_grow, at, at_earlier, at_grows, at_whole, number}
-use Rattle.epoch_game.proofs.Basics.{some_same, none_some, number_same, number_itself}
+use Rattle.epoch_game.proofs.Basics.{some_same, none_some, number_itself}
 use Rattle.epoch_game.proofs.Nodes.{link_found, rises}
 use Rattle.epoch_game.proofs.StreamLemmas.{nodes, View, view_of, shows_far, names_its_number}
 use Rattle.epoch_game.proofs.Orders.{same_at_most, given}
@@ -279,7 +279,7 @@ pub record Settled (l : Log) (v p : ℕ) : Type 0 where
 
 names_is : (a : Option ℕ) (v : ℕ) → names a v ≡ true → a ≡ Some v
 names_is None v e = absurd (true≢false (sym e))
-names_is (Some w) v e = ap Some (number_same w v e)
+names_is (Some w) v e = ap Some (eqb-true w v e)
 
 settled_from : (v : ℕ) (l : Log) (k : PeerAt) → is_settled v l k ≡ true → Settled l v k.port
 settled_from v l k e =

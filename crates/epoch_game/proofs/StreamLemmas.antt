@@ -6,11 +6,12 @@ use Rattle.epoch_core.specs.Log.{CardOf, OnPort, Log, on_port, last_pos, answere
 use Rattle.epoch_core.specs.Epoch.{version, position, adds, sent}
 use Rattle.epoch_game.specs.Slice.{Earlier, Node, Slice, nobody, with_node, Names, IsCardOf, Run, none, joins, accepts}
 use Rattle.epoch_game.specs.Streams.{told_on, HasNoAnswer, AnswersFrom, Shows, WasSent, ShowsFar, NamesItsNumber, HasStreams, HasGrown}
-use Rattle.epoch_game.proofs.Basics.{number_same, some_same, none_some}
+use Rattle.epoch_game.proofs.Basics.{some_same, none_some}
 use Rattle.epoch_game.proofs.Lists.{earlier_itself, earlier_trans, earlier_append}
 use Rattle.epoch_game.proofs.ViewLemmas.{shown}
 use Rattle.epoch_game.proofs.Moments.{version_grows, on_port_grows}
 use Rattle.epoch_game.proofs.Nodes.{decide_life, node_here, node_else, node_cases, not_own, has_link}
+use Rattle.std.proofs.lemmas.Bool.{eqb-true}
 
 -- a life that has joined has a card of its own, and is one of the lives
 abbrev pub AreNodes : List LifeId → Slice → Type 0
@@ -107,7 +108,7 @@ stream_own t x z p q n m b r card sz lx lz next old = by (p == r) refl old
         })
 
     by : (g : Bool) → (p == r) ≡ g → Heard t x n r → on (cond g (b ∷ on_port r n.log) (on_port r n.log))
-    by true is o = at_port (number_same p r is)
+    by true is o = at_port (eqb-true p r is)
     by false is (inl nil) = inl nil
     by false is (inr h) =
         inr (record {

@@ -1,3 +1,4 @@
+-- What was sent on a port shows the sender as it was at some moment.
 use Rattle.std.proofs.Common.{◌≡◌, ◌∙◌, ◌⊎◌, inl, inr, ℕ, suc, ◌≤◌, List, [], ◌∷◌, ◌++◌, Option, Some, None, Bool, true, false, cond, refl, sym, ap, subst, ⊎_elim, arith}
 use Rattle.std.specs.Prelude.{◌==◌, ◌&&◌, not, is_some}
 use Rattle.std.specs.Cmp.{Equal-is}
@@ -12,9 +13,10 @@ use Rattle.epoch_core.specs.Epoch.{version, position, report, is_same, is_stable
 use Rattle.epoch_core.proofs.AcceptLemmas.{finish-finished}
 use Rattle.epoch_game.specs.Slice.{Earlier, link_at}
 use Rattle.epoch_game.specs.Streams.{positions_in, answers_in, told_on, ReportsFrom, AnswersFrom, HasNoAnswer, Shows}
-use Rattle.epoch_game.proofs.Basics.{some_same, none_some, number_same}
+use Rattle.epoch_game.proofs.Basics.{some_same, none_some}
 use Rattle.epoch_game.proofs.Lists.{earlier_itself}
 use Rattle.epoch_game.proofs.SentLemmas.{RiseFrom, pos_on, answer_on, answer_part, told_part, reports, up_part, topo_of, down_part, sent_first, sent_more}
+use Rattle.std.proofs.lemmas.Bool.{eqb-true}
 
 pub is_same-eq : (p q : Place) → is_same p q ≡ true → p ≡ q
 is_same-eq p q is = position_apart p q ((Equal-is (position_cmp p q)).0 is)
@@ -210,7 +212,7 @@ reported_staged c q = record {
     three x l s =
         reported_up c q (x ∷ l) (reports c x l) ((position c (x ∷ l)).port == q) (after_answer c q x l (sent c q l))
         (λ e. first_and (is_stable c (x ∷ l)) (not (is_stable c l)) (first_and (is_stable c (x ∷ l) && not (is_stable c l)) (not (is_root c (x ∷ l))) e))
-        (number_same (position c (x ∷ l)).port q) (two x l s)
+        (eqb-true (position c (x ∷ l)).port q) (two x l s)
 
 -- A topology is the finish.
 abbrev Finished : CardOf → ℕ → Log → List Body → Type 0

@@ -1,9 +1,10 @@
+-- What a settled end says of the fabric, and what a note shows of a good port.
+
 use Rattle.std.specs.Prelude.{◌≡◌, ◌⊎◌, ◌<◌, ◌≤◌, ◌-◌, ◌==◌, ◌&&◌, not, nat_lt, ℕ, zero, suc, map, find, List, [], ◌∷◌, Option, Some, None, slice_index_or, Bool, true, false, cond, refl, Contains}
 use Rattle.std.specs.List.{list_any, list_all}
 use Rattle.std.specs.Option.{option_map}
 use Rattle.std.proofs.Common.{true≢false, sym, ◌∙◌, ap, subst, inl, inr, arith}
 use Rattle.std.proofs.lemmas.Bool.{false≢true, and_parts, or_parts, ltb-false, and_left, and_right}
-use Rattle.std.proofs.lemmas.List.Folds.{list_any_at}
 use Rattle.an_base.specs.Values.{LifeId, EndId}
 use Rattle.an_base.specs.Ports.{PortViewOf}
 use Rattle.net_graph.specs.declared.wiring.LinkAt.{LinkAt}
@@ -13,15 +14,13 @@ use Rattle.connectivity.specs.Connections.{is_end}
 use Rattle.port_monitor.specs.declared.port.Phase.{Phase}
 use Rattle.port_monitor.specs.declared.port.Phase.TheVariants.{Dead, Checking, Host, Switch}
 use Rattle.port_monitor.specs.Ports.{state_by, peer_by, good_peer_by}
-use Rattle.port_monitor.specs.Histories.{externals}
 use Rattle.epoch_game.proofs.Basics.{none_some}
 use Rattle.switch_core.specs.Switch.{SwitchOf, good_peer, port_of, ports_of, view_of}
-use Rattle.switch_core.proofs.SampleLemmas.{port_at}
-use Rattle.fabric_world.specs.declared.ending.Ending.{Ending}
-use Rattle.fabric_world.specs.declared.ending.Ending.TheVariants as ending
-use Rattle.fabric_world.specs.Fabric.{FabricOf, StationOf, vacant, no_view, full_hands, room, port_shown, end_shown, is_up}
-use Rattle.fabric_world.specs.Agree.{ending_of, ending_by, first_spent, is_settled, is_unsettled, is_good_to, link_agrees}
-use Rattle.fabric_world.specs.PortStates.{is_dead, is_loop, is_good}
+use Rattle.fabric_state.specs.declared.ending.Ending.{Ending}
+use Rattle.fabric_state.specs.declared.ending.Ending.TheVariants as ending
+use Rattle.fabric_state.specs.Fabric.{FabricOf, StationOf, vacant, no_view, full_hands, room, port_shown, end_shown, is_up}
+use Rattle.fabric_state.specs.Agree.{ending_of, ending_by, first_spent, is_settled, is_unsettled, is_good_to, link_agrees}
+use Rattle.fabric_state.specs.PortStates.{is_dead, is_loop, is_good}
 use Rattle.connectivity.proofs.EndLemmas.{same_end_is}
 
 -- an end that is Settled says so
@@ -76,16 +75,6 @@ none_found g (x ∷ xs) s none = by x.spent refl none s (λ n e. none_found g xs
     by true is e n rest = absurd (none_some (sym e))
     by false is e zero rest = is
     by false is e (suc n) rest = rest n e
-
--- of the external ports
-pub none_external : (q : ℕ → Bool) → list_any q externals ≡ false → (p : ℕ) → 1 ≤ p → p ≤ 12 → q p ≡ false
-none_external q none p least most = by (q p) refl
-  where
-    by : (b : Bool) → q p ≡ b → q p ≡ false
-    by true is =
-        let at : slice_index_or externals (p - 1) 0 ≡ p = port_at (p - 1) (omega (arith, least, most)) ∙ omega (arith, least) in
-        absurd (true≢false (sym (list_any_at q externals (p - 1) 0 (omega (arith, least, most)) (ap q at ∙ is)) ∙ none))
-    by false is = is
 
 -- what a switch shows of an external port
 view_here : (u : SwitchOf) (i : ℕ) → i < 12 → slice_index_or (map view_of (ports_of u)) i no_view ≡ view_of (port_of u (suc i))

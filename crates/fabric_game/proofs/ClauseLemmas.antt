@@ -1,3 +1,5 @@
+-- Whoever finished, finished in the game; one picture, and topologies.
+
 use Rattle.std.specs.Prelude.{◌≡◌, ◌<◌, ◌≤◌, ℕ, length, List, [], ◌∷◌, Option, Some, None, slice_index_or, Bool, true, false, cond, refl, Contains, Any}
 use Rattle.std.proofs.Common.{sym, ◌∙◌, ap, subst, arith}
 use Rattle.std.proofs.lemmas.List.{append-nil}
@@ -22,7 +24,8 @@ use Rattle.switch_game.specs.Playing.{node_of}
 use Rattle.switch_game.proofs.Laws.{agrees, later, plays}
 use Rattle.table_build.specs.Made.{table_of}
 use Rattle.fabric_world.specs.World.{world_after}
-use Rattle.fabric_world.specs.Clauses.{FinishedAt, IsTopology, AreOnePicture, AreTopologies, switch_after}
+use Rattle.fabric_world.specs.Clauses.{FinishedAt, IsTopology, AreOnePicture, AreTopologies}
+use Rattle.fabric_world.specs.Histories.{switch_after}
 use Rattle.fabric_game.specs.Embedding.{IsEmbedded}
 use Rattle.fabric_game.specs.Lives.{powered}
 use Rattle.fabric_game.specs.Moves.{game_after}
@@ -60,10 +63,10 @@ finished_in script lives h w x e t f =
 
 -- so it is a node of the final game
 pub record Done (lives : List LifeId) (s : Slice) (x : LifeId) (t : TopoOf) : Type 0 where
-  run : Run lives nobody s
-  node : Node
-  joined : s x ≡ Some node
-  finish_is : finish node.card node.log ≡ Some t
+  pub run : Run lives nobody s
+  pub node : Node
+  pub joined : s x ≡ Some node
+  pub finish_is : finish node.card node.log ≡ Some t
 
 pub done_in : (script : ScriptOf) (lives : List LifeId) (h : List Event) (w : IsEmbedded script lives h) (x : LifeId) (e : ℕ) (t : TopoOf) → FinishedAt script h x e t → Done lives (slice e (game_after script h)) x t
 done_in script lives h w x e t f =

@@ -1,3 +1,5 @@
+-- Each lawful event is none, or one step of the network.
+
 use Rattle.std.specs.Prelude.{◌≡◌, ◌≤◌, ◌⊎◌, ◌<◌, ◌+◌, ◌&&◌, not, ℕ, suc, cond, map, List, [], ◌∷◌, ◌++◌, Option, Some, None, Bool, true, false, refl, Contains}
 use Rattle.std.proofs.Common.{true≢false, sym, ◌∙◌, ap, subst, inl, inr, arith}
 use Rattle.std.proofs.lemmas.Bool.{and_parts, eq-eqb}
@@ -22,19 +24,19 @@ use Rattle.switch_core.specs.Switch.{SwitchOf, at_port, finish_of}
 use Rattle.switch_core.specs.Steps.{Step, Sent, clocked, framed, loaded, still}
 use Rattle.switch_core.specs.Bytes.{all_spelled}
 use Rattle.switch_game.specs.Network.{Happens, Network, clock_moves, dark, frame_moves, frames_of, none, stepped, with_switch}
-use Rattle.fabric_world.specs.declared.hand.Hand.{Hand}
-use Rattle.fabric_world.specs.declared.hand.Hand.TheVariants as hand
+use Rattle.fabric_state.specs.declared.hand.Hand.{Hand}
+use Rattle.fabric_state.specs.declared.hand.Hand.TheVariants as hand
 use Rattle.table_build.specs.Made.{number_in}
-use Rattle.fabric_world.specs.Fabric.{station, held_bytes, is_full_at, is_switch, load_due_at, is_empty}
-use Rattle.fabric_world.specs.Effects.{noise, released, all_put_out}
+use Rattle.fabric_state.specs.Fabric.{station, held_bytes, is_full_at, is_switch, load_due_at, is_empty}
+use Rattle.fabric_state.specs.Effects.{noise, released, all_put_out}
 use Rattle.fabric_world.specs.Heard.{ActAt, acts_of, at_place, handles_as, loads_as}
 use Rattle.fabric_world.specs.Acts.{Act, acted, Clocks, Hears, HearsNothing, hears}
-use Rattle.fabric_world.specs.Lawful.{is_lawful}
+use Rattle.fabric_state.specs.Lawful.{is_lawful}
 use Rattle.fabric_world.specs.World.{WorldOf, effect, handled, handles, handles_bytes, loads_with}
 use Rattle.fabric_game.specs.Lives.{powered}
 use Rattle.fabric_game.specs.Moves.{all_moves}
 use Rattle.fabric_game.proofs.Firm.{places, IsFirm, IsWorked}
-use Rattle.fabric_game.proofs.BytesLemmas.{Each, OnWires, each_map, each_index, put_each, take_each, released_each, all_out_each, repair_each, fail_each}
+use Rattle.fabric_game.proofs.BytesLemmas.{OnWires, put_each, take_each, released_each, all_out_each, repair_each, fail_each}
 use Rattle.fabric_game.proofs.KnownLemmas.{IsKnown, known_more, known_sent, known_frame, known_out, noise_none, empty_none}
 use Rattle.std.specs.Ordering.{is_eq}
 use Rattle.an_base.specs.Order.{life_cmp}
@@ -43,6 +45,7 @@ use Rattle.epoch_game.proofs.Basics.{bool_cases}
 use Rattle.fabric_game.proofs.HoldsLemmas.{switch_here, switch_else, Holds, step_holds, restart_holds, started_ranged, can_clock, can_hand, can_load}
 use Rattle.fabric_game.proofs.WorldFacts.{lawful_parts, is_place, IsIdle, full_works}
 use Rattle.an_base.proofs.LifeLemmas.{same_life}
+use Rattle.fabric_game.proofs.EachLemmas.{Each, each_index, each_map}
 
 -- the frame went out by an event in a world
 pub record IsSentBy (w : WorldOf) (e : Event) (f : Frame) : Type 0 where

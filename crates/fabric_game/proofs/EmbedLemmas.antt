@@ -1,3 +1,5 @@
+-- Each history of the world is one of the network, moment by moment.
+
 use Rattle.std.specs.Prelude.{◌≡◌, ◌⊎◌, ◌<◌, ℕ, cond, map, List, [], ◌∷◌, ◌++◌, Option, Some, None, Bool, true, false, refl}
 use Rattle.std.proofs.Common.{sym, ◌∙◌, ap, subst, inl, inr, append_assoc}
 use Rattle.std.proofs.lemmas.List.{append-nil}
@@ -11,12 +13,12 @@ use Rattle.topo_report.proofs.Members.{In, in_from}
 use Rattle.epoch_game.specs.Game.{Game}
 use Rattle.epoch_game.proofs.Basics.{none_some}
 use Rattle.switch_game.specs.Network.{Happens, Network, dark, none, clocks, hands, loads}
-use Rattle.fabric_world.specs.declared.hand.Hand.{Hand}
-use Rattle.fabric_world.specs.declared.hand.Hand.TheVariants as hand
-use Rattle.fabric_world.specs.Fabric.{station, held_bytes}
+use Rattle.fabric_state.specs.declared.hand.Hand.{Hand}
+use Rattle.fabric_state.specs.declared.hand.Hand.TheVariants as hand
+use Rattle.fabric_state.specs.Fabric.{station, held_bytes}
 use Rattle.fabric_world.specs.Heard.{ActAt, acts_of, at_place, handles_as, WasSent, IsHeard}
 use Rattle.fabric_world.specs.Acts.{Act, Starts, Clocks, Hears, HearsNothing, Loads, hears}
-use Rattle.fabric_world.specs.Lawful.{is_lawful}
+use Rattle.fabric_state.specs.Lawful.{is_lawful}
 use Rattle.fabric_world.specs.World.{WorldOf, after_all, begun, step, world_after}
 use Rattle.fabric_world.proofs.WorldLemmas.{world_after-event, step-lawful, step-unlawful}
 use Rattle.fabric_game.specs.Embedding.{IsIn, IsMoment, IsEmbedded}
@@ -24,13 +26,13 @@ use Rattle.fabric_game.specs.Lives.{powered}
 use Rattle.fabric_game.specs.Moves.{all_moves, event_moves, first_game, game_after, moves_of}
 use Rattle.fabric_game.proofs.Firm.{IsFirm, AreFirm, places}
 use Rattle.fabric_game.proofs.RangedSwitch.{IsRanged}
-use Rattle.fabric_game.proofs.BytesLemmas.{each_index}
 use Rattle.fabric_game.proofs.KnownLemmas.{IsKnown, known_sent, empty_none}
 use Rattle.fabric_game.proofs.HoldsLemmas.{Holds, begun_holds}
 use Rattle.fabric_game.proofs.WorldFacts.{IsIdle, begun_idle, effect_idle}
 use Rattle.fabric_game.proofs.PortFacts.{external}
 use Rattle.fabric_game.proofs.EffectLemmas.{IsSentBy, effect_goes}
 use Rattle.fabric_world.proofs.InductionLemmas.{effect_script}
+use Rattle.fabric_game.proofs.EachLemmas.{each_index}
 
 -- what happens in turn
 pub happens_trans : (lives : List LifeId) (a : Network) (b : Game) (v : Network) (g : Game) (w : Network) (h : Game) → Happens lives a b v g → Happens lives v g w h → Happens lives a b w h
@@ -161,7 +163,7 @@ chain_next script lives kept firm h e chain = record { state = new.0; moments = 
         let m = chain.moments before r.0 r.1 in
         record { earlier = m.earlier; is_in = m.is_in; since = happens_trans lives m.earlier (game_after script before) chain.state.network (game_after script h) new.0.network (game_after script (h ++ e ∷ [])) m.since new.1 }
 
-first_is : (script : ScriptOf) → game_after script [] ≡ first_game script
+pub first_is : (script : ScriptOf) → game_after script [] ≡ first_game script
 unfolding game_after
 first_is script = refl
 

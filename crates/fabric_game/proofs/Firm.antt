@@ -1,3 +1,5 @@
+-- What the embedding asks of the world.
+
 use Rattle.std.specs.Prelude.{◌≡◌, ◌<◌, ℕ, suc, ◌^◌, List, length, Contains}
 use Rattle.an_base.specs.Values.{LifeId}
 use Rattle.an_base.specs.declared.event.Event.{Event}
@@ -5,7 +7,7 @@ use Rattle.net_script.specs.Scripts.{ScriptOf}
 use Rattle.frame_codec.specs.Frames.{IsCounted}
 use Rattle.switch_core.specs.Switch.{SwitchOf, note_of}
 use Rattle.switch_core.specs.Sound.{IsSound}
-use Rattle.fabric_world.specs.Fabric.{station}
+use Rattle.fabric_state.specs.Fabric.{station}
 use Rattle.fabric_world.specs.World.{WorldOf, world_after}
 
 -- how many switches a script has

@@ -1,4 +1,6 @@
-use Rattle.std.specs.Prelude.{◌≡◌, ◌<◌, ◌≤◌, ◌+◌, ◌==◌, ◌&&◌, not, nat_lt, ℕ, map, cond, List, [], ◌∷◌, ◌++◌, Option, Some, None, Bool, true, false, refl}
+-- A life that is gone makes no further move.
+
+use Rattle.std.specs.Prelude.{◌≡◌, ◌<◌, ◌≤◌, ◌==◌, ◌&&◌, not, nat_lt, ℕ, map, cond, List, [], ◌∷◌, ◌++◌, Option, Some, None, Bool, true, false, refl}
 use Rattle.std.proofs.Common.{sym, ◌∙◌, ap, subst, arith, append_assoc}
 use Rattle.std.proofs.lemmas.Bool.{and_parts, cond_both, eqb-true}
 use Rattle.std.proofs.lemmas.List.{append-nil}
@@ -19,14 +21,15 @@ use Rattle.switch_core.specs.Switch.{SwitchOf, counts, finish_of}
 use Rattle.switch_core.specs.Steps.{clocked, joins, loaded}
 use Rattle.switch_game.specs.Network.{all_accepted, body_moves, carry_moves, clock_moves, frame_moves}
 use Rattle.switch_game.proofs.Moves.{join_elsewhere, load_elsewhere, node_elsewhere}
-use Rattle.fabric_world.specs.declared.hand.Hand.{Hand}
-use Rattle.fabric_world.specs.declared.hand.Hand.TheVariants as hand
+use Rattle.fabric_state.specs.declared.hand.Hand.{Hand}
+use Rattle.fabric_state.specs.declared.hand.Hand.TheVariants as hand
 use Rattle.table_build.specs.Made.{number_in}
 use Rattle.fabric_world.specs.Acts.{Act, Starts, Clocks, Hears, HearsNothing, Loads, hears}
 use Rattle.fabric_world.specs.Heard.{acts_of, at_place, handles_as, loads_as}
-use Rattle.fabric_world.specs.Fabric.{station, held_bytes, is_full_at, is_switch, load_due_at}
-use Rattle.fabric_world.specs.Lawful.{is_lawful}
-use Rattle.fabric_world.specs.World.{WorldOf, effect, handled, life_of, loads_with, next_life, world_after}
+use Rattle.fabric_state.specs.Fabric.{station, held_bytes, is_full_at, is_switch, load_due_at}
+use Rattle.fabric_state.specs.Lawful.{is_lawful}
+use Rattle.fabric_state.specs.Starts.{life_of}
+use Rattle.fabric_world.specs.World.{WorldOf, effect, handled, loads_with, next_life, world_after}
 use Rattle.fabric_world.proofs.WorldLemmas.{world_after-event, step-lawful, step-unlawful}
 use Rattle.fabric_world.proofs.LawLemmas.{world_is_sound}
 use Rattle.fabric_game.specs.Moves.{HasRested, act_moves, all_moves, game_after}
@@ -138,7 +141,7 @@ loads_boot (Some topo) t s w =
     cond_both (s == t) u (w.switches s) (λ (v : SwitchOf). (w.switches s).life.boot ≤ v.life.boot)
     (λ is. let same = ap (λ (n : ℕ). (w.switches n).life.boot) (eqb-true s t is) in omega (arith, same)) (λ _. omega arith)
 
-boot_rises : (e : Event) (s : ℕ) (w : WorldOf) → (w.switches s).life.boot ≤ ((effect e w).switches s).life.boot
+pub boot_rises : (e : Event) (s : ℕ) (w : WorldOf) → (w.switches s).life.boot ≤ ((effect e w).switches s).life.boot
 unfolding effect
 boot_rises (Handle t) s w =
     cond_both (s == t) (handled t w).switch (w.switches s) (λ (v : SwitchOf). (w.switches s).life.boot ≤ v.life.boot)

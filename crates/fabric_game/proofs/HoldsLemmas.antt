@@ -1,3 +1,5 @@
+-- What holds of the network of all lives beside the world.
+
 use Rattle.std.specs.Prelude.{◌≡◌, ◌≢◌, ◌⊎◌, ◌<◌, ◌≤◌, ◌+◌, ◌*◌, ◌^◌, ◌==◌, ℕ, zero, suc, length, cond, replicate, List, [], ◌∷◌, ◌++◌, slice_index_or, Bool, true, false, refl, All, Contains}
 use Rattle.std.specs.Ordering.{is_eq}
 use Rattle.std.proofs.Common.{sym, ◌∙◌, ap, subst, inl, inr, arith}
@@ -20,13 +22,15 @@ use Rattle.switch_core.specs.Switch.{SwitchOf, started, at_port}
 use Rattle.switch_core.specs.Steps.{Step, clocked, framed, loaded, still}
 use Rattle.switch_game.specs.Network.{Happens, Network, clock_moves, clocks, dark, frame_moves, frames_of, hands, loads, none, stepped, with_switch}
 use Rattle.switch_game.proofs.Laws.{life_of as life_kept}
-use Rattle.fabric_world.specs.World.{life_of, started_at}
+use Rattle.fabric_state.specs.Starts.{life_of}
+use Rattle.fabric_world.specs.World.{started_at}
 use Rattle.fabric_game.specs.Lives.{had_by, powered}
 use Rattle.fabric_game.proofs.Firm.{places}
-use Rattle.fabric_game.proofs.BytesLemmas.{Each, OnWires}
+use Rattle.fabric_game.proofs.BytesLemmas.{OnWires}
 use Rattle.fabric_game.proofs.RangedSwitch.{IsRanged, ranged_started}
 use Rattle.fabric_game.proofs.KnownLemmas.{IsKnown}
 use Rattle.an_base.proofs.LifeLemmas.{life_passes, same_life}
+use Rattle.fabric_game.proofs.EachLemmas.{Each}
 
 -- how lives are powered on is how the switches are started
 had_is : (xs : List SwitchAt) (s : ℕ) → s < length xs → ((t : ℕ) → t < s → uid_of xs t ≢ uid_of xs s) → had_by xs (uid_of xs s) ≡ Rattle.std.specs.Prelude.unwrap_or (Rattle.std.specs.Option.option_map (λ x. x.had) (Rattle.std.specs.Prelude.slice_get xs s)) 1

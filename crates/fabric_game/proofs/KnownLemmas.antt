@@ -1,5 +1,7 @@
-use Rattle.std.specs.Prelude.{◌≡◌, ◌⊎◌, ℕ, zero, suc, List, [], ◌∷◌, Some, None, All, refl}
-use Rattle.std.proofs.Common.{sym, ◌∙◌, ap, subst, inl, inr, arith}
+-- What is on the wires was sent, or is no frame.
+
+use Rattle.std.specs.Prelude.{◌≡◌, ◌⊎◌, ℕ, zero, suc, List, [], ◌∷◌, Some, None, refl}
+use Rattle.std.proofs.Common.{sym, ◌∙◌, ap, subst, inl, inr}
 use Rattle.an_base.specs.declared.frame.Frame.{Frame}
 use Rattle.frame_codec.specs.Spelling.{spelling}
 use Rattle.frame_codec.specs.Frames.{IsFrame}
@@ -9,9 +11,9 @@ use Rattle.epoch_game.proofs.Basics.{some_same, none_some}
 use Rattle.switch_core.specs.Steps.{Sent}
 use Rattle.switch_core.specs.Bytes.{all_spelled}
 use Rattle.switch_game.specs.Network.{frames_of}
-use Rattle.fabric_world.specs.Effects.{noise}
-use Rattle.fabric_game.proofs.BytesLemmas.{Each}
+use Rattle.fabric_state.specs.Effects.{noise}
 use Rattle.frame_codec.proofs.Decoding.{frame_again}
+use Rattle.fabric_game.proofs.EachLemmas.{Each}
 
 -- no frame begins with 00, and none is empty
 pub noise_none : (n : ℕ) → frame_of (noise n) ≡ None
@@ -53,7 +55,3 @@ known_more sent more up bytes (inr none) = inr none
 pub known_out : (xs : List Sent) (sent : List Frame) → Each (λ x. IsFrame x.frame) xs → ((f : Frame) → In f (frames_of xs) → In f sent) → Each (λ b. IsKnown sent b.bytes) (all_spelled xs)
 known_out [] sent all among = tt
 known_out (x ∷ xs) sent all among = (inl (record { frame = x.frame; is_frame = all.0; was = among x.frame (inl refl); spelled = refl }), known_out xs sent all.1 (λ f i. among f (inr i)))
-
-pub each_from : {A : Type 0} (P : A → Type 0) (xs : List A) → All P xs → Each P xs
-each_from P [] all = tt
-each_from P (x ∷ xs) all = (all 0 x (omega arith), each_from P xs (λ k d low. all (suc k) d (omega arith)))

@@ -1,5 +1,7 @@
 pub mod Firm
 pub mod JoinedLemmas
+pub mod EachLemmas
+pub mod HistoryLemmas
 pub mod BytesLemmas
 pub mod KnownLemmas
 pub mod WorldFacts
@@ -20,4 +22,13 @@ pub mod LivesLemmas
 pub mod OwnTables
 pub mod PlayLemmas
 pub mod GoneLemmas
+pub mod TraceLemmas
+pub mod DeliveredLemmas
+pub mod PeerFacts
+pub mod KindLemmas
+pub mod MetLemmas
+pub mod WiredLemmas
+pub mod NodeLemmas
+pub mod GoingLemmas
+pub mod RouteLemmas
 pub mod MomentLemmas

@@ -1,3 +1,5 @@
+-- The lives of a script are few, and what the embedding asks of the world is so.
+
 use Rattle.std.specs.Prelude.{◌≡◌, ◌≢◌, ◌⊎◌, ◌+◌, ◌++◌, ◌==◌, ◌<◌, ◌≤◌, ℕ, zero, suc, List, [], ◌∷◌, length, cond, take, Contains, Bool, true, false, refl}
 use Rattle.std.specs.List.{sum_by}
 use Rattle.std.proofs.Common.{sym, ap, subst, inl, inr, arith, ne_eqb, length-append}
@@ -11,7 +13,8 @@ use Rattle.net_script.specs.declared.command.Command.{Command}
 use Rattle.net_script.specs.Commands.{is_restart}
 use Rattle.net_script.specs.Scripts.{ScriptOf, IsScript, restarts_of}
 use Rattle.fabric_world.specs.Sound.{is_restart_at, restarts_at}
-use Rattle.fabric_world.specs.World.{world_after, life_of}
+use Rattle.fabric_state.specs.Starts.{life_of}
+use Rattle.fabric_world.specs.World.{world_after}
 use Rattle.fabric_world.proofs.LawLemmas.{world_is_sound}
 use Rattle.fabric_world.proofs.BootLemmas.{boot_most}
 use Rattle.fabric_world.proofs.SoundLemmas.{world_sound}
@@ -153,8 +156,9 @@ boot_few script kept h s =
 
 worked : (script : ScriptOf) → IsScript script → (h : List Event) (s : ℕ) → s < places script → IsWorked ((world_after script h).switches s)
 worked script kept h s below =
-    let room = (world_is_sound script kept h).room in
-    let most = kept.limits.events_most in
+    let fits = (world_is_sound script kept h).fits in
+    let room = fits.room in
+    let most = fits.script.limits.events_most in
     record { works = (world_after script h).fabric.events; few = omega (arith, room, most); sound = world_sound script kept h s below }
 
 -- and what the embedding asks of the world is so

@@ -1,12 +1,24 @@
-use Rattle.std.specs.Prelude.{List}
+-- All that is claimed of a history.
+
+use Rattle.std.specs.Prelude.{◌≡◌, ◌<◌, ℕ, List, Some, length}
+use Rattle.an_base.specs.Values.{EndId}
 use Rattle.an_base.specs.declared.event.Event.{Event}
 use Rattle.net_script.specs.Scripts.{ScriptOf, IsScript}
-use Rattle.fabric_world.specs.Clauses.{AreTopologies, HoldsAt}
+use Rattle.switch_core.specs.Switch.{good_peer}
+use Rattle.fabric_world.specs.Clauses.{AreTopologies, HoldsAt, HoldsThroughout}
+use Rattle.fabric_world.specs.World.{world_after}
+use Rattle.fabric_game.specs.Meeting.{Met}
 use Rattle.fabric_game.specs.Lives.{all_lives}
 use Rattle.fabric_game.proofs.LivesLemmas.{firm, lives_few}
 use Rattle.fabric_game.proofs.ClauseLemmas.{one_picture, topologies}
 use Rattle.fabric_game.proofs.JoinedLemmas.{all_joined}
 use Rattle.fabric_game.proofs.OwnTables.{own_tables, none_is_older}
+use Rattle.fabric_game.proofs.SettledLemmas.{if_settled}
+use Rattle.fabric_game.proofs.TraceLemmas.{hops_by_tables}
+use Rattle.fabric_game.proofs.DeliveredLemmas.{delivered}
+use Rattle.fabric_game.proofs.PeerFacts.{good_peer_ok}
+use Rattle.fabric_game.proofs.WiredLemmas.{all_met}
+use Rattle.fabric_game.proofs.RouteLemmas.{legal_routes}
 
 -- all that is claimed after a history
 pub holds_at : (script : ScriptOf) → IsScript script → (h : List Event) → HoldsAt script h
@@ -19,4 +31,22 @@ holds_at script kept h =
       joined = all_joined script h are;
       tables = own_tables script lives (lives_few script kept) kept (firm script kept) h;
       older = none_is_older script lives (lives_few script kept) kept (firm script kept) h;
+      traces = record {
+        hops = hops_by_tables script lives (lives_few script kept) kept (firm script kept) h;
+        routes = legal_routes script lives (lives_few script kept) kept (firm script kept) h;
+        delivered = delivered script kept h;
+      };
     }
+
+-- and of all its moments, and its end
+pub holds_throughout : (script : ScriptOf) → IsScript script → (h : List Event) → HoldsThroughout script h
+holds_throughout script kept h = record {
+  moments = λ before later is. holds_at script kept before;
+  settled = if_settled script (all_lives script) (lives_few script kept) kept (firm script kept) h;
+}
+
+-- who is a good peer
+pub good_met : (script : ScriptOf) → IsScript script → (h : List Event) (s p : ℕ) (e : EndId) → s < length script.wires.switches → good_peer ((world_after script h).switches s) p ≡ Some e → Met script h s ((world_after script h).switches s).life p e
+good_met script kept h s p e low good =
+    let u = (world_after script h).switches s in
+    good_peer_ok (Met script h s u.life p) u p e (((all_met script (all_lives script) kept (firm script kept) h).switches s low).ports p) good

@@ -1,3 +1,5 @@
+-- Past the last place nobody has joined.
+
 use Rattle.std.specs.Prelude.{◌≡◌, ◌≢◌, ◌≤◌, ◌==◌, ◌&&◌, not, ℕ, List, Option, Some, None, Bool, true, false, cond, refl}
 use Rattle.std.proofs.Common.{sym, ◌∙◌, ap, arith, ne_eqb}
 use Rattle.std.proofs.lemmas.Bool.{and_parts}
@@ -6,8 +8,8 @@ use Rattle.an_base.specs.declared.event.Event.{Event}
 use Rattle.an_base.specs.declared.event.Event.TheVariants.{Tick, Clock, Take, Handle, Load, Fail, Repair, Lose, Again, Swap, Noise, Send, Move, Restart}
 use Rattle.net_script.specs.Scripts.{ScriptOf}
 use Rattle.switch_core.specs.Switch.{SwitchOf, at_port, finish_of}
-use Rattle.fabric_world.specs.Fabric.{is_switch, is_full_at, load_due_at}
-use Rattle.fabric_world.specs.Lawful.{is_lawful}
+use Rattle.fabric_state.specs.Fabric.{is_switch, is_full_at, load_due_at}
+use Rattle.fabric_state.specs.Lawful.{is_lawful}
 use Rattle.fabric_world.specs.World.{WorldOf, effect, world_after, loads_with}
 use Rattle.fabric_world.proofs.WorldLemmas.{at_other}
 use Rattle.fabric_game.proofs.Firm.{places}

@@ -1,3 +1,5 @@
+-- Tables in use are their switches' own, and none is older than one that was loaded.
+
 use Rattle.std.specs.Prelude.{◌≡◌, ◌≤◌, ◌<◌, ℕ, List, length, Option, Some, IfSome, Bool, ◌⊎◌, ◌∷◌, None, cond, refl, Contains, Any}
 use Rattle.std.proofs.Common.{sym, ◌∙◌, ap, subst, inl, inr, arith}
 use Rattle.an_base.specs.Values.{LifeId, EntryOf, TopoOf}
@@ -7,8 +9,9 @@ use Rattle.table_build.specs.Tables.{IsTableOf}
 use Rattle.switch_core.specs.Switch.{SwitchOf}
 use Rattle.switch_core.specs.declared.switch.TableFor.{TableFor}
 use Rattle.table_build.specs.Made.{table_of}
-use Rattle.fabric_world.specs.Clauses.{AreOwnTables, FinishedAt, IsTopology, NoneIsOlder, switch_after}
-use Rattle.fabric_world.specs.Fabric.{station}
+use Rattle.fabric_world.specs.Clauses.{AreOwnTables, FinishedAt, IsTopology, NoneIsOlder}
+use Rattle.fabric_world.specs.Histories.{switch_after}
+use Rattle.fabric_state.specs.Fabric.{station}
 use Rattle.fabric_world.specs.Sound.{IsTableInUse}
 use Rattle.fabric_world.specs.World.{world_after}
 use Rattle.fabric_world.proofs.LawLemmas.{world_is_sound}
@@ -25,7 +28,7 @@ use Rattle.fabric_game.proofs.EmbedLemmas.{embedded}
 use Rattle.fabric_game.proofs.OutsideLemmas.{outside}
 
 -- a table in use is that of what its switch has finished with
-used_table : (script : ScriptOf) → IsScript script → (h : List Event) (s : ℕ) (t : TableFor) → s < places script → (station (world_after script h).fabric s).table ≡ Some t → IsTableInUse ((world_after script h).switches s) t
+pub used_table : (script : ScriptOf) → IsScript script → (h : List Event) (s : ℕ) (t : TableFor) → s < places script → (station (world_after script h).fabric s).table ≡ Some t → IsTableInUse ((world_after script h).switches s) t
 used_table script kept h s t low uses = subst (λ (o : Option TableFor). IfSome o (IsTableInUse ((world_after script h).switches s))) uses ((world_is_sound script kept h).tables s low)
 
 pub used_epoch : (script : ScriptOf) → IsScript script → (h : List Event) (s : ℕ) (t : TableFor) → s < places script → (station (world_after script h).fabric s).table ≡ Some t → t.epoch ≡ ((world_after script h).switches s).epoch

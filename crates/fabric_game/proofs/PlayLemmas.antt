@@ -1,3 +1,5 @@
+-- The moves of a history are a run of the game.
+
 use Rattle.std.specs.Prelude.{◌<◌, ◌++◌, ℕ, List, refl}
 use Rattle.std.proofs.Common.{subst}
 use Rattle.an_base.specs.declared.event.Event.{Event}

@@ -1,10 +1,12 @@
+-- What is claimed of the ports of a world.
+
 use Rattle.std.specs.Prelude.{◌≡◌, ◌<◌, ◌⊎◌, ℕ, Some, true, false, Contains}
 use Rattle.an_base.specs.Values.{EndId}
 use Rattle.net_graph.specs.declared.wiring.LinkAt.{LinkAt}
 use Rattle.net_graph.specs.Wires.{a_end, b_end}
 use Rattle.net_script.specs.Scripts.{ScriptOf}
 use Rattle.switch_core.specs.Switch.{good_peer}
-use Rattle.fabric_world.specs.Fabric.{full_hands, is_some_clock_due}
+use Rattle.fabric_state.specs.Fabric.{full_hands, is_some_clock_due}
 use Rattle.fabric_world.specs.World.{WorldOf}
 use Rattle.fabric_game.proofs.Firm.{places}
 

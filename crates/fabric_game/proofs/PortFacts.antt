@@ -1,4 +1,6 @@
-use Rattle.std.specs.Prelude.{◌≡◌, ◌≢◌, ◌⊎◌, ◌<◌, ◌≤◌, ◌==◌, ◌&&◌, not, nat_lt, nat_le, ℕ, length, map, filter, List, [], ◌∷◌, Option, Some, None, slice_index_or, Bool, true, false, cond, refl}
+-- A good port has a link of the script; who has not joined has its clock due or in hand.
+
+use Rattle.std.specs.Prelude.{◌≡◌, ◌≢◌, ◌⊎◌, ◌<◌, ◌≤◌, ◌+◌, ◌*◌, ◌==◌, ◌&&◌, ◌||◌, not, nat_lt, nat_le, ℕ, length, map, filter, List, [], ◌∷◌, ◌++◌, Option, Some, None, slice_index_or, Bool, true, false, cond, refl}
 use Rattle.std.specs.List.{range_with_len}
 use Rattle.std.proofs.Common.{true≢false, sym, ◌∙◌, ap, subst, inl, inr, arith}
 use Rattle.std.proofs.lemmas.Bool.{false≢true, cond_both, and_parts, not-true, leb-true, le-leb, ne_eqb, cases_eq}
@@ -37,22 +39,23 @@ use Rattle.switch_core.specs.Switch.{SwitchOf, end_at, counts, good_peer, port_o
 use Rattle.switch_core.specs.Steps.{Step, after, all_added, all_resent, answers_body, begun, clocked, framed, goes_on, is_change_due, is_spent_by, joins, on_ack, on_carry, receives, sample_at, sampled_by, still, probes}
 use Rattle.switch_core.proofs.WindowLemmas.{all_pushed_few, all_resent_few, on_ack_few}
 use Rattle.switch_core.proofs.SoundLemmas.{unchanged_joined}
-use Rattle.fabric_world.specs.declared.hand.Hand.{Hand}
-use Rattle.fabric_world.specs.declared.hand.Hand.TheVariants as hand
-use Rattle.fabric_world.specs.Fabric.{FabricOf, StationOf, station, vacant, is_empty, is_full_at, is_switch, is_external, is_clock_due, is_some_clock_due, clock_due_at, has_frame, held_bytes, full_hands}
-use Rattle.fabric_world.specs.Lawful.{is_lawful}
+use Rattle.fabric_state.specs.declared.hand.Hand.{Hand}
+use Rattle.fabric_state.specs.declared.hand.Hand.TheVariants as hand
+use Rattle.fabric_state.specs.Fabric.{FabricOf, StationOf, station, vacant, is_empty, is_full_at, is_switch, is_external, is_clock_due, is_some_clock_due, clock_due_at, has_frame, held_bytes, full_hands}
+use Rattle.fabric_state.specs.Lawful.{is_lawful}
 use Rattle.fabric_world.specs.World.{WorldOf, effect, handled, handles, handles_bytes, loads_with, world_after}
 use Rattle.fabric_world.specs.World as world
-use Rattle.fabric_world.proofs.FarLemmas.{world_fars}
+use Rattle.fabric_world.proofs.FabricLemmas.{world_fars}
 use Rattle.fabric_game.proofs.Firm.{places}
 use Rattle.fabric_game.proofs.PortClaims.{HasLinkAt, HasPorts}
-use Rattle.fabric_game.proofs.BytesLemmas.{Each}
 use Rattle.fabric_game.proofs.WorldFacts.{lawful_parts, is_place}
 use Rattle.ordered_link.specs.Receiving.{accepted_by}
 use Rattle.fabric_world.proofs.InductionLemmas.{always, world_script}
-use Rattle.fabric_world.proofs.PlaceLemmas.{world_size, set_both, set_one}
+use Rattle.fabric_state.proofs.ReadyLemmas.{set_one}
+use Rattle.fabric_world.proofs.PlaceLemmas.{world_size, set_both}
 use Rattle.fabric_world.proofs.LawLemmas.{world_is_sound}
 use Rattle.fabric_world.specs.Sound.{HandFits}
+use Rattle.fabric_game.proofs.EachLemmas.{Each}
 
 -- a port at which a frame comes in has a link of the script
 link_by : (script : ScriptOf) (s p : ℕ) (o : Option Far) → far_at script.wires s p ≡ o → is_link o ≡ true → HasLinkAt script s p
@@ -66,9 +69,9 @@ link_by script s p (Some (far.Switch t q)) is link =
     by l (inl e) = inl (ap (λ xs. slice_index_or xs 0 (s, p)) e)
     by l (inr e) = inr (ap (λ xs. slice_index_or xs 1 (s, p)) e)
 
-has_link : (script : ScriptOf) (h : List Event) (s p : ℕ) → s < places script → p < 13 → is_link (side_at (world_after script h).fabric.wires (place s p)).far ≡ true → HasLinkAt script s p
-has_link script h s p low below link =
-    let same = world_fars script h (place s p) ∙ ap (λ x. x.far) (port_is script.wires script.limits.blocks s p low below) in
+has_link : (script : ScriptOf) → IsScript script → (h : List Event) (s p : ℕ) → s < places script → p < 13 → is_link (side_at (world_after script h).fabric.wires (place s p)).far ≡ true → HasLinkAt script s p
+has_link script kept h s p low below link =
+    let same = world_fars script kept h (place s p) ∙ ap (λ x. x.far) (port_is script.wires script.limits.blocks s p low below) in
     link_by script s p (far_at script.wires s p) refl (ap is_link (sym same) ∙ link)
 
 -- where nobody answered, a port is not good
@@ -245,9 +248,9 @@ same_told script w v stations tick switches old = record {
   tells = λ s low. subst (λ (z : List StationOf × ℕ × (ℕ → SwitchOf)). TellsAt script z.1 s (slice_index_or z.0 s vacant) (z.2 s)) (λ i. (sym stations i, sym tick i, sym switches i)) (old.tells s low);
 }
 
-take_parts : (script : ScriptOf) (h : List Event) (t p : ℕ) → is_lawful (world_after script h).fabric (Take t p) ≡ true
+take_parts : (script : ScriptOf) → IsScript script → (h : List Event) (t p : ℕ) → is_lawful (world_after script h).fabric (Take t p) ≡ true
     → (t < places script) × HasLinkAt script t p × (is_full_at (world_after script h).fabric t ≡ false) × (clock_due_at (world_after script h).fabric t ≡ false)
-take_parts script h t p lawful =
+take_parts script kept h t p lawful =
     let f = (world_after script h).fabric in
     let a = and_parts (is_switch f t && is_external p && not (is_full_at f t) && not (clock_due_at f t)) (has_frame f t p) (lawful_parts f (Take t p) lawful).0 in
     let b = and_parts (is_switch f t && is_external p && not (is_full_at f t)) (not (clock_due_at f t)) a.0 in
@@ -256,7 +259,7 @@ take_parts script h t p lawful =
     let port = and_parts (nat_le 1 p) (nat_le p 12) d.1 in
     let low : t < places script = let l = is_place f t d.0 in let same = ap places (world_script script h) in omega (arith, l, same) in
     let most = leb-true p 12 port.1 in
-    (low, has_link script h t p low (omega (arith, most)) (and_parts (is_link (side_at f.wires (place t p)).far) _ a.1).0, not-true (is_full_at f t) c.1, not-true (clock_due_at f t) b.1)
+    (low, has_link script kept h t p low (omega (arith, most)) (and_parts (is_link (side_at f.wires (place t p)).far) _ a.1).0, not-true (is_full_at f t) c.1, not-true (clock_due_at f t) b.1)
 
 no_clock : (x : Hand) → not (is_empty x) ≡ false → is_clock x ≡ false
 unfolding is_clock
@@ -264,22 +267,22 @@ no_clock hand.Empty e = refl
 no_clock (hand.Clock now samples) e = absurd (true≢false e)
 no_clock (hand.Frame p) e = refl
 
-effect_told : (script : ScriptOf) (h : List Event) (e : Event) → is_lawful (world_after script h).fabric e ≡ true → IsTold script (world_after script h) → IsTold script (effect e (world_after script h))
+effect_told : (script : ScriptOf) → IsScript script → (h : List Event) (e : Event) → is_lawful (world_after script h).fabric e ≡ true → IsTold script (world_after script h) → IsTold script (effect e (world_after script h))
 unfolding effect hand_port is_clock
-effect_told script h Tick lawful old = record {
+effect_told script kept h Tick lawful old = record {
   size = old.size;
   tells = λ s low. let k = old.tells s low in record { hands = k.hands; heard = k.heard; timed = λ j wk. elim (k.timed j wk) [ inl due ↦ inl (omega (arith, due)) | inr clock ↦ inr clock ] };
 }
-effect_told script h (Clock t) lawful old =
+effect_told script kept h (Clock t) lawful old =
     let w = world_after script h in
     record {
       size = length-set w.fabric.stations t _ ∙ old.size;
       tells = λ s low. set_one (λ x. TellsAt script w.fabric.tick s x (w.switches s)) w.fabric.stations t s _ (let e = old.size in omega (arith, e, low))
           (λ is. record { hands = λ p e. absurd (none_some e); heard = (old.tells s low).heard; timed = λ j wk. inr refl }) (old.tells s low);
     }
-effect_told script h (Take t p) lawful old =
+effect_told script kept h (Take t p) lawful old =
     let w = world_after script h in
-    let parts = take_parts script h t p lawful in
+    let parts = take_parts script kept h t p lawful in
     record {
       size = length-set w.fabric.stations t _ ∙ old.size;
       tells = λ s low. set_one (λ x. TellsAt script w.fabric.tick s x (w.switches s)) w.fabric.stations t s _ (let e = old.size in omega (arith, e, low))
@@ -292,7 +295,7 @@ effect_told script h (Take t p) lawful old =
             ];
           }) (old.tells s low);
     }
-effect_told script h (Handle t) lawful old =
+effect_told script kept h (Handle t) lawful old =
     let w = world_after script h in
     let full = (and_parts (is_switch w.fabric t) (is_full_at w.fabric t) (lawful_parts w.fabric (Handle t) lawful).0).1 in
     record {
@@ -300,22 +303,22 @@ effect_told script h (Handle t) lawful old =
       tells = λ s low. set_both (TellsAt script w.fabric.tick s) w.fabric.stations w.switches t s _ _ (let e = old.size in omega (arith, e, low))
           (λ is. tells_move script w.fabric.tick s t _ _ is (handle_tells script w t _ _ _ full (old.tells t (omega (arith, is, low))))) (old.tells s low);
     }
-effect_told script h (Load t) lawful old = let w = world_after script h in loads_told script (finish_of (w.switches t)) t w old
-effect_told script h (Restart t) lawful old =
+effect_told script kept h (Load t) lawful old = let w = world_after script h in loads_told script (finish_of (w.switches t)) t w old
+effect_told script kept h (Restart t) lawful old =
     let w = world_after script h in
     record {
       size = length-set w.fabric.stations t _ ∙ old.size;
       tells = λ s low. set_both (TellsAt script w.fabric.tick s) w.fabric.stations w.switches t s _ _ (let e = old.size in omega (arith, e, low))
           (λ is. tells_move script w.fabric.tick s t _ _ is (record { hands = (old.tells t (omega (arith, is, low))).hands; heard = λ p. inr tt; timed = λ j wk. inl (omega arith) })) (old.tells s low);
     }
-effect_told script h (Fail t p) lawful old = record { size = old.size; tells = old.tells }
-effect_told script h (Repair t p) lawful old = record { size = old.size; tells = old.tells }
-effect_told script h (Lose t p n) lawful old = record { size = old.size; tells = old.tells }
-effect_told script h (Again t p n) lawful old = record { size = old.size; tells = old.tells }
-effect_told script h (Swap t p n) lawful old = record { size = old.size; tells = old.tells }
-effect_told script h (Noise t p n) lawful old = record { size = old.size; tells = old.tells }
-effect_told script h (Send a b) lawful old = record { size = old.size; tells = old.tells }
-effect_told script h (Move k) lawful old = record { size = old.size; tells = old.tells }
+effect_told script kept h (Fail t p) lawful old = record { size = old.size; tells = old.tells }
+effect_told script kept h (Repair t p) lawful old = record { size = old.size; tells = old.tells }
+effect_told script kept h (Lose t p n) lawful old = record { size = old.size; tells = old.tells }
+effect_told script kept h (Again t p n) lawful old = record { size = old.size; tells = old.tells }
+effect_told script kept h (Swap t p n) lawful old = record { size = old.size; tells = old.tells }
+effect_told script kept h (Noise t p n) lawful old = record { size = old.size; tells = old.tells }
+effect_told script kept h (Send a b) lawful old = record { size = old.size; tells = old.tells }
+effect_told script kept h (Move k) lawful old = record { size = old.size; tells = old.tells }
 
 pub index_of : (P : StationOf → Type 0) (f : ℕ → StationOf) (xs : List ℕ) (s : ℕ) → ((n : ℕ) → P (f n)) → P vacant → P (slice_index_or (map f xs) s vacant)
 index_of P f [] s each none = none
@@ -331,8 +334,8 @@ first_told script = record {
       (record { hands = λ p e. absurd (none_some e); heard = λ p. inr tt; timed = λ j wk. inl (omega arith) });
 }
 
-told : (script : ScriptOf) (h : List Event) → IsTold script (world_after script h)
-told script h = always script (IsTold script) (first_told script) (effect_told script) h
+told : (script : ScriptOf) → IsScript script → (h : List Event) → IsTold script (world_after script h)
+told script kept h = always script (IsTold script) (first_told script) (effect_told script kept) h
 
 -- where no hand is full
 none_kept : (q : StationOf → Bool) (xs : List StationOf) (s : ℕ) → length (filter q xs) ≡ 0 → q vacant ≡ false → q (slice_index_or xs s vacant) ≡ false
@@ -351,19 +354,19 @@ clock_full (hand.Clock now samples) e = refl
 clock_full (hand.Frame p) e = refl
 
 -- so of each history
-pub has_ports : (script : ScriptOf) (h : List Event) → HasPorts script (world_after script h)
-has_ports script h = record { link = links; clock = clocks }
+pub has_ports : (script : ScriptOf) → IsScript script → (h : List Event) → HasPorts script (world_after script h)
+has_ports script kept h = record { link = links; clock = clocks }
   where
     f : FabricOf
     f = (world_after script h).fabric
 
     links : (s p : ℕ) (e : EndId) → s < places script → good_peer ((world_after script h).switches s) p ≡ Some e → HasLinkAt script s p
-    links s p e low good = elim (((told script h).tells s low).heard p) [ inl link ↦ link | inr all ↦ absurd (none_some (sym (not_good ((world_after script h).switches s) p all) ∙ good)) ]
+    links s p e low good = elim (((told script kept h).tells s low).heard p) [ inl link ↦ link | inr all ↦ absurd (none_some (sym (not_good ((world_after script h).switches s) p all) ∙ good)) ]
 
     clocks : (s : ℕ) → s < places script → ((world_after script h).switches s).joined ≡ false → ((world_after script h).switches s).spent ≡ false → full_hands f ≡ 0 → is_some_clock_due f ≡ true
     clocks s low j wk none =
-        elim (((told script h).tells s low).timed j wk) [
-          | inl due ↦ list_any_at (is_clock_due f) f.stations s vacant (let e = (told script h).size in omega (arith, e, low)) (le-leb _ _ due)
+        elim (((told script kept h).tells s low).timed j wk) [
+          | inl due ↦ list_any_at (is_clock_due f) f.stations s vacant (let e = (told script kept h).size in omega (arith, e, low)) (le-leb _ _ due)
           | inr clock ↦ absurd (true≢false (sym (clock_full (station f s).hand clock) ∙ none_kept (λ x. not (is_empty x.hand)) f.stations s (length-filter (λ x. not (is_empty x.hand)) f.stations ∙ none) refl))
         ]
 

@@ -1,4 +1,6 @@
-use Rattle.std.specs.Prelude.{◌≡◌, ◌<◌, ◌≤◌, ◌^◌, ◌==◌, ◌&&◌, not, nat_lt, ℕ, zero, suc, length, map, reverse, List, [], ◌∷◌, ◌++◌, Option, Some, None, is_some, slice_index_or, slice_get, refl}
+-- What is sent on a port is within its ranges, where card and list are.
+
+use Rattle.std.specs.Prelude.{◌≡◌, ◌<◌, ◌≤◌, ◌^◌, ◌==◌, ◌&&◌, not, nat_lt, ℕ, length, map, reverse, List, [], ◌∷◌, ◌++◌, Option, Some, None, is_some, slice_index_or, refl}
 use Rattle.std.specs.List.{flat_map}
 use Rattle.std.specs.Ordering.{is_lt}
 use Rattle.std.proofs.Common.{sym, subst, inl, inr, arith}
@@ -11,7 +13,7 @@ use Rattle.an_base.specs.declared.body.Body.TheVariants.{Pos, Answer, Stable, To
 use Rattle.frame_codec.specs.Frames.{IsWithin, IsCounted, IsLife, IsPosition, IsLink, AreLinks, IsEntry, AreEntries, IsPos, IsTopo, IsBody}
 use Rattle.tree_position.specs.Position.{self_root, below_offer, candidate, candidates, lesser, least}
 use Rattle.topo_report.specs.Report.{report_of}
-use Rattle.topo_report.proofs.Members.{In, in_from}
+use Rattle.topo_report.proofs.Members.{in_from}
 use Rattle.topo_report.proofs.ReportLaws.{report_is_report, report_of-some, report_of-most}
 use Rattle.switch_numbering.proofs.Differing.{numbers_are, length-numbering}
 use Rattle.epoch_core.specs.Log.{CardOf, OnPort, Log, on_port, last_pos, last_report}
@@ -19,10 +21,9 @@ use Rattle.epoch_core.specs.Epoch.{offer_of, offer_on, position, version, own_en
 use Rattle.epoch_core.proofs.LawLemmas.{version-length}
 use Rattle.epoch_game.proofs.Basics.{some_same, none_some}
 use Rattle.epoch_game.proofs.Moments.{version_least}
-use Rattle.switch_game.proofs.Streams.{stream, reverse-cons}
-use Rattle.fabric_game.proofs.BytesLemmas.{Each, each_append}
-use Rattle.fabric_game.proofs.KnownLemmas.{each_from}
+use Rattle.switch_game.proofs.Streams.{stream}
 use Rattle.switch_core.proofs.FinishLemmas.{first_or_else}
+use Rattle.fabric_game.proofs.EachLemmas.{Each, each_append, each_in, each_reverse, each_from}
 
 -- what a life joins with, within its ranges
 pub record IsRangedCard (c : CardOf) : Type 0 where
@@ -39,15 +40,6 @@ each_on_port q [] all = tt
 each_on_port q (x ∷ xs) all =
     let rest = each_on_port q xs all.1 in
     cond_both (x.port == q) (x.body ∷ on_port q xs) (on_port q xs) (Each IsBody) (λ _. (all.0, rest)) (λ _. rest)
-
-pub each_in : {A : Type 0} (P : A → Type 0) (xs : List A) (x : A) → Each P xs → In x xs → P x
-each_in P [] x all i = absurd i
-each_in P (y ∷ xs) x all (inl is) = subst P (sym is) all.0
-each_in P (y ∷ xs) x all (inr i) = each_in P xs x all.1 i
-
-pub each_reverse : {A : Type 0} (P : A → Type 0) (xs : List A) → Each P xs → Each P (reverse xs)
-each_reverse P [] all = all
-each_reverse P (x ∷ xs) all = subst (Each P) (sym (reverse-cons x xs)) (each_append P (reverse xs) (x ∷ []) (each_reverse P xs all.1) (all.0, tt))
 
 pos_in : (bs : List Body) (b : PosOf) → Each IsBody bs → last_pos bs ≡ Some b → IsPos b
 pos_in [] b all is = absurd (none_some is)
@@ -186,11 +178,6 @@ sent_ranged c q (x ∷ log) card all few =
 -- all that was sent on a port
 pub stream_ranged : (c : CardOf) (q : ℕ) (log : Log) → IsRangedCard c → AreRanged log → length log < 2 ^ 28 → Each IsBody (stream c q log)
 stream_ranged c q log card all few = each_reverse IsBody (sent c q log) (sent_ranged c q log card all few)
-
-pub each_get : {A : Type 0} (P : A → Type 0) (xs : List A) (k : ℕ) (x : A) → Each P xs → slice_get xs k ≡ Some x → P x
-each_get P [] k x all is = absurd (none_some is)
-each_get P (y ∷ xs) zero x all is = subst P (some_same y x is) all.0
-each_get P (y ∷ xs) (suc k) x all is = each_get P xs k x all.1 is
 
 pub on_port_few : (q : ℕ) (xs : List OnPort) → length (on_port q xs) ≤ length xs
 on_port_few q [] = omega arith

@@ -1,3 +1,5 @@
+-- What a switch sends is within the ranges of frames.
+
 use Rattle.std.specs.Prelude.{◌≡◌, ◌<◌, ◌≤◌, ◌-◌, ◌^◌, ◌==◌, ◌&&◌, nat_lt, ℕ, zero, suc, length, map, List, [], ◌∷◌, ◌++◌, Option, Some, None, is_some, Bool, true, false, cond, refl}
 use Rattle.std.specs.List.{flat_map}
 use Rattle.std.proofs.Common.{sym, ◌∙◌, ap, subst, arith}
@@ -30,25 +32,24 @@ use Rattle.switch_game.proofs.Links.{link_here}
 use Rattle.switch_game.proofs.Own.{IsOwn}
 use Rattle.switch_game.proofs.Received.{received_more}
 use Rattle.switch_game.proofs.Steps.{linked_of}
-use Rattle.fabric_game.proofs.BytesLemmas.{Each, each_append}
-use Rattle.fabric_game.proofs.KnownLemmas.{each_from}
-use Rattle.fabric_game.proofs.RangedBodies.{stream_ranged, each_get, on_port_few}
+use Rattle.fabric_game.proofs.RangedBodies.{stream_ranged, on_port_few}
 use Rattle.fabric_game.proofs.RangedSwitch.{IsRanged}
 use Rattle.switch_core.proofs.LinkLemmas.{counted, good_link}
 use Rattle.switch_core.specs.Going.{IsFrameOf, IsCarriedBy, IsAckedBy}
 use Rattle.switch_core.proofs.SendsLemmas.{AreSentBy, all_append, all_grown, all_resent_sends, body_sends, joins_sends, on_ack_sends}
+use Rattle.fabric_game.proofs.EachLemmas.{Each, each_append, each_get, each_from}
 
 -- the frames of sessions, by the port of their sender
-abbrev IsSession : ℕ → Frame → Type 0
+abbrev pub IsSession : ℕ → Frame → Type 0
 IsSession port (Carry f) = port ≡ f.from.port
 IsSession port (Ack epoch from to n) = port ≡ from.port
 IsSession port (Probe from nonce) = ⊥
 IsSession port (Reply from to nonce) = ⊥
 
-abbrev AreSession : List Sent → Type 0
+abbrev pub AreSession : List Sent → Type 0
 AreSession xs = Each (λ x. IsSession x.port x.frame) xs
 
-session_append : (xs ys : List Sent) → AreSession xs → AreSession ys → AreSession (xs ++ ys)
+pub session_append : (xs ys : List Sent) → AreSession xs → AreSession ys → AreSession (xs ++ ys)
 session_append xs ys a b = each_append (λ x. IsSession x.port x.frame) xs ys a b
 
 carried_session : (s : SwitchOf) (port : ℕ) (peer : EndId) (xs : List Numbered) → AreSession (map (carried_to s port peer) xs)
@@ -59,7 +60,7 @@ pushed_session : (o : Option EndId) (x : OnPort) (s : SwitchOf) → AreSession (
 pushed_session None x s = tt
 pushed_session (Some peer) x s = carried_session s x.port peer (put_out (push x.body s.tick (s.sendings x.port)) (sent_by_push x.body (s.sendings x.port)))
 
-all_pushed_session : (xs : List OnPort) (s : SwitchOf) → AreSession (all_pushed xs s).frames
+pub all_pushed_session : (xs : List OnPort) (s : SwitchOf) → AreSession (all_pushed xs s).frames
 all_pushed_session [] s = tt
 all_pushed_session (x ∷ xs) s =
     session_append (pushed x s).frames (all_pushed xs (pushed x s).switch).frames (pushed_session (peer_among s.card.links x.port) x s) (all_pushed_session xs (pushed x s).switch)
@@ -70,7 +71,7 @@ fills_session (suc n) port peer s =
     session_append (sends_next port peer s).frames (fills n port peer (sends_next port peer s).switch).frames
     (carried_session s port peer (put_out (send_next s.tick (s.sendings port)) (next_to_send (s.sendings port)))) (fills_session n port peer (sends_next port peer s).switch)
 
-on_ack_session : (port epoch n : ℕ) (peer : EndId) (s : SwitchOf) → AreSession (on_ack port peer epoch n s).frames
+pub on_ack_session : (port epoch n : ℕ) (peer : EndId) (s : SwitchOf) → AreSession (on_ack port peer epoch n s).frames
 on_ack_session port epoch n peer s =
     let first = acknowledges port peer n s in
     cond_both (epoch == s.epoch && is_outstanding n (s.sendings port)) (after first (fills 7 port peer first.switch)) (still s) (λ (st : Step). AreSession st.frames)
@@ -82,12 +83,12 @@ again_session l [] s = tt
 again_session l (k ∷ ks) s =
     session_append (sends_again l k s).frames (all_again l ks (sends_again l k s).switch).frames (carried_session s l.port l.peer (put_out (s.sendings l.port) (Some k))) (again_session l ks (sends_again l k s).switch)
 
-resent_session : (ls : List PeerAt) (s : SwitchOf) → AreSession (all_resent ls s).frames
+pub resent_session : (ls : List PeerAt) (s : SwitchOf) → AreSession (all_resent ls s).frames
 resent_session [] s = tt
 resent_session (l ∷ ls) s =
     session_append (resends_on l s).frames (all_resent ls (resends_on l s).switch).frames (again_session l (due s.tick (s.sendings l.port)) s) (resent_session ls (resends_on l s).switch)
 
-body_session : (port k : ℕ) (peer : EndId) (body : Body) (s : SwitchOf) → AreSession (answers_body port peer k body s).frames
+pub body_session : (port k : ℕ) (peer : EndId) (body : Body) (s : SwitchOf) → AreSession (answers_body port peer k body s).frames
 body_session port k peer body s =
     let xs = all_added s.card port (accepted_by k body (s.receivings port)) s.log in
     session_append (acks port peer k body s) (all_pushed xs (receives port k body s)).frames

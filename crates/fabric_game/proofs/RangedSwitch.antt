@@ -1,4 +1,6 @@
-use Rattle.std.specs.Prelude.{◌≡◌, ◌⊎◌, ◌<◌, ◌≤◌, ◌+◌, ◌^◌, ◌==◌, nat_lt, nat_le, ℕ, zero, suc, length, map, List, [], ◌∷◌, ◌++◌, Option, Some, None, Bool, true, false, cond, refl, All}
+-- A switch keeps within the ranges of frames.
+
+use Rattle.std.specs.Prelude.{◌≡◌, ◌⊎◌, ◌<◌, ◌≤◌, ◌+◌, ◌^◌, ◌==◌, nat_lt, nat_le, ℕ, zero, suc, length, map, List, [], ◌∷◌, ◌++◌, Option, Some, None, Bool, true, false, cond, refl}
 use Rattle.std.proofs.Common.{true≢false, sym, ◌∙◌, subst, inl, inr, arith}
 use Rattle.std.proofs.lemmas.Bool.{cond_both, eqb-false, and_cases}
 use Rattle.an_base.specs.Values.{LifeId, EndId}
@@ -30,8 +32,8 @@ use Rattle.switch_core.specs.Switch.{SwitchOf, end_at, good_links, counts, port_
 use Rattle.switch_core.specs.Steps.{Step, after, all_added, all_resent, answers_body, begun, clocked, framed, goes_on, is_change_due, is_spent_by, joins, last_epoch, loaded, log_with, on_ack, on_carry, probes, receives, sampled_by, still}
 use Rattle.switch_core.proofs.WindowLemmas.{all_pushed_few, all_resent_few, on_ack_few}
 use Rattle.switch_game.proofs.Links.{good_card}
-use Rattle.fabric_game.proofs.BytesLemmas.{Each, each_append, each_drop}
 use Rattle.fabric_game.proofs.RangedBodies.{IsRangedCard, AreRanged}
+use Rattle.fabric_game.proofs.EachLemmas.{Each, each_append, each_drop, all_from}
 
 -- Whatever ends answered at a port are within their ranges, and so is its peer
 abbrev pub IsRangedHappening : Happening → Type 0
@@ -151,11 +153,6 @@ links_ranged n (p ∷ ps) least most all = by (good_peer_by p.phase p.far.conn) 
 ports_each : (s : SwitchOf) (ports : List ℕ) → IsRanged s → Each (λ p. IsRangedFar p.far) (map (port_of s) ports)
 ports_each s [] ok = tt
 ports_each s (p ∷ ports) ok = (port_ranged (end_at s p) (s.ports p) (ok.ports_are p), ports_each s ports ok)
-
-all_from : {A : Type 0} (P : A → Type 0) (xs : List A) → Each P xs → All P xs
-all_from P [] all k d low = absurd (omega (arith, low))
-all_from P (x ∷ xs) all zero d low = all.0
-all_from P (x ∷ xs) all (suc k) d low = all_from P xs all.1 k d (omega (arith, low))
 
 good_links_ranged : (s : SwitchOf) → IsRanged s → AreLinks (good_links s)
 good_links_ranged s ok = record {

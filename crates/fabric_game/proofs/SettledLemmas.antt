@@ -1,3 +1,5 @@
+-- The component of a settled world has finished as itself.
+
 use Rattle.std.specs.Prelude.{◌≡◌, ◌⊎◌, ◌<◌, ◌≤◌, ◌-◌, ◌&&◌, not, ℕ, length, List, Some, slice_index_or, true, false, refl, Contains, Any, IsTrue}
 use Rattle.std.specs.List.{list_all}
 use Rattle.std.specs.Ordering.{is_le}
@@ -20,8 +22,8 @@ use Rattle.switch_game.specs.Network.{Network}
 use Rattle.switch_game.specs.Quiet.{Connected, start, next, IsGoodEnd, IsQuiet, HasSettled}
 use Rattle.switch_game.proofs.Laws.{own_of, links_of}
 use Rattle.switch_game.proofs.QuietLives.{has_settled}
-use Rattle.fabric_world.specs.Fabric.{FabricOf, station, count, no_view, port_shown, end_shown, is_some_clock_due, is_some_load_due, is_some_unacked, is_some_packet, are_wires_empty, are_all_done}
-use Rattle.fabric_world.specs.Agree.{is_quiet, is_idle, agrees as are_agreed, link_agrees, host_agrees}
+use Rattle.fabric_state.specs.Fabric.{FabricOf, station, count, no_view, port_shown, end_shown, is_some_clock_due, is_some_load_due, is_some_unacked, is_some_packet, are_wires_empty, are_all_done}
+use Rattle.fabric_state.specs.Agree.{is_quiet, is_idle, agrees as are_agreed, link_agrees, host_agrees}
 use Rattle.fabric_world.specs.World.{table_for, world_after}
 use Rattle.fabric_world.specs.Clauses.{AreLinked, IsWith, itself, next as With-next, HasMember, IsFinishedAsItself, IfSettled, IsTopology, AreTopologies}
 use Rattle.fabric_world.specs.Lines.{root_of}
@@ -34,7 +36,8 @@ use Rattle.fabric_game.proofs.PortClaims.{HasLinkAt, HasPorts}
 use Rattle.fabric_game.proofs.PortFacts.{has_ports}
 use Rattle.fabric_game.proofs.EmbedLemmas.{embedded}
 use Rattle.fabric_game.proofs.ClauseLemmas.{any_from, finished_now, first_in, topologies, topology_table}
-use Rattle.fabric_game.proofs.AgreeFacts.{IsSettledNow, settled_now, none_any, none_found, none_external, shown_is, view_good, view_not_dead, ends_agree, all_contained}
+use Rattle.fabric_state.proofs.EmptyLemmas.{none_external}
+use Rattle.fabric_game.proofs.AgreeFacts.{IsSettledNow, settled_now, none_any, none_found, shown_is, view_good, view_not_dead, ends_agree, all_contained}
 use Rattle.fabric_world.proofs.InductionLemmas.{world_script}
 
 -- the world of a settled history
@@ -346,5 +349,5 @@ pub if_settled : (script : ScriptOf) (lives : List LifeId) → length lives ≤ 
 if_settled script lives few kept firm h ends s low =
     let same = ap places (world_script script h) in
     is_finished script lives h
-    (record { few = few; wired = kept.wired; firm = firm h; tables = has_table script lives firm h; ports = has_ports script h; now = settled_now (world_after script h).fabric ends; embed = embedded script lives kept firm h; topologies_are = topologies script lives few kept firm h })
+    (record { few = few; wired = kept.wired; firm = firm h; tables = has_table script lives firm h; ports = has_ports script kept h; now = settled_now (world_after script h).fabric ends; embed = embedded script lives kept firm h; topologies_are = topologies script lives few kept firm h })
     s (omega (arith, low, same))

@@ -1,3 +1,5 @@
+-- Where a switch has finished and is to load no more, it uses the table of that.
+
 use Rattle.std.specs.Prelude.{◌≡◌, ◌⊎◌, ◌<◌, ◌==◌, ◌&&◌, ◌||◌, not, nat_lt, ℕ, suc, List, [], Option, Some, None, is_some, Bool, true, false, cond, refl}
 use Rattle.std.specs.List.{range_with_len}
 use Rattle.std.proofs.Common.{true≢false, sym, ◌∙◌, ap, subst, inl, inr, arith}
@@ -21,12 +23,12 @@ use Rattle.switch_core.specs.Switch.{SwitchOf, end_at, counts, finish_of}
 use Rattle.switch_core.specs.Steps.{Step, after, all_added, all_resent, answers_body, begun, clocked, framed, goes_on, is_change_due, is_spent_by, joins, log_with, on_ack, on_carry, receives, sampled_by, still, probes}
 use Rattle.switch_core.specs.declared.switch.TableFor.{TableFor}
 use Rattle.switch_core.proofs.WindowLemmas.{all_pushed_few, all_resent_few, on_ack_few}
-use Rattle.fabric_world.specs.declared.hand.Hand.{Hand}
-use Rattle.fabric_world.specs.declared.hand.Hand.TheVariants as hand
+use Rattle.fabric_state.specs.declared.hand.Hand.{Hand}
+use Rattle.fabric_state.specs.declared.hand.Hand.TheVariants as hand
 use Rattle.table_build.specs.Made.{table_of}
-use Rattle.fabric_world.specs.Fabric.{station, is_full_at, is_switch, held_bytes}
-use Rattle.fabric_world.specs.Effects.{kept_table}
-use Rattle.fabric_world.specs.Lawful.{is_lawful}
+use Rattle.fabric_state.specs.Fabric.{station, is_full_at, is_switch, held_bytes}
+use Rattle.fabric_state.specs.Effects.{kept_table}
+use Rattle.fabric_state.specs.Lawful.{is_lawful}
 use Rattle.fabric_world.specs.World.{WorldOf, effect, handled, handles, handles_bytes, loads_with, table_for, world_after}
 use Rattle.fabric_world.specs.World as world
 use Rattle.fabric_game.proofs.Firm.{places, AreFirm}
@@ -36,7 +38,8 @@ use Rattle.ordered_link.specs.Receiving.{accepted_by}
 use Rattle.fabric_world.proofs.InductionLemmas.{always, world_script}
 use Rattle.fabric_world.proofs.TableLemmas.{finish_more}
 use Rattle.an_base.proofs.ListLemmas.{some_is}
-use Rattle.fabric_world.proofs.PlaceLemmas.{set_both, set_one}
+use Rattle.fabric_state.proofs.ReadyLemmas.{set_one}
+use Rattle.fabric_world.proofs.PlaceLemmas.{set_both}
 
 -- A switch that has finished and is to load no more had finished with that before, in the same epoch, and was to load no more
 pub record Was (u : SwitchOf) (topo : TopoOf) (v : SwitchOf) : Type 0 where

@@ -1,3 +1,5 @@
+-- What a lawful event needs; a spent switch has nothing in hand.
+
 use Rattle.std.specs.Prelude.{◌≡◌, ◌⊎◌, ◌<◌, ◌≤◌, ◌&&◌, ◌||◌, not, ℕ, zero, suc, length, List, [], ◌∷◌, Option, Some, None, is_some, slice_index_or, slice_set, Bool, true, false, refl}
 use Rattle.std.specs.List.{list_any}
 use Rattle.std.proofs.Common.{true≢false, sym, ◌∙◌, ap, subst, inl, inr, arith}
@@ -8,9 +10,9 @@ use Rattle.an_base.specs.declared.event.Event.{Event}
 use Rattle.an_base.specs.declared.event.Event.TheVariants.{Tick, Clock, Take, Handle, Load, Fail, Repair, Lose, Again, Swap, Noise, Send, Move, Restart}
 use Rattle.net_script.specs.Scripts.{ScriptOf}
 use Rattle.switch_core.specs.Switch.{finish_of}
-use Rattle.fabric_world.specs.Fabric.{FabricOf, StationOf, station, vacant, with_station, is_empty, is_full_at, is_switch, is_some_spent, count}
-use Rattle.fabric_world.specs.Agree.{ending_of}
-use Rattle.fabric_world.specs.Lawful.{is_lawful, is_ready, is_handle, is_barred}
+use Rattle.fabric_state.specs.Fabric.{FabricOf, StationOf, station, vacant, with_station, is_empty, is_full_at, is_switch, is_some_spent, count}
+use Rattle.fabric_state.specs.Agree.{ending_of}
+use Rattle.fabric_state.specs.Lawful.{is_lawful, is_ready, is_handle, is_barred}
 use Rattle.fabric_world.specs.World.{WorldOf, effect, begun, loads_with}
 
 -- what a lawful event needs

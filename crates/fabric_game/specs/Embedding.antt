@@ -6,7 +6,8 @@ use Rattle.an_base.specs.declared.event.Event.{Event}
 use Rattle.an_base.specs.declared.frame.Frame.{Frame}
 use Rattle.net_script.specs.Scripts.{ScriptOf}
 use Rattle.switch_game.specs.Network.{Network, Happens, dark}
-use Rattle.fabric_world.specs.World.{world_after, life_of, started_at}
+use Rattle.fabric_state.specs.Starts.{life_of}
+use Rattle.fabric_world.specs.World.{world_after, started_at}
 use Rattle.fabric_world.specs.Heard.{WasSent}
 use Rattle.fabric_game.specs.Lives.{powered}
 use Rattle.fabric_game.specs.Moves.{first_game, game_after}

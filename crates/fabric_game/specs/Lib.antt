@@ -1,3 +1,4 @@
 pub mod Lives
 pub mod Moves
 pub mod Embedding
+pub mod Meeting

@@ -10,7 +10,7 @@ use Rattle.switch_core.specs.Steps.{clocked}
 use Rattle.switch_game.specs.Network.{clock_moves, frame_moves}
 use Rattle.fabric_world.specs.Acts.{Act, Starts, Clocks, Hears, HearsNothing, Loads}
 use Rattle.fabric_world.specs.Heard.{ActAt, acts_of}
-use Rattle.fabric_world.specs.Lawful.{is_lawful}
+use Rattle.fabric_state.specs.Lawful.{is_lawful}
 use Rattle.fabric_world.specs.World.{WorldOf, begun, step}
 use Rattle.fabric_game.specs.Lives.{powered}
 

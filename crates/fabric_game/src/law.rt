@@ -1,15 +1,20 @@
 //! Laws of the world as a run of the game of all epochs: what is claimed at each moment of a history, and of
 //! one that ends settled.
 
-ghost use Rattle.std.specs.Prelude.{◌<◌, ◌≤◌, ◌++◌, ℕ, Contains, List, length};
+ghost use Rattle.std.specs.Prelude.{◌≡◌, ◌<◌, ◌≤◌, ◌++◌, ℕ, Contains, List, Some, length};
+ghost use Rattle.an_base.specs.Values.{EndId};
 ghost use Rattle.an_base.specs.declared.event.Event.{Event};
 ghost use Rattle.net_script.specs.Scripts.{IsScript, ScriptOf};
 ghost use Rattle.epoch_game.specs.Game.{Play};
+ghost use Rattle.switch_core.specs.Switch.{good_peer};
 ghost use Rattle.switch_game.specs.Playing.{Agrees};
-ghost use Rattle.fabric_world.specs.World.{life_of, world_after};
-ghost use Rattle.fabric_world.specs.Clauses.{AreAllJoined, AreOnePicture, AreOwnTables, AreTopologies, HoldsAtEachMoment, IfSettled, NoneIsOlder};
+ghost use Rattle.fabric_state.specs.Starts.{life_of};
+ghost use Rattle.fabric_world.specs.World.{world_after};
+ghost use Rattle.fabric_world.specs.Clauses.{AreAllJoined, AreOnePicture, AreOwnTables, AreTopologies, HoldsAtEachMoment, HoldsThroughout, IfSettled, NoneIsOlder};
+ghost use Rattle.fabric_world.specs.Traces.{AreDelivered, AreHopsByTables, AreLegalRoutes};
 ghost use Rattle.fabric_world.specs.Heard.{IsHeard};
 ghost use Rattle.fabric_game.specs.Embedding.{IsEmbedded};
+ghost use Rattle.fabric_game.specs.Meeting.{Met};
 ghost use Rattle.fabric_game.specs.Lives.{all_lives};
 ghost use Rattle.fabric_game.specs.Moves.{HasRested, first_game, game_after};
 
@@ -73,9 +78,39 @@ pub fn what_is_finished_is_one_picture()
         → HoldsAtEachMoment script history }
 {}
 
+/// What the moves of a packet say. Each of its hops to another switch is by the lowest exit of the row that
+/// serves it, in the routing table in use, which is that of what the present life has finished with in its
+/// epoch. Hops that follow each other under tables of one epoch and root lead over the links of that one
+/// topology, from life to life, along a legal route. Where it is delivered is the host to which it was sent.
+pub fn what_moves_say()
+    ensures hops { (script : ScriptOf) → IsScript script → (history : List Event)
+        → AreHopsByTables script history }
+    ensures routes { (script : ScriptOf) → IsScript script → (history : List Event)
+        → AreLegalRoutes script history }
+    ensures delivered { (script : ScriptOf) → IsScript script → (history : List Event)
+        → AreDelivered script history }
+{}
+
+/// A good link leads to who is at the far end of its wire: where a life shows a port as good, the other end
+/// that it names is the port at the far side by the wiring, of a life that was at that place at a moment at
+/// which this life was at its own.
+pub fn a_good_link_leads_to_who_was_there()
+    ensures { (script : ScriptOf) → IsScript script → (history : List Event) (place port : ℕ) (far : EndId)
+        → place < length script.wires.switches
+        → good_peer ((world_after script history).switches place) port ≡ Some far
+        → Met script history place ((world_after script history).switches place).life port far }
+{}
+
 /// Where a history ends settled, each component of present lives is in one epoch and has finished it under
 /// its least life with one topology, whose entries are the members with their good links in their places in
 /// the tree, and each uses the table of it.
 pub fn a_settled_history_has_finished()
     ensures { (script : ScriptOf) → IsScript script → (history : List Event) → IfSettled script history }
+{}
+
+/// All that is claimed of a history holds of each one: at each moment of it, and at its end where it ends
+/// settled.
+pub fn what_is_claimed_holds()
+    ensures { (script : ScriptOf) → IsScript script → (history : List Event)
+        → HoldsThroughout script history }
 {}

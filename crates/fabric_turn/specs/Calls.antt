@@ -27,8 +27,8 @@ module _ {S E D : Type 0} (history : S → List E) (start_of : S → D) (owner :
       × (history book ≡ view.seen ++ between) × NoneOf owner view.number between
       × (view.start ≡ Some (start_of book)) × (own_entries owner view.seen view.number ≡ view.mine)
 
-  -- the value is out with the seat, and stands for what the seat has seen with at most one entry more, of this
-  -- caller
+  -- the value is out with the seat, and stands for what the seat has seen with at most one entry more, of
+  -- this caller
   abbrev pub IsInTurn : Me S (View E D) → Type 0
   IsInTurn me =
       (ticket : ℕ) × (book : S) × (me.0.stage ≡ Serves ticket) × HasOut book me

@@ -77,8 +77,8 @@ abbrev pub over : ℕ
 over = 2
 
 module _ {E : Type 0} (drawn served : ℕ) (log : List E) (holder : ℕ → ℕ) (i : ℕ) (seen : List E) where
-  -- A ticket that a view has is one from the served up to the drawn, and no other view's. At the turn it is the
-  -- one that is served, and all of the history was seen.
+  -- A ticket that a view has is one from the served up to the drawn, and no other view's. At the turn it is
+  -- the one that is served, and all of the history was seen.
   abbrev pub HoldsTicket : Stage → Type 0
   HoldsTicket Spent = Unit {0}
   HoldsTicket Idle = Unit {0}
@@ -86,8 +86,8 @@ module _ {E : Type 0} (drawn served : ℕ) (log : List E) (holder : ℕ → ℕ)
   HoldsTicket (Serves t) = (t ≡ served) × (t < drawn) × (holder t ≡ i) × (seen ≡ log)
 
 module _ {S E D : Type 0} (history : S → List E) (start_of : S → D) (owner : E → ℕ) (callers : ℕ) (start : D) where
-  -- What is so of view i, where it is not spent. `log` is the history, and `place` says of each caller's number
-  -- which view has it, and in what role.
+  -- What is so of view i, where it is not spent. `log` is the history, and `place` says of each caller's
+  -- number which view has it, and in what role.
   pub record IsSeated (log : List E) (place : ℕ → ℕ × ℕ) (i : ℕ) (v : View E D) : Type 0 where
     pub begun : v.start ≡ Some start
     pub bound : v.callers ≡ callers
@@ -127,7 +127,8 @@ module _ {S E D : Type 0} (history : S → List E) (start_of : S → D) (owner :
     pub fresh : (n : ℕ) → (place n).1 ≡ spare → own_entries owner log n ≡ []
     pub beyond : (n : ℕ) → callers ≤ n → own_entries owner log n ≡ []
     pub seated :
-        (i : ℕ) (v : View E D) → get_elem? s.views i ≡ some v → is_live v.stage ≡ true → IsSeated log place i v
+        (i : ℕ) (v : View E D) → get_elem? s.views i ≡ some v → is_live v.stage ≡ true
+        → IsSeated log place i v
     pub ticketed :
         (i : ℕ) (v : View E D) → get_elem? s.views i ≡ some v
         → HoldsTicket drawn served log holder i v.seen v.stage

@@ -23,8 +23,8 @@ module _ {E D : Type 0} where
   abbrev pub remaining_view : View E D → View E D
   remaining_view view = record view { next = view.next + 1 }
 
-  -- what the new caller of a split knows: it has that number, no entry of its own and no number to give, and has
-  -- seen what the given seat has
+  -- what the new caller of a split knows: it has that number, no entry of its own and no number to give, and
+  -- has seen what the given seat has
   abbrev pub new_view : View E D → View E D
   new_view view = record {
     stage = Idle;

@@ -1,3 +1,5 @@
+-- The bodies of a frame that is read are within their ranges.
+
 use Rattle.std.specs.Prelude.{◌≡◌, ◌==◌, ◌&&◌, ℕ, zero, suc, nat_lt, not, List, [], ◌∷◌, ◌++◌, length, cond, take, drop, All, Option, Some, None, is_some, Bool, true, false, refl}
 use Rattle.std.specs.List.{list_any}
 use Rattle.std.proofs.Common.{sym, ◌∙◌, ap, subst, true≢false}

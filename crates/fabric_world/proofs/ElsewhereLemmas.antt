@@ -1,3 +1,5 @@
+-- An event of another owner leaves a place and its switch as they were.
+
 use Rattle.std.specs.Prelude.{◌≡◌, ◌≢◌, ◌+◌, ℕ, List, [], ◌∷◌, ◌++◌, Option, Some, None, Bool, true, false, refl, All}
 use Rattle.std.proofs.Common.{sym, ◌∙◌, ap, subst, ne_eqb}
 use Rattle.std.proofs.lemmas.List.{get_or-set_other}
@@ -8,8 +10,8 @@ use Rattle.an_base.specs.declared.event.Event.{Event}
 use Rattle.an_base.specs.declared.event.Event.TheVariants.{Tick, Clock, Take, Handle, Load, Fail, Repair, Lose, Again, Swap, Noise, Send, Move, Restart}
 use Rattle.net_script.specs.Scripts.{ScriptOf}
 use Rattle.switch_core.specs.Switch.{SwitchOf, at_port, finish_of}
-use Rattle.fabric_world.specs.Fabric.{FabricOf, StationOf, station, vacant, with_station}
-use Rattle.fabric_world.specs.Lawful.{is_lawful}
+use Rattle.fabric_state.specs.Fabric.{FabricOf, StationOf, station, vacant, with_station}
+use Rattle.fabric_state.specs.Lawful.{is_lawful}
 use Rattle.fabric_world.specs.World.{WorldOf, effect, step, after_all, world_after, loads_with}
 use Rattle.fabric_world.specs.Histories.{owner_of}
 use Rattle.fabric_world.proofs.WorldLemmas.{step-lawful, step-unlawful, world_after-append, at_other}

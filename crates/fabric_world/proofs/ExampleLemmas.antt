@@ -1,19 +1,23 @@
-use Rattle.std.specs.Prelude.{◌≡◌, ◌&&◌, List, [], ◌∷◌, Some, Bool, true, refl}
+-- Histories that were worked out apart, computed.
+
+use Rattle.std.specs.Prelude.{◌≡◌, ◌&&◌, List, [], ◌∷◌, map, Some, None, Bool, true, refl}
 use Rattle.std.proofs.lemmas.Bool.{and_parts}
 use Rattle.an_base.specs.declared.event.Event.{Event}
 use Rattle.topo_report.specs.Report.{report_of}
 use Rattle.switch_numbering.specs.Numbering.{all_numbers}
 use Rattle.frame_codec.specs.Spelling.{number_bytes}
 use Rattle.frame_codec.specs.Reading.{ack_at, answer_at, are_new, body_at, carry_at, end_at, entries_at, entry_above_at, entry_at, frame_at, frame_of, life_at, link_above_at, links_at, list_at, number_at, numbers_at, pos_at, position_at, probe_at, reply_at, topo_at}
-use Rattle.fabric_world.specs.declared.ending.Ending.TheVariants as ending
+use Rattle.fabric_state.specs.declared.ending.Ending.TheVariants as ending
 use Rattle.table_build.specs.Made.{table_of}
-use Rattle.fabric_world.specs.Fabric.{table_at}
-use Rattle.fabric_world.specs.Agree.{ending_of}
-use Rattle.fabric_world.specs.Lawful.{is_lawful}
+use Rattle.fabric_state.specs.Fabric.{table_at}
+use Rattle.fabric_state.specs.Agree.{ending_of}
+use Rattle.fabric_state.specs.Lawful.{is_lawful}
 use Rattle.fabric_world.specs.World.{WorldOf, begun, effect, step, world_after, handles}
 use Rattle.fabric_world.specs.Lines.{lines_of}
+use Rattle.fabric_world.specs.declared.line.Line.TheVariants as line
 use Rattle.fabric_world.specs.Histories.{AreLawful}
-use Rattle.fabric_world.specs.Examples.{IsWorkedOut, restart_script, restart_history, restart_lines, packets_script, packets_history, packets_lines, spent_script, spent_history, spent_lines, full_script, full_history, full_lines, unsettled_script, unsettled_history, unsettled_lines, told_script, told_history, told_lines, first_table, second_table}
+use Rattle.fabric_world.specs.Traces.{moved_line, trace_of}
+use Rattle.fabric_world.specs.Examples.{IsWorkedOut, restart_script, restart_history, restart_lines, packets_script, packets_history, packets_lines, spent_script, spent_history, spent_lines, full_script, full_history, full_lines, unsettled_script, unsettled_history, unsettled_lines, told_script, told_history, told_lines, first_table, second_table, routed_script, routed_history, routed_lines}
 
 -- events that pass the test in turn are lawful
 abbrev are_lawful : WorldOf → List Event → Bool
@@ -59,3 +63,11 @@ first_uses = refl
 pub second_uses : table_at (world_after told_script told_history).fabric 1 ≡ Some second_table
 unfolding world_after step effect is_lawful ending_of handles report_of table_of number_bytes all_numbers ack_at answer_at are_new body_at carry_at end_at entries_at entry_above_at entry_at frame_at frame_of life_at link_above_at links_at list_at number_at numbers_at pos_at position_at probe_at reply_at topo_at
 second_uses = refl
+
+pub routed_works : IsWorkedOut routed_script routed_history ending.Settled routed_lines
+unfolding world_after step effect is_lawful ending_of handles report_of table_of number_bytes all_numbers ack_at answer_at are_new body_at carry_at end_at entries_at entry_above_at entry_at frame_at frame_of life_at link_above_at links_at list_at number_at numbers_at pos_at position_at probe_at reply_at topo_at lines_of
+routed_works = record { legal = record { lawful = all_lawful (begun routed_script) routed_history refl; ends = refl }; told = refl }
+
+pub routed_trace : map (moved_line 1) (trace_of routed_script routed_history 1) ≡ line.Moved 1 0 2 11 1 None ∷ []
+unfolding world_after step effect is_lawful ending_of handles report_of table_of number_bytes all_numbers ack_at answer_at are_new body_at carry_at end_at entries_at entry_above_at entry_at frame_at frame_of life_at link_above_at links_at list_at number_at numbers_at pos_at position_at probe_at reply_at topo_at lines_of trace_of
+routed_trace = refl

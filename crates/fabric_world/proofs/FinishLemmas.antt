@@ -1,3 +1,5 @@
+-- A life that a topology names has a place there.
+
 use Rattle.std.specs.Prelude.{◌≡◌, ◌⊎◌, ◌<◌, ◌≤◌, ℕ, List, length, cond, slice_index_or, Any, Some, None, is_some, Bool, true}
 use Rattle.std.specs.List.{position_or_len}
 use Rattle.std.specs.Ordering.{is_eq}

@@ -1,3 +1,5 @@
+-- An ask that was fit stays fit after events of others.
+
 use Rattle.std.specs.Prelude.{◌≡◌, ◌≢◌, ◌+◌, ◌==◌, ℕ, not, slice_index_or, filter, List, [], ◌∷◌, ◌++◌, All, length, cond, Bool, true, false, refl}
 use Rattle.std.specs.List.{AllByRecursion as ByRecursion}
 use Rattle.std.proofs.Common.{sym, ◌∙◌, ap, subst, append_assoc, arith, true≢false, eq-eqb}
@@ -15,14 +17,13 @@ use Rattle.wire_set.specs.WireState.{hand_of}
 use Rattle.fabric_world.specs.declared.ask.Done.{Done}
 use Rattle.fabric_world.specs.declared.ask.Ask.{Ask}
 use Rattle.fabric_world.specs.declared.ask.Ask.TheVariants as ask
-use Rattle.fabric_world.specs.Fabric.{StationOf, station, held_bytes, is_empty}
+use Rattle.fabric_state.specs.Fabric.{StationOf, station, held_bytes, is_empty}
 use Rattle.fabric_world.specs.Histories.{owner_of}
 use Rattle.fabric_world.specs.Turns.{is_noise, IsDone, IsToLoad, IsFit, MayAsk}
 use Rattle.fabric_world.specs.World.{WorldOf, world_after, handled, handles}
 use Rattle.fabric_world.proofs.ElsewhereLemmas.{AreSameAt, world_elsewhere}
-use Rattle.fabric_world.proofs.HandLemmas.{hand_elsewhere}
+use Rattle.fabric_world.proofs.HandLemmas.{hand_elsewhere, world_ports, lawful_port}
 use Rattle.fabric_world.proofs.InductionLemmas.{kept_by}
-use Rattle.fabric_world.proofs.HoldLemmas.{world_ports, lawful_port}
 
 -- what is in hand stays under events of other owners
 hand_onward : (script : ScriptOf) → IsScript script → (s : ℕ) (h more : List Event) → ByRecursion (λ e. owner_of e ≢ s + 1) more
@@ -63,12 +64,15 @@ handled_same w v s same bytes =
 done_stays : (w v : WorldOf) (s : ℕ) (d : Done) → AreSameAt s w v → hand_of v.fabric.wires s ≡ hand_of w.fabric.wires s → IsDone w s d → IsDone v s d
 done_stays w v s d same bytes done =
     let e = handled_same w v s same bytes in
+    let was = done.handled_is in
     record {
-      full = ap (λ (x : StationOf). not (is_empty x.hand)) same.place ∙ done.full;
-      frames = done.frames ∙ ap (λ (x : Step). all_spelled x.frames) (sym e);
+      handled_is = record {
+        full = ap (λ (x : StationOf). not (is_empty x.hand)) same.place ∙ was.full;
+        frames_are = was.frames_are ∙ ap (λ (x : Step). all_spelled x.frames) (sym e);
+        note_is = was.note_is ∙ ap (λ (x : Step). note_of x.switch) (sym e);
+        spent_is = was.spent_is ∙ ap (λ (x : Step). x.switch.spent) (sym e);
+      };
       noframe = done.noframe ∙ sym (ap (λ (x : StationOf). is_noise x.hand (held_bytes v.fabric s)) same.place ∙ ap (λ xs. is_noise (station w.fabric s).hand (slice_index_or xs 0 [])) bytes);
-      note = done.note ∙ ap (λ (x : Step). note_of x.switch) (sym e);
-      spent = done.spent ∙ ap (λ (x : Step). x.switch.spent) (sym e);
     }
 
 to_load_stays : (w v : WorldOf) (s : ℕ) (t : TableFor) (note : NoteOf) → AreSameAt s w v → IsToLoad w s t note → IsToLoad v s t note

@@ -1,21 +1,27 @@
-use Rattle.std.specs.Prelude.{◌≡◌, ◌≢◌, ◌+◌, ◌≤◌, ℕ, Option, Some, None, true, false, refl}
-use Rattle.std.proofs.Common.{sym, ◌∙◌, ap, subst}
+-- An event of another owner leaves what a switch has in hand alone.
+
+use Rattle.std.specs.Prelude.{◌≡◌, ◌≢◌, ◌+◌, ◌≤◌, ℕ, List, Option, Some, None, true, refl}
+use Rattle.std.proofs.Common.{◌∙◌}
 use Rattle.an_base.specs.Values.{TopoOf}
 use Rattle.an_base.specs.declared.event.Event.{Event}
 use Rattle.an_base.specs.declared.event.Event.TheVariants.{Tick, Clock, Take, Handle, Load, Fail, Repair, Lose, Again, Swap, Noise, Send, Move, Restart}
-use Rattle.net_graph.specs.declared.wiring.Far.{Far}
-use Rattle.net_graph.specs.declared.wiring.Far.TheVariants.{Switch, HostAt}
-use Rattle.wire_set.specs.WireState.{WiresOf, place, side_at, wire_out, is_link, link_set, wires_cleared, fail_at}
+use Rattle.wire_set.specs.WireState.{place, side_at, wire_out, is_link}
 use Rattle.switch_core.specs.Switch.{finish_of}
 use Rattle.switch_core.specs.Bytes.{all_spelled}
-use Rattle.fabric_world.specs.declared.hand.Hand.{Hand}
-use Rattle.fabric_world.specs.declared.hand.Hand.TheVariants as hand
-use Rattle.fabric_world.specs.Fabric.{station}
-use Rattle.fabric_world.specs.Effects.{released, noise}
+use Rattle.fabric_state.specs.Fabric.{station}
+use Rattle.fabric_state.specs.Effects.{released, noise}
 use Rattle.fabric_world.specs.World.{WorldOf, effect, handled, loads_with}
 use Rattle.fabric_world.specs.Histories.{owner_of}
-use Rattle.fabric_world.proofs.QueueLemmas.{Keeps, AreFarPorts, put_elsewhere, take_elsewhere, release_elsewhere, repair_keeps, fail_elsewhere, all_put_out_elsewhere, wire_is_no_hand, port_is_no_hand, hands_differ}
+use Rattle.fabric_state.proofs.QueueLemmas.{Keeps, AreFarPorts, put_elsewhere, take_elsewhere, repair_keeps, all_put_out_elsewhere, wire_is_no_hand, port_is_no_hand, hands_differ}
+use Rattle.fabric_state.proofs.HoldLemmas.{released_elsewhere, released_ports, fails_hand}
+use Rattle.net_script.specs.Scripts.{ScriptOf, IsScript}
+use Rattle.fabric_state.specs.Lawful.{is_lawful}
+use Rattle.fabric_state.proofs.LawfulLemmas.{lawful_is}
+use Rattle.fabric_state.proofs.ReadyLemmas.{take_ready}
+use Rattle.fabric_state.proofs.FitsLemmas.{fabric_ports, event_fits, change_link}
+use Rattle.fabric_world.specs.World.{world_after}
 use Rattle.fabric_world.proofs.ElsewhereLemmas.{places_differ}
+use Rattle.fabric_world.proofs.FabricLemmas.{world_fits}
 
 -- the port of a take or a failure is external, and that of noise has a link
 abbrev pub HasPort : WorldOf → Event → Type 0
@@ -24,28 +30,9 @@ HasPort w (Fail t p) = (1 ≤ p) × (p ≤ 12)
 HasPort w (Noise t p n) = is_link (side_at w.fabric.wires (place t p)).far ≡ true
 HasPort w e = Unit {0}
 
-released_elsewhere : (h : Hand) (s t : ℕ) (w : WiresOf) → s ≢ t → Keeps (place s 0) w (released h t w)
-released_elsewhere hand.Empty s t w other = refl
-released_elsewhere (hand.Clock now samples) s t w other = refl
-released_elsewhere (hand.Frame p) s t w other = release_elsewhere (place t 0) (place s 0) w (hands_differ s t other)
-
-released_ports : (h : Hand) (t : ℕ) (w : WiresOf) → AreFarPorts w → AreFarPorts (released h t w)
-released_ports hand.Empty t w ports = ports
-released_ports (hand.Clock now samples) t w ports = ports
-released_ports (hand.Frame p) t w ports = ports
-
 loads_hand : (topo : Option TopoOf) (s t : ℕ) (w : WorldOf) → Keeps (place s 0) w.fabric.wires (loads_with topo t w).fabric.wires
 loads_hand None s t w = refl
 loads_hand (Some topo) s t w = refl
-
-fails_hand : (at s : ℕ) (w : WiresOf) → AreFarPorts w → place s 0 ≢ at → Keeps (place s 0) w (fail_at at w)
-fails_hand at s w ports other = by_far (side_at w at).far refl where
-  by_far : (far : Option Far) → (side_at w at).far ≡ far → Keeps (place s 0) w (fail_at at w)
-  by_far None is =
-      let P : Option Far → Type 0 = λ far. Keeps (place s 0) w (wires_cleared far at (link_set false far at w)) in subst P (sym is) refl
-  by_far (Some (HostAt h)) is =
-      let P : Option Far → Type 0 = λ far. Keeps (place s 0) w (wires_cleared far at (link_set false far at w)) in subst P (sym is) refl
-  by_far (Some (Switch t p)) is = fail_elsewhere at (place s 0) w other (wire_is_no_hand w at s ports (ap is_link is))
 
 -- an event of another owner leaves what a switch has in hand alone
 pub hand_elsewhere : (e : Event) (s : ℕ) (w : WorldOf) → AreFarPorts w.fabric.wires → HasPort w e → owner_of e ≢ s + 1 → Keeps (place s 0) w.fabric.wires (effect e w).fabric.wires
@@ -66,3 +53,24 @@ hand_elsewhere (Swap t p n) s w ports port other = refl
 hand_elsewhere (Noise t p n) s w ports port other = put_elsewhere (place t p) (wire_out w.fabric.wires t p) (place s 0) (noise n) w.fabric.wires (wire_is_no_hand w.fabric.wires (place t p) s ports port)
 hand_elsewhere (Send h g) s w ports port other = refl
 hand_elsewhere (Move k) s w ports port other = refl
+
+-- far ends of links are external ports
+pub world_ports : (script : ScriptOf) → IsScript script → (h : List Event) → AreFarPorts (world_after script h).fabric.wires
+world_ports script kept h = fabric_ports (world_after script h).fabric (world_fits script kept h)
+
+-- a lawful event has the ports that it is to have
+pub lawful_port : (script : ScriptOf) → IsScript script → (h : List Event) (e : Event) → is_lawful (world_after script h).fabric e ≡ true → HasPort (world_after script h) e
+lawful_port script kept h (Take t p) lawful = let f = (world_after script h).fabric in let ready = take_ready f t p (lawful_is f (Take t p) lawful).ready in (ready.least, ready.most)
+lawful_port script kept h (Fail t p) lawful = let fits = event_fits (world_after script h).fabric (Fail t p) (world_fits script kept h) lawful refl in (fits.port.port_least, fits.port.port_most)
+lawful_port script kept h (Noise t p n) lawful = let f = (world_after script h).fabric in let fits = world_fits script kept h in change_link f t p n 64 fits (event_fits f (Noise t p n) fits lawful refl)
+lawful_port script kept h Tick lawful = tt
+lawful_port script kept h (Clock t) lawful = tt
+lawful_port script kept h (Handle t) lawful = tt
+lawful_port script kept h (Load t) lawful = tt
+lawful_port script kept h (Repair t p) lawful = tt
+lawful_port script kept h (Lose t p n) lawful = tt
+lawful_port script kept h (Again t p n) lawful = tt
+lawful_port script kept h (Swap t p n) lawful = tt
+lawful_port script kept h (Send a b) lawful = tt
+lawful_port script kept h (Move k) lawful = tt
+lawful_port script kept h (Restart t) lawful = tt

@@ -1,4 +1,6 @@
-use Rattle.std.specs.Prelude.{◌≡◌, ◌+◌, ◌&&◌, ◌||◌, ◌<◌, ℕ, nat_lt, not, List, [], ◌∷◌, All, length, cond, find, slice_index_or, Option, Some, None, is_some, unwrap_or, Bool, true, false, refl}
+-- What a turn appends is lawful.
+
+use Rattle.std.specs.Prelude.{◌≡◌, ◌&&◌, ◌||◌, ◌<◌, ℕ, nat_lt, not, List, [], ◌∷◌, All, length, cond, find, slice_index_or, Option, Some, None, is_some, unwrap_or, Bool, true, false, refl}
 use Rattle.std.specs.List.{list_any}
 use Rattle.std.specs.List.{AllByRecursion as ByRecursion}
 use Rattle.std.specs.Option.{option_or}
@@ -12,21 +14,23 @@ use Rattle.an_base.specs.declared.event.Event.TheVariants.{Tick, Clock, Take, Ha
 use Rattle.net_script.specs.Commands.{IsCommandEvent, is_restart}
 use Rattle.net_script.specs.Scripts.{ScriptOf, IsScript}
 use Rattle.port_monitor.specs.Histories.{externals}
-use Rattle.fabric_world.specs.declared.ending.Ending.{Ending}
-use Rattle.fabric_world.specs.declared.ask.Work.{Work}
-use Rattle.fabric_world.specs.declared.ask.Work.TheVariants as work
-use Rattle.fabric_world.specs.declared.ask.Why.TheVariants as why
-use Rattle.fabric_world.specs.declared.ask.Drive.TheVariants as drive
-use Rattle.fabric_world.specs.Packets.{PacketOf, packet_of}
-use Rattle.fabric_world.specs.Fabric.{FabricOf, StationOf, station, vacant, count, places, is_switch, is_external, room, due_command, are_wires_empty, is_clock_due, clock_due_at, load_due_at, has_frame, has_frame_for, is_full_at, is_some_spent, samples_of}
-use Rattle.fabric_world.specs.Agree.{ending_of}
-use Rattle.fabric_world.specs.Lawful.{is_lawful, is_handle, is_barred, is_ready, is_command, is_tick_due}
-use Rattle.fabric_world.specs.World.{WorldOf, world_after, life_of}
-use Rattle.fabric_world.specs.Turns.{port_above, next_port, frame_work, next_work, event_of_work, first_packet, tick_or_wait, move_or_tick, command_or_move, drive_by, next_drive, event_of_drive}
+use Rattle.fabric_state.specs.declared.ending.Ending.{Ending}
+use Rattle.fabric_state.specs.declared.work.Work.{Work}
+use Rattle.fabric_state.specs.declared.work.Work.TheVariants as work
+use Rattle.fabric_state.specs.declared.work.Why.TheVariants as why
+use Rattle.fabric_state.specs.declared.work.Drive.TheVariants as drive
+use Rattle.host_traffic.specs.Packets.{PacketOf, packet_of, first_packet}
+use Rattle.fabric_state.specs.Fabric.{FabricOf, StationOf, vacant, count, places, is_switch, is_external, room, due_command, are_wires_empty, is_clock_due, clock_due_at, load_due_at, has_frame, has_frame_for, is_full_at, is_some_spent, samples_of}
+use Rattle.fabric_state.specs.Agree.{ending_of}
+use Rattle.fabric_state.specs.Lawful.{is_lawful, is_handle, is_barred, is_ready, is_command, is_tick_due}
+use Rattle.fabric_state.specs.Starts.{next_life_at}
+use Rattle.fabric_world.specs.World.{world_after}
+use Rattle.fabric_state.specs.Choices.{port_above, next_port, frame_work, next_work, event_of_work, tick_or_wait, move_or_tick, command_or_move, drive_by, next_drive, event_of_drive}
 use Rattle.fabric_world.proofs.InductionLemmas.{world_script}
-use Rattle.fabric_world.proofs.LawfulLemmas.{next_is_lawful, IsOpen, unbarred_is, open_unbarred, command_is, command_fits}
+use Rattle.fabric_world.proofs.CommandLemmas.{command_fits}
+use Rattle.fabric_state.proofs.LawfulLemmas.{next_is_lawful, IsOpen, unbarred_is, open_unbarred, command_is}
 use Rattle.fabric_world.proofs.PlaceLemmas.{below_station}
-use Rattle.fabric_world.proofs.EndLemmas.{busy_no_end, clock_busy, load_busy, wires_busy, due_no_end, full_some, full_no_end, due_is_command, command_is_due}
+use Rattle.fabric_state.proofs.EndLemmas.{busy_no_end, clock_busy, load_busy, wires_busy, due_no_end, full_some, full_no_end, due_is_command, command_is_due}
 
 -- what may come next
 pub open_next : (f : FabricOf) (e : Event) → IsOpen f → is_some (ending_of f) ≡ false → is_ready f e ≡ true → is_lawful f e ≡ true
@@ -67,7 +71,7 @@ clock_is_lawful script h s below o empty due =
 pub externals_are : ByRecursion (λ p. is_external p ≡ true) externals
 externals_are = (refl, (refl, (refl, (refl, (refl, (refl, (refl, (refl, (refl, (refl, (refl, (refl, tt))))))))))))
 
-found_in : {X : Type 0} (P : X → Type 0) (p : X → Bool) (xs : List X) (x : X) → ByRecursion P xs → find p xs ≡ Some x → P x × (p x ≡ true) × (list_any p xs ≡ true)
+pub found_in : {X : Type 0} (P : X → Type 0) (p : X → Bool) (xs : List X) (x : X) → ByRecursion P xs → find p xs ≡ Some x → P x × (p x ≡ true) × (list_any p xs ≡ true)
 found_in P p [] x all is = absurd (true≢false (sym (ap is_some is)))
 found_in P p (y ∷ ys) x all is = by (p y) refl (found_in P p ys x all.1) where
   by : (b : Bool) → p y ≡ b → (find p ys ≡ Some x → P x × (p x ≡ true) × (list_any p ys ≡ true)) → P x × (p x ≡ true) × (list_any p (y ∷ ys) ≡ true)
@@ -123,10 +127,10 @@ take_is_lawful script h s p below o empty not_due external frame some =
     (not_from_false (clock_due_at f s) not_due)) frame)
 
 -- each event of the next work of a switch whose hand is empty is lawful
-abbrev work_by : Bool → Bool → Bool → Bool → WorldOf → ℕ → ℕ → Work
-work_by spent full restart due w s last =
-    cond spent (work.Nothing why.Spent) (cond full (work.Nothing why.Full) (cond restart (work.Restart (life_of w.fabric.script s ((station w.fabric s).note.life.boot + 1)))
-    (cond due (work.Clock w.fabric.tick (samples_of w.fabric s)) (frame_work (next_port w.fabric s last)))))
+abbrev work_by : Bool → Bool → Bool → Bool → FabricOf → ℕ → ℕ → Work
+work_by spent full restart due f s last =
+    cond spent (work.Nothing why.Spent) (cond full (work.Nothing why.Full) (cond restart (work.Restart (next_life_at f s))
+    (cond due (work.Clock f.tick (samples_of f s)) (frame_work (next_port f s last)))))
 
 abbrev Lawful : FabricOf → Event → Type 0
 Lawful f e = is_lawful f e ≡ true
@@ -140,11 +144,11 @@ frame_lawful script h s last (Some port) below open_for empty not_due is =
     All-cons (Lawful f) (Take s port) [] (take_is_lawful script h s port below open_for empty not_due found.external found.frame found.some) (All-nil (Lawful f))
 
 pub work_is_lawful : (script : ScriptOf) (h : List Event) (s last : ℕ) → s < length script.wires.switches → is_full_at (world_after script h).fabric s ≡ false
-    → All (Lawful (world_after script h).fabric) (event_of_work s (next_work (world_after script h) s last))
+    → All (Lawful (world_after script h).fabric) (event_of_work s (next_work (world_after script h).fabric s last))
 work_is_lawful script h s last below empty =
     by (is_some_spent (world_after script h).fabric) (nat_lt (room (world_after script h).fabric) 2) (is_command (world_after script h).fabric (Restart s)) (clock_due_at (world_after script h).fabric s) refl refl refl refl where
       by : (a b c d : Bool) → is_some_spent (world_after script h).fabric ≡ a → nat_lt (room (world_after script h).fabric) 2 ≡ b → is_command (world_after script h).fabric (Restart s) ≡ c → clock_due_at (world_after script h).fabric s ≡ d
-          → All (Lawful (world_after script h).fabric) (event_of_work s (work_by a b c d (world_after script h) s last))
+          → All (Lawful (world_after script h).fabric) (event_of_work s (work_by a b c d (world_after script h).fabric s last))
       by true b c d ai bi ci di = All-nil (Lawful (world_after script h).fabric)
       by false true c d ai bi ci di = All-nil (Lawful (world_after script h).fabric)
       by false false true d ai bi ci di =

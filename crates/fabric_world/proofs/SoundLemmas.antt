@@ -1,3 +1,5 @@
+-- Each switch of a reached world is sound.
+
 use Rattle.std.specs.Prelude.{◌≡◌, ◌+◌, ◌<◌, ◌≤◌, ℕ, suc, List, length, cond, slice_get, slice_index, Any, Option, Some, None, is_some, unwrap_or, Bool, true, false, refl}
 use Rattle.std.specs.Option.{option_map, option_map_or}
 use Rattle.std.proofs.Common.{sym, ap, subst, arith, true≢false}
@@ -18,10 +20,10 @@ use Rattle.switch_core.specs.Sound.{IsSound}
 use Rattle.switch_core.specs.Switch.{SwitchOf, finish_of}
 use Rattle.switch_core.specs.Steps.{clocked, framed, loaded}
 use Rattle.switch_core.proofs.SoundLemmas.{sound_more, sound_started, sound_framed, sound_clocked, sound_loaded, finish_named}
-use Rattle.fabric_world.specs.declared.hand.Hand.{Hand}
-use Rattle.fabric_world.specs.declared.hand.Hand.TheVariants as hand
-use Rattle.fabric_world.specs.Fabric.{station, held_bytes}
-use Rattle.fabric_world.specs.Lawful.{is_lawful}
+use Rattle.fabric_state.specs.declared.hand.Hand.{Hand}
+use Rattle.fabric_state.specs.declared.hand.Hand.TheVariants as hand
+use Rattle.fabric_state.specs.Fabric.{station, held_bytes}
+use Rattle.fabric_state.specs.Lawful.{is_lawful}
 use Rattle.table_build.specs.Made.{number_in}
 use Rattle.fabric_world.specs.World.{WorldOf, effect, world_after, loads_with, handled, handles, handles_bytes, next_life, start_of, started_at}
 use Rattle.fabric_world.specs.Sound.{HandFits, TopoFits}
@@ -29,8 +31,9 @@ use Rattle.fabric_world.proofs.BodyLemmas.{BodyFits, frame_fits}
 use Rattle.fabric_world.proofs.FedLemmas.{IsFed, ItemFits, framed_fed, clocked_fed, fed_finish}
 use Rattle.fabric_world.proofs.FinishLemmas.{place_some}
 use Rattle.fabric_world.proofs.InductionLemmas.{always, world_script}
-use Rattle.fabric_world.proofs.LawfulLemmas.{lawful_is}
-use Rattle.fabric_world.proofs.PlaceLemmas.{world_places, switch_below, handle_ready, load_ready}
+use Rattle.fabric_state.proofs.LawfulLemmas.{lawful_is}
+use Rattle.fabric_state.proofs.ReadyLemmas.{handle_ready, load_ready}
+use Rattle.fabric_world.proofs.PlaceLemmas.{world_places, switch_below}
 use Rattle.fabric_world.proofs.BootLemmas.{set_switch}
 
 -- the number that a switch had is one of 1 to 126

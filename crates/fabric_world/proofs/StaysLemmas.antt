@@ -1,3 +1,5 @@
+-- What a switch keeps of itself when it handles what it has in hand.
+
 use Rattle.std.specs.Prelude.{◌≡◌, ◌==◌, ℕ, suc, nat_lt, List, [], Option, Some, None, true, refl, if◌then◌else◌}
 use Rattle.std.proofs.Common.{◌∙◌, ap}
 use Rattle.std.proofs.lemmas.Bool.{cond_both}
@@ -13,8 +15,8 @@ use Rattle.epoch_core.specs.Epoch.{adds}
 use Rattle.switch_core.specs.Switch.{SwitchOf, counts, end_at}
 use Rattle.switch_core.specs.Steps.{Step, after, all_added, all_resent, answers_body, begun, clocked, framed, goes_on, is_change_due, is_spent_by, joins, on_ack, on_carry, probes, receives, sampled_by, still}
 use Rattle.switch_core.proofs.WindowLemmas.{OnlySends, all_pushed_few, all_resent_few, on_ack_few}
-use Rattle.fabric_world.specs.declared.hand.Hand.{Hand}
-use Rattle.fabric_world.specs.declared.hand.Hand.TheVariants as hand
+use Rattle.fabric_state.specs.declared.hand.Hand.{Hand}
+use Rattle.fabric_state.specs.declared.hand.Hand.TheVariants as hand
 use Rattle.frame_codec.specs.Reading.{frame_of}
 use Rattle.fabric_world.specs.World.{handles, handles_bytes}
 use Rattle.ordered_link.specs.Receiving.{accepted_by}

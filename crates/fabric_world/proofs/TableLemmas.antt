@@ -1,3 +1,5 @@
+-- A table in use is that of what the present life has finished with.
+
 use Rattle.std.specs.Prelude.{◌≡◌, ◌==◌, ◌<◌, ℕ, suc, nat_lt, List, [], ◌∷◌, length, cond, Option, Some, None, IfSome, Bool, true, false, refl, if◌then◌else◌}
 use Rattle.std.proofs.Common.{sym, ◌∙◌, ap, subst, arith}
 use Rattle.std.proofs.lemmas.Bool.{cond_both, eqb-true, ltb-true}
@@ -21,19 +23,20 @@ use Rattle.switch_core.specs.Steps.{Step, after, all_added, all_resent, answers_
 use Rattle.switch_core.specs.declared.switch.TableFor.{TableFor}
 use Rattle.switch_core.proofs.LawLemmas.{joins_epoch}
 use Rattle.switch_core.proofs.WindowLemmas.{OnlySends, all_pushed_few, all_resent_few, on_ack_few}
-use Rattle.fabric_world.specs.declared.hand.Hand.{Hand}
-use Rattle.fabric_world.specs.declared.hand.Hand.TheVariants as hand
-use Rattle.fabric_world.specs.Fabric.{station, held_bytes, vacant, StationOf}
-use Rattle.fabric_world.specs.Effects.{kept_table}
-use Rattle.fabric_world.specs.Lawful.{is_lawful}
+use Rattle.fabric_state.specs.declared.hand.Hand.{Hand}
+use Rattle.fabric_state.specs.declared.hand.Hand.TheVariants as hand
+use Rattle.fabric_state.specs.Fabric.{station, held_bytes, vacant, StationOf}
+use Rattle.fabric_state.specs.Effects.{kept_table}
+use Rattle.fabric_state.specs.Lawful.{is_lawful}
 use Rattle.table_build.specs.Made.{number_in, table_of}
 use Rattle.fabric_world.specs.World.{WorldOf, effect, first_station, handled, handles, handles_bytes, loads_with, next_life, table_for, world_after}
 use Rattle.fabric_world.specs.World.{begun as begun_world}
 use Rattle.fabric_world.specs.Sound.{HasTable, IsTableInUse}
 use Rattle.fabric_world.proofs.InductionLemmas.{always}
-use Rattle.fabric_world.proofs.LawfulLemmas.{lawful_is}
+use Rattle.fabric_state.proofs.LawfulLemmas.{lawful_is}
 use Rattle.fabric_world.proofs.StaysLemmas.{handles_stay}
-use Rattle.fabric_world.proofs.PlaceLemmas.{set_both, set_one, below_station, switch_below, handle_ready, handled_station, world_places}
+use Rattle.fabric_state.proofs.ReadyLemmas.{set_one, handle_ready}
+use Rattle.fabric_world.proofs.PlaceLemmas.{set_both, below_station, switch_below, handled_station, world_places}
 use Rattle.ordered_link.specs.Receiving.{accepted_by}
 
 -- In an epoch that goes on, what was finished with stays

@@ -1,6 +1,6 @@
 -- What is claimed at each moment of a history, and of a settled one.
 
-use Rattle.std.specs.Prelude.{◌≡◌, ◌≢◌, ◌-◌, ◌*◌, ◌<◌, ◌≤◌, ℕ, suc, List, ◌∷◌, ◌++◌, length, Option, Some, Bool, false, true, Any, Contains, IsTrue}
+use Rattle.std.specs.Prelude.{◌≡◌, ◌≢◌, ◌-◌, ◌*◌, ◌<◌, ◌≤◌, ℕ, suc, List, ◌∷◌, ◌++◌, length, Some, Bool, false, true, Any, Contains, IsTrue}
 use Rattle.std.specs.Ordering.{is_le}
 use Rattle.an_base.specs.Values.{LifeId, EntryOf, TopoOf}
 use Rattle.an_base.specs.Numbers.{AreNumbers}
@@ -14,16 +14,14 @@ use Rattle.updown.specs.Routes.{LegalRoute}
 use Rattle.table_build.specs.Exits.{Begins, may_go_up}
 use Rattle.table_build.specs.Laws.{IsShortest, Follows, ChannelWalk}
 use Rattle.table_build.specs.Tables.{IsTableOf}
-use Rattle.switch_core.specs.Switch.{SwitchOf, good_links, good_peer, finish_of, end_at}
+use Rattle.switch_core.specs.Switch.{good_links, good_peer, finish_of, end_at}
 use Rattle.switch_core.specs.declared.switch.TableFor.{TableFor}
-use Rattle.fabric_world.specs.declared.ending.Ending.TheVariants as ending
-use Rattle.fabric_world.specs.Fabric.{station, count}
+use Rattle.fabric_state.specs.declared.ending.Ending.TheVariants as ending
+use Rattle.fabric_state.specs.Fabric.{station, count}
 use Rattle.fabric_world.specs.Lines.{root_of}
 use Rattle.fabric_world.specs.World.{WorldOf, world_after}
-use Rattle.fabric_world.specs.Histories.{end_of}
-
-abbrev pub switch_after : ScriptOf → List Event → ℕ → SwitchOf
-switch_after script history place = (world_after script history).switches place
+use Rattle.fabric_world.specs.Histories.{end_of, in_use, switch_after}
+use Rattle.fabric_world.specs.Traces.{AreTraced}
 
 -- A life has finished an epoch with a topology, now or at an earlier moment.
 pub record FinishedAt (script : ScriptOf) (history : List Event) (life : LifeId) (epoch : ℕ)
@@ -80,10 +78,6 @@ abbrev pub AreAllJoined : ScriptOf → List Event → Type 0
 AreAllJoined script history = (life : LifeId) (epoch : ℕ) (topo : TopoOf)
     → FinishedAt script history life epoch topo → AreJoined topo.entries script.any_routes
 
--- the table in use at a place
-abbrev pub in_use : ScriptOf → List Event → ℕ → Option TableFor
-in_use script history place = (station (world_after script history).fabric place).table
-
 -- A table in use is the routing table, of the present life, of what that life finished with in the table's
 -- epoch.
 abbrev pub AreOwnTables : ScriptOf → List Event → Type 0
@@ -113,6 +107,7 @@ pub record HoldsAt (script : ScriptOf) (history : List Event) : Type 0 where
   pub joined : AreAllJoined script history
   pub tables : AreOwnTables script history
   pub older : NoneIsOlder script history
+  pub traces : AreTraced script history
 
 -- and at each moment of it
 abbrev pub HoldsAtEachMoment : ScriptOf → List Event → Type 0
@@ -178,3 +173,8 @@ AreFinished world = (place : ℕ) → place < count world.fabric → IsFinishedA
 abbrev pub IfSettled : ScriptOf → List Event → Type 0
 IfSettled script history =
     end_of script history ≡ Some ending.Settled → AreFinished (world_after script history)
+
+-- All that is claimed of a history: what holds at each moment, and what has finished where it ends settled.
+pub record HoldsThroughout (script : ScriptOf) (history : List Event) : Type 0 where
+  pub moments : HoldsAtEachMoment script history
+  pub settled : IfSettled script history

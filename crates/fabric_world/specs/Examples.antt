@@ -7,8 +7,8 @@ use Rattle.an_base.specs.declared.port.PortState.TheVariants as state
 use Rattle.net_script.specs.Scripts.{ScriptOf}
 use Rattle.wire_set.specs.declared.side.Loss.TheVariants as loss
 use Rattle.table_build.specs.Tables.{TableOf}
-use Rattle.fabric_world.specs.declared.ending.Ending.{Ending}
-use Rattle.fabric_world.specs.declared.hop.DropCause.TheVariants as cause
+use Rattle.fabric_state.specs.declared.ending.Ending.{Ending}
+use Rattle.host_traffic.specs.declared.hop.DropCause.TheVariants as cause
 use Rattle.fabric_world.specs.declared.line.Line.{Line}
 use Rattle.fabric_world.specs.declared.line.Line.TheVariants as line
 use Rattle.fabric_world.specs.Lines.{all_lines}
@@ -265,3 +265,69 @@ second_table = record {
       record { at = 2; entry = 0; to = 1; exits = 1 ∷ [] } ∷
       record { at = 2; entry = 1; to = 1; exits = [] } ∷ [];
 }
+
+-- Two linked switches with a host each, which send packets to each other over the link.
+abbrev pub routed_script : ScriptOf
+routed_script = record {
+  wires = record {
+    switches = record { uid = 1; had = 1 } ∷ record { uid = 2; had = 1 } ∷ [];
+    links = record { a = 0; a_port = 1; b = 1; b_port = 1 } ∷ [];
+    hosts =
+        record { uid = 1099511627777; s = 0; port = 11 } ∷
+        record { uid = 1099511627778; s = 1; port = 12 } ∷ [];
+  };
+  switch_names = codes "A" ∷ codes "B" ∷ [];
+  names_of_hosts = codes "H" ∷ codes "G" ∷ [];
+  commands =
+      record { time = 4; event = Send 0 1 } ∷
+      record { time = 4; event = Send 1 0 } ∷ [];
+  epoch = 0;
+  pace = None;
+  limits = record { ticks = 4096; events = 2000000; blocks = 65536 };
+  any_routes = false;
+}
+
+abbrev pub routed_history : List Event
+routed_history =
+    Clock 0 ∷ Handle 0 ∷ Load 0 ∷ Clock 1 ∷ Handle 1 ∷ Load 1 ∷ Tick ∷ Clock 0 ∷ Handle 0 ∷ Clock 1 ∷
+    Handle 1 ∷ Take 1 1 ∷ Handle 1 ∷ Take 0 1 ∷ Handle 0 ∷ Take 0 1 ∷ Handle 0 ∷ Take 1 1 ∷ Handle 1 ∷
+    Tick ∷ Clock 0 ∷ Handle 0 ∷ Clock 1 ∷ Handle 1 ∷ Take 1 1 ∷ Handle 1 ∷ Take 1 1 ∷ Handle 1 ∷
+    Take 0 1 ∷ Handle 0 ∷ Take 0 1 ∷ Handle 0 ∷ Take 0 1 ∷ Handle 0 ∷ Take 0 1 ∷ Handle 0 ∷ Take 0 1 ∷
+    Handle 0 ∷ Take 0 1 ∷ Handle 0 ∷ Take 1 1 ∷ Handle 1 ∷ Take 1 1 ∷ Handle 1 ∷ Take 1 1 ∷ Handle 1 ∷
+    Take 1 1 ∷ Handle 1 ∷ Take 1 1 ∷ Handle 1 ∷ Take 1 1 ∷ Handle 1 ∷ Take 0 1 ∷ Handle 0 ∷ Take 0 1 ∷
+    Handle 0 ∷ Take 0 1 ∷ Handle 0 ∷ Load 0 ∷ Take 1 1 ∷ Handle 1 ∷ Take 1 1 ∷ Handle 1 ∷ Load 1 ∷
+    Take 0 1 ∷ Handle 0 ∷ Tick ∷ Clock 0 ∷ Handle 0 ∷ Clock 1 ∷ Handle 1 ∷ Take 1 1 ∷ Handle 1 ∷
+    Take 0 1 ∷ Handle 0 ∷ Take 0 1 ∷ Handle 0 ∷ Take 1 1 ∷ Handle 1 ∷ Tick ∷ Send 0 1 ∷ Send 1 0 ∷
+    Move 1 ∷ Move 1 ∷ Move 2 ∷ Move 2 ∷ Clock 0 ∷ Handle 0 ∷ Clock 1 ∷ Handle 1 ∷ Take 1 1 ∷ Handle 1 ∷
+    Take 0 1 ∷ Handle 0 ∷ Take 0 1 ∷ Handle 0 ∷ Take 1 1 ∷ Handle 1 ∷ []
+
+abbrev pub routed_lines : List Line
+routed_lines =
+    line.Port 0 1 state.Checking None ∷
+    line.Port 0 11 state.Checking None ∷
+    line.Join 0 1 ∷
+    line.Finish 0 1 (record { uid = 1; boot = 1 }) 1 ∷
+    line.Load 0 1 1 ∷
+    line.Port 1 1 state.Checking None ∷
+    line.Port 1 12 state.Checking None ∷
+    line.Join 1 1 ∷
+    line.Finish 1 1 (record { uid = 2; boot = 1 }) 1 ∷
+    line.Load 1 1 1 ∷
+    line.Port 0 1 state.Who None ∷
+    line.Port 0 11 state.Host None ∷
+    line.Port 1 1 state.Who None ∷
+    line.Port 1 12 state.Host None ∷
+    line.Port 0 1 state.Good (Some (record { life = record { uid = 2; boot = 1 }; port = 1 })) ∷
+    line.Join 0 2 ∷
+    line.Port 1 1 state.Good (Some (record { life = record { uid = 1; boot = 1 }; port = 1 })) ∷
+    line.Join 1 2 ∷
+    line.Finish 0 2 (record { uid = 1; boot = 1 }) 2 ∷
+    line.Load 0 2 1 ∷
+    line.Finish 1 2 (record { uid = 1; boot = 1 }) 2 ∷
+    line.Load 1 2 2 ∷
+    line.Packet 1 0 1 44 ∷
+    line.Packet 2 1 0 27 ∷
+    line.Moved 1 0 2 11 1 None ∷
+    line.Moved 1 1 2 1 12 (Some 1) ∷
+    line.Moved 2 1 2 12 1 None ∷
+    line.Moved 2 0 2 1 11 (Some 0) ∷ []

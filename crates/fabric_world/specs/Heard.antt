@@ -9,12 +9,12 @@ use Rattle.net_script.specs.Scripts.{ScriptOf}
 use Rattle.frame_codec.specs.Reading.{frame_of}
 use Rattle.switch_core.specs.Switch.{finish_of}
 use Rattle.switch_core.specs.Steps.{Sent}
-use Rattle.fabric_world.specs.declared.hand.Hand.{Hand}
-use Rattle.fabric_world.specs.declared.hand.Hand.TheVariants as hand
+use Rattle.fabric_state.specs.declared.hand.Hand.{Hand}
+use Rattle.fabric_state.specs.declared.hand.Hand.TheVariants as hand
 use Rattle.table_build.specs.Made.{number_in}
 use Rattle.fabric_world.specs.Acts.{Act, Starts, Clocks, Hears, Loads, acted, hears}
-use Rattle.fabric_world.specs.Fabric.{station, held_bytes}
-use Rattle.fabric_world.specs.Lawful.{is_lawful}
+use Rattle.fabric_state.specs.Fabric.{station, held_bytes}
+use Rattle.fabric_state.specs.Lawful.{is_lawful}
 use Rattle.fabric_world.specs.World.{WorldOf, world_after, next_life}
 
 -- an act, and the place of its switch

@@ -4,10 +4,12 @@ use Rattle.std.specs.Prelude.{◌≡◌, ◌+◌, ◌==◌, ℕ, List, [], ◌�
 use Rattle.an_base.specs.declared.event.Event.{Event}
 use Rattle.an_base.specs.declared.event.Event.TheVariants.{Clock, Take, Handle, Load, Restart}
 use Rattle.net_script.specs.Scripts.{ScriptOf}
-use Rattle.fabric_world.specs.declared.ending.Ending.{Ending}
-use Rattle.fabric_world.specs.Agree.{ending_of}
-use Rattle.fabric_world.specs.Fabric.{FabricOf}
-use Rattle.fabric_world.specs.Lawful.{is_lawful}
+use Rattle.switch_core.specs.Switch.{SwitchOf}
+use Rattle.switch_core.specs.declared.switch.TableFor.{TableFor}
+use Rattle.fabric_state.specs.declared.ending.Ending.{Ending}
+use Rattle.fabric_state.specs.Agree.{ending_of}
+use Rattle.fabric_state.specs.Fabric.{FabricOf, station}
+use Rattle.fabric_state.specs.Lawful.{is_lawful}
 use Rattle.fabric_world.specs.World.{WorldOf, begun, step, world_after}
 
 -- a network that was begun with a script, and the events that came
@@ -47,6 +49,13 @@ pub record IsFirstFault (script : ScriptOf) (history before : List Event) (event
   pub parts : history ≡ before ++ event ∷ after
   pub lawful : IsLawful script before
   pub fault : is_lawful (world_after script before).fabric event ≡ false
+
+-- the switch at a place, and the table in use there
+abbrev pub switch_after : ScriptOf → List Event → ℕ → SwitchOf
+switch_after script history place = (world_after script history).switches place
+
+abbrev pub in_use : ScriptOf → List Event → ℕ → Option TableFor
+in_use script history place = (station (world_after script history).fabric place).table
 
 -- To whom an event belongs: those of the switch at a place to the caller one above it, all others to caller
 -- 0.

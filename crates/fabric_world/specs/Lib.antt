@@ -1,9 +1,12 @@
-pub mod Packets
-pub mod PortStates
-pub mod Fabric
-pub mod Agree
-pub mod Lawful
-pub mod Effects
+pub use Rattle.host_traffic.specs.Packets
+pub use Rattle.fabric_state.specs.PortStates
+pub use Rattle.fabric_state.specs.Fabric
+pub use Rattle.fabric_state.specs.Starts
+pub use Rattle.fabric_state.specs.Agree
+pub use Rattle.fabric_state.specs.Lawful
+pub use Rattle.fabric_state.specs.Effects
+pub use Rattle.fabric_state.specs.Choices
+pub use Rattle.fabric_state.specs.Fits
 pub mod Acts
 pub mod World
 pub mod Lines
@@ -11,6 +14,7 @@ pub mod Histories
 pub mod Heard
 pub mod Turns
 pub mod Solo
+pub mod Traces
 pub mod Clauses
 pub mod Sound
 pub mod Examples

@@ -18,20 +18,20 @@ use Rattle.topo_graph.specs.Topology.{entry_at}
 use Rattle.switch_core.specs.Switch.{SwitchOf, finish_of, note_of}
 use Rattle.switch_core.specs.Steps.{Step}
 use Rattle.switch_core.specs.Bytes.{BytesOut, all_spelled}
-use Rattle.fabric_world.specs.declared.hand.Hand.{Hand}
-use Rattle.fabric_world.specs.declared.hand.Hand.TheVariants as hand
-use Rattle.fabric_world.specs.declared.hop.Hop.{Hop}
-use Rattle.fabric_world.specs.declared.hop.Hop.TheVariants as hop
-use Rattle.fabric_world.specs.declared.hop.DropCause.{DropCause}
-use Rattle.fabric_world.specs.declared.hop.DropCause.TheVariants as cause
+use Rattle.fabric_state.specs.declared.hand.Hand.{Hand}
+use Rattle.fabric_state.specs.declared.hand.Hand.TheVariants as hand
+use Rattle.host_traffic.specs.declared.hop.Hop.{Hop}
+use Rattle.host_traffic.specs.declared.hop.Hop.TheVariants as hop
+use Rattle.host_traffic.specs.declared.hop.DropCause.{DropCause}
+use Rattle.host_traffic.specs.declared.hop.DropCause.TheVariants as cause
 use Rattle.fabric_world.specs.declared.line.Line.{Line}
 use Rattle.fabric_world.specs.declared.line.Line.TheVariants as line
 use Rattle.table_build.specs.Made.{number_in}
-use Rattle.fabric_world.specs.Packets.{PacketOf, packet_of}
-use Rattle.fabric_world.specs.PortStates.{state_code}
-use Rattle.fabric_world.specs.Fabric.{FabricOf, station, no_view, held_bytes, host_on, host_at, table_at}
-use Rattle.fabric_world.specs.Fabric.{switch_behind, side_of_port}
-use Rattle.fabric_world.specs.Effects.{released, put_out, noise, hop_of, address_of}
+use Rattle.host_traffic.specs.Packets.{PacketOf, packet_of}
+use Rattle.fabric_state.specs.PortStates.{state_code}
+use Rattle.fabric_state.specs.Fabric.{FabricOf, station, no_view, held_bytes, host_on, host_at, table_at}
+use Rattle.fabric_state.specs.Fabric.{switch_behind, side_of_port}
+use Rattle.fabric_state.specs.Effects.{released, put_out, noise, hop_of, address_of}
 use Rattle.fabric_world.specs.World.{WorldOf, handled, step}
 
 -- the ports whose state changed, rising

@@ -4,13 +4,13 @@ use Rattle.std.specs.Prelude.{◌≡◌, ◌+◌, ◌<◌, ℕ, List, [], ◌∷
 use Rattle.an_base.specs.declared.event.Event.{Event}
 use Rattle.an_base.specs.declared.event.Event.TheVariants.{Handle, Load}
 use Rattle.net_script.specs.Scripts.{ScriptOf}
-use Rattle.fabric_world.specs.declared.ending.Ending.{Ending}
-use Rattle.fabric_world.specs.declared.ask.Drive.TheVariants as drive
-use Rattle.fabric_world.specs.Fabric.{is_full_at, load_due_at}
-use Rattle.fabric_world.specs.Lawful.{is_barred}
+use Rattle.fabric_state.specs.declared.ending.Ending.{Ending}
+use Rattle.fabric_state.specs.declared.work.Drive.TheVariants as drive
+use Rattle.fabric_state.specs.Fabric.{is_full_at, load_due_at}
+use Rattle.fabric_state.specs.Lawful.{is_barred}
 use Rattle.fabric_world.specs.World.{WorldOf, world_after}
 use Rattle.fabric_world.specs.Histories.{last_taken}
-use Rattle.fabric_world.specs.Turns.{next_work, event_of_work, next_drive}
+use Rattle.fabric_state.specs.Choices.{next_work, event_of_work, next_drive}
 
 -- The next event of the worker of a switch, if it has one: it handles what is in hand, else loads where a
 -- load is due, else takes.
@@ -19,7 +19,7 @@ worker_event world place last =
     if is_full_at world.fabric place then Handle place ∷ []
     else if is_barred world.fabric then []
     else if load_due_at world.fabric place then Load place ∷ []
-    else event_of_work place (next_work world place last)
+    else event_of_work place (next_work world.fabric place last)
 
 -- The workers in the order of the script, each while it has work; then the driver, until it waits; and
 -- again. The number is whose turn it is: the place of a worker, or the number of switches for the driver.

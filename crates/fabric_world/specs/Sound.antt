@@ -1,24 +1,21 @@
 -- What is so of every world that is reached.
 
-use Rattle.std.specs.Prelude.{◌≡◌, ◌⊎◌, ◌+◌, ◌*◌, ◌%◌, ◌==◌, ◌<◌, ◌≤◌, ℕ, List, [], length, take, All, AllPairs, Some, IfSome, Bool, true, false, if◌then◌else◌}
+use Rattle.std.specs.Prelude.{◌≡◌, ◌+◌, ◌==◌, ◌<◌, ◌≤◌, ℕ, List, length, take, All, Some, IfSome, Bool, true, false, if◌then◌else◌}
 use Rattle.std.specs.List.{sum_by}
 use Rattle.an_base.specs.Values.{TopoOf}
 use Rattle.an_base.specs.declared.event.Event.{Event}
 use Rattle.an_base.specs.declared.event.Event.TheVariants.{Restart}
 use Rattle.net_script.specs.declared.command.Command.{Command}
-use Rattle.net_graph.specs.Wires.{far_at}
 use Rattle.net_script.specs.Scripts.{ScriptOf}
-use Rattle.wire_set.specs.Frames.{FramesOf, frames_at, occupied}
-use Rattle.wire_set.specs.WireState.{WiresOf, LinksAgree, place as port_place, side_at, is_link, hand_of}
-use Rattle.wire_set.specs.WireState as wire_state
 use Rattle.switch_core.specs.Switch.{SwitchOf, finish_of, note_of}
 use Rattle.switch_core.specs.declared.switch.TableFor.{TableFor}
-use Rattle.fabric_world.specs.declared.hand.Hand.{Hand}
-use Rattle.fabric_world.specs.declared.hand.Hand.TheVariants as hand
-use Rattle.fabric_world.specs.Packets.{PacketOf}
-use Rattle.fabric_world.specs.Fabric.{FabricOf, StationOf, station, full_hands}
-use Rattle.fabric_world.specs.Lawful.{is_lawful}
-use Rattle.fabric_world.specs.World.{WorldOf, life_of, table_for}
+use Rattle.fabric_state.specs.declared.hand.Hand.{Hand}
+use Rattle.fabric_state.specs.declared.hand.Hand.TheVariants as hand
+use Rattle.fabric_state.specs.Fabric.{FabricOf, StationOf, station}
+use Rattle.fabric_state.specs.Fits.{Fits}
+use Rattle.fabric_state.specs.Lawful.{is_lawful}
+use Rattle.fabric_state.specs.Starts.{life_of}
+use Rattle.fabric_world.specs.World.{WorldOf, table_for}
 
 -- What a switch has in hand is of this tick: a clock, or a frame that came in by an external port of a
 -- switch that is not spent and had its clock; and where it had, its last tick is this one.
@@ -70,78 +67,13 @@ pub record IsTableInUse (switch : SwitchOf) (used : TableFor) : Type 0 where
 abbrev pub HasTable : WorldOf → ℕ → Type 0
 HasTable world place = IfSome (station world.fabric place).table (IsTableInUse (world.switches place))
 
-abbrev pub wires_at_first : ScriptOf → WiresOf
-wires_at_first script = wire_state.start script.wires script.limits.blocks
-
--- the wire into a port of a link, or the hand of a switch
-abbrev pub IsWireOrHand : ScriptOf → ℕ → Type 0
-IsWireOrHand script queue = (is_link (side_at (wires_at_first script) queue).far ≡ true) ⊎ (queue % 13 ≡ 0)
-
--- frames have bytes, and stand only on the wires of links and in hands
-pub record QueueFits (script : ScriptOf) (queue : ℕ) (frames : List (List ℕ)) : Type 0 where
-  pub bytes : All (λ frame. 1 ≤ length frame) frames
-  pub linked : 0 < length frames → IsWireOrHand script queue
-
-pub record AreFramesSound (script : ScriptOf) (frames : FramesOf) : Type 0 where
-  pub queues : length frames.queues ≡ 13 * length script.wires.switches
-  pub limit : frames.limit ≡ script.limits.blocks
-  pub blocks : frames.free + occupied frames ≡ frames.limit
-  pub each : (queue : ℕ) → QueueFits script queue (frames_at frames queue)
-
-pub record AreWiresSound (script : ScriptOf) (wires : WiresOf) : Type 0 where
-  pub sides : length wires.sides ≡ 13 * length script.wires.switches
-  pub agree : LinksAgree wires
-  pub frames : AreFramesSound script wires.frames
-
--- the wires hold one frame for a switch with a frame in hand, and else none
-abbrev pub HoldsFor : Hand → List (List ℕ) → Type 0
-HoldsFor hand.Empty frames = frames ≡ []
-HoldsFor (hand.Clock now samples) frames = frames ≡ []
-HoldsFor (hand.Frame port) frames = length frames ≡ 1
-
-abbrev pub HasHand : WorldOf → ℕ → Type 0
-HasHand world place = HoldsFor (station world.fabric place).hand (hand_of world.fabric.wires place)
-
--- A packet under way is one of those that were sent, at a port of a switch; after its first hop at one with
--- a link.
-pub record IsPacketSound (script : ScriptOf) (sent : ℕ) (packet : PacketOf) : Type 0 where
-  pub least : 1 ≤ packet.packet
-  pub most : packet.packet ≤ sent
-  pub at : packet.at < length script.wires.switches
-  pub entry_least : 1 ≤ packet.entry
-  pub entry_most : packet.entry ≤ 12
-  pub linked : packet.is_new ≡ false
-      → is_link (side_at (wires_at_first script) (port_place packet.at packet.entry)).far ≡ true
-
--- packets stand by rising number
-pub record ArePacketsSound (script : ScriptOf) (fabric : FabricOf) : Type 0 where
-  pub each : All (IsPacketSound script fabric.sent) fabric.packets
-  pub rising : AllPairs (λ one other. one.packet < other.packet) fabric.packets
-  pub sent : fabric.sent ≤ fabric.done
-
--- there is room for what is in hand
-abbrev pub HasRoom : ScriptOf → WorldOf → Type 0
-HasRoom script world = world.fabric.events + full_hands world.fabric ≤ script.limits.events
-
--- the clock stays within the ticks of the script, and the commands done among its commands
-pub record IsInTime (script : ScriptOf) (fabric : FabricOf) : Type 0 where
-  pub ticks : fabric.tick ≤ script.limits.ticks
-  pub commands : fabric.done ≤ length script.commands
-
--- all of it
+-- All of it: the fabric is as fabrics are, and shows the switches that stand behind it.
 pub record IsSoundWorld (script : ScriptOf) (world : WorldOf) : Type 0 where
   pub stays : world.fabric.script ≡ script
-  pub size : length world.fabric.stations ≡ length script.wires.switches
+  pub fits : Fits world.fabric
   pub places : ArePlacesSound script world
   pub boots : (place : ℕ) → HasBoot script world place
   pub tables : (place : ℕ) → place < length script.wires.switches → HasTable world place
-  pub hands : (place : ℕ) → place < length script.wires.switches → HasHand world place
-  pub wires_sound : AreWiresSound script world.fabric.wires
-  pub fars : (place port : ℕ) → place < length script.wires.switches → port < 13
-      → (side_at world.fabric.wires (port_place place port)).far ≡ far_at script.wires place port
-  pub room : HasRoom script world
-  pub time : IsInTime script world.fabric
-  pub packets : ArePacketsSound script world.fabric
 
 -- some event may come next
 pub record HasNext (fabric : FabricOf) : Type 0 where

@@ -1,102 +1,36 @@
 -- What may be asked of a book, which keeps a history for its callers, and what it answers.
 
-use Rattle.std.specs.Prelude.{◌≡◌, ◌+◌, ◌&&◌, ◌<◌, ℕ, nat_lt, not, List, [], ◌∷◌, ◌++◌, length, Option, Some, None, is_some, Bool, true, false, if◌then◌else◌, find}
-use Rattle.std.specs.Option.{option_or}
+use Rattle.std.specs.Prelude.{◌≡◌, ◌+◌, ◌<◌, ℕ, not, List, [], ◌∷◌, ◌++◌, length, Some, is_some, Bool, true, false}
 use Rattle.an_base.specs.Values.{TopoOf}
+use Rattle.an_base.specs.Numbers.{AreNumbers}
 use Rattle.an_base.specs.Ports.{NoteOf}
 use Rattle.an_base.specs.declared.event.Event.{Event}
-use Rattle.an_base.specs.declared.event.Event.TheVariants.{Tick, Clock, Take, Handle, Load, Move, Restart}
-use Rattle.net_script.specs.Commands.{is_restart}
+use Rattle.an_base.specs.declared.event.Event.TheVariants.{Handle, Load}
 use Rattle.net_script.specs.Scripts.{ScriptOf, IsScript}
-use Rattle.port_monitor.specs.Histories.{externals}
 use Rattle.frame_codec.specs.Reading.{frame_of}
-use Rattle.an_base.specs.Numbers.{AreNumbers}
 use Rattle.topo_graph.specs.Topology.{IsGraph}
 use Rattle.table_build.specs.Tables.{IsTableOf}
 use Rattle.switch_core.specs.Switch.{finish_of, note_of}
 use Rattle.switch_core.specs.Steps.{loaded}
-use Rattle.switch_core.specs.Bytes.{all_spelled}
+use Rattle.switch_core.specs.Bytes.{BytesOut, all_spelled}
 use Rattle.switch_core.specs.declared.switch.TableFor.{TableFor}
-use Rattle.fabric_world.specs.declared.hand.Hand.{Hand}
-use Rattle.fabric_world.specs.declared.hand.Hand.TheVariants as hand
-use Rattle.fabric_world.specs.declared.ending.Ending.{Ending}
-use Rattle.fabric_world.specs.declared.ask.Why.TheVariants as why
-use Rattle.fabric_world.specs.declared.ask.Work.{Work}
-use Rattle.fabric_world.specs.declared.ask.Work.TheVariants as work
+use Rattle.fabric_state.specs.declared.hand.Hand.{Hand}
+use Rattle.fabric_state.specs.declared.hand.Hand.TheVariants as hand
+use Rattle.fabric_state.specs.declared.work.Work.{Work}
+use Rattle.fabric_state.specs.declared.work.Work.TheVariants as work
+use Rattle.fabric_state.specs.declared.work.Drive.{Drive}
+use Rattle.fabric_state.specs.Fabric.{FabricOf, station, is_full_at, held_bytes, load_due_at}
+use Rattle.fabric_state.specs.Lawful.{is_barred}
+use Rattle.fabric_state.specs.Choices.{next_work, event_of_work, next_drive, event_of_drive}
 use Rattle.fabric_world.specs.declared.ask.Done.{Done}
-use Rattle.fabric_world.specs.declared.ask.Drive.{Drive}
-use Rattle.fabric_world.specs.declared.ask.Drive.TheVariants as drive
 use Rattle.fabric_world.specs.declared.ask.LoadReply.{LoadReply}
 use Rattle.fabric_world.specs.declared.ask.LoadReply.TheVariants as load
 use Rattle.fabric_world.specs.declared.ask.Ask.{Ask}
 use Rattle.fabric_world.specs.declared.ask.Ask.TheVariants as ask
 use Rattle.fabric_world.specs.declared.ask.Reply.{Reply}
 use Rattle.fabric_world.specs.declared.ask.Reply.TheVariants as reply
-use Rattle.fabric_world.specs.Packets.{PacketOf}
-use Rattle.fabric_world.specs.Fabric.{FabricOf, station, samples_of, has_frame, is_full_at, held_bytes, room}
-use Rattle.fabric_world.specs.Fabric.{clock_due_at, load_due_at, due_command, is_some_spent}
-use Rattle.fabric_world.specs.Agree.{ending_of}
-use Rattle.fabric_world.specs.Lawful.{is_command, is_barred, is_tick_due}
-use Rattle.fabric_world.specs.World.{WorldOf, world_after, handled, life_of}
+use Rattle.fabric_world.specs.World.{WorldOf, world_after, handled}
 use Rattle.fabric_world.specs.Histories.{last_taken}
-
--- The port from which a switch takes next: the lowest one with a frame above the port last taken, else the
--- lowest one with a frame.
-abbrev pub port_above : FabricOf → ℕ → ℕ → Option ℕ
-port_above fabric place last = find (λ port. nat_lt last port && has_frame fabric place port) externals
-
-abbrev pub next_port : FabricOf → ℕ → ℕ → Option ℕ
-next_port fabric place last = option_or (port_above fabric place last) (port_above fabric place 0)
-
--- the next work of a switch whose hand is empty, and its event
-abbrev pub frame_work : Option ℕ → Work
-frame_work None = work.Nothing why.Idle
-frame_work (Some port) = work.Frame port
-
-abbrev pub next_work : WorldOf → ℕ → ℕ → Work
-next_work world place last =
-    if is_some_spent world.fabric then work.Nothing why.Spent
-    else if nat_lt (room world.fabric) 2 then work.Nothing why.Full
-    else if is_command world.fabric (Restart place)
-    then work.Restart (life_of world.fabric.script place ((station world.fabric place).note.life.boot + 1))
-    else if clock_due_at world.fabric place then work.Clock world.fabric.tick (samples_of world.fabric place)
-    else frame_work (next_port world.fabric place last)
-
-abbrev pub event_of_work : ℕ → Work → List Event
-event_of_work place (work.Restart life) = Restart place ∷ []
-event_of_work place (work.Clock now samples) = Clock place ∷ []
-event_of_work place (work.Frame port) = Take place port ∷ []
-event_of_work place (work.Nothing reason) = []
-
--- the next thing of the driver, and its event
-abbrev pub first_packet : List PacketOf → Option ℕ
-first_packet [] = None
-first_packet (packet ∷ more) = Some packet.packet
-
-abbrev pub tick_or_wait : Bool → Drive
-tick_or_wait true = drive.Did Tick
-tick_or_wait false = drive.Waits
-
-abbrev pub move_or_tick : Option ℕ → FabricOf → Drive
-move_or_tick (Some packet) fabric = drive.Did (Move packet)
-move_or_tick None fabric = tick_or_wait (is_tick_due fabric)
-
-abbrev pub command_or_move : Option Event → FabricOf → Drive
-command_or_move None fabric = move_or_tick (first_packet fabric.packets) fabric
-command_or_move (Some event) fabric =
-    if is_restart event then move_or_tick (first_packet fabric.packets) fabric else drive.Did event
-
-abbrev pub drive_by : Option Ending → FabricOf → Drive
-drive_by (Some end) fabric = drive.Ended end
-drive_by None fabric = if is_barred fabric then drive.Waits else command_or_move (due_command fabric) fabric
-
-abbrev pub next_drive : FabricOf → Drive
-next_drive fabric = drive_by (ending_of fabric) fabric
-
-abbrev pub event_of_drive : Drive → List Event
-event_of_drive (drive.Did event) = event ∷ []
-event_of_drive drive.Waits = []
-event_of_drive (drive.Ended end) = []
 
 -- what is in hand is bytes of a frame that are no frame
 abbrev pub is_noise : Hand → List ℕ → Bool
@@ -104,13 +38,18 @@ is_noise hand.Empty bytes = false
 is_noise (hand.Clock now samples) bytes = false
 is_noise (hand.Frame port) bytes = not (is_some (frame_of bytes))
 
+-- These frames go out when a switch handles what it has in hand, and this it shows then.
+pub record Handled (world : WorldOf) (place : ℕ) (frames : List BytesOut) (note : NoteOf)
+    (spent : Bool) : Type 0 where
+  pub full : is_full_at world.fabric place ≡ true
+  pub frames_are : frames ≡ all_spelled (handled place world).frames
+  pub note_is : note ≡ note_of (handled place world).switch
+  pub spent_is : spent ≡ (handled place world).switch.spent
+
 -- This is what came of what a switch had in hand.
 pub record IsDone (world : WorldOf) (place : ℕ) (done : Done) : Type 0 where
-  pub full : is_full_at world.fabric place ≡ true
-  pub frames : done.frames ≡ all_spelled (handled place world).frames
+  pub handled_is : Handled world place done.frames done.note done.spent
   pub noframe : done.noframe ≡ is_noise (station world.fabric place).hand (held_bytes world.fabric place)
-  pub note : done.note ≡ note_of (handled place world).switch
-  pub spent : done.spent ≡ (handled place world).switch.spent
 
 -- This is the table that a switch is to load, and what the switch shows then. That the topology is a graph,
 -- with as many numbers as entries, all different and of 1 to 126, is asked of the caller, who has it of the
@@ -158,7 +97,7 @@ HasBytes (work.Nothing reason) fabric place out = Unit {0}
 -- what is replied, and the history afterwards
 pub record TakesWork (script : ScriptOf) (history : List Event) (place : ℕ) (job : Work) (out : List ℕ)
     (after : List Event) : Type 0 where
-  pub work_is : job ≡ next_work (world_after script history) place (last_taken place history)
+  pub work_is : job ≡ next_work (world_after script history).fabric place (last_taken place history)
   pub event : after ≡ history ++ event_of_work place job
   pub bytes : HasBytes job (world_after script after).fabric place out
 

@@ -2,11 +2,11 @@
 
 use Rattle.std.specs.Prelude.{◌+◌, ℕ, List, [], ◌∷◌, map, length, Option, Some, None, false, if◌then◌else◌}
 use Rattle.std.specs.List.{range_with_len}
-use Rattle.an_base.specs.Values.{LifeId, TopoOf}
+use Rattle.an_base.specs.Values.{TopoOf}
 use Rattle.an_base.specs.declared.event.Event.{Event}
 use Rattle.an_base.specs.declared.event.Event.TheVariants.{Tick, Clock, Take, Handle, Load, Fail, Repair, Lose, Again, Swap, Noise, Send, Move, Restart}
 use Rattle.an_base.specs.declared.frame.Frame.{Frame}
-use Rattle.net_graph.specs.Wires.{uid_of, had_of}
+use Rattle.net_graph.specs.Wires.{had_of}
 use Rattle.net_script.specs.Scripts.{ScriptOf}
 use Rattle.frame_codec.specs.Reading.{frame_of}
 use Rattle.wire_set.specs.WireState.{place as port_place, wire_out, fail_at, repair_at, lose_on, again_on, swap_on}
@@ -15,14 +15,15 @@ use Rattle.switch_core.specs.Switch.{SwitchOf, StartOf, started_as, at_port, fin
 use Rattle.switch_core.specs.Steps.{Step, still, loaded}
 use Rattle.switch_core.specs.Bytes.{all_spelled}
 use Rattle.switch_core.specs.declared.switch.TableFor.{TableFor}
-use Rattle.fabric_world.specs.declared.hand.Hand.{Hand}
-use Rattle.fabric_world.specs.declared.hand.Hand.TheVariants as hand
+use Rattle.fabric_state.specs.declared.hand.Hand.{Hand}
+use Rattle.fabric_state.specs.declared.hand.Hand.TheVariants as hand
 use Rattle.table_build.specs.Made.{table_of, number_in}
+use Rattle.fabric_state.specs.Starts.{life_of}
 use Rattle.fabric_world.specs.Acts.{Clocks, acted, hears}
-use Rattle.fabric_world.specs.Fabric.{FabricOf, StationOf, station, held_bytes}
-use Rattle.fabric_world.specs.Lawful.{is_lawful}
-use Rattle.fabric_world.specs.Effects.{after_tick, after_clock, after_take, after_handle, after_load, after_restart}
-use Rattle.fabric_world.specs.Effects.{on_wires, noise_out, after_send, after_move}
+use Rattle.fabric_state.specs.Fabric.{FabricOf, StationOf, station, held_bytes}
+use Rattle.fabric_state.specs.Lawful.{is_lawful}
+use Rattle.fabric_state.specs.Effects.{after_tick, after_clock, after_take, after_handle, after_load, after_restart}
+use Rattle.fabric_state.specs.Effects.{on_wires, noise_out, after_send, after_move}
 
 -- A network as it stands: its fabric, and all that each switch needs of what happened to it. A switch is
 -- known by its place in the script, from 0.
@@ -31,9 +32,6 @@ pub record WorldOf : Type 0 where
   pub switches : ℕ → SwitchOf
 
 -- what the switch at a place is started with in each of its lives
-abbrev pub life_of : ScriptOf → ℕ → ℕ → LifeId
-life_of script place boot = record { uid = uid_of script.wires.switches place; boot = boot }
-
 abbrev pub start_of : ScriptOf → ℕ → ℕ → StartOf
 start_of script place boot = record {
   life = life_of script place boot;

@@ -1,50 +1,10 @@
 //! What may be asked of a book, and what it replies.
 
-use crate::ending::Ending;
-use an_base::event::Event;
-use an_base::life::Life;
-use an_base::port::{Note, Sample};
+use an_base::port::Note;
+use fabric_state::work::{Drive, Work};
 use frame_region::buffer::FrameBuf;
 use switch_core::out::Frames;
 use switch_core::switch::TableFor;
-
-/// Why there is nothing to be done at a switch.
-#[derive(Clone, Copy, Debug, PartialEq, Eq)]
-pub enum Why {
-    /// A switch is spent.
-    Spent,
-    /// There is no room for an event and what it leads to.
-    Full,
-    /// No clock is due and no frame has come.
-    Idle,
-}
-
-/// What a switch is to do next.
-#[derive(Clone, Copy, Debug)]
-pub enum Work {
-    /// To begin its next life.
-    Restart {
-        /// That life.
-        life: Life,
-    },
-    /// To handle a clock.
-    Clock {
-        /// The tick at which it was taken, 0 to 1,000,000.
-        now: u32,
-        /// What each port shows at that moment, by rising port.
-        samples: [Sample; 12],
-    },
-    /// To handle a frame.
-    Frame {
-        /// The port by which it came, 1 to 12.
-        port: u8,
-    },
-    /// Nothing.
-    Nothing {
-        /// Why.
-        why: Why,
-    },
-}
 
 /// What came of what a switch had in hand.
 #[derive(Debug, Drop)]
@@ -66,17 +26,6 @@ pub enum LoadReply {
     Loaded,
     /// It is handed back.
     NotNow(TableFor),
-}
-
-/// What the driver did.
-#[derive(Clone, Copy, Debug)]
-pub enum Drive {
-    /// This event.
-    Did(Event),
-    /// Nothing, until a switch does something.
-    Waits,
-    /// Nothing, since the history is at its end.
-    Ended(Ending),
 }
 
 /// What a caller asks.

@@ -2,7 +2,7 @@
 //! under events of others. They hold after any events, lawful or not, since an event that is not lawful
 //! changes nothing. The last one has whole histories, one for each end.
 
-ghost use Rattle.std.specs.Prelude.{◌≡◌, ◌≢◌, ◌+◌, ◌==◌, ◌<◌, ◌≤◌, ℕ, List, [], ◌++◌, All, filter, length, is_some, Some, true, false};
+ghost use Rattle.std.specs.Prelude.{◌≡◌, ◌≢◌, ◌+◌, ◌==◌, ◌<◌, ◌≤◌, ℕ, List, [], ◌++◌, All, filter, length, map, is_some, ◌∷◌, Some, None, true, false};
 ghost use Rattle.an_base.specs.Values.{TopoOf};
 ghost use Rattle.an_base.specs.declared.event.Event.{Event};
 ghost use Rattle.an_base.specs.declared.event.Event.TheVariants.{Handle, Load};
@@ -11,13 +11,16 @@ ghost use Rattle.switch_core.specs.Sound.{IsSound};
 ghost use Rattle.switch_core.specs.Switch.{finish_of};
 ghost use Rattle.wire_set.specs.WireState.{hand_of};
 ghost use Rattle.fabric_world.specs.declared.ask.Ask.{Ask};
-ghost use Rattle.fabric_world.specs.declared.ending.Ending.TheVariants as ending;
-ghost use Rattle.fabric_world.specs.Fabric.{is_full_at, load_due_at, station, table_at};
-ghost use Rattle.fabric_world.specs.Agree.{ending_of};
-ghost use Rattle.fabric_world.specs.Lawful.{is_lawful, is_barred};
-ghost use Rattle.fabric_world.specs.World.{world_after};
-ghost use Rattle.fabric_world.specs.Histories.{owner_of};
-ghost use Rattle.fabric_world.specs.Turns.{IsFit, next_work, event_of_work, next_drive, event_of_drive};
+ghost use Rattle.fabric_state.specs.declared.ending.Ending.TheVariants as ending;
+ghost use Rattle.fabric_state.specs.Fabric.{is_full_at, load_due_at, station, table_at};
+ghost use Rattle.fabric_state.specs.Agree.{ending_of};
+ghost use Rattle.fabric_state.specs.Lawful.{is_lawful, is_barred};
+ghost use Rattle.fabric_world.specs.World.{begun, world_after};
+ghost use Rattle.fabric_world.specs.Lines.{all_lines};
+ghost use Rattle.fabric_world.specs.Traces.{moved_line, tells_of_hop, trace_of};
+ghost use Rattle.fabric_world.specs.Histories.{IsLawful, owner_of};
+ghost use Rattle.fabric_state.specs.Choices.{next_work, event_of_work, next_drive, event_of_drive};
+ghost use Rattle.fabric_world.specs.Turns.{IsFit};
 ghost use Rattle.fabric_world.specs.Sound.{IsSoundWorld, HasNext, AllMayCome, TopoFits};
 ghost use Rattle.fabric_world.specs.Examples.{IsWorkedOut};
 ghost use Rattle.fabric_world.specs.Examples.{restart_script, restart_history, restart_lines};
@@ -27,6 +30,8 @@ ghost use Rattle.fabric_world.specs.Examples.{full_script, full_history, full_li
 ghost use Rattle.fabric_world.specs.Examples.{unsettled_script, unsettled_history, unsettled_lines};
 ghost use Rattle.fabric_world.specs.Examples.{told_script, told_history, told_lines};
 ghost use Rattle.fabric_world.specs.Examples.{first_table, second_table};
+ghost use Rattle.fabric_world.specs.Examples.{routed_script, routed_history, routed_lines};
+ghost use Rattle.fabric_world.specs.declared.line.Line.TheVariants as line;
 
 /// After any events of a script that can be, the world is sound.
 pub fn a_world_is_sound()
@@ -69,7 +74,7 @@ pub fn what_a_turn_appends_is_lawful()
     ensures work { (script : ScriptOf) (history : List Event) (place last : ℕ)
         → place < length script.wires.switches → is_full_at (world_after script history).fabric place ≡ false
         → AllMayCome (world_after script history).fabric
-        (event_of_work place (next_work (world_after script history) place last)) }
+        (event_of_work place (next_work (world_after script history).fabric place last)) }
     ensures handle { (script : ScriptOf) (history : List Event) (place : ℕ)
         → place < length script.wires.switches → is_full_at (world_after script history).fabric place ≡ true
         → is_lawful (world_after script history).fabric (Handle place) ≡ true }
@@ -103,9 +108,16 @@ pub fn others_change_nothing_here()
         → IsFit script (history ++ more) caller ask }
 {}
 
+/// What is told of the hops of a packet to other switches, in a lawful history, is its trace.
+pub fn what_is_told_of_hops_is_the_trace()
+    ensures { (script : ScriptOf) (history : List Event) (number : ℕ) → IsLawful script history
+        → filter (tells_of_hop number) (all_lines (begun script) history)
+        ≡ map (moved_line number) (trace_of script history number) }
+{}
+
 /// Of these scripts these histories are lawful and end so, and these lines are told of them: a restart,
-/// packets, an end in each of the four ways, and frames that are lost, copied and exchanged on a link, whose
-/// two switches use these tables then.
+/// packets, an end in each of the four ways, frames that are lost, copied and exchanged on a link, whose two
+/// switches use these tables then, and packets over a link, the first of which has this trace.
 pub fn some_histories_are_worked_out()
     ensures restart { IsWorkedOut restart_script restart_history ending.Settled restart_lines }
     ensures packets { IsWorkedOut packets_script packets_history ending.Settled packets_lines }
@@ -114,6 +126,9 @@ pub fn some_histories_are_worked_out()
     ensures full { IsWorkedOut full_script full_history ending.Full full_lines }
     ensures unsettled { IsWorkedOut unsettled_script unsettled_history ending.Unsettled unsettled_lines }
     ensures told { IsWorkedOut told_script told_history ending.Settled told_lines }
+    ensures routed { IsWorkedOut routed_script routed_history ending.Settled routed_lines }
+    ensures traced { map (moved_line 1) (trace_of routed_script routed_history 1)
+        ≡ line.Moved 1 0 2 11 1 None ∷ [] }
     ensures first { table_at (world_after told_script told_history).fabric 0 ≡ Some first_table }
     ensures second { table_at (world_after told_script told_history).fabric 1 ≡ Some second_table }
 {}

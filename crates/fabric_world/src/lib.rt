@@ -13,8 +13,5 @@
 #![tactic(auto)]
 
 pub mod ask;
-pub mod ending;
-pub mod hand;
-pub mod hop;
 pub mod law;
 pub mod line;

@@ -1,8 +1,8 @@
 //! What is told of an event.
 
-use crate::hop::DropCause;
 use an_base::life::{End, Life};
 use an_base::port::PortState;
+use host_traffic::hop::DropCause;
 use wire_set::side::Loss;
 
 /// One thing that is told of an event.

@@ -1,17 +1,10 @@
 -- What a test keeps of a range of numbers.
-use Rattle.std.proofs.Common.{◌≡◌, ◌∙◌, sym, ap, subst, refl, ℕ, zero, suc, ◌+◌, ◌<◌, ◌≤◌, List, [], ◌∷◌, Bool, true, false, arith, length, get_or, inl, inr, ◌==◌}
+use Rattle.std.proofs.Common.{◌≡◌, ◌∙◌, sym, ap, subst, refl, ℕ, zero, suc, ◌+◌, ◌<◌, ◌≤◌, List, [], ◌∷◌, Bool, true, false, arith, length, get_or, inl, inr}
 use Rattle.std.specs.Prelude.{All, Contains, filter}
 use Rattle.std.specs.List.{range_with_len}
-use Rattle.std.proofs.lemmas.Bool.{cases_Bool, cases_eq}
-use Rattle.std.proofs.lemmas.Bool.Decides.{nat_tests}
+use Rattle.std.proofs.lemmas.Bool.{cases_Bool, cases_eq, eqb-true}
 use Rattle.std.proofs.lemmas.List.Elements.{filter_passes}
 use Rattle.an_base.specs.Rows.{ExitsRise}
-
-pub equal : (a b : ℕ) → (a == b) ≡ true → a ≡ b
-equal a b e = grind (arith, nat_tests)
-
-pub equals : (a b : ℕ) → a ≡ b → (a == b) ≡ true
-equals a b e = grind (arith, nat_tests)
 
 -- a rising list is what a test keeps of a range, where the test passes for what the list has
 pub filter_range : (test : ℕ → Bool) (n a : ℕ) (xs : List ℕ) → ExitsRise xs → All (λ x. (a ≤ x) × (x < a + n)) xs → ((p : ℕ) → a ≤ p → Contains xs p → test p ≡ true) → ((p : ℕ) → a ≤ p → test p ≡ true → Contains xs p) → filter test (range_with_len a n) ≡ xs

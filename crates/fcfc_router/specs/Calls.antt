@@ -54,4 +54,5 @@ waits packet (request ∷ waiting) = counts request.packet packet + waits packet
 -- it asked in these calls, and was not granted since
 abbrev pub WaitsSince : List Call → RequestOf → Type 0
 WaitsSince calls request =
-    (before after : List Call) × (calls ≡ before ++ (Ask request ∷ after)) × (granted request.packet after ≡ 0)
+    (before after : List Call) × (calls ≡ before ++ (Ask request ∷ after))
+    × (granted request.packet after ≡ 0)

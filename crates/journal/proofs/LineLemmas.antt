@@ -1,3 +1,4 @@
+-- The first line of bytes, and words of which none is empty.
 use Rattle.std.proofs.Common.{◌≡◌, ◌≢◌, ◌∙◌, sym, ap, refl, ℕ, ◌+◌, ◌-◌, ◌<◌, ◌≤◌, List, [], ◌∷◌, ◌++◌, length, length-take, get_or, take, drop, drop-cons, add-one, Some, None, true, false, eqb, All, arith, map, not, subst, Bor}
 use Rattle.std.specs.List.{position}
 use Rattle.std.proofs.lemmas.Bool.Decides.{Decides-eqb, nat_tests}

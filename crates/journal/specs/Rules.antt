@@ -26,6 +26,7 @@ line_cause script (OnSwitch event name) = name_cause script.switch_names name
 line_cause script (OnPort event name port) =
     option_or (name_cause script.switch_names name) (number_cause 1 12 port)
 line_cause script (OnWire change name port count) =
-    option_or (name_cause script.switch_names name) (option_or (number_cause 1 12 port) (number_cause 1 (most_count change) count))
+    option_or (name_cause script.switch_names name)
+    (option_or (number_cause 1 12 port) (number_cause 1 (most_count change) count))
 line_cause script (Sends host to) =
     option_or (name_cause script.names_of_hosts host) (name_cause script.names_of_hosts to)

@@ -21,7 +21,7 @@ pub record IsJournal (script : ScriptOf) (bytes : List ℕ) (events : List Event
 -- the bytes are a line and what stands after its line feed (10)
 pub record IsFirstLine (bytes line after : List ℕ) : Type 0 where
   pub parts : bytes ≡ line ++ 10 ∷ after
-  pub no_feed : All (λ cause. cause ≢ 10) line
+  pub no_feed : All (λ byte. byte ≢ 10) line
 
 -- the words have no form
 abbrev pub HasNoForm : List (List ℕ) → Type 0

@@ -138,17 +138,16 @@ mod tests {
         read(rt.alloc(), script, bytes)
     }
 
-    fn is_fault(
-        rt: &HostRuntime,
-        script: &Script,
-        bytes: &[u8],
-        number: u32,
-        why: JournalCause,
-    ) -> bool {
-        match read_few(rt, script, bytes) {
-            Err(Refusal::Fault { line, cause }) => line == number && cause == why,
-            _ => false,
+    // Whether the first fault of each of these bytes is in this line and has this cause.
+    fn are_faults(rt: &HostRuntime, cases: &[(&[u8], u32, JournalCause)]) -> Result<bool, Fail> {
+        let script = script(rt)?;
+        for (bytes, number, why) in cases {
+            match read_few(rt, &script, bytes) {
+                Err(Refusal::Fault { line, cause }) if line == *number && cause == *why => {}
+                _ => return Ok(false),
+            }
         }
+        Ok(true)
     }
 
     #[test]
@@ -174,63 +173,40 @@ mod tests {
     }
 
     #[test]
-    fn bytes_without_a_journal_have_a_fault(rt: HostRuntime) -> Result<(), Fail> {
-        let script = script(&rt)?;
-        assert!(rt; is_fault(&rt, &script, b"", 1, JournalCause::NoEnd));
-        assert!(rt; is_fault(&rt, &script, b"journal 1", 1, JournalCause::BadHeader));
-        assert!(rt; is_fault(&rt, &script, b"journal 1\n", 2, JournalCause::NoEnd));
-        assert!(rt;
-            is_fault(
-                &rt,
-                &script,
-                b"journal 1\nend",
-                2,
-                JournalCause::UnknownWord
-            )
-        );
-        Ok(())
-    }
-
-    #[test]
-    fn a_line_may_be_of_no_event(rt: HostRuntime) -> Result<(), Fail> {
-        let script = script(&rt)?;
+    fn each_fault_has_its_line_and_its_cause(rt: HostRuntime) -> Result<(), Fail> {
         let unknown = JournalCause::UnknownWord;
-        assert!(rt; is_fault(&rt, &script, b"journal 1\n\nend\n", 2, unknown));
-        assert!(rt; is_fault(&rt, &script, b"journal 1\ntick\r\nend\n", 2, unknown));
-        assert!(rt; is_fault(&rt, &script, b"journal 1\nclock \nend\n", 2, unknown));
-        assert!(rt; is_fault(&rt, &script, b"journal 1\ntake A 1 1\nend\n", 2, unknown));
-        Ok(())
-    }
-
-    #[test]
-    fn a_field_may_be_wrong(rt: HostRuntime) -> Result<(), Fail> {
-        let script = script(&rt)?;
         let number = JournalCause::BadNumber;
-        assert!(rt;
-            is_fault(
-                &rt,
-                &script,
-                b"journal 1\ntick\ntake A 13\nend\n",
-                3,
-                number
-            )
-        );
-        assert!(rt; is_fault(&rt, &script, b"journal 1\nmove 0\nend\n", 2, number));
         let name = JournalCause::NoSuchName;
-        assert!(rt; is_fault(&rt, &script, b"journal 1\ntake C 13\nend\n", 2, name));
-        assert!(rt; is_fault(&rt, &script, b"journal 1\nsend H A\nend\n", 2, name));
+        assert!(rt;
+            are_faults(
+                &rt,
+                &[
+                    (b"", 1, JournalCause::NoEnd),
+                    (b"journal 1", 1, JournalCause::BadHeader),
+                    (b"journal 1\n", 2, JournalCause::NoEnd),
+                    (b"journal 1\nend", 2, unknown),
+                    (b"journal 1\n\nend\n", 2, unknown),
+                    (b"journal 1\ntick\r\nend\n", 2, unknown),
+                    (b"journal 1\nclock \nend\n", 2, unknown),
+                    (b"journal 1\ntake A 1 1\nend\n", 2, unknown),
+                    (b"journal 1\ntick\ntake A 13\nend\n", 3, number),
+                    (b"journal 1\nmove 0\nend\n", 2, number),
+                    (b"journal 1\ntake C 13\nend\n", 2, name),
+                    (b"journal 1\nsend H A\nend\n", 2, name),
+                ]
+            )?
+        );
         Ok(())
     }
 
     #[test]
     fn a_line_of_201_bytes_is_of_no_event(rt: HostRuntime) -> Result<(), Fail> {
-        let script = script(&rt)?;
         let mut bytes = Vec::from_slice(rt.alloc(), b"journal 1\ntick ")?;
         for _ in 0..196 {
             bytes.push(b'x')?;
         }
         bytes.extend_from_slice(b"\nend\n")?;
-        assert!(rt; is_fault(&rt, &script, &bytes, 2, JournalCause::UnknownWord));
+        assert!(rt; are_faults(&rt, &[(&bytes, 2, JournalCause::UnknownWord)])?);
         Ok(())
     }
 }

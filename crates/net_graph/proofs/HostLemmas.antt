@@ -1,3 +1,4 @@
+-- The place of the first host at a port, and what a push changes of it.
 use Rattle.std.proofs.Common.{◌≡◌, subst, ℕ, ◌+◌, ◌<◌, ◌≤◌, List, [], ◌∷◌, ◌++◌, Some, None, arith, length, length-append, get_or, Contains, Bool, true, false, ◌==◌, ◌&&◌, cond, map}
 use Rattle.std.specs.Prelude.{slice_get, nat_lt, nat_eq}
 use Rattle.std.specs.List.{position_or_len}
@@ -8,7 +9,7 @@ use Rattle.std.proofs.lemmas.List.Quantifiers.{position-Some}
 use Rattle.std.proofs.lemmas.Option.{slice_get-get_or}
 use Rattle.net_graph.specs.declared.wiring.HostOn.{HostOn}
 use Rattle.net_graph.specs.Wires.{host_of, host_end}
-use Rattle.net_graph.proofs.ListLemmas.{Any-from_map}
+use Rattle.an_base.proofs.MemberLemmas.{Any-from_map}
 use Rattle.net_graph.proofs.FarLemmas.{port_is, not_port}
 
 abbrev pub is_at : ℕ → ℕ → HostOn → Bool

@@ -1,4 +1,3 @@
-pub mod ListLemmas
 pub mod FarLemmas
 pub mod HostLemmas
 pub mod WiredLemmas

@@ -10,50 +10,10 @@ use Rattle.an_base.proofs.LifeLemmas.{below_both}
 use Rattle.net_graph.specs.Wires.{Wires, IsWired, network}
 use Rattle.net_graph.specs.Entry.{LeadsOut, AreLinks}
 use Rattle.net_graph.specs.Forest.{IsEntry, IsMember, IsComponent, RootsBelow, IsForest}
-use Rattle.net_graph.proofs.ListLemmas.{Contains-here, Contains-later, Contains-cons_cases}
-use Rattle.an_base.proofs.ListLemmas.{AllPairs-head, AllPairs-tail}
+use Rattle.an_base.proofs.MemberLemmas.{one_rising}
 use Rattle.net_graph.proofs.FarLemmas.{network_closed, far_back}
 use Rattle.net_graph.proofs.WalkLemmas.{walk_back}
 use Rattle.net_graph.proofs.CollectLemmas.{uid_one}
-
--- lists that rise, by an order in which no two of their members are each before the other, are one if they have the same members
-pub one_rising : {X : Type 0} (R : X → X → Type 0) (xs ys : List X) → ((x y : X) → Contains xs x → Contains xs y → R x y → R y x → ⊥) → AllPairs R xs → AllPairs R ys → ((x : X) → Contains xs x → Contains ys x) → ((y : X) → Contains ys y → Contains xs y) → xs ≡ ys
-one_rising R [] [] one xs_rise ys_rise there here = refl
-one_rising R [] (y ∷ ys) one xs_rise ys_rise there here = absurd (let h = here y (Contains-here y ys) in let l = h.1 in omega arith)
-one_rising R (x ∷ xs) [] one xs_rise ys_rise there here = absurd (let h = there x (Contains-here x xs) in let l = h.1 in omega arith)
-one_rising {X = X} R (x ∷ xs) (y ∷ ys) one xs_rise ys_rise there here =
-    ap (λ z. z ∷ xs) same
-    ∙ ap (λ l. y ∷ l) (one_rising R xs ys (λ a b has has'. one a b (Contains-later x a xs has) (Contains-later x b xs has')) (AllPairs-tail R x xs xs_rise) (AllPairs-tail R y ys ys_rise) in_ys in_xs)
-  where
-    before : (z : X) → Contains xs z → R x z
-    before z has = All-contains (R x) xs z (AllPairs-head R x xs xs_rise) has
-
-    after : (z : X) → Contains ys z → R y z
-    after z has = All-contains (R y) ys z (AllPairs-head R y ys ys_rise) has
-
-    not_self : R x x → ⊥
-    not_self at = one x x (Contains-here x xs) (Contains-here x xs) at at
-
-    same : x ≡ y
-    same = elim (Contains-cons_cases y x ys (there x (Contains-here x xs))) [
-      | inl is ↦ sym is
-      | inr later ↦ elim (Contains-cons_cases x y xs (here y (Contains-here y ys))) [
-        | inl is ↦ is
-        | inr later' ↦ absurd (one x y (Contains-here x xs) (Contains-later x y xs later') (before y later') (after x later))
-      ]
-    ]
-
-    in_ys : (z : X) → Contains xs z → Contains ys z
-    in_ys z has = elim (Contains-cons_cases y z ys (there z (Contains-later x z xs has))) [
-      | inl is ↦ absurd (not_self (subst (λ u. R x u) (sym (same ∙ is)) (before z has)))
-      | inr later ↦ later
-    ]
-
-    in_xs : (z : X) → Contains ys z → Contains xs z
-    in_xs z has = elim (Contains-cons_cases x z xs (here z (Contains-later y z ys has))) [
-      | inl is ↦ absurd (not_self (subst (λ u. R u x) (sym same) (subst (λ u. R y u) (sym is) (after z has))))
-      | inr later ↦ later
-    ]
 
 -- a link out of a node is among its links
 link_there : (g : Network) (x : ℕ) (links : List PeerAt) (l : PeerAt) → AreLinks g x links → LeadsOut g x l → Contains links l

@@ -1,5 +1,6 @@
 use Rattle.std.specs.Prelude.{◌≡◌, ℕ, ◌+◌, ◌<◌, ◌≤◌, List, Option, Some, None, slice_index_or}
 use Rattle.an_base.specs.Tree.{Network, Neighbours, Walk, IsDistance}
+use Rattle.an_base.specs.declared.limits.TheConstants.{MOST_LEVEL}
 
 -- The distances of nodes to a root, found round by round.
 
@@ -35,7 +36,7 @@ pub record IsReached (network : Network) (top : ℕ) (levels : List (Option ℕ)
 pub record AreDistances (network : Network) (top : ℕ) (levels : List (Option ℕ)) : Type 0 where
   pub found :
       (node found_level : ℕ) → level_at levels node ≡ Some found_level
-      → IsDistance network node top found_level × (found_level ≤ 125)
+      → IsDistance network node top found_level × (found_level ≤ MOST_LEVEL)
   pub none :
       (node steps : ℕ) → node < network.count → level_at levels node ≡ None → Walk network steps node top → ⊥
 

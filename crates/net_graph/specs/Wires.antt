@@ -2,6 +2,7 @@ use Rattle.std.specs.Prelude.{◌≡◌, ◌≢◌, ◌==◌, ◌&&◌, ◌⊎�
 use Rattle.std.specs.Option.{option_map}
 use Rattle.std.specs.List.{flat_map}
 use Rattle.an_base.specs.Tree.{Network}
+use Rattle.an_base.specs.declared.limits.TheConstants.{LAST_PORT, MOST_NUMBER, MOST_SWITCHES}
 use Rattle.net_graph.specs.declared.wiring.SwitchAt.{SwitchAt}
 use Rattle.net_graph.specs.declared.wiring.LinkAt.{LinkAt}
 use Rattle.net_graph.specs.declared.wiring.HostOn.{HostOn}
@@ -41,27 +42,27 @@ uids wires = map (λ node. node.uid) wires.switches ++ map (λ host. host.uid) w
 pub record IsSwitch (node : SwitchAt) : Type 0 where
   pub uid : node.uid < 2 ^ 48
   pub had_least : 1 ≤ node.had
-  pub had_most : node.had ≤ 126
+  pub had_most : node.had ≤ MOST_NUMBER
 
 -- a link between ports of so many switches
 pub record IsLink (count : ℕ) (link : LinkAt) : Type 0 where
   pub a : link.a < count
   pub b : link.b < count
   pub a_port_least : 1 ≤ link.a_port
-  pub a_port_most : link.a_port ≤ 12
+  pub a_port_most : link.a_port ≤ LAST_PORT
   pub b_port_least : 1 ≤ link.b_port
-  pub b_port_most : link.b_port ≤ 12
+  pub b_port_most : link.b_port ≤ LAST_PORT
 
 -- a host on a port of so many switches
 pub record IsHost (count : ℕ) (host : HostOn) : Type 0 where
   pub uid : host.uid < 2 ^ 48
   pub s : host.s < count
   pub port_least : 1 ≤ host.port
-  pub port_most : host.port ≤ 12
+  pub port_most : host.port ≤ LAST_PORT
 
 -- what every wiring keeps
 pub record IsWired (wires : Wires) : Type 0 where
-  pub count : length wires.switches ≤ 126
+  pub count : length wires.switches ≤ MOST_SWITCHES
   pub host_count : length wires.hosts ≤ 1000
   pub switches : All IsSwitch wires.switches
   pub links : All (IsLink (length wires.switches)) wires.links
@@ -93,7 +94,9 @@ has_other_end link node port = ((link.b == node) && (link.b_port == port))
 abbrev pub far_of : List LinkAt → ℕ → ℕ → Option (ℕ × ℕ)
 far_of [] node port = None
 far_of (link ∷ links) node port =
-    if has_end link node port then Some (link.b, link.b_port) else (if has_other_end link node port then Some (link.a, link.a_port) else far_of links node port)
+    if has_end link node port
+    then Some (link.b, link.b_port)
+    else (if has_other_end link node port then Some (link.a, link.a_port) else far_of links node port)
 
 -- the place of the first host at this port
 abbrev pub host_of : List HostOn → (node port : ℕ) → Option ℕ
@@ -130,14 +133,14 @@ network wires =
 pub record IsFar (count node own_port : ℕ) (far : ℕ × ℕ) : Type 0 where
   pub s_below : node < count
   pub p_least : 1 ≤ own_port
-  pub p_most : own_port ≤ 12
+  pub p_most : own_port ≤ LAST_PORT
   pub below : far.0 < count
   pub port_least : 1 ≤ far.1
-  pub port_most : far.1 ≤ 12
+  pub port_most : far.1 ≤ LAST_PORT
 
 -- the port is one of the wiring's, and so is what is at its far side
 abbrev pub IsWithin : Wires → ℕ → ℕ → Far → Type 0
 IsWithin wires node own_port (Switch other far_port) =
     IsFar (length wires.switches) node own_port (other, far_port)
 IsWithin wires node own_port (HostAt host) =
-    (node < length wires.switches) × (1 ≤ own_port) × (own_port ≤ 12) × (host < length wires.hosts)
+    (node < length wires.switches) × (1 ≤ own_port) × (own_port ≤ LAST_PORT) × (host < length wires.hosts)

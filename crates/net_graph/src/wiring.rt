@@ -1,4 +1,5 @@
 ghost use Rattle.std.specs.Prelude.{◌≡◌, ◌≢◌, ◌<◌, ◌≤◌, ◌^◌, ◌↔◌, [], ◌∷◌, ◌++◌, length, Any, Contains, IfSome, MatchOption, IsTrue, OnOk, OnErr};
+ghost use Rattle.an_base.specs.declared.limits.TheConstants.{MOST_NUMBER, MOST_SWITCHES};
 ghost use Rattle.net_graph.specs.Wires.{a_end, b_end, far_at, far_of, had_of, host_end, IsAtFarSide, IsFar, IsHost, IsLink, IsSwitch, IsWired, IsWithin, network, uid_of, uids, used_ports};
 ghost use Rattle.net_graph.specs.Table.{cell_at, Puts};
 
@@ -6,9 +7,6 @@ use an_base::life::Life;
 use an_base::memory::OutOfMemory;
 use std::alloc::Global;
 use std::marker::Model;
-
-/// The most switches of a network.
-pub const MOST_SWITCHES: usize = 126;
 
 /// The most hosts of a network.
 pub const MOST_HOSTS: usize = 1000;
@@ -188,7 +186,7 @@ impl Wiring {
         requires { s < length self.now.switches }
         ensures had { result ≡ had_of self.now s }
         ensures least { 1 ≤ result }
-        ensures most { result ≤ 126 }
+        ensures most { result ≤ MOST_NUMBER }
     {
         self.switches()[usize::from(s)].had
     }
@@ -242,7 +240,7 @@ impl Wiring {
     /// Adds a switch without links and hosts, at the next place. Where no memory is found nothing is
     /// added.
     pub fn add_switch(&mut self, switch: SwitchAt) -> Result<(), OutOfMemory>
-        requires room { length self.old.switches < 126 }
+        requires room { length self.old.switches < MOST_SWITCHES }
         requires switch { IsSwitch switch }
         requires new { ¬ Contains (uids self.old) switch.uid }
         ensures ok { OnOk result (self.new ≡ record self.old {

@@ -1,3 +1,4 @@
+-- Where the rules find no cause, places and numbers are in their ranges.
 use Rattle.std.proofs.Common.{◌≡◌, ap, refl, ℕ, ◌<◌, ◌≤◌, List, arith, length, Option, None, Bool, true, false, leb, ◌&&◌, is_some}
 use Rattle.std.specs.Prelude.{unwrap_or}
 use Rattle.std.specs.Str.{bytes_eq}

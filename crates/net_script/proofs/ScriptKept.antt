@@ -3,7 +3,7 @@ use Rattle.std.specs.Option.{option_or}
 use Rattle.std.specs.List.{list_all}
 use Rattle.std.specs.Char.{digit_value, is_digit}
 use Rattle.std.specs.Str.Parse.{AllDigits, digits_value}
-use Rattle.std.proofs.lemmas.Bool.{and_parts}
+use Rattle.std.proofs.lemmas.Bool.{and_parts, not-true}
 use Rattle.std.proofs.lemmas.Bool.Decides.{nat_tests, Decides-eqb}
 use Rattle.std.proofs.lemmas.Int.Digits.{digits_value-lt}
 use Rattle.net_graph.specs.Wires.{Wires, far_at, used_ports, uids}
@@ -31,7 +31,7 @@ use Rattle.net_script.specs.Rules.{is_taken, is_uid_taken, place, port_cause, nu
 use Rattle.net_script.specs.Drafts.{start}
 use Rattle.net_script.specs.Texts.{AddsWords, Leads, IsText}
 use Rattle.net_script.proofs.TextLemmas.{AddsRow}
-use Rattle.text_lines.proofs.FaultLemmas.{no_first, holds, not_true}
+use Rattle.text_lines.proofs.FaultLemmas.{no_first, holds}
 use Rattle.net_script.proofs.FieldLemmas.{not_taken, uid_test}
 use Rattle.net_script.proofs.RangeLemmas.{known_low, in_range}
 use Rattle.net_script.proofs.ScriptLemmas.{empty_kept, switch_kept, link_kept, host_kept, command_kept}
@@ -52,7 +52,7 @@ new_name_is s name good =
     let two = no_first (unless (not (is_taken s name)) NameTwice) None one.1 in
     record {
       is_name = holds (is_name name) BadName one.0;
-      is_new = not_taken s name (not_true (is_taken s name) (holds (not (is_taken s name)) NameTwice two.0));
+      is_new = not_taken s name (not-true (is_taken s name) (holds (not (is_taken s name)) NameTwice two.0));
     }
 
 -- hexadecimal digits are digits of base 16
@@ -75,7 +75,7 @@ new_uid_is : (s : ScriptOf) (word : List ℕ) → new_uid_cause s word ≡ None 
 new_uid_is s word good =
     let one = no_first (unless (is_uid word) BadNumber) (option_or (unless (not (is_uid_taken s (uid_value word))) UidTwice) None) good in
     let two = no_first (unless (not (is_uid_taken s (uid_value word))) UidTwice) None one.1 in
-    let free : is_uid_taken s (uid_value word) ≡ false = not_true (is_uid_taken s (uid_value word)) (holds (not (is_uid_taken s (uid_value word))) UidTwice two.0) in
+    let free : is_uid_taken s (uid_value word) ≡ false = not-true (is_uid_taken s (uid_value word)) (holds (not (is_uid_taken s (uid_value word))) UidTwice two.0) in
     (uid_low word (holds (is_uid word) BadNumber one.0), λ has. (let taken : is_uid_taken s (uid_value word) ≡ true = uid_test s (uid_value word) true ((λ t. has), (λ h. refl)) in absurd (cc)))
 
 -- a port
@@ -109,7 +109,7 @@ host_low s word kept known = let low = known_low s.names_of_hosts word known in 
 -- a port that is not used is none of the used ports
 unused : (w : Wires) (s p : ℕ) → not (is_used w s p) ≡ true → ¬ Contains (used_ports w) (s, p)
 unused w s p free has =
-    let no : is_used w s p ≡ false = not_true (is_used w s p) free in
+    let no : is_used w s p ≡ false = not-true (is_used w s p) free in
     let yes : is_used w s p ≡ true = (used_is w s p (far_at w s p) refl).1 has in
     absurd (cc)
 
@@ -147,7 +147,7 @@ link_can s a a_port b b_port kept good =
     let b_range = port_is b_port four.0 in
     record {
       link = record { a = switch_low s a kept one.0; b = switch_low s b kept three.0; a_port_least = a_range.0; a_port_most = a_range.1; b_port_least = b_range.0; b_port_most = b_range.1 };
-      apart = λ same. let no = not_true (eqb l.a l.b && eqb l.a_port l.b_port) others.1 in
+      apart = λ same. let no = not-true (eqb l.a l.b && eqb l.a_port l.b_port) others.1 in
           let yes = port_test l.a l.a_port l.b l.b_port same in absurd (cc);
       a_free = unused s.wires l.a l.a_port parts.0;
       b_free = unused s.wires l.b l.b_port others.0;

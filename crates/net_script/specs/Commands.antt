@@ -2,6 +2,7 @@ use Rattle.std.specs.Prelude.{◌≡◌, ℕ, ◌-◌, ◌<◌, ◌≤◌, Bool,
 use Rattle.std.specs.Option.{option_map_or}
 use Rattle.an_base.specs.declared.event.Event.{Event}
 use Rattle.an_base.specs.declared.event.Event.TheVariants.{Fail, Repair, Lose, Again, Swap, Noise, Send, Restart}
+use Rattle.an_base.specs.declared.limits.TheConstants.{LAST_PORT}
 use Rattle.net_graph.specs.declared.wiring.Far.{Far}
 use Rattle.net_graph.specs.declared.wiring.Far.TheVariants.{Switch, HostAt}
 use Rattle.net_graph.specs.Wires.{Wires, far_at}
@@ -59,7 +60,7 @@ is_linked wires node port = is_switch_far (far_at wires node port)
 pub record IsPort (wires : Wires) (node own_port : ℕ) : Type 0 where
   pub switch : node < length wires.switches
   pub port_least : 1 ≤ own_port
-  pub port_most : own_port ≤ 12
+  pub port_most : own_port ≤ LAST_PORT
 
 -- a port that has a link or a host
 pub record IsUsedPort (wires : Wires) (node own_port : ℕ) : Type 0 where

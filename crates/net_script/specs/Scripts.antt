@@ -1,5 +1,6 @@
 use Rattle.std.specs.Prelude.{◌≡◌, ◌≢◌, ◌<◌, ◌≤◌, ◌+◌, ◌^◌, ℕ, Bool, true, false, List, [], ◌∷◌, ◌++◌, length, All, AllPairs, Option, Some, None, count_by, IfSome, Contains}
 use Rattle.std.specs.List.Sorted.{IsNonDecreasingBy}
+use Rattle.an_base.specs.declared.limits.TheConstants.{MOST_SWITCHES}
 use Rattle.net_graph.specs.declared.wiring.SwitchAt.{SwitchAt}
 use Rattle.net_graph.specs.declared.wiring.LinkAt.{LinkAt}
 use Rattle.net_graph.specs.declared.wiring.HostOn.{HostOn}
@@ -60,7 +61,7 @@ pub record IsScript (script : ScriptOf) : Type 0 where
   pub command_count : length script.commands ≤ 10000
   pub commands : All (IsCommand script.wires) script.commands
   pub times : IsNonDecreasingBy (λ command. command.time) script.commands
-  pub lives : lives_of script ≤ 126
+  pub lives : lives_of script ≤ MOST_SWITCHES
   pub epoch : script.epoch < 2 ^ 64
   pub pace : IsPace script.pace
   pub limits : IsLimits script.limits
@@ -122,7 +123,7 @@ pub record CanAddSwitch (script : ScriptOf) (name : List ℕ) (added : SwitchAt)
   pub new_name : IsNewName script name
   pub switch : IsSwitch added
   pub uid_new : ¬ Contains (uids script.wires) added.uid
-  pub room : lives_of script < 126
+  pub room : lives_of script < MOST_SWITCHES
 
 -- the script may get this link
 pub record CanAddLink (script : ScriptOf) (added : LinkAt) : Type 0 where
@@ -144,4 +145,4 @@ pub record CanAddCommand (script : ScriptOf) (added : Command) : Type 0 where
   pub command : IsCommand script.wires added
   pub time : last_time script.commands ≤ added.time
   pub room : length script.commands < 10000
-  pub lives : is_restart added.event ≡ true → lives_of script < 126
+  pub lives : is_restart added.event ≡ true → lives_of script < MOST_SWITCHES

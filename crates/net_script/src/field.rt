@@ -2,6 +2,7 @@
 
 ghost use Rattle.std.specs.Prelude.{◌≡◌, ◌≢◌, ◌<◌, ◌≤◌, ◌^◌, not, true, false, length, Contains, IfOk, OnOk};
 ghost use Rattle.std.specs.Option.{option_map};
+ghost use Rattle.an_base.specs.declared.limits.TheConstants.{LAST_PORT, MOST_NUMBER, MOST_SWITCHES};
 ghost use Rattle.net_graph.specs.Wires.{uids, used_ports, a_end, b_end};
 ghost use Rattle.net_script.specs.declared.cause.ScriptCause.TheVariants.{PortUsed, NoLink};
 ghost use Rattle.text_lines.specs.Words.{number_value, uid_value};
@@ -12,7 +13,8 @@ ghost use Rattle.net_script.specs.Rules.{number_cause, port_cause, new_name_caus
 ghost use Rattle.text_lines.specs.Faults.{IsField, IsTest};
 
 use crate::cause::ScriptCause;
-use crate::script::{MOST_COMMANDS, MOST_LIVES, MOST_TIME, Script};
+use crate::script::{MOST_COMMANDS, MOST_TIME, Script};
+use an_base::limits::MOST_SWITCHES;
 use net_graph::wiring::{Far, LinkAt, Wiring};
 use text_lines::word::{is_name, is_number, number_between, number_of, uid_of};
 
@@ -27,7 +29,7 @@ pub fn number_in(word: &[u8], least: u64, most: u64) -> Result<u64, ScriptCause>
 /// The port that a word says.
 pub fn port_in(word: &[u8]) -> Result<u8, ScriptCause>
     ensures port { IsField result (port_cause word.now) (number_value word.now) }
-    ensures range { IfOk result (λ p. (1 ≤ p) × (p ≤ 12)) }
+    ensures range { IfOk result (λ p. (1 ≤ p) × (p ≤ LAST_PORT)) }
 {
     if !is_number(word) {
         return Err(ScriptCause::BadNumber);
@@ -107,7 +109,7 @@ pub fn known_host(script: &Script, word: &[u8]) -> Result<u16, ScriptCause>
 pub fn had_in(word: Option<&[u8]>) -> Result<u8, ScriptCause>
     ensures had { IsField result (had_cause (option_map (λ w. w.now) word.entry))
         (had_of (option_map (λ w. w.now) word.entry)) }
-    ensures range { IfOk result (λ n. (1 ≤ n) × (n ≤ 126)) }
+    ensures range { IfOk result (λ n. (1 ≤ n) × (n ≤ MOST_NUMBER)) }
 {
     match word {
         None => Ok(1),
@@ -140,9 +142,9 @@ fn last_time(script: &Script) -> u32
 /// Refuses one more life above the limit.
 pub fn room_for_life(script: &Script) -> Result<(), ScriptCause>
     ensures test { IsTest result (lives_cause script.now) }
-    ensures room { OnOk result (lives_of script.now < 126) }
+    ensures room { OnOk result (lives_of script.now < MOST_SWITCHES) }
 {
-    if script.lives() < MOST_LIVES {
+    if script.lives() < MOST_SWITCHES {
         Ok(())
     } else {
         Err(ScriptCause::TooMany)

@@ -104,7 +104,6 @@ mod tests {
     use super::*;
     use crate::command::Command;
     use an_base::event::Event;
-    use net_graph::wiring::{HostOn, LinkAt, SwitchAt};
     use std::test::Fail;
 
     // Reads bytes of which there are few.
@@ -115,35 +114,12 @@ mod tests {
         read(rt.alloc(), bytes)
     }
 
-    fn is_fault(rt: &HostRuntime, bytes: &[u8], number: u32, why: ScriptCause) -> bool {
-        match read_few(rt, bytes) {
-            Err(Refusal::Fault { line, cause }) => line == number && cause == why,
-            _ => false,
-        }
-    }
-
     #[test]
     fn what_lines_say_is_in_the_script(rt: HostRuntime) -> Result<(), Fail> {
         let bytes: &[u8] = b"\n# forms\r\nautonet 1\r\n\tswitch A 00000000000A had 126 # root\n\
             limit blocks 9\nlink A 1 A 12\nhost H 0000000000fF A 2\nat 7 noise A 1 64\n\
             at 1000000 restart A\nend # here\n\n#";
         let script = read_few(&rt, bytes).map_err(|_error| "refused")?;
-        let wiring = script.wiring();
-        let switches = [SwitchAt { uid: 10, had: 126 }];
-        assert_eq!(rt; wiring.switches(), switches.as_slice());
-        let links = [LinkAt {
-            a: 0,
-            a_port: 1,
-            b: 0,
-            b_port: 12,
-        }];
-        assert_eq!(rt; wiring.links(), links.as_slice());
-        let hosts = [HostOn {
-            uid: 255,
-            s: 0,
-            port: 2,
-        }];
-        assert_eq!(rt; wiring.hosts(), hosts.as_slice());
         assert_eq!(rt; script.commands().len(), 2);
         let last = Command {
             time: 1_000_000,
@@ -166,12 +142,5 @@ mod tests {
         assert!(rt; script.pace() == None);
         assert!(rt; !script.any_routes());
         Ok(())
-    }
-
-    #[test]
-    fn a_fault_is_told_with_its_line(rt: HostRuntime) {
-        assert!(rt; is_fault(&rt, b"", 1, ScriptCause::NoEnd));
-        assert!(rt; is_fault(&rt, b"autonet 1\npace 0\nend\n", 2, ScriptCause::BadNumber));
-        assert!(rt; is_fault(&rt, b"autonet 1\nend\nend\n", 3, ScriptCause::AfterEnd));
     }
 }

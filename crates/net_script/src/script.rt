@@ -1,6 +1,7 @@
 //! What a network is made of, and what happens to it.
 
 ghost use Rattle.std.specs.Prelude.{◌≡◌, ◌<◌, ◌≤◌, true, length, OnOk, OnErr, IfSome};
+ghost use Rattle.an_base.specs.declared.limits.TheConstants.{MOST_SWITCHES};
 ghost use Rattle.net_script.specs.Settings.{least_of, most_of};
 ghost use Rattle.net_script.specs.Scripts.{IsScript, CanAddSwitch, CanAddLink, CanAddHost, CanAddCommand, empty_script, restarts_of, lives_of, with_switch, with_link, with_host, with_command, with_setting};
 ghost use Rattle.text_lines.specs.Names.{place_of};
@@ -13,9 +14,6 @@ use net_graph::wiring::{HostOn, LinkAt, SwitchAt, Wiring};
 use std::alloc::Global;
 use std::marker::Model;
 use text_lines::names::Names;
-
-/// The most lives of switches: one for each switch, and one for each restart.
-pub const MOST_LIVES: usize = 126;
 
 /// The most commands.
 pub const MOST_COMMANDS: usize = 10_000;
@@ -172,7 +170,7 @@ impl Script {
     /// How many lives its switches have: one each, and one for each restart, 0 to 126.
     pub fn lives(&self) -> usize
         ensures lives { result ≡ lives_of self.now }
-        ensures most { result ≤ 126 }
+        ensures most { result ≤ MOST_SWITCHES }
     {
         self.wiring().switches().len() + restarts(&self.commands)
     }

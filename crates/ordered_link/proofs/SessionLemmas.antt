@@ -8,6 +8,7 @@ use Rattle.ordered_link.specs.Sending.{Sending, highest, may_send, next_to_send,
 use Rattle.ordered_link.specs.Receiving.{Receiving, last, come, hold, accept, has_come, follow_with}
 use Rattle.ordered_link.specs.Session.{Session, Numbered, IsFrontOf, Event, numbered, put_out, sends, body_comes, ack_comes, happens, run, start}
 use Rattle.ordered_link.specs.Session.Event.{Push, More, Send_again, Body_comes, Follow, Answer, Ack_comes}
+use Rattle.an_base.proofs.TestLemmas.{by_choice}
 
 -- the body with this number, from 1, is this one
 pub record IsBody (pushed : List Body) (k : ℕ) (body : Body) : Type 0 where
@@ -24,11 +25,6 @@ pub record IsSound (w : Session) : Type 0 where
   pub bodies : (i : ℕ) (x : Numbered) → slice_get w.bodies i ≡ Some x → IsBody w.sending.pushed x.k x.body
   pub acks : (i n : ℕ) → slice_get w.acks i ≡ Some n → n ≤ last w.receiving
   pub acked : w.sending.acked ≤ last w.receiving
-
--- both ways of a choice
-by_test : {A : Type 0} (P : A → Type 0) (b : Bool) (x y : A) → (b ≡ true → P x) → (b ≡ false → P y) → P (cond b x y)
-by_test P true x y t f = t refl
-by_test P false x y t f = f refl
 
 chosen : {A : Type 0} (b : Bool) (x y z : A) → cond b x y ≡ z → ((b ≡ true) × (x ≡ z)) ⊎ (y ≡ z)
 chosen true x y z h = inl (refl, h)
@@ -102,28 +98,28 @@ next_least s k h = let e = (cond_some (may_send s) (highest s + 1) k h).1 in ome
 
 -- sending the next body changes neither what was pushed nor what is acknowledged
 pub sent_pushed : (now : ℕ) (s : Sending) → (send_next now s).pushed ≡ s.pushed
-sent_pushed now s = by_test (λ (z : Sending). z.pushed ≡ s.pushed) (may_send s) _ s (λ _. refl) (λ _. refl)
+sent_pushed now s = by_choice (λ (z : Sending). z.pushed ≡ s.pushed) (may_send s) _ s (λ _. refl) (λ _. refl)
 
 pub sent_acked : (now : ℕ) (s : Sending) → (send_next now s).acked ≡ s.acked
-sent_acked now s = by_test (λ (z : Sending). z.acked ≡ s.acked) (may_send s) _ s (λ _. refl) (λ _. refl)
+sent_acked now s = by_choice (λ (z : Sending). z.acked ≡ s.acked) (may_send s) _ s (λ _. refl) (λ _. refl)
 
 pub push_pushed : (b : Body) (now : ℕ) (s : Sending) → (push b now s).pushed ≡ s.pushed ++ b ∷ []
-push_pushed b now s = by_test (λ (z : Sending). z.pushed ≡ s.pushed ++ b ∷ []) (is_waiting s) _ _ (λ _. refl) (λ _. sent_pushed now (with_pushed b s))
+push_pushed b now s = by_choice (λ (z : Sending). z.pushed ≡ s.pushed ++ b ∷ []) (is_waiting s) _ _ (λ _. refl) (λ _. sent_pushed now (with_pushed b s))
 
 pub push_acked : (b : Body) (now : ℕ) (s : Sending) → (push b now s).acked ≡ s.acked
-push_acked b now s = by_test (λ (z : Sending). z.acked ≡ s.acked) (is_waiting s) _ _ (λ _. refl) (λ _. sent_acked now (with_pushed b s))
+push_acked b now s = by_choice (λ (z : Sending). z.acked ≡ s.acked) (is_waiting s) _ _ (λ _. refl) (λ _. sent_acked now (with_pushed b s))
 
 pub push_least : (b : Body) (s : Sending) (k : ℕ) → sent_by_push b s ≡ Some k → 1 ≤ k
-push_least b s k = by_test (λ (o : Option ℕ). o ≡ Some k → 1 ≤ k) (is_waiting s) _ _ (λ _ h. absurd (none-some k h)) (λ _ h. next_least (with_pushed b s) k h)
+push_least b s k = by_choice (λ (o : Option ℕ). o ≡ Some k → 1 ≤ k) (is_waiting s) _ _ (λ _ h. absurd (none-some k h)) (λ _ h. next_least (with_pushed b s) k h)
 
 pub ack_pushed : (n now : ℕ) (s : Sending) → (acknowledge n now s).pushed ≡ s.pushed
-ack_pushed n now s = by_test (λ (z : Sending). z.pushed ≡ s.pushed) (is_outstanding n s) _ s (λ _. sent_pushed now (forget n s)) (λ _. refl)
+ack_pushed n now s = by_choice (λ (z : Sending). z.pushed ≡ s.pushed) (is_outstanding n s) _ s (λ _. sent_pushed now (forget n s)) (λ _. refl)
 
 ack_acked : (n now most : ℕ) (s : Sending) → n ≤ most → s.acked ≤ most → (acknowledge n now s).acked ≤ most
-ack_acked n now most s new old = by_test (λ (z : Sending). z.acked ≤ most) (is_outstanding n s) _ s (λ _. subst (λ a. a ≤ most) (sym (sent_acked now (forget n s))) new) (λ _. old)
+ack_acked n now most s new old = by_choice (λ (z : Sending). z.acked ≤ most) (is_outstanding n s) _ s (λ _. subst (λ a. a ≤ most) (sym (sent_acked now (forget n s))) new) (λ _. old)
 
 pub ack_least : (n : ℕ) (s : Sending) (k : ℕ) → sent_by_ack n s ≡ Some k → 1 ≤ k
-ack_least n s k = by_test (λ (o : Option ℕ). o ≡ Some k → 1 ≤ k) (is_outstanding n s) _ _ (λ _ h. next_least (forget n s) k h) (λ _ h. absurd (none-some k h))
+ack_least n s k = by_choice (λ (o : Option ℕ). o ≡ Some k → 1 ≤ k) (is_outstanding n s) _ _ (λ _ h. next_least (forget n s) k h) (λ _ h. absurd (none-some k h))
 
 -- the wanted body is accepted
 sound_accept : (w : Session) (b : Body) → IsSound w → slice_get w.sending.pushed (last w.receiving) ≡ Some b → IsSound (record w { receiving = accept b w.receiving })
@@ -156,9 +152,9 @@ sound_hold w k o sound new =
 
 sound_come : (w : Session) (k : ℕ) (b : Body) → IsSound w → IsBody w.sending.pushed k b → IsSound (record w { receiving = come k b w.receiving })
 sound_come w k b sound is =
-    by_test P (has_come k r) r _ (λ _. sound) (λ _.
-    by_test P (k == last r + 1) (accept b r) _ (λ wanted. sound_accept w b sound (place wanted)) (λ _.
-    by_test P (nat_le k (last r + 8)) (hold k (Some b) r) r (λ _. sound_hold w k (Some b) sound (λ c h. subst (λ d. IsBody w.sending.pushed k d) (same_Some b c h) is)) (λ _. sound)))
+    by_choice P (has_come k r) r _ (λ _. sound) (λ _.
+    by_choice P (k == last r + 1) (accept b r) _ (λ wanted. sound_accept w b sound (place wanted)) (λ _.
+    by_choice P (nat_le k (last r + 8)) (hold k (Some b) r) r (λ _. sound_hold w k (Some b) sound (λ c h. subst (λ d. IsBody w.sending.pushed k d) (same_Some b c h) is)) (λ _. sound)))
   where
     r : Receiving
     r = w.receiving
@@ -208,7 +204,7 @@ sound_happens (Push b now) w sound =
 sound_happens (More now) w sound =
     sound_sends w (send_next now w.sending) (next_to_send w.sending) [] sound (sent_pushed now w.sending ∙ sym (append-nil w.sending.pushed))
     (subst (λ a. a ≤ last w.receiving) (sym (sent_acked now w.sending)) sound.acked) (next_least w.sending)
-sound_happens (Send_again k now) w sound = by_test IsSound (is_outstanding k w.sending) _ w (λ out. sound_again w k now out sound) (λ _. sound)
+sound_happens (Send_again k now) w sound = by_choice IsSound (is_outstanding k w.sending) _ w (λ out. sound_again w k now out sound) (λ _. sound)
 sound_happens (Body_comes which) w sound = sound_body w which (slice_get w.bodies which) refl sound
 sound_happens Follow w sound = sound_follow w (w.receiving.held (last w.receiving + 1)) refl sound
 sound_happens Answer w sound = sound_answer w sound

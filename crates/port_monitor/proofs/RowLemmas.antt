@@ -13,6 +13,7 @@ use Rattle.port_monitor.specs.declared.port.Phase.TheVariants.{Dead, Checking, H
 use Rattle.port_monitor.specs.declared.port.Port.{Port}
 use Rattle.port_monitor.specs.Ports.{sampled, kept_up, replied_to, speaks, peer_of, peer_by, entered}
 use Rattle.port_monitor.specs.Histories.{History, Sampled, Replied, port_after, answers, answered_by}
+use Rattle.an_base.proofs.TestLemmas.{by_choice}
 
 -- the end that may become the peer answered so many probes in a row, the last one among them
 abbrev IsRow : Option EndId → ℕ → List (Option EndId) → Type 0
@@ -36,10 +37,6 @@ record IsKept (p : Port) (answers : List (Option EndId)) : Type 0 where
   pub silent : IsSilent p.phase p.far.candidate
   pub row : IsRowWhile p.far.conn p.far.candidate p.far.streak answers
 
-by_test : {A : Type 0} (P : A → Type 0) (b : Bool) (x y : A) → (b ≡ true → P x) → (b ≡ false → P y) → P (cond b x y)
-by_test P true x y t f = t refl
-by_test P false x y t f = f refl
-
 -- one more answer of the candidate makes the row longer, and one of another end begins it anew
 longer : (q c : EndId) (streak : ℕ) (answers : List (Option EndId)) → c ≡ q → take streak answers ≡ replicate streak (Some c) → take (streak + 1) (Some q ∷ answers) ≡ replicate (streak + 1) (Some q)
 longer q c streak answers same row =
@@ -50,7 +47,7 @@ longer q c streak answers same row =
 streak_row : (q : EndId) (far : ConnectivityOf) (candidate : Option EndId) (answers : List (Option EndId)) → IsRow candidate far.streak answers → take (cond (is_end candidate q) (far.streak + 1) 1) (Some q ∷ answers) ≡ replicate (cond (is_end candidate q) (far.streak + 1) 1) (Some q)
 streak_row q far None answers row = refl
 streak_row q far (Some c) answers row =
-    by_test (λ n. take n (Some q ∷ answers) ≡ replicate n (Some q)) (is_same_end c q) (far.streak + 1) 1
+    by_choice (λ n. take n (Some q ∷ answers) ≡ replicate n (Some q)) (is_same_end c q) (far.streak + 1) 1
     (λ same. longer q c far.streak answers (same_end_is c q same) row) (λ _. refl)
 
 asked_row : (q : EndId) (far : ConnectivityOf) (answers : List (Option EndId)) → IsRow far.candidate far.streak answers → take (streak_of q far) (Some q ∷ answers) ≡ replicate (streak_of q far) (Some q)
@@ -77,7 +74,7 @@ asked_kept far None answers who row = none_row far.conn
     none_row (Loop peer) = tt
     none_row (Good peer) = tt
 asked_kept far (Some q) answers who row =
-    by_test (IsFar (Some q ∷ answers)) (streak_of q far == hold far.skeptic) _ _
+    by_choice (IsFar (Some q ∷ answers)) (streak_of q far == hold far.skeptic) _ _
     (λ _. met_row (met far.me q) far.me q (Some q) (streak_of q far) (Some q ∷ answers) refl)
     (λ _. row_while far.conn)
   where
@@ -98,8 +95,8 @@ none_row (Loop peer) candidate streak answers none = tt
 none_row (Good peer) candidate streak answers none = tt
 
 held_kept : (peer : EndId) (far : ConnectivityOf) (answer : Option EndId) (answers : List (Option EndId)) → (far.conn ≡ Who → ⊥) → IsFar answers (held_by peer answer far)
-held_kept peer far None answers known = by_test (IsFar answers) far.missed _ _ (λ _. tt) (λ _. known_row far.conn far.candidate far.streak answers known)
-held_kept peer far (Some q) answers known = by_test (IsFar answers) (is_same_end q peer) _ _ (λ _. known_row far.conn far.candidate far.streak answers known) (λ _. tt)
+held_kept peer far None answers known = by_choice (IsFar answers) far.missed _ _ (λ _. tt) (λ _. known_row far.conn far.candidate far.streak answers known)
+held_kept peer far (Some q) answers known = by_choice (IsFar answers) (is_same_end q peer) _ _ (λ _. known_row far.conn far.candidate far.streak answers known) (λ _. tt)
 
 judged_kept : (far : ConnectivityOf) (answers : List (Option EndId)) → IsFar answers far → IsFar (far.answer ∷ answers) (judged far)
 judged_kept far answers kept = by_conn far.conn refl
@@ -113,7 +110,7 @@ judged_kept far answers kept = by_conn far.conn refl
 dead_kept : (p : Port) (answers : List (Option EndId)) (is_host : Bool) → IsSilent Dead p.far.candidate → IsKept (kept_up Dead is_host p) answers
 dead_kept p answers is_host none =
     record {
-      silent = by_test (λ phase. IsSilent phase p.far.candidate) (is_over p.status) Checking Dead (λ _. none) (λ _. none);
+      silent = by_choice (λ phase. IsSilent phase p.far.candidate) (is_over p.status) Checking Dead (λ _. none) (λ _. none);
       row = none_row p.far.conn p.far.candidate p.far.streak answers none;
     }
 
@@ -151,8 +148,8 @@ sampled_kept sample.Switch p answers kept = up_switch p.phase p answers refl kep
 
 replied_kept : (from : EndId) (nonce : ℕ) (p : Port) (answers : List (Option EndId)) → IsKept p answers → IsKept (replied_to from nonce p) answers
 replied_kept from nonce p answers kept =
-    by_test (λ (z : Port). IsKept z answers) (speaks p.phase) _ p
-    (λ _. by_test (λ (far : ConnectivityOf). IsKept (record p { far = far }) answers) (counts nonce p.far) _ p.far
+    by_choice (λ (z : Port). IsKept z answers) (speaks p.phase) _ p
+    (λ _. by_choice (λ (far : ConnectivityOf). IsKept (record p { far = far }) answers) (counts nonce p.far) _ p.far
     (λ _. record { silent = kept.silent; row = kept.row }) (λ _. record { silent = kept.silent; row = kept.row }))
     (λ _. kept)
 
@@ -172,7 +169,7 @@ met_peer false a q h = same_Some a q h
 asked_peer : (far : ConnectivityOf) (answer : Option EndId) (answers : List (Option EndId)) (q : EndId) → far.conn ≡ Who → IsRow far.candidate far.streak answers → peer_by Switch (asked answer far).conn ≡ Some q → HasAnswered q far (answer ∷ answers)
 asked_peer far None answers q who row = λ peer. absurd (none-some q (ap (peer_by Switch) (sym who) ∙ peer))
 asked_peer far (Some a) answers q who row =
-    by_test (λ (z : ConnectivityOf). peer_by Switch z.conn ≡ Some q → HasAnswered q far (Some a ∷ answers)) (streak_of a far == hold far.skeptic) _ _
+    by_choice (λ (z : ConnectivityOf). peer_by Switch z.conn ≡ Some q → HasAnswered q far (Some a ∷ answers)) (streak_of a far == hold far.skeptic) _ _
     (λ enough peer.
     let same = eqb-true (streak_of a far) (hold far.skeptic) enough in
     subst (λ e. HasAnswered e far (Some a ∷ answers)) (met_peer (a.life.uid == far.me.life.uid) a q peer)
@@ -188,7 +185,7 @@ judged_peer far answers q none kept = by_conn far.conn refl
     by_conn (Good peer) is = λ _. absurd (none-some peer (sym none ∙ ap (peer_by Switch) is))
 
 up_peer : (phase : Phase) (is_host : Bool) (s : Sample) (p : Port) (answers : List (Option EndId)) (q : EndId) → p.phase ≡ phase → answered_by s Switch p.far.answer answers ≡ p.far.answer ∷ answers → peer_by phase p.far.conn ≡ None → IsKept p answers → peer_of (kept_up phase is_host p) ≡ Some q → HasAnswered q p.far (answered_by s phase p.far.answer answers)
-up_peer Dead is_host s p answers q is up none kept peer = absurd (by_test (λ phase. peer_by phase p.far.conn ≡ Some q → ⊥) (is_over p.status) Checking Dead (λ _ h. none-some q h) (λ _ h. none-some q h) peer)
+up_peer Dead is_host s p answers q is up none kept peer = absurd (by_choice (λ phase. peer_by phase p.far.conn ≡ Some q → ⊥) (is_over p.status) Checking Dead (λ _ h. none-some q h) (λ _ h. none-some q h) peer)
 up_peer Checking true s p answers q is up none kept peer = absurd (none-some q peer)
 up_peer Checking false s p answers q is up none kept peer = absurd (none-some q peer)
 up_peer Host is_host s p answers q is up none kept peer = absurd (none-some q (ap (λ phase. peer_by phase p.far.conn) (sym is) ∙ peer))

@@ -5,6 +5,7 @@ use Rattle.std.specs.Prelude.{◌≡◌, ◌==◌, ◌-◌, ◌≤◌, ℕ, List
 use Rattle.an_base.specs.Values.{LifeId, EndId, PeerAt}
 use Rattle.an_base.specs.declared.port.Sample.{Sample}
 use Rattle.an_base.specs.declared.port.Sample.TheVariants as sample
+use Rattle.an_base.specs.declared.limits.TheConstants.{LAST_PORT}
 use Rattle.port_monitor.specs.declared.port.Phase.{Phase}
 use Rattle.port_monitor.specs.declared.port.Phase.TheVariants.{Dead, Checking, Host, Switch}
 use Rattle.port_monitor.specs.declared.port.Port.{Port}
@@ -33,7 +34,7 @@ with_happening port happening histories other =
 
 -- the ports 1 to 12 are those of these histories
 pub record IsAfter (monitor : Monitor) (histories : ℕ → History) : Type 0 where
-  pub ports : (port : ℕ) → 1 ≤ port → port ≤ 12
+  pub ports : (port : ℕ) → 1 ≤ port → port ≤ LAST_PORT
       → slice_get monitor.ports (port - 1)
       ≡ Some (port_after (record { life = monitor.life; port = port }) (histories port))
 

@@ -1,4 +1,5 @@
 ghost use Rattle.std.specs.Prelude.{◌≡◌, ◌-◌, ◌<◌, ◌≤◌, ◌^◌, ℕ, [], ◌∷◌, ◌++◌, Some, slice_get, length, All};
+ghost use Rattle.an_base.specs.declared.limits.TheConstants.{LAST_PORT};
 ghost use Rattle.port_monitor.specs.Ports.{link_to, links_from, peer_of, probe_of, reply_to, state_of};
 ghost use Rattle.port_monitor.specs.Histories.{History, IsAfter, Replied, Sampled, links_after, port_after, with_happening};
 
@@ -18,7 +19,7 @@ pub struct Monitor {
 // A port of this life, at the start.
 fn unsampled(life: Life, port: u8) -> Port
     requires least { 1 ≤ port }
-    requires most { port ≤ 12 }
+    requires most { port ≤ LAST_PORT }
     ensures { result ≡ port_after (record { life = life; port = port }) [] }
 {
     Port::new(End::new(life, port))
@@ -53,7 +54,7 @@ impl Monitor {
     /// 2^32 went out before.
     pub fn sample(&mut self, port: u8, sample: Sample) -> Option<u64>
         requires least { 1 ≤ port }
-        requires most { port ≤ 12 }
+        requires most { port ≤ LAST_PORT }
         requires few { (p : Port) → slice_get self.old.ports (port - 1) ≡ Some p → p.far.nonce < 2 ^ 32 }
         ensures life { self.new.life ≡ self.old.life }
         ensures after { (histories : ℕ → History) → IsAfter self.old histories → IsAfter self.new (with_happening port (Sampled sample) histories) }
@@ -66,7 +67,7 @@ impl Monitor {
     /// a host's. Nothing changes.
     pub fn on_probe(&self, port: u8, from: End, nonce: u64) -> Option<Frame>
         requires least { 1 ≤ port }
-        requires most { port ≤ 12 }
+        requires most { port ≤ LAST_PORT }
         ensures { (histories : ℕ → History) → IsAfter self.now histories → result ≡ reply_to (record { life = self.now.life; port = port }) from nonce (port_after (record { life = self.now.life; port = port }) (histories port)) }
     {
         if self.ports[usize::from(port - 1)].speaks() {
@@ -85,7 +86,7 @@ impl Monitor {
     /// probe.
     pub fn on_reply(&mut self, port: u8, from: End, nonce: u64)
         requires least { 1 ≤ port }
-        requires most { port ≤ 12 }
+        requires most { port ≤ LAST_PORT }
         ensures life { self.new.life ≡ self.old.life }
         ensures after { (histories : ℕ → History) → IsAfter self.old histories → IsAfter self.new (with_happening port (Replied from nonce) histories) }
     {
@@ -95,7 +96,7 @@ impl Monitor {
     /// How many probes of a port went out.
     pub fn probes(&self, port: u8) -> u64
         requires least { 1 ≤ port }
-        requires most { port ≤ 12 }
+        requires most { port ≤ LAST_PORT }
         ensures { (p : Port) → slice_get self.now.ports (port - 1) ≡ Some p → result ≡ p.far.nonce }
     {
         self.ports[usize::from(port - 1)].far.nonce()
@@ -104,7 +105,7 @@ impl Monitor {
     /// The state of a port.
     pub fn state(&self, port: u8) -> PortState
         requires least { 1 ≤ port }
-        requires most { port ≤ 12 }
+        requires most { port ≤ LAST_PORT }
         ensures { (histories : ℕ → History) → IsAfter self.now histories → result ≡ state_of (port_after (record { life = self.now.life; port = port }) (histories port)) }
     {
         self.ports[usize::from(port - 1)].state()
@@ -114,7 +115,7 @@ impl Monitor {
     /// that of a good link.
     pub fn peer(&self, port: u8) -> Option<End>
         requires least { 1 ≤ port }
-        requires most { port ≤ 12 }
+        requires most { port ≤ LAST_PORT }
         ensures { (histories : ℕ → History) → IsAfter self.now histories → result ≡ peer_of (port_after (record { life = self.now.life; port = port }) (histories port)) }
     {
         self.ports[usize::from(port - 1)].peer()
@@ -143,7 +144,7 @@ fn links_of(ports: &[Port; 12]) -> Links
 // Adds the link at a port, where it has a peer.
 fn push_link(links: &mut Links, port: u8, peer: Option<End>)
     requires least { 1 ≤ port }
-    requires most { port ≤ 12 }
+    requires most { port ≤ LAST_PORT }
     requires room { length links.old < port }
     requires rising { All (λ l. l.port < port) links.old }
     ensures { links.new ≡ links.old ++ link_to port peer }

@@ -15,7 +15,7 @@ with_replies from (nonce ∷ nonces) history = Replied from nonce ∷ with_repli
 -- this number is among them
 abbrev pub IsAmong : ℕ → List ℕ → Type 0
 IsAmong nonce [] = ⊥
-IsAmong nonce (n ∷ ns) = (n ≡ nonce) ⊎ IsAmong nonce ns
+IsAmong nonce (one ∷ more) = (one ≡ nonce) ⊎ IsAmong nonce more
 
 -- whether a port asks, and is asked, after this history
 abbrev pub Speaks : EndId → History → Type 0
@@ -34,11 +34,13 @@ pub record IsTick (me far : EndId) (before after far_after : History) : Type 0 w
 
 -- So many ticks, one after another, behind what had happened at both ends of a link of two switch ports when
 -- the disturbance was over
-pub data Ticks (a b : EndId) : ℕ → History → History → Type 0 where
-  begins : (at_a at_b : History) → HasNo sample.Host at_a → HasNo sample.Host at_b → Ticks a b 0 at_a at_b
-  one_more : (n : ℕ) (at_a at_b then_a then_b : History) → Ticks a b n at_a at_b
-      → IsTick a b at_a then_a then_b → IsTick b a at_b then_b then_a → Ticks a b (suc n) then_a then_b
+pub data Ticks (end far : EndId) : ℕ → History → History → Type 0 where
+  begins : (here there : History) → HasNo sample.Host here → HasNo sample.Host there
+      → Ticks end far 0 here there
+  one_more : (ticks : ℕ) (here there then_here then_there : History) → Ticks end far ticks here there
+      → IsTick end far here then_here then_there → IsTick far end there then_there then_here
+      → Ticks end far (suc ticks) then_here then_there
 
 -- so many ticks at the link of a host that is up: no frame comes
 abbrev pub AreHostTicks : ℕ → (ℕ → History) → Type 0
-AreHostTicks ticks at = (n : ℕ) → n < ticks → at (suc n) ≡ Sampled sample.Host ∷ at n
+AreHostTicks ticks at = (tick : ℕ) → tick < ticks → at (suc tick) ≡ Sampled sample.Host ∷ at tick

@@ -23,28 +23,28 @@ clocks_by Host status = 0
 clocks_by Switch status = 0
 
 abbrev pub clocks_left : Port → ℕ
-clocks_left p = clocks_by p.phase p.status
+clocks_left port = clocks_by port.phase port.status
 
 -- after how many answers in a row by this end it is the peer for good: another peer is doubted first
 abbrev pub answers_by : EndId → Conn → ConnectivityOf → ℕ
-answers_by e Who far = if is_end far.candidate e then hold far.skeptic - far.streak else hold far.skeptic
-answers_by e (Loop peer) far = if is_same_end e peer then 0 else suc (hold (failed far.skeptic))
-answers_by e (Good peer) far = if is_same_end e peer then 0 else suc (hold (failed far.skeptic))
+answers_by own Who far = if is_end far.candidate own then hold far.skeptic - far.streak else hold far.skeptic
+answers_by own (Loop peer) far = if is_same_end own peer then 0 else suc (hold (failed far.skeptic))
+answers_by own (Good peer) far = if is_same_end own peer then 0 else suc (hold (failed far.skeptic))
 
 abbrev pub answers_left : EndId → ConnectivityOf → ℕ
-answers_left e far = answers_by e far.conn far
+answers_left own far = answers_by own far.conn far
 
 -- no clock had this sample
 abbrev pub HasNo : Sample → History → Type 0
-HasNo s [] = Unit {0}
-HasNo s (Sampled t ∷ history) = (t ≡ s → ⊥) × HasNo s history
-HasNo s (Replied from nonce ∷ history) = HasNo s history
+HasNo wanted [] = Unit {0}
+HasNo wanted (Sampled sample ∷ history) = (sample ≡ wanted → ⊥) × HasNo wanted history
+HasNo wanted (Replied from nonce ∷ history) = HasNo wanted history
 
 -- the state of a port that knows this end
 abbrev pub known_state : EndId → EndId → PortState
 known_state own peer = if peer.life.uid == own.life.uid then state.Loop else state.Good
 
 -- a port knows this end of a switch as the other one: as one of this switch, or of another switch
-pub record Knows (own peer : EndId) (p : Port) : Type 0 where
-  pub state : state_of p ≡ known_state own peer
-  pub peer_is : peer_of p ≡ Some peer
+pub record Knows (own peer : EndId) (port : Port) : Type 0 where
+  pub state : state_of port ≡ known_state own peer
+  pub peer_is : peer_of port ≡ Some peer

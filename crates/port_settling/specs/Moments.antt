@@ -30,77 +30,77 @@ tick_begins here there =
     }
 
 -- nothing else changes than what is under way, and that stays or more comes
-pub record Stays (v w : EndView) : Type 0 where
-  pub probe_stays : IsTrue v.probe → IsTrue w.probe
-  pub reply_stays : IsTrue v.reply → IsTrue w.reply
+pub record Stays (old new : EndView) : Type 0 where
+  pub probe_stays : IsTrue old.probe → IsTrue new.probe
+  pub reply_stays : IsTrue old.reply → IsTrue new.reply
 
 -- this end handles its clock, and its probe goes out and is not lost
-pub record Clocks (own : EndId) (v w : EndView) : Type 0 where
-  pub before : v.has_clocked ≡ false
-  pub is : w
-      ≡ record v {
-        here = Sampled sample.Switch ∷ v.here;
+pub record Clocks (own : EndId) (old new : EndView) : Type 0 where
+  pub before : old.has_clocked ≡ false
+  pub is : new
+      ≡ record old {
+        here = Sampled sample.Switch ∷ old.here;
         has_clocked = true;
-        probe = w.probe;
-        reply = w.reply;
+        probe = new.probe;
+        reply = new.reply;
       }
-  pub probes : Speaks own w.here → IsTrue w.probe
+  pub probes : Speaks own new.here → IsTrue new.probe
 
 -- the far end handles its clock
-pub record FarClocks (v w : EndView) : Type 0 where
-  pub before : v.far_has_clocked ≡ false
-  pub is : w ≡ record v {
-    there = Sampled sample.Switch ∷ v.there;
+pub record FarClocks (old new : EndView) : Type 0 where
+  pub before : old.far_has_clocked ≡ false
+  pub is : new ≡ record old {
+    there = Sampled sample.Switch ∷ old.there;
     far_has_clocked = true;
-    probe = w.probe;
-    reply = w.reply;
+    probe = new.probe;
+    reply = new.reply;
   }
-  pub stays : Stays v w
+  pub stays : Stays old new
 
 -- this end handles a reply of the far end; that to its last probe may be under way no more
-pub record Hears (own far : EndId) (v w : EndView) : Type 0 where
-  pub fresh : v.has_clocked ≡ true
+pub record Hears (own far : EndId) (old new : EndView) : Type 0 where
+  pub fresh : old.has_clocked ≡ true
   pub nonce : ℕ
-  pub is : w ≡ record v { here = Replied far nonce ∷ v.here; probe = w.probe; reply = w.reply }
-  pub probe_stays : IsTrue v.probe → IsTrue w.probe
-  pub reply_stays : IsTrue v.reply → (nonce ≡ nonce_after own v.here) ⊎ IsTrue w.reply
+  pub is : new ≡ record old { here = Replied far nonce ∷ old.here; probe = new.probe; reply = new.reply }
+  pub probe_stays : IsTrue old.probe → IsTrue new.probe
+  pub reply_stays : IsTrue old.reply → (nonce ≡ nonce_after own old.here) ⊎ IsTrue new.reply
 
 -- the far end handles a reply of this one
-pub record FarHears (own : EndId) (v w : EndView) : Type 0 where
-  pub fresh : v.far_has_clocked ≡ true
+pub record FarHears (own : EndId) (old new : EndView) : Type 0 where
+  pub fresh : old.far_has_clocked ≡ true
   pub nonce : ℕ
-  pub is : w ≡ record v { there = Replied own nonce ∷ v.there; probe = w.probe; reply = w.reply }
-  pub stays : Stays v w
+  pub is : new ≡ record old { there = Replied own nonce ∷ old.there; probe = new.probe; reply = new.reply }
+  pub stays : Stays old new
 
 -- the far end handles the last probe of this one, which may be under way no more; where it speaks it replies
-pub record Answers (far : EndId) (v w : EndView) : Type 0 where
-  pub fresh : v.far_has_clocked ≡ true
-  pub is : w ≡ record v { probe = w.probe; reply = w.reply }
-  pub replies : Speaks far v.there → IsTrue w.reply
-  pub reply_stays : IsTrue v.reply → IsTrue w.reply
+pub record Answers (far : EndId) (old new : EndView) : Type 0 where
+  pub fresh : old.far_has_clocked ≡ true
+  pub is : new ≡ record old { probe = new.probe; reply = new.reply }
+  pub replies : Speaks far old.there → IsTrue new.reply
+  pub reply_stays : IsTrue old.reply → IsTrue new.reply
 
 -- whatever else happens on the link
-pub record Passes (v w : EndView) : Type 0 where
-  pub is : w ≡ record v { probe = w.probe; reply = w.reply }
-  pub stays : Stays v w
+pub record Passes (old new : EndView) : Type 0 where
+  pub is : new ≡ record old { probe = new.probe; reply = new.reply }
+  pub stays : Stays old new
 
 -- what may happen at one end; a frame is handled only after the clock of its tick
-pub data Step (own far : EndId) (v w : EndView) : Type 0 where
-  clocks : Clocks own v w → Step own far v w
-  far_clocks : FarClocks v w → Step own far v w
-  hears : Hears own far v w → Step own far v w
-  far_hears : FarHears own v w → Step own far v w
-  answers : Answers far v w → Step own far v w
-  passes : Passes v w → Step own far v w
+pub data Step (own far : EndId) (old new : EndView) : Type 0 where
+  clocks : Clocks own old new → Step own far old new
+  far_clocks : FarClocks old new → Step own far old new
+  hears : Hears own far old new → Step own far old new
+  far_hears : FarHears own old new → Step own far old new
+  answers : Answers far old new → Step own far old new
+  passes : Passes old new → Step own far old new
 
 -- one thing after another
 pub data Run (own far : EndId) : EndView → EndView → Type 0 where
-  rest : (v : EndView) → Run own far v v
-  then_step : (u v w : EndView) → Run own far u v → Step own far v w → Run own far u w
+  rest : (old : EndView) → Run own far old old
+  then_step : (first old new : EndView) → Run own far first old → Step own far old new → Run own far first new
 
 -- both ends have handled their clocks, and nothing is under way
-pub record TickEnds (v : EndView) : Type 0 where
-  pub here : v.has_clocked ≡ true
-  pub there : v.far_has_clocked ≡ true
-  pub no_probe : v.probe ≡ false
-  pub no_reply : v.reply ≡ false
+pub record TickEnds (old : EndView) : Type 0 where
+  pub here : old.has_clocked ≡ true
+  pub there : old.far_has_clocked ≡ true
+  pub no_probe : old.probe ≡ false
+  pub no_reply : old.reply ≡ false

@@ -16,6 +16,7 @@ use Rattle.broadcast_flood.specs.Floods.{IsBroadcast}
 use Rattle.broadcast_flood.specs.declared.hop.FloodHop.{FloodHop}
 use Rattle.report.specs.Floods.{FloodLine, From, Goes, Copies, Last, line_words, flood_lines, member_lines, AreFloods, FloodPart, part_lines, lines_told, flood_text}
 use Rattle.report.proofs.ComponentTree.{component_tree}
+use Rattle.an_base.proofs.ListLemmas.{zip_push}
 
 -- the components of a forest are trees
 pub forest_trees : (wires : Wires) (forest : List (List EntryOf)) → IsWired wires → IsForest wires forest → All IsTree forest
@@ -29,13 +30,6 @@ flood_told script members from hops t0 t1 t2 t3 one two three =
     let head : t1 ≡ t0 ++ lines_told script (From from ∷ []) = one ∙ ap (λ (t : List ℕ). t0 ++ t) (sym (append-nil (line_text (line_words script (From from))))) in
     let rest = text_push (line_words script) (map Goes hops) (Copies members) t1 t2 t3 two three in
     go_on (line_words script) (From from ∷ []) (map Goes hops ++ Copies members ∷ []) t0 t1 t3 head rest
-
--- pairs with one more
-zip_push : {X Y : Type 0} (xs : List X) (ys : List Y) (x : X) (y : Y) → length xs ≡ length ys → zip (xs ++ x ∷ []) (ys ++ y ∷ []) ≡ zip xs ys ++ (x, y) ∷ []
-zip_push [] [] x y same = refl
-zip_push [] (v ∷ ys) x y same = absurd (omega arith)
-zip_push (u ∷ xs) [] x y same = absurd (omega arith)
-zip_push {X} {Y} (u ∷ xs) (v ∷ ys) x y same = ap (λ (ps : List (X × Y)). (u, v) ∷ ps) (zip_push xs ys x y (omega arith))
 
 -- the broadcasts of the members so far, with one more
 pub floods_more : (entries : List EntryOf) (i : ℕ) (floods : List (List FloodHop)) (hops : List FloodHop) → AreFloods entries i floods → IsBroadcast entries (life_at entries i) hops → AreFloods entries (i + 1) (floods ++ hops ∷ [])

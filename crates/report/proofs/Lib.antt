@@ -1,7 +1,6 @@
 pub mod TextLemmas
 pub mod CheckLemmas
 pub mod ComponentLemmas
-pub mod ListLemmas
 pub mod ComponentTree
 pub mod PartLemmas
 pub mod OwnForms
@@ -15,3 +14,7 @@ pub mod OwnLaw
 pub mod OneText
 pub mod FloodLemmas
 pub mod FloodLaws
+pub mod FlowSends
+pub mod FlowTurns
+pub mod FlowTexts
+pub mod FlowLaws

@@ -1,18 +1,15 @@
-use Rattle.std.proofs.Common.{◌≡◌, ◌≢◌, ◌∙◌, inl, inr, sym, ap, subst, refl, ℕ, ◌<◌, List, [], ◌∷◌, ◌++◌, arith, length, map, All, Contains, Option, Bool, true, false, codes}
+use Rattle.std.proofs.Common.{◌≡◌, ◌≢◌, ◌∙◌, inl, inr, sym, ap, subst, refl, ℕ, ◌<◌, List, [], ◌∷◌, ◌++◌, arith, length, map, All, Option, Bool, true, false, codes}
 use Rattle.std.specs.List.{flat_map, range_with_len}
 use Rattle.std.proofs.lemmas.List.{ext_get_or}
-use Rattle.std.proofs.lemmas.List.Elements.{All-head, All-tail, All-contains}
+use Rattle.std.proofs.lemmas.List.Elements.{All-head, All-tail}
 use Rattle.an_base.specs.Values.{EntryOf}
-use Rattle.an_base.specs.Rows.{RowOf}
 use Rattle.an_base.specs.Numbers.{AreNumbers}
 use Rattle.net_graph.specs.declared.wiring.SwitchAt.{SwitchAt}
-use Rattle.net_graph.proofs.OneForest.{one_rising, one_forest_of}
+use Rattle.net_graph.proofs.OneForest.{one_forest_of}
 use Rattle.net_script.specs.Scripts.{ScriptOf, IsScript}
 use Rattle.table_script.specs.Tables.{TablesOf}
 use Rattle.switch_numbering.specs.Numbering.{numbering}
-use Rattle.table_build.specs.Exits.{AreExits, Begins, may_go_up}
-use Rattle.table_build.specs.Tables.{TableOf, IsRow, IsBefore, IsTable}
-use Rattle.table_build.proofs.TableLemmas.{one_number}
+use Rattle.table_build.specs.Tables.{TableOf}
 use Rattle.dep_check.specs.declared.channel.Channel.{Channel}
 use Rattle.dep_check.specs.declared.refusal.CheckRefusal.{CheckRefusal}
 use Rattle.dep_check.specs.declared.refusal.CheckRefusal.TheVariants.{Cycle, NotJoined, IllegalExit, OutOfMemory}
@@ -22,54 +19,15 @@ use Rattle.dep_check.proofs.OneAnswer.{one_ranks, not_refused, one_refusal}
 use Rattle.report.specs.Expect.{Part, AreTables, table_at, expect_text, IsExpectOf}
 use Rattle.report.specs.Check.{numbers_of, rows_of, rank_lines, port_ranks, number_ranks, ranks_text, refusal_line, Ranked, ArePassing, IsRanked, ranked_text, IsRefusedFor, IsJudged}
 use Rattle.report.proofs.PartLemmas.{IsPart, are_parts}
+use Rattle.table_build.proofs.MadeTables.{one_table}
 
 -- ONE TABLE
 
--- the exits towards a member are one list
-one_exits : (es : List EntryOf) (any up : Bool) (x y : ℕ) (ps qs : List ℕ) → AreExits es any up x y ps → AreExits es any up x y qs → ps ≡ qs
-one_exits es any up x y ps qs a b =
-    one_rising (λ p q. p < q) ps qs (λ p q has has' lt gt. omega arith) a.rising b.rising
-    (λ p has. b.whole p (All-contains (Begins es any up x y) ps p a.each has))
-    (λ q has. a.whole q (All-contains (Begins es any up x y) qs q b.each has))
-
--- rows of one entry and one number are one
-one_row : (es : List EntryOf) (numbers : List ℕ) (any : Bool) (x : ℕ) → AreNumbers numbers → length numbers ≡ length es → (q r : RowOf) → IsRow es numbers any x q → IsRow es numbers any x r → q.entry ≡ r.entry → q.to ≡ r.to → q ≡ r
-one_row es numbers any x named count q r is_q is_r entry to =
-    let place : is_q.to ≡ is_r.to = one_number numbers is_q.to is_r.to named (let l = is_q.to_low in omega arith) (let l = is_r.to_low in omega arith) (sym is_q.number ∙ to ∙ is_r.number) in
-    let towards : AreExits es any (may_go_up es x r.entry) x is_r.to q.exits = subst (λ (y : ℕ). AreExits es any (may_go_up es x r.entry) x y q.exits) place (subst (λ (n : ℕ). AreExits es any (may_go_up es x n) x is_q.to q.exits) entry is_q.exits) in
-    let row : ℕ → ℕ → ℕ → List ℕ → RowOf = λ a e n ps. record { at = a; entry = e; to = n; exits = ps } in
-    ap (λ (a : ℕ). row a q.entry q.to q.exits) (is_q.at ∙ sym is_r.at)
-    ∙ ap (λ (e : ℕ). row r.at e q.to q.exits) entry
-    ∙ ap (λ (n : ℕ). row r.at r.entry n q.exits) to
-    ∙ ap (row r.at r.entry r.to) (one_exits es any (may_go_up es x r.entry) x is_r.to q.exits r.exits towards is_r.exits)
-
--- a row of one table is in any other
-row_there : (es : List EntryOf) (numbers : List ℕ) (any : Bool) (x : ℕ) → AreNumbers numbers → length numbers ≡ length es → (t u : TableOf) (r : RowOf) → IsTable es numbers any x t → IsTable es numbers any x u → Contains t.rows r → Contains u.rows r
-row_there es numbers any x named count t u r is_t is_u has =
-    let is = All-contains (IsRow es numbers any x) t.rows r is_t.each has in
-    let there = is_u.whole r.entry is.to is.entry is.to_low is.to_other in
-    let found : Contains u.rows there.1 = (there.0, there.2, there.3) in
-    let other = All-contains (IsRow es numbers any x) u.rows there.1 is_u.each found in
-    subst (Contains u.rows) (one_row es numbers any x named count there.1 r other is there.4.0 (there.4.1 ∙ sym is.number)) found
-
-not_both_before : (a b : RowOf) → IsBefore a b → IsBefore b a → ⊥
-not_both_before a b one two = elim one [
-  | inl lt ↦ elim two [ inl gt ↦ omega arith | inr same ↦ (let e = same.0 in omega arith) ]
-  | inr tie ↦ (let e = tie.0 in let lt = tie.1 in elim two [ inl gt ↦ omega arith | inr same ↦ (let gt = same.1 in omega arith) ])
-]
-
--- a member has one table
-one_table : (es : List EntryOf) (numbers : List ℕ) (any : Bool) (x : ℕ) → AreNumbers numbers → length numbers ≡ length es → (t u : TableOf) → IsTable es numbers any x t → IsTable es numbers any x u → t ≡ u
-one_table es numbers any x named count t u is_t is_u =
-    let rows : t.rows ≡ u.rows = one_rising IsBefore t.rows u.rows (λ a b has has' lt gt. not_both_before a b lt gt) is_t.rising is_u.rising (λ r has. row_there es numbers any x named count t u r is_t is_u has) (λ r has. row_there es numbers any x named count u t r is_u is_t has) in
-    let table : ℕ → List RowOf → TableOf = λ n rs. record { number = n; rows = rs } in
-    ap (λ (n : ℕ). table n t.rows) (is_t.number ∙ sym is_u.number) ∙ ap (table u.number) rows
-
--- so a component has one list of tables
+-- a member has one table, so a component has one list of them
 one_tables : (es : List EntryOf) (any : Bool) (end : ℕ) → AreNumbers (numbering es) → length (numbering es) ≡ length es → (ts us : List TableOf) → AreTables es any end ts → AreTables es any end us → ts ≡ us
 one_tables es any end named count ts us a b =
     ext_get_or (record { number = 0; rows = [] }) ts us (a.count ∙ sym b.count)
-    (λ x low. let within : x < end = (let e = a.count in omega arith) in one_table es (numbering es) any x named count (table_at ts x) (table_at us x) (a.each x within) (b.each x within))
+    (λ x low. let within : x < end = (let e = a.count in omega arith) in one_table es (numbering es) any x (table_at ts x) (table_at us x) named count (a.each x within) (b.each x within))
 
 -- ONE TEXT OF EXPECT
 
@@ -79,7 +37,7 @@ one_part s p q is_p is_q same =
     let tables : AreTables q.entries s.any_routes (length q.entries) p.tables = subst (λ (es : List EntryOf). AreTables es s.any_routes (length es) p.tables) same is_p.tables in
     ap (λ (es : List EntryOf). part es p.tables) same ∙ ap (part q.entries) (one_tables q.entries s.any_routes (length q.entries) is_q.numbers is_q.count p.tables q.tables tables is_q.tables)
 
-one_parts : (s : ScriptOf) (ps qs : List Part) → All (IsPart s) ps → All (IsPart s) qs → map (λ p. p.entries) ps ≡ map (λ p. p.entries) qs → ps ≡ qs
+pub one_parts : (s : ScriptOf) (ps qs : List Part) → All (IsPart s) ps → All (IsPart s) qs → map (λ p. p.entries) ps ≡ map (λ p. p.entries) qs → ps ≡ qs
 one_parts s [] [] is_p is_q same = refl
 one_parts s [] (q ∷ qs) is_p is_q same = absurd (cc)
 one_parts s (p ∷ ps) [] is_p is_q same = absurd (cc)

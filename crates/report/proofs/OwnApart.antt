@@ -17,7 +17,9 @@ use Rattle.an_base.proofs.OrderLaws.{both_least}
 use Rattle.net_graph.specs.Wires.{Wires, IsWired, network}
 use Rattle.net_graph.specs.Forest.{IsMember, IsComponent, RootsBelow}
 use Rattle.an_base.proofs.LifeLemmas.{below_same}
-use Rattle.net_graph.proofs.ListLemmas.{Any-later, Any-cons_cases, Any-weaker}
+use Rattle.an_base.proofs.ListLemmas.{Any-later, Any-cons_cases, Any-weaker, Any-map}
+use Rattle.an_base.proofs.PairLemmas.{AllPairs-map, AllPairs-append}
+use Rattle.an_base.proofs.FlatMapLemmas.{Any-flat_map, AllPairs-flat_map}
 use Rattle.table_script.specs.declared.table_draft.NumberAt.{NumberAt}
 use Rattle.table_script.specs.declared.table_draft.EntryAt.{EntryAt}
 use Rattle.text_lines.specs.Words.{number_value}
@@ -33,10 +35,8 @@ use Rattle.topo_graph.specs.Topology.{nothing, life_at}
 use Rattle.switch_numbering.specs.Numbering.{numbering}
 use Rattle.table_build.specs.Exits.{is_entry}
 use Rattle.table_build.specs.Tables.{TableOf}
-use Rattle.table_build.proofs.ListLemmas.{AllPairs-map, AllPairs-append, Any-map}
 use Rattle.report.specs.Names.{life_text}
 use Rattle.report.specs.Expect.{Part}
-use Rattle.report.proofs.ListLemmas.{Any-flat_map, AllPairs-flat_map}
 use Rattle.report.proofs.OwnForms.{numbers_in, entries_in, AreEntriesApart, AreParts}
 use Rattle.report.specs.Expect.{member_form, number_form, part_forms, expect_forms}
 use Rattle.report.specs.Rows.{row_form, member_rows, table_forms}

@@ -38,8 +38,8 @@ use Rattle.switch_numbering.specs.Numbering.{numbering}
 use Rattle.topo_graph.specs.Topology.{IsGraph, nothing, entry_at, life_at}
 use Rattle.table_build.specs.Exits.{LeadsTo, Begins, may_go_up, is_entry}
 use Rattle.table_build.specs.Tables.{TableOf, IsTable, IsRow, IsBefore}
-use Rattle.table_build.proofs.ListLemmas.{AllPairs-map}
-use Rattle.dep_check.proofs.Pigeons.{pigeons}
+use Rattle.an_base.proofs.PairLemmas.{AllPairs-map}
+use Rattle.an_base.proofs.PigeonLemmas.{pigeons}
 use Rattle.report.specs.Rows.{exits_text, slashed, rows_at}
 use Rattle.report.proofs.OwnForms.{IsPlain, IsPrintedForm, AreParts, IsNamed}
 use Rattle.report.specs.Expect.{parent_words, component_form, member_form, number_form, part_forms, expect_forms}
@@ -50,6 +50,7 @@ use Rattle.report.proofs.TextLemmas.{numbered}
 use Rattle.report.proofs.OwnNames.{life_named}
 use Rattle.report.proofs.ComponentTree.{component_tree}
 use Rattle.report.proofs.PartLemmas.{component_numbering}
+use Rattle.an_base.proofs.FlatMapLemmas.{All-flat_map}
 
 -- THE TEXT OF A PAIR
 
@@ -448,12 +449,7 @@ component_told s r es kept component =
 abbrev IsGood : ScriptOf → TableForm → Type 0
 IsGood s f = IsPrintedForm f × IsPlain s f
 
--- what holds of all of each piece
-all_flat : {X Y : Type 0} (P : Y → Type 0) (f : X → List Y) (xs : List X) → All (λ x. All P (f x)) xs → All P (flat_map f xs)
-all_flat P f [] are = All-nil P
-all_flat P f (x ∷ xs) are = All-append P (f x) (flat_map f xs) (All-head (λ y. All P (f y)) x xs are) (all_flat P f xs (All-tail (λ y. All P (f y)) x xs are))
-
--- and of the two of each pair
+-- what holds of the two of each pair
 all_zip : {X Y : Type 0} (P : X → Type 0) (Q : Y → Type 0) (xs : List X) (ys : List Y) → All P xs → All Q ys → All (λ m. P m.0 × Q m.1) (zip xs ys)
 all_zip P Q [] ys are also = All-nil (λ m. P m.0 × Q m.1)
 all_zip P Q (x ∷ xs) [] are also = All-nil (λ m. P m.0 × Q m.1)
@@ -594,7 +590,7 @@ part_good s p told tables =
 own_good : (s : ScriptOf) (parts : List Part) → AreParts s parts → All (IsGood s) (expect_forms s parts)
 own_good s parts are =
     let entries : Part → List EntryOf = λ p. p.entries in
-    all_flat (IsGood s) (part_forms s) parts (λ i d low.
+    All-flat_map (IsGood s) (part_forms s) parts (λ i d low.
     let component = are.trees.components i d.entries (omega (arith, length-map parts entries)) in
     let at : get_or (map entries parts) i d.entries ≡ (get_or parts i d).entries = get_or-map entries parts i d d.entries low in
     part_good s (get_or parts i d) (component_told s component.0 (get_or parts i d).entries are.kept (subst (IsComponent s.wires component.0) at component.1)) (are.tables i d low))

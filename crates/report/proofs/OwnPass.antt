@@ -1,10 +1,10 @@
-use Rattle.std.proofs.Common.{◌≡◌, ◌∙◌, sym, ap, subst, refl, ℕ, zero, suc, ◌+◌, ◌<◌, ◌==◌, List, [], ◌∷◌, ◌++◌, Option, Some, is_some, Bool, true, false, arith, length, get_or, map, cond, All, AllPairs, Contains, inl, inr, IsTrue}
+use Rattle.std.proofs.Common.{◌≡◌, ◌∙◌, sym, ap, subst, refl, ℕ, zero, suc, ◌+◌, ◌<◌, ◌==◌, List, [], ◌∷◌, ◌++◌, Option, Some, Bool, true, false, arith, length, get_or, map, cond, All, AllPairs, Contains, inl, inr, IsTrue}
 use Rattle.std.specs.Prelude.{filter, find, unwrap_or}
 use Rattle.std.specs.Ordering.{is_le}
 use Rattle.std.specs.Fmt.{decimal}
 use Rattle.std.specs.Option.{option_map}
 use Rattle.std.specs.List.{flat_map, range_with_len, zip}
-use Rattle.std.proofs.lemmas.Bool.{eqb-true, eqb-false, eq-eqb, or_left, or_right}
+use Rattle.std.proofs.lemmas.Bool.{eqb-true, eqb-false, eq-eqb}
 use Rattle.std.proofs.lemmas.List.{get_or-map, get_or_default, length-map, same_lists}
 use Rattle.std.proofs.lemmas.List.Elements.{All-nil, All-cons, All-append, All-map, All-filter, All-weaker, All-contains, filter_passes, Contains-get_or, Contains-append_left, Contains-append_right}
 use Rattle.std.proofs.lemmas.List.Folds.{Any-from_list_any, list_any-from_Any}
@@ -21,8 +21,9 @@ use Rattle.net_graph.proofs.CollectLemmas.{uid_one}
 use Rattle.net_graph.proofs.FarLemmas.{far_back}
 use Rattle.net_graph.proofs.WalkLemmas.{walk_back}
 use Rattle.net_graph.proofs.OneForest.{one_component, one_forest_of}
-use Rattle.net_graph.proofs.ListLemmas.{Contains-here, Contains-later, Contains-cons_cases, Contains-map, Any-from_map}
-use Rattle.an_base.proofs.ListLemmas.{AllPairs-head, AllPairs-tail}
+use Rattle.an_base.proofs.MemberLemmas.{Contains-here, Contains-later, Contains-cons_cases, Contains-map, Any-from_map}
+use Rattle.an_base.proofs.FlatMapLemmas.{All-flat_map}
+use Rattle.an_base.proofs.ListLemmas.{AllPairs-head, AllPairs-tail, Any-map}
 use Rattle.net_graph.specs.declared.wiring.SwitchAt.{SwitchAt}
 use Rattle.table_script.specs.declared.table_draft.NumberAt.{NumberAt}
 use Rattle.net_script.specs.Rules.{place}
@@ -33,23 +34,19 @@ use Rattle.table_script.specs.TableForms.{TableForm, ComponentLine, MemberLine, 
 use Rattle.table_script.specs.TableRules.{row_of, tables_of, AreNumbersApart, number_of as drafted_number}
 use Rattle.text_lines.specs.Words.{number_value}
 use Rattle.text_lines.proofs.SpellLemmas.{decimal_value}
-use Rattle.topo_graph.specs.Topology.{IsGraph, IsTree, nothing, entry_at, life_at, far_of}
+use Rattle.topo_graph.specs.Topology.{IsGraph, IsTree, nothing, entry_at, life_at}
 use Rattle.switch_numbering.specs.Numbering.{numbering}
-use Rattle.table_build.specs.Exits.{IsEntry, is_entry}
+use Rattle.table_build.specs.Exits.{is_entry}
 use Rattle.table_build.specs.Tables.{TableOf, IsRow}
-use Rattle.table_build.proofs.ListLemmas.{Any-map}
 use Rattle.dep_check.specs.declared.refusal.CheckRefusal.{CheckRefusal}
 use Rattle.dep_check.specs.declared.refusal.CheckRefusal.TheVariants.{Cycle, NotJoined, IllegalExit, OutOfMemory}
 use Rattle.dep_check.specs.Channels.{far_at, LeadsTo}
 use Rattle.dep_check.specs.Laws.{AreTables as AllTables}
 use Rattle.dep_check.proofs.TableLaws.{tables_no_cycle, tables_joined, tables_legal}
-use Rattle.dep_check.specs.declared.channel.Channel.{Channel}
-use Rattle.dep_check.specs.Cycles.{HasNoCycle, IsLeastCycle}
 use Rattle.report.specs.Check.{Ranked, number_of, numbers_of, is_member, members_of, is_row_of, renumbered, rows_of, IsJudged, IsRefusedFor}
 use Rattle.report.specs.Expect.{Part, table_at}
 use Rattle.report.specs.Names.{life_text}
 use Rattle.report.specs.Rows.{rows_at}
-use Rattle.report.proofs.ListLemmas.{All-flat_map}
 use Rattle.report.proofs.PartLemmas.{IsPart, are_parts}
 use Rattle.report.proofs.ComponentLemmas.{uid_is, number_is}
 use Rattle.an_base.proofs.WalkLemmas.{walk_then}
@@ -59,31 +56,19 @@ use Rattle.report.specs.Expect.{component_form, member_form, number_form, part_f
 use Rattle.report.specs.Rows.{pair_word, row_form, member_rows, table_forms}
 use Rattle.report.proofs.OwnApart.{own_numbers}
 use Rattle.report.proofs.OwnLines.{pair_says}
+use Rattle.dep_check.proofs.OneAnswer.{no_empty}
+use Rattle.table_build.proofs.MadeTables.{entry_passes, entry_low}
+use Rattle.table_build.proofs.MadeLists.{kept, in_flat}
 
 -- LISTS
 
 -- what passes a test stays among those that do
 Contains-filter : {X : Type 0} (p : X → Bool) (x : X) (xs : List X) → p x ≡ true → Contains xs x → Contains (filter p xs) x
-Contains-filter p x [] is has = absurd (let l = has.1 in omega arith)
-Contains-filter {X} p x (y ∷ ys) is has = go (Contains-filter p x ys is) (p y) refl
-  where
-    go : (Contains ys x → Contains (filter p ys) x) → (b : Bool) → p y ≡ b → Contains (cond b (y ∷ filter p ys) (filter p ys)) x
-    go on true e = elim (Contains-cons_cases y x ys has) [
-      | inl same ↦ subst (λ (z : X). Contains (y ∷ filter p ys) z) same (Contains-here y (filter p ys))
-      | inr later ↦ Contains-later y x (filter p ys) (on later)
-    ]
-    go on false e = elim (Contains-cons_cases y x ys has) [
-      | inl same ↦ absurd (let other = ap p same in cc)
-      | inr later ↦ on later
-    ]
+Contains-filter p x xs is has = kept p xs x has is
 
 -- what one of the lists has they have together
 Contains-flat_map : {X A : Type 0} (f : X → List A) (a : A) (x : X) (xs : List X) → Contains xs x → Contains (f x) a → Contains (flat_map f xs) a
-Contains-flat_map f a x [] has in' = absurd (let l = has.1 in omega arith)
-Contains-flat_map {X} f a x (y ∷ ys) has in' = elim (Contains-cons_cases y x ys has) [
-  | inl same ↦ Contains-append_left (f y) (flat_map f ys) a (subst (λ (z : X). Contains (f z) a) (sym same) in')
-  | inr later ↦ Contains-append_right (f y) (flat_map f ys) a (Contains-flat_map f a x ys later in')
-]
+Contains-flat_map f a x xs has in' = in_flat f xs x a has in'
 
 -- the image of an element is among the images
 Contains-image : {X Y : Type 0} (f : X → Y) (x : X) (xs : List X) → Contains xs x → Contains (map f xs) (f x)
@@ -371,15 +356,6 @@ row_back s parts are p part r is passes =
           (subst (λ (x : RowOf). IsRow q.entries (numbering q.entries) s.any_routes o.place x) (sym row) o.of_table),
     )
 
--- an entry passes the test, and is below 13
-entry_passes : (es : List EntryOf) (x entry : ℕ) → IsEntry es x entry → is_entry es x entry ≡ true
-entry_passes es x entry (inl none) = or_left (entry == 0) (is_some (far_of es x entry)) (eq-eqb entry 0 none)
-entry_passes es x entry (inr (far, e)) = or_right (entry == 0) (is_some (far_of es x entry)) (ap (λ (o : Option (ℕ × ℕ)). is_some o) e)
-
-entry_low : (es : List EntryOf) (x entry : ℕ) → IsGraph es → IsEntry es x entry → entry < 13
-entry_low es x entry graph (inl none) = omega arith
-entry_low es x entry graph (inr (far, e)) = let most = (graph.within x entry far e).port_most in omega arith
-
 -- a row of the table of a member is among the rows, at its switch
 row_said : (s : ScriptOf) (parts : List Part) (are : AreParts s parts) (p : Part) → Contains parts p → (part : IsPart s p) (i : ℕ) (low : i < length p.entries) (r : RowOf) → Contains (table_at p.tables i).rows r → IsRow p.entries (numbering p.entries) s.any_routes i r → Contains (rows_in s (expect_forms s parts)) (record { at = (member_at s p part i low).0; entry = r.entry; to = r.to; exits = r.exits })
 row_said s parts are p there part i low r has is =
@@ -437,11 +413,6 @@ rows_are s parts are p there part = record {
     test = is_row_of (members_of s.wires.switches p.entries)
 
 -- NOTHING IS REFUSED
-
--- the least cycle is a cycle
-no_empty : (Step : Channel → Channel → Type 0) (cs : List Channel) → IsLeastCycle Step cs → HasNoCycle Step → ⊥
-no_empty Step [] a none = a
-no_empty Step (c ∷ cs) a none = none c cs a.from.closed
 
 -- tables that are those of a tree are not refused
 not_refused : (switches : List SwitchAt) (t : TablesOf) (es : List EntryOf) (any : Bool) → IsGraph es → IsTree es → AreNumbers (numbers_of switches t es) → length (numbers_of switches t es) ≡ length es → AllTables es (numbers_of switches t es) any (rows_of switches t es) → (refusal : CheckRefusal) → IsRefusedFor switches t es refusal → ⊥

@@ -19,7 +19,7 @@ use Rattle.table_script.specs.TableTexts.{AddsTable, Told, none_told, AddsToldIn
 use Rattle.table_script.proofs.TableLaws.{AddsTableRow}
 use Rattle.text_lines.proofs.FaultLemmas.{no_first, holds}
 use Rattle.text_lines.proofs.LineLemmas.{is_feed, first_of_parts, parts_some}
-use Rattle.text_lines.proofs.SpellLemmas.{IsWord, lines_of-text}
+use Rattle.text_lines.proofs.SpellLemmas.{IsWord, lines_of-text, no_line as none_of}
 
 -- a byte put before the first of some parts
 onto_append : (x : ℕ) (parts more : List (List ℕ)) → 0 < length parts → onto_first x (parts ++ more) ≡ onto_first x parts ++ more
@@ -46,10 +46,6 @@ lines_append (p ∷ ps) more some =
 feed_lines : (bytes rest : List ℕ) → lines_of (bytes ++ 10 ∷ rest) ≡ map strip_carriage_return (slice_split is_feed bytes) ++ lines_of rest
 unfolding lines_of
 feed_lines bytes rest = ap lines_of_parts (split_append bytes rest) ∙ lines_append (slice_split is_feed bytes) (slice_split is_feed rest) (parts_some rest)
-
-none_of : lines_of [] ≡ []
-unfolding lines_of
-none_of = refl
 
 lines_on : (bytes rest : List ℕ) → lines_of (bytes ++ 10 ∷ rest) ≡ lines_of (bytes ++ 10 ∷ []) ++ lines_of rest
 lines_on bytes rest =

@@ -17,7 +17,7 @@ use Rattle.table_build.specs.Tables.{TableOf, IsTable, IsRow}
 use Rattle.dep_check.specs.Laws.{AreTables as AllTables}
 use Rattle.net_script.specs.Scripts.{ScriptOf, IsScript}
 use Rattle.report.specs.Expect.{Part, AreTables, table_at, all_rows}
-use Rattle.report.proofs.ListLemmas.{All-flat_map, Any-flat_map}
+use Rattle.an_base.proofs.FlatMapLemmas.{All-flat_map, Any-flat_map}
 use Rattle.report.proofs.ComponentTree.{component_tree}
 
 -- what holds of all images holds of the image of each element

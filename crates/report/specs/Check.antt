@@ -130,9 +130,11 @@ abbrev pub IsRefusedFor : List SwitchAt → TablesOf → List EntryOf → CheckR
 IsRefusedFor switches tables entries (Cycle channels) =
     IsRefusal entries (numbers_of switches tables entries) (rows_of switches tables entries) (Cycle channels)
 IsRefusedFor switches tables entries (NotJoined from to at entry) =
-    IsRefusal entries (numbers_of switches tables entries) (rows_of switches tables entries) (NotJoined from to at entry)
+    IsRefusal entries (numbers_of switches tables entries) (rows_of switches tables entries)
+    (NotJoined from to at entry)
 IsRefusedFor switches tables entries (IllegalExit at entry to exit) =
-    IsRefusal entries (numbers_of switches tables entries) (rows_of switches tables entries) (IllegalExit at entry to exit)
+    IsRefusal entries (numbers_of switches tables entries) (rows_of switches tables entries)
+    (IllegalExit at entry to exit)
 IsRefusedFor switches tables entries OutOfMemory = ⊥
 
 -- they are the first that are, by rising root, and the text is the line of why
@@ -151,7 +153,8 @@ abbrev pub IsJudged : ScriptOf → TablesOf → Bool → List ℕ → Type 0
 IsJudged script tables true text = AllPass script tables text
 IsJudged script tables false text = OneIsRefused script tables text
 
--- what comes of judging the tables of a component: where they pass, the text gains their ranks; where they do not, it becomes the line of why
+-- what comes of judging the tables of a component: where they pass, the text gains their ranks; where they do
+-- not, it becomes the line of why
 abbrev pub Judges : ScriptOf → TablesOf → List EntryOf → Bool → (old new : List ℕ) → Type 0
 Judges script tables entries true old new =
     (ranks : List (Option ℕ)) × ArePassing script.wires.switches tables entries ranks

@@ -34,7 +34,8 @@ flood_lines members from hops = From from ∷ (map Goes hops ++ Copies members �
 -- the broadcasts from the first members of a component
 pub record AreFloods (entries : List EntryOf) (end : ℕ) (floods : List (List FloodHop)) : Type 0 where
   pub count : length floods ≡ end
-  pub each : (place : ℕ) → place < end → IsBroadcast entries (life_at entries place) (slice_index_or floods place [])
+  pub each :
+      (place : ℕ) → place < end → IsBroadcast entries (life_at entries place) (slice_index_or floods place [])
 
 -- a component with the broadcasts from its members
 pub record FloodPart : Type 0 where

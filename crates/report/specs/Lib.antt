@@ -2,6 +2,9 @@ pub mod Names
 pub mod Rows
 pub mod Expect
 pub mod Floods
+pub mod Sends
+pub mod Flows
+pub mod FlowRuns
 pub mod Check
 pub mod Decimals
 pub mod Pieces

@@ -417,25 +417,3 @@ pub fn judge(alloc: Global, script: &Script, tables: &Tables) -> Result<Judgemen
     let forest = trees(alloc, script.wiring())?;
     judge_all(alloc, script, tables, &forest)
 }
-
-#[cfg(test)]
-mod tests {
-    use super::*;
-    use std::test::Fail;
-    use table_script::table_reader::read_with_tables;
-
-    #[test]
-    fn the_tables_of_a_lone_switch_pass(rt: HostRuntime) -> Result<(), Fail> {
-        let bytes: &[u8] = b"autonet 1\nswitch A 000000000001\nend\nnumber A 1\nrow A 0\nend\n";
-        if bytes.len() > 1_000 {
-            return Err("long")?;
-        }
-        let Ok((script, tables)) = read_with_tables(rt.alloc(), bytes) else {
-            return Err("refused")?;
-        };
-        let judgement = judge(rt.alloc(), &script, &tables)?;
-        assert!(rt; judgement.passed);
-        assert_eq!(rt; judgement.text.as_slice(), b"ok\n".as_slice());
-        Ok(())
-    }
-}

@@ -196,28 +196,3 @@ pub fn expect(alloc: Global, script: &Script) -> Result<Vec<u8>, OutOfMemory>
     let forest = trees(alloc, script.wiring())?;
     text_of(alloc, script, &forest, script.any_routes())
 }
-
-#[cfg(test)]
-mod tests {
-    use super::*;
-    use net_script::reader::read;
-    use std::test::Fail;
-
-    #[test]
-    fn a_triangle_has_its_tables(rt: HostRuntime) -> Result<(), Fail> {
-        let lines = b"autonet 1\nswitch A 000000000001\nswitch B 000000000002\n\
-switch C 000000000003\nlink A 1 B 1\nlink A 2 C 1\nlink B 2 C 2\nend\n";
-        let Ok(script) = read(rt.alloc(), lines) else {
-            return Err("no script".into());
-        };
-        let text = expect(rt.alloc(), &script)?;
-        let wanted = b"component A members 3\nmember A level 0\n\
-member B level 1 parent A port 1\nmember C level 1 parent A port 1\n\
-number A 1\nnumber B 2\nnumber C 3\n\
-row A 0 2:1 3:2\nrow A 1 2:1 3:2\nrow A 2 2:1 3:2\n\
-row B 0 1:1 3:2\nrow B 1 1:- 3:2\nrow B 2 1:1 3:2\n\
-row C 0 1:1 2:2\nrow C 1 1:- 2:-\nrow C 2 1:- 2:-\nend\n";
-        assert_eq!(rt; text.as_slice(), wanted.as_slice());
-        Ok(())
-    }
-}

@@ -146,23 +146,3 @@ pub fn flood(alloc: Global, script: &Script) -> Result<Vec<u8>, OutOfMemory>
     let forest = trees(alloc, script.wiring())?;
     text_of(alloc, script, &forest)
 }
-
-#[cfg(test)]
-mod tests {
-    use super::*;
-    use net_script::reader::read;
-    use std::test::Fail;
-
-    #[test]
-    fn a_parallel_link_carries_no_broadcast(rt: HostRuntime) -> Result<(), Fail> {
-        let lines = b"autonet 1\nswitch A 000000000001\nswitch B 000000000002\n\
-link A 1 B 2\nlink A 2 B 1\nend\n";
-        let Ok(script) = read(rt.alloc(), lines) else {
-            return Err("no script".into());
-        };
-        let text = flood(rt.alloc(), &script)?;
-        let wanted = b"flood A\ndown A 2\ncopies 2\nflood B\nup B 1\ndown A 2\ncopies 2\nend\n";
-        assert_eq!(rt; text.as_slice(), wanted.as_slice());
-        Ok(())
-    }
-}

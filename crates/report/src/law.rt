@@ -1,7 +1,7 @@
-//! What follows from what is expected of a script, from how its broadcasts go, and from the judgement
-//! of tables.
+//! What follows from what is expected of a script, from how its broadcasts go, from what becomes of its
+//! packets, and from the judgement of tables.
 
-ghost use Rattle.std.specs.Prelude.{◌≡◌, ◌<◌, [], ◌∷◌, ◌++◌, Bool, Contains, length, List, ℕ, false, slice_index_or};
+ghost use Rattle.std.specs.Prelude.{◌≡◌, ◌<◌, ◌≤◌, [], ◌∷◌, ◌++◌, Bool, Contains, length, List, ℕ, false, slice_index_or};
 ghost use Rattle.an_base.specs.Numbers.{AreNumbers};
 ghost use Rattle.net_script.specs.Scripts.{IsScript, ScriptOf};
 ghost use Rattle.table_script.specs.Tables.{TablesOf};
@@ -13,9 +13,15 @@ ghost use Rattle.dep_check.specs.Channels.{far_at, LeadsTo};
 ghost use Rattle.dep_check.specs.Cycles.{HasNoCycle};
 ghost use Rattle.dep_check.specs.Illegal.{AllAreLegal};
 ghost use Rattle.dep_check.specs.Packets.{AllAreJoined};
+ghost use Rattle.dep_check.specs.Tables.{IsSpot};
+ghost use Rattle.dep_check.specs.declared.channel.Channel.{Channel};
+ghost use Rattle.flow_channels.specs.declared.went.Went.{Went};
+ghost use Rattle.flow_channels.specs.Flows.{FlowOf, queue_at};
+ghost use Rattle.flow_channels.specs.Runs.{Turns};
 ghost use Rattle.report.specs.Check.{IsJudged};
 ghost use Rattle.report.specs.Expect.{all_rows, IsExpectOf, Part};
 ghost use Rattle.report.specs.Floods.{FloodPart, IsFloodOf, ReachesAll};
+ghost use Rattle.report.specs.Flows.{entries_of, FlowPart, IsFlowOf, layout_in, start_of};
 
 /// What is expected of a script, for each of its components. The entries are a graph, with each member
 /// at its place in the tree of shortest walks to the least life, and the numbers of the members are
@@ -68,4 +74,19 @@ pub fn each_member_gets_one_copy()
 pub fn one_judgement()
     ensures { (s : ScriptOf) (t : TablesOf) (passed other : Bool) (text out : List ℕ) → IsScript s
         → IsJudged s t passed text → IsJudged s t other out → (passed ≡ other) × (text ≡ out) }
+{}
+
+/// A script has one text of what becomes of its packets, by how many a channel holds.
+pub fn one_flow_text()
+    ensures { (s : ScriptOf) (room : ℕ) (text other : List ℕ) → IsScript s → 1 ≤ room
+        → IsFlowOf s room text → IsFlowOf s room other → text ≡ other }
+{}
+
+/// After the turns that are told of a component, and after any number of the first of them, no channel has
+/// more packets than it holds.
+pub fn no_channel_has_more_than_it_holds()
+    ensures { (s : ScriptOf) (room : ℕ) (text : List ℕ) (is : IsFlowOf s room text) (part : FlowPart)
+        (went : List Went) (flow : FlowOf) (channel : Channel) → IsScript s → 1 ≤ room → Contains is.parts part
+        → Turns (layout_in room part.part) (start_of s (entries_of part)) went flow → IsSpot channel
+        → length (queue_at flow channel) ≤ room }
 {}

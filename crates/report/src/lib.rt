@@ -1,9 +1,10 @@
 //! What is printed of a script.
 //!
-//! It stands on the wiring's trees, on scripts, on routing tables and on broadcasts. Its contract: each
+//! It stands on the wiring's trees, on scripts, on routing tables, on broadcasts and on packets in finite
+//! channels. Its contract: each
 //! text that is printed is a definition of its own, made from the trees of the script's wiring: with the
-//! numbers of their members and the tables of these, with the judgement of given tables, or with the
-//! hops of the broadcasts from the members. What is expected of a script, behind its text, is never
+//! numbers of their members and the tables of these, with the judgement of given tables, with the hops
+//! of the broadcasts from the members, or with what becomes of the packets that the script sends. What is expected of a script, behind its text, is never
 //! refused.
 #![tactic(auto)]
 
@@ -11,6 +12,8 @@ pub mod check;
 mod decimals;
 pub mod expect;
 pub mod flood;
+pub mod flow;
 pub mod law;
 mod piece;
 mod row;
+mod sent;

@@ -54,7 +54,8 @@ switch_form (name, added) = SwitchLine name (hex_text 12 added.uid) (had_word ad
 
 abbrev pub link_form : List (List ℕ) → LinkAt → Form
 link_form names added =
-    LinkLine (slice_index_or names added.a []) (decimal added.a_port) (slice_index_or names added.b []) (decimal added.b_port)
+    LinkLine (slice_index_or names added.a []) (decimal added.a_port) (slice_index_or names added.b [])
+    (decimal added.b_port)
 
 abbrev pub host_form : List (List ℕ) → List ℕ × HostOn → Form
 host_form names (name, added) =

@@ -1,3 +1,4 @@
+-- What a port was told stays with each step of the switch, and its window stays filled.
 use Rattle.std.specs.Prelude.{nat_lt, map}
 use Rattle.std.specs.List.{flat_map}
 use Rattle.std.proofs.Common.{◌≡◌, ◌∙◌, ⊎_elim, sym, subst, refl, ℕ, zero, suc, ◌==◌, ◌&&◌, arith, List, [], ◌∷◌, length, All, Option, Some, None, true, false, cond}

@@ -10,9 +10,10 @@ use Rattle.ordered_link.specs.Sending.{Sending, highest, is_outstanding, is_wait
 use Rattle.ordered_link.specs.Receiving.{Receiving}
 use Rattle.ordered_link.specs.Session.{Numbered, put_out, numbered}
 use Rattle.epoch_core.specs.Log.{OnPort}
-use Rattle.switch_core.specs.Switch.{SwitchOf, at_port}
+use Rattle.switch_core.specs.Switch.{SwitchOf}
 use Rattle.switch_core.specs.Steps.{Step, Sent, still, after, peer_among, carried_to, sends_on, pushed_to, pushed, all_pushed, sends_next, fills}
 use Rattle.session_settling.specs.Moves.{number_of, carried_by, shown, Moves, resting, pushing, going_on, repeating, IsFilledBut, IsFilled, WorksFrom, Works}
+use Rattle.switch_core.proofs.SessionLemmas.{at_the_port, at_other_port}
 
 -- one after the other
 pub moves_then : (now : ℕ) (t u v : Sending) (ks ls : List ℕ) → Moves now t ks u → Moves now u ls v → Moves now t (ks ++ ls) v
@@ -163,12 +164,6 @@ works_on l m n p now t r first next one two =
     let w = works_then l m n p now t r (first.switch.receivings p) first next one two in
     record { tick = w.tick; receivings = w.receivings ∙ one.receivings; moves = w.moves; filled = w.filled }
 
-pub here_is : {A : Type 0} (port : ℕ) (a : A) (f : ℕ → A) → at_port port a f port ≡ a
-here_is port a f = ap (λ b. cond b a (f port)) (eq-eqb port port refl)
-
-pub elsewhere_is : {A : Type 0} (port q : ℕ) (a : A) (f : ℕ → A) → q ≢ port → at_port port a f q ≡ f q
-elsewhere_is port q a f other = ap (λ b. cond b a (f q)) (ne_eqb q port other)
-
 -- the session of a port sends on
 pub sends_here : (m n port : ℕ) (peer : EndId) (from t u : Sending) (out : Option ℕ) (s : SwitchOf)
     → (IsFilledBut m from → IsPushed out u) → (IsFilledBut m from → Moves s.tick from (shown out) t) → (IsFilledBut m from → IsFilledBut n t)
@@ -177,9 +172,9 @@ sends_here m n port peer from t u out s goes moves filled = record {
   tick = refl;
   receivings = refl;
   moves = λ f.
-      subst (λ x. Moves s.tick from (carried_by port (map (carried_to s port peer) (put_out u out))) x) (sym (here_is port t s.sendings))
+      subst (λ x. Moves s.tick from (carried_by port (map (carried_to s port peer) (put_out u out))) x) (sym (at_the_port port t s.sendings))
       (subst (λ ks. Moves s.tick from ks t) (sym (out_here port s peer u out (goes f))) (moves f));
-  filled = λ f. subst (IsFilledBut n) (sym (here_is port t s.sendings)) (filled f);
+  filled = λ f. subst (IsFilledBut n) (sym (at_the_port port t s.sendings)) (filled f);
 }
 
 pub sends_elsewhere : (m p port : ℕ) (peer : EndId) (t : Sending) (xs : List Numbered) (s : SwitchOf) → p ≢ port → Works m m p s (sends_on port peer t xs s)
@@ -187,9 +182,9 @@ sends_elsewhere m p port peer t xs s other = record {
   tick = refl;
   receivings = refl;
   moves = λ f.
-      subst (λ x. Moves s.tick (s.sendings p) (carried_by p (map (carried_to s port peer) xs)) x) (sym (elsewhere_is port p t s.sendings other))
+      subst (λ x. Moves s.tick (s.sendings p) (carried_by p (map (carried_to s port peer) xs)) x) (sym (at_other_port port p t s.sendings other))
       (subst (λ ks. Moves s.tick (s.sendings p) ks (s.sendings p)) (sym (none_elsewhere p port s peer xs other)) (resting (s.sendings p)));
-  filled = λ f. subst (IsFilledBut m) (sym (elsewhere_is port p t s.sendings other)) f;
+  filled = λ f. subst (IsFilledBut m) (sym (at_other_port port p t s.sendings other)) f;
 }
 
 -- a body is pushed

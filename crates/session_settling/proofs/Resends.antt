@@ -11,7 +11,8 @@ use Rattle.switch_core.specs.Switch.{SwitchOf}
 use Rattle.switch_core.specs.Steps.{peer_among, sends_again, all_again, resends_on, all_resent}
 use Rattle.session_settling.specs.Directions.{last_sent}
 use Rattle.session_settling.specs.Moves.{resting, repeating, Works, IsFresh}
-use Rattle.session_settling.proofs.Moves.{works_still, works_on, sends_here, sends_elsewhere, here_is, elsewhere_is, filled_again}
+use Rattle.session_settling.proofs.Moves.{works_still, works_on, sends_here, sends_elsewhere, filled_again}
+use Rattle.switch_core.proofs.SessionLemmas.{at_the_port, at_other_port}
 
 -- all are outstanding
 abbrev AreOut : List ℕ → Sending → Type 0
@@ -120,7 +121,7 @@ due_fresh now t = again_fresh now (due now t) t (due_out now (suc t.acked) t.sen
 again_at : (l : PeerAt) (ks : List ℕ) (s : SwitchOf) → (all_again l ks s).switch.sendings l.port ≡ again_all s.tick ks (s.sendings l.port)
 again_at l [] s = refl
 again_at l (k ∷ ks) s =
-    again_at l ks (sends_again l k s).switch ∙ ap (again_all s.tick ks) (here_is l.port (send_again k s.tick (s.sendings l.port)) s.sendings)
+    again_at l ks (sends_again l k s).switch ∙ ap (again_all s.tick ks) (at_the_port l.port (send_again k s.tick (s.sendings l.port)) s.sendings)
 
 again_works : (p : ℕ) (l : PeerAt) (ks : List ℕ) (s : SwitchOf) → AreOut ks (s.sendings l.port) → Works 0 0 p s (all_again l ks s)
 again_works p l [] s out = works_still 0 p s
@@ -135,7 +136,7 @@ again_works p l (k ∷ ks) s out =
     (filled_again s.tick k 0 t)))
     (λ other. sends_elsewhere 0 p l.port l.peer (send_again k s.tick t) (put_out t (Some k)) s other)
     (cases_eq p l.port))
-    (again_works p l ks (sends_again l k s).switch (subst (AreOut ks) (sym (here_is l.port (send_again k s.tick t) s.sendings)) (all_out_again s.tick k ks t out.1)))
+    (again_works p l ks (sends_again l k s).switch (subst (AreOut ks) (sym (at_the_port l.port (send_again k s.tick t) s.sendings)) (all_out_again s.tick k ks t out.1)))
 
 resends_works : (p : ℕ) (l : PeerAt) (s : SwitchOf) → Works 0 0 p s (resends_on l s)
 resends_works p l s = let t = s.sendings l.port in again_works p l (due s.tick t) s (due_out s.tick (suc t.acked) t.sent t (omega arith) (omega arith))
@@ -153,7 +154,7 @@ fresh_sent now ks t out fresh = again_fresh now ks t out (λ j above below. inl 
 
 again_elsewhere : (p : ℕ) (l : PeerAt) (ks : List ℕ) (s : SwitchOf) → p ≢ l.port → (all_again l ks s).switch.sendings p ≡ s.sendings p
 again_elsewhere p l [] s other = refl
-again_elsewhere p l (k ∷ ks) s other = again_elsewhere p l ks (sends_again l k s).switch other ∙ elsewhere_is l.port p (send_again k s.tick (s.sendings l.port)) s.sendings other
+again_elsewhere p l (k ∷ ks) s other = again_elsewhere p l ks (sends_again l k s).switch other ∙ at_other_port l.port p (send_again k s.tick (s.sendings l.port)) s.sendings other
 
 resends_stay : (p : ℕ) (l : PeerAt) (s : SwitchOf) → IsFresh s.tick (s.sendings p) → IsFresh s.tick ((resends_on l s).switch.sendings p)
 resends_stay p l s fresh =

@@ -19,8 +19,8 @@ use Rattle.ordered_link.specs.Receiving.{accepted_by}
 use Rattle.switch_core.specs.Steps.{Step, still, after, peer_among, pushed_to, pushed, all_pushed, begun, joins, all_added, receives, answers_body, on_carry, framed, sampled_by, sends_again, all_again, resends_on, all_resent, is_change_due, last_epoch, clocked, loaded}
 use Rattle.switch_core.proofs.LawLemmas.{ack_only, ack_elsewhere}
 use Rattle.session_settling.specs.Moves.{AreUnused}
-use Rattle.session_settling.proofs.Moves.{elsewhere_is}
 use Rattle.session_settling.proofs.Steps.{ack_nothing, same_clock, joined_clock, spent_clock}
+use Rattle.switch_core.proofs.SessionLemmas.{at_other_port}
 
 -- the card stays, and so does what is sent at a port without a link
 record Leaves (s : SwitchOf) (step : Step) : Type 0 where
@@ -40,7 +40,7 @@ leaves_pushed : (o : Option EndId) (x : OnPort) (s : SwitchOf) → peer_among s.
 leaves_pushed None x s is = leaves_still s
 leaves_pushed (Some peer) x s is = record {
   card = refl;
-  sent = λ p none. elsewhere_is x.port p _ s.sendings (λ same. none-some peer (sym none ∙ ap (peer_among s.card.links) same ∙ is));
+  sent = λ p none. at_other_port x.port p _ s.sendings (λ same. none-some peer (sym none ∙ ap (peer_among s.card.links) same ∙ is));
 }
 
 leaves_all_pushed : (xs : List OnPort) (s : SwitchOf) → Leaves s (all_pushed xs s)
@@ -57,7 +57,7 @@ again_at_others : (p : ℕ) (l : PeerAt) (ks : List ℕ) (s : SwitchOf) → p �
 again_at_others p l [] s other = (refl, refl)
 again_at_others p l (k ∷ ks) s other =
     let r = again_at_others p l ks (sends_again l k s).switch other in
-    (r.0 ∙ elsewhere_is l.port p _ s.sendings other, r.1)
+    (r.0 ∙ at_other_port l.port p _ s.sendings other, r.1)
 
 resent_at_others : (p : ℕ) (ls : List PeerAt) (s : SwitchOf) → peer_among ls p ≡ None → ((all_resent ls s).switch.sendings p ≡ s.sendings p) × ((all_resent ls s).switch.card ≡ s.card)
 resent_at_others p [] s = λ none. (refl, refl)

@@ -21,155 +21,167 @@ pub record Direction : Type 0 where
 
 -- the tick in which an outstanding body last went out
 abbrev pub last_sent : Sending → ℕ → ℕ
-last_sent s k = slice_index_or s.sent (k - s.acked - 1) 0
+last_sent sending number = slice_index_or sending.sent (number - sending.acked - 1) 0
 
 -- bodies and acknowledgements stay under way, and no others come
-pub record CarriesStay (v w : Direction) : Type 0 where
-  pub carry : (j : ℕ) → IsTrue (w.carry j) → IsTrue (v.carry j)
-  pub carry_on : (j : ℕ) → IsTrue (v.carry j) → IsTrue (w.carry j)
+pub record CarriesStay (old new : Direction) : Type 0 where
+  pub carry : (each : ℕ) → IsTrue (new.carry each) → IsTrue (old.carry each)
+  pub carry_on : (each : ℕ) → IsTrue (old.carry each) → IsTrue (new.carry each)
 
-pub record AcksStay (v w : Direction) : Type 0 where
-  pub ack : (j : ℕ) → IsTrue (w.ack j) → IsTrue (v.ack j)
-  pub ack_on : (j : ℕ) → IsTrue (v.ack j) → IsTrue (w.ack j)
+pub record AcksStay (old new : Direction) : Type 0 where
+  pub ack : (each : ℕ) → IsTrue (new.ack each) → IsTrue (old.ack each)
+  pub ack_on : (each : ℕ) → IsTrue (old.ack each) → IsTrue (new.ack each)
 
 -- the body that goes out, where one does, is under way; from base on it is not lost
-pub record Gains (base : ℕ) (out : Option ℕ) (v w : Direction) : Type 0 where
-  pub carry : (j : ℕ) → IsTrue (w.carry j) → IsTrue (v.carry j) ⊎ (out ≡ Some j)
-  pub carry_on : (j : ℕ) → IsTrue (v.carry j) → IsTrue (w.carry j)
-  pub put : base ≤ v.now → (k : ℕ) → out ≡ Some k → IsTrue (w.carry k)
+pub record Gains (base : ℕ) (out : Option ℕ) (old new : Direction) : Type 0 where
+  pub carry : (each : ℕ) → IsTrue (new.carry each) → IsTrue (old.carry each) ⊎ (out ≡ Some each)
+  pub carry_on : (each : ℕ) → IsTrue (old.carry each) → IsTrue (new.carry each)
+  pub put : base ≤ old.now → (number : ℕ) → out ≡ Some number → IsTrue (new.carry number)
 
 -- a tick: nothing is under way
-pub record Ticks (v w : Direction) : Type 0 where
-  pub before : v.late ≡ 3
-  pub is : w ≡ record v { now = suc v.now; late = 4; carry = w.carry; ack = w.ack }
-  pub carries : CarriesStay v w
-  pub acks : AcksStay v w
-  pub no_carry : (j : ℕ) → IsTrue (v.carry j) → ⊥
-  pub no_ack : (j : ℕ) → IsTrue (v.ack j) → ⊥
+pub record Ticks (old new : Direction) : Type 0 where
+  pub before : old.late ≡ 3
+  pub is : new ≡ record old { now = suc old.now; late = 4; carry = new.carry; ack = new.ack }
+  pub carries : CarriesStay old new
+  pub acks : AcksStay old new
+  pub no_carry : (each : ℕ) → IsTrue (old.carry each) → ⊥
+  pub no_ack : (each : ℕ) → IsTrue (old.ack each) → ⊥
 
 -- the sender's part becomes this, and this body goes out
-pub record Sends (base : ℕ) (sending : Sending) (out : Option ℕ) (v w : Direction) : Type 0 where
-  pub is : w ≡ record v { sending = sending; carry = w.carry; ack = w.ack }
-  pub gains : Gains base out v w
-  pub acks : AcksStay v w
+pub record Sends (base : ℕ) (sending : Sending) (out : Option ℕ) (old new : Direction) : Type 0 where
+  pub is : new ≡ record old { sending = sending; carry = new.carry; ack = new.ack }
+  pub gains : Gains base out old new
+  pub acks : AcksStay old new
 
 -- the sender has sent again what was due at its clock
-pub record Clocked (v w : Direction) : Type 0 where
-  pub is : w ≡ record v { late = 3; carry = w.carry; ack = w.ack }
-  pub done : (k : ℕ) → v.sending.acked < k → k ≤ highest v.sending → v.now ≤ last_sent v.sending k + 3
-  pub carries : CarriesStay v w
-  pub acks : AcksStay v w
+pub record Clocked (old new : Direction) : Type 0 where
+  pub is : new ≡ record old { late = 3; carry = new.carry; ack = new.ack }
+  pub done : (number : ℕ) → old.sending.acked < number → number ≤ highest old.sending
+      → old.now ≤ last_sent old.sending number + 3
+  pub carries : CarriesStay old new
+  pub acks : AcksStay old new
 
 -- an acknowledgement comes, which may be under way no more
-pub record Acked (base n : ℕ) (v w : Direction) : Type 0 where
-  pub there : IsTrue (v.ack n)
-  pub is : w ≡ record v { sending = acknowledge n v.now v.sending; carry = w.carry; ack = w.ack }
-  pub gains : Gains base (sent_by_ack n v.sending) v w
-  pub ack : (j : ℕ) → IsTrue (w.ack j) → IsTrue (v.ack j)
-  pub ack_on : (j : ℕ) → IsTrue (v.ack j) → IsTrue (w.ack j) ⊎ (j ≡ n)
+pub record Acked (base number : ℕ) (old new : Direction) : Type 0 where
+  pub there : IsTrue (old.ack number)
+  pub is : new ≡ record old {
+    sending = acknowledge number old.now old.sending;
+    carry = new.carry;
+    ack = new.ack;
+  }
+  pub gains : Gains base (sent_by_ack number old.sending) old new
+  pub ack : (each : ℕ) → IsTrue (new.ack each) → IsTrue (old.ack each)
+  pub ack_on : (each : ℕ) → IsTrue (old.ack each) → IsTrue (new.ack each) ⊎ (each ≡ number)
 
 -- nothing that counts happens
-pub record Passes (v w : Direction) : Type 0 where
-  pub is : w ≡ record v { carry = w.carry; ack = w.ack }
-  pub carries : CarriesStay v w
-  pub acks : AcksStay v w
+pub record Passes (old new : Direction) : Type 0 where
+  pub is : new ≡ record old { carry = new.carry; ack = new.ack }
+  pub carries : CarriesStay old new
+  pub acks : AcksStay old new
 
 -- before base frames are lost, or come to a port that does not take them
-pub record Drops (base : ℕ) (v w : Direction) : Type 0 where
-  pub early : v.now < base
-  pub is : w ≡ record v { carry = w.carry; ack = w.ack }
-  pub carry : (j : ℕ) → IsTrue (w.carry j) → IsTrue (v.carry j)
-  pub ack : (j : ℕ) → IsTrue (w.ack j) → IsTrue (v.ack j)
+pub record Drops (base : ℕ) (old new : Direction) : Type 0 where
+  pub early : old.now < base
+  pub is : new ≡ record old { carry = new.carry; ack = new.ack }
+  pub carry : (each : ℕ) → IsTrue (new.carry each) → IsTrue (old.carry each)
+  pub ack : (each : ℕ) → IsTrue (new.ack each) → IsTrue (old.ack each)
 
 -- the far end is ahead, and a body is nothing to it
-pub record Ignored (v w : Direction) : Type 0 where
-  pub ahead : v.epoch < v.far_epoch
-  pub is : w ≡ record v { carry = w.carry; ack = w.ack }
-  pub carry : (j : ℕ) → IsTrue (w.carry j) → IsTrue (v.carry j)
-  pub acks : AcksStay v w
+pub record Ignored (old new : Direction) : Type 0 where
+  pub ahead : old.epoch < old.far_epoch
+  pub is : new ≡ record old { carry = new.carry; ack = new.ack }
+  pub carry : (each : ℕ) → IsTrue (new.carry each) → IsTrue (old.carry each)
+  pub acks : AcksStay old new
 
 -- A body comes to the far end, whatever it says, which joins the sender's epoch where it was behind
-pub record Received (base k : ℕ) (body : Body) (v w : Direction) : Type 0 where
-  pub there : IsTrue (v.carry k)
-  pub not_ahead : v.far_epoch ≤ v.epoch
-  pub is : w ≡ record v {
-    far_epoch = v.epoch;
-    receiving = received k body v.receiving;
-    carry = w.carry;
-    ack = w.ack;
+pub record Received (base number : ℕ) (body : Body) (old new : Direction) : Type 0 where
+  pub there : IsTrue (old.carry number)
+  pub not_ahead : old.far_epoch ≤ old.epoch
+  pub is : new ≡ record old {
+    far_epoch = old.epoch;
+    receiving = received number body old.receiving;
+    carry = new.carry;
+    ack = new.ack;
   }
-  pub carry : (j : ℕ) → IsTrue (w.carry j) → IsTrue (v.carry j)
-  pub carry_on : (j : ℕ) → IsTrue (v.carry j) → IsTrue (w.carry j) ⊎ (j ≡ k)
-  pub put : base ≤ v.now → is_acknowledged (verdict k body v.receiving) ≡ true
-      → IsTrue (w.ack (last (received k body v.receiving)))
-  pub ack : (j : ℕ) → IsTrue (w.ack j) → IsTrue (v.ack j) ⊎ (j ≡ last (received k body v.receiving))
-  pub ack_on : (j : ℕ) → IsTrue (v.ack j) → IsTrue (w.ack j)
+  pub carry : (each : ℕ) → IsTrue (new.carry each) → IsTrue (old.carry each)
+  pub carry_on : (each : ℕ) → IsTrue (old.carry each) → IsTrue (new.carry each) ⊎ (each ≡ number)
+  pub put : base ≤ old.now → is_acknowledged (verdict number body old.receiving) ≡ true
+      → IsTrue (new.ack (last (received number body old.receiving)))
+  pub ack : (each : ℕ) → IsTrue (new.ack each)
+      → IsTrue (old.ack each) ⊎ (each ≡ last (received number body old.receiving))
+  pub ack_on : (each : ℕ) → IsTrue (old.ack each) → IsTrue (new.ack each)
 
 -- the far end joins a greater epoch by another of its links, or by a clock
-pub record FarJoins (v w : Direction) : Type 0 where
-  pub greater : v.far_epoch < w.far_epoch
-  pub is : w ≡ record v { far_epoch = w.far_epoch; receiving = untouched; carry = w.carry; ack = w.ack }
-  pub carries : CarriesStay v w
-  pub ack : (j : ℕ) → IsTrue (w.ack j) → IsTrue (v.ack j)
+pub record FarJoins (old new : Direction) : Type 0 where
+  pub greater : old.far_epoch < new.far_epoch
+  pub is : new ≡ record old {
+    far_epoch = new.far_epoch;
+    receiving = untouched;
+    carry = new.carry;
+    ack = new.ack;
+  }
+  pub carries : CarriesStay old new
+  pub ack : (each : ℕ) → IsTrue (new.ack each) → IsTrue (old.ack each)
 
 -- the sender joins a greater epoch, of which the far end has acknowledged nothing; its first bodies go out
 -- next
-pub record Joins (v w : Direction) : Type 0 where
-  pub greater : v.epoch < w.epoch
-  pub is : w ≡ record v {
-    epoch = w.epoch;
+pub record Joins (old new : Direction) : Type 0 where
+  pub greater : old.epoch < new.epoch
+  pub is : new ≡ record old {
+    epoch = new.epoch;
     sending = unused;
-    receiving = w.receiving;
-    carry = w.carry;
-    ack = w.ack;
+    receiving = new.receiving;
+    carry = new.carry;
+    ack = new.ack;
   }
-  pub behind : v.far_epoch < w.epoch → w.receiving ≡ untouched
-  pub there : w.epoch ≤ v.far_epoch → w.receiving ≡ v.receiving
-  pub no_carry : (j : ℕ) → IsTrue (w.carry j) → ⊥
-  pub ack : (j : ℕ) → IsTrue (w.ack j) → (w.epoch ≤ v.far_epoch) × (j ≡ 0)
+  pub behind : old.far_epoch < new.epoch → new.receiving ≡ untouched
+  pub there : new.epoch ≤ old.far_epoch → new.receiving ≡ old.receiving
+  pub no_carry : (each : ℕ) → IsTrue (new.carry each) → ⊥
+  pub ack : (each : ℕ) → IsTrue (new.ack each) → (new.epoch ≤ old.far_epoch) × (each ≡ 0)
 
-pub data Step (base : ℕ) (v w : Direction) : Type 0 where
-  ticks : Ticks v w → Step base v w
-  pushes : (body : Body) → Sends base (push body v.now v.sending) (sent_by_push body v.sending) v w
-      → Step base v w
-  sends_next : Sends base (send_next v.now v.sending) (next_to_send v.sending) v w → Step base v w
-  sends_again : (k : ℕ) → is_outstanding k v.sending ≡ true
-      → Sends base (send_again k v.now v.sending) (Some k) v w → Step base v w
-  clocked : Clocked v w → Step base v w
-  acks : (n : ℕ) → Acked base n v w → Step base v w
-  passes : Passes v w → Step base v w
-  drops : Drops base v w → Step base v w
-  ignores : Ignored v w → Step base v w
-  receives : (k : ℕ) (body : Body) → Received base k body v w → Step base v w
-  far_joins : FarJoins v w → Step base v w
-  joins : Joins v w → Step base v w
+pub data Step (base : ℕ) (old new : Direction) : Type 0 where
+  ticks : Ticks old new → Step base old new
+  pushes : (body : Body) → Sends base (push body old.now old.sending) (sent_by_push body old.sending) old new
+      → Step base old new
+  sends_next : Sends base (send_next old.now old.sending) (next_to_send old.sending) old new
+      → Step base old new
+  sends_again : (number : ℕ) → is_outstanding number old.sending ≡ true
+      → Sends base (send_again number old.now old.sending) (Some number) old new → Step base old new
+  clocked : Clocked old new → Step base old new
+  acks : (number : ℕ) → Acked base number old new → Step base old new
+  passes : Passes old new → Step base old new
+  drops : Drops base old new → Step base old new
+  ignores : Ignored old new → Step base old new
+  receives : (number : ℕ) (body : Body) → Received base number body old new → Step base old new
+  far_joins : FarJoins old new → Step base old new
+  joins : Joins old new → Step base old new
 
 pub data Run (base : ℕ) : Direction → Direction → Type 0 where
-  rest : (v : Direction) → Run base v v
-  then_step : (u v w : Direction) → Run base u v → Step base v w → Run base u w
+  rest : (old : Direction) → Run base old old
+  then_step : (first old new : Direction) → Run base first old → Step base old new → Run base first new
 
 -- the two lives have no session yet
-pub record Starts (v : Direction) : Type 0 where
-  pub sending : v.sending ≡ unused
-  pub receiving : v.receiving ≡ untouched
-  pub no_carry : (j : ℕ) → IsTrue (v.carry j) → ⊥
-  pub no_ack : (j : ℕ) → IsTrue (v.ack j) → ⊥
+pub record Starts (old : Direction) : Type 0 where
+  pub sending : old.sending ≡ unused
+  pub receiving : old.receiving ≡ untouched
+  pub no_carry : (each : ℕ) → IsTrue (old.carry each) → ⊥
+  pub no_ack : (each : ℕ) → IsTrue (old.ack each) → ⊥
 
 -- the end of a tick: the sender has handled its clock, and nothing is under way
-pub record IsStill (v : Direction) : Type 0 where
-  pub late : v.late ≡ 3
-  pub no_carry : (j : ℕ) → IsTrue (v.carry j) → ⊥
-  pub no_ack : (j : ℕ) → IsTrue (v.ack j) → ⊥
+pub record IsStill (old : Direction) : Type 0 where
+  pub late : old.late ≡ 3
+  pub no_carry : (each : ℕ) → IsTrue (old.carry each) → ⊥
+  pub no_ack : (each : ℕ) → IsTrue (old.ack each) → ⊥
 
 -- one of these numbers
 abbrev pub IsOneOf : ℕ → List ℕ → Type 0
-IsOneOf k [] = ⊥
-IsOneOf k (n ∷ ns) = (n ≡ k) ⊎ IsOneOf k ns
+IsOneOf number [] = ⊥
+IsOneOf number (one ∷ more) = (one ≡ number) ⊎ IsOneOf number more
 
 -- the bodies that go out are under way; from base on none is lost
-pub record SendsAll (base : ℕ) (ks : List ℕ) (sending : Sending) (v w : Direction) : Type 0 where
-  pub is : w ≡ record v { sending = sending; carry = w.carry; ack = w.ack }
-  pub carry : (j : ℕ) → IsTrue (w.carry j) → IsTrue (v.carry j) ⊎ IsOneOf j ks
-  pub carry_on : (j : ℕ) → IsTrue (v.carry j) → IsTrue (w.carry j)
-  pub put : base ≤ v.now → (k : ℕ) → IsOneOf k ks → IsTrue (w.carry k)
-  pub acks : AcksStay v w
+pub record SendsAll (base : ℕ) (numbers : List ℕ) (sending : Sending) (old new : Direction) : Type 0 where
+  pub is : new ≡ record old { sending = sending; carry = new.carry; ack = new.ack }
+  pub carry : (each : ℕ) → IsTrue (new.carry each) → IsTrue (old.carry each) ⊎ IsOneOf each numbers
+  pub carry_on : (each : ℕ) → IsTrue (old.carry each) → IsTrue (new.carry each)
+  pub put : base ≤ old.now → (number : ℕ) → IsOneOf number numbers → IsTrue (new.carry number)
+  pub acks : AcksStay old new

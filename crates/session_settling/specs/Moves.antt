@@ -14,69 +14,74 @@ use Rattle.switch_core.specs.Steps.{Sent, Step, peer_among}
 
 -- the number of the body in a frame, where it has one
 abbrev pub number_of : Frame → List ℕ
-number_of (Carry f) = f.k ∷ []
-number_of (Ack epoch from to n) = []
+number_of (Carry carry) = carry.k ∷ []
+number_of (Ack epoch from to number) = []
 number_of (Probe from nonce) = []
 number_of (Reply from to nonce) = []
 
 -- the numbers of the bodies that go out by a port, in their order
 abbrev pub carried_by : ℕ → List Sent → List ℕ
 carried_by port [] = []
-carried_by port (x ∷ xs) = (if x.port == port then number_of x.frame else []) ++ carried_by port xs
+carried_by port (sent ∷ more) =
+    (if sent.port == port then number_of sent.frame else []) ++ carried_by port more
 
 abbrev pub shown : Option ℕ → List ℕ
 shown None = []
-shown (Some k) = k ∷ []
+shown (Some number) = number ∷ []
 
 -- What the sender of a session does in one tick, and the numbers of the bodies that go out, in their order
 pub data Moves (now : ℕ) : Sending → List ℕ → Sending → Type 0 where
-  resting : (t : Sending) → Moves now t [] t
-  pushing : (body : Body) (t u : Sending) (ks : List ℕ) → Moves now (push body now t) ks u
-      → Moves now t (shown (sent_by_push body t) ++ ks) u
-  going_on : (t u : Sending) (ks : List ℕ) → Moves now (send_next now t) ks u
-      → Moves now t (shown (next_to_send t) ++ ks) u
-  repeating : (k : ℕ) (t u : Sending) (ks : List ℕ) → is_outstanding k t ≡ true
-      → Moves now (send_again k now t) ks u → Moves now t (k ∷ ks) u
+  resting : (old : Sending) → Moves now old [] old
+  pushing : (body : Body) (old new : Sending) (numbers : List ℕ) → Moves now (push body now old) numbers new
+      → Moves now old (shown (sent_by_push body old) ++ numbers) new
+  going_on : (old new : Sending) (numbers : List ℕ) → Moves now (send_next now old) numbers new
+      → Moves now old (shown (next_to_send old) ++ numbers) new
+  repeating : (number : ℕ) (old new : Sending) (numbers : List ℕ) → is_outstanding number old ≡ true
+      → Moves now (send_again number now old) numbers new → Moves now old (number ∷ numbers) new
 
 -- at most eight bodies are outstanding, all of them pushed; and, but for so many that may go out next, eight
 -- are where some body waits
-pub record IsFilledBut (n : ℕ) (t : Sending) : Type 0 where
-  pub within : highest t ≤ length t.pushed
-  pub window : length t.sent ≤ 8
-  pub full : length t.sent + n < 8 → length t.pushed ≤ highest t
+pub record IsFilledBut (room : ℕ) (sending : Sending) : Type 0 where
+  pub within : highest sending ≤ length sending.pushed
+  pub window : length sending.sent ≤ 8
+  pub full : length sending.sent + room < 8 → length sending.pushed ≤ highest sending
 
 abbrev pub IsFilled : Sending → Type 0
-IsFilled t = IsFilledBut 0 t
+IsFilled sending = IsFilledBut 0 sending
 
 -- and so in the session of each port
 abbrev pub AreFilled : SwitchOf → Type 0
-AreFilled s = (port : ℕ) → IsFilled (s.sendings port)
+AreFilled switch = (port : ℕ) → IsFilled (switch.sendings port)
 
 -- What a step does in the session of a port, of which this was sent before and this is received then. Where
--- the window was filled but for m, what goes out is permitted, and the window is filled but for n; of another
--- window nothing is said.
-pub record WorksFrom (m n p now : ℕ) (t : Sending) (r : Receiving) (step : Step) : Type 0 where
+-- the window was filled but for so many (had), what goes out is permitted, and the window is filled but for
+-- so many (has); of another window nothing is said.
+pub record WorksFrom (had has port now : ℕ) (sending : Sending) (receiving : Receiving) (step : Step)
+    : Type 0 where
   pub tick : step.switch.tick ≡ now
-  pub receivings : step.switch.receivings p ≡ r
-  pub moves : IsFilledBut m t → Moves now t (carried_by p step.frames) (step.switch.sendings p)
-  pub filled : IsFilledBut m t → IsFilledBut n (step.switch.sendings p)
+  pub receivings : step.switch.receivings port ≡ receiving
+  pub moves : IsFilledBut had sending
+      → Moves now sending (carried_by port step.frames) (step.switch.sendings port)
+  pub filled : IsFilledBut had sending → IsFilledBut has (step.switch.sendings port)
 
 abbrev pub Works : ℕ → ℕ → ℕ → SwitchOf → Step → Type 0
-Works m n p s step = WorksFrom m n p s.tick (s.sendings p) (s.receivings p) step
+Works had has port switch step =
+    WorksFrom had has port switch.tick (switch.sendings port) (switch.receivings port) step
 
 -- each outstanding body last went out less than four ticks ago
 abbrev pub IsFresh : ℕ → Sending → Type 0
-IsFresh now t = (k : ℕ) → t.acked < k → k ≤ highest t → now ≤ last_sent t k + 3
+IsFresh now sending =
+    (number : ℕ) → sending.acked < number → number ≤ highest sending → now ≤ last_sent sending number + 3
 
 -- the end that a frame says it is from
 abbrev pub from_of : Frame → EndId
-from_of (Carry f) = f.from
-from_of (Ack epoch from to n) = from
+from_of (Carry carry) = carry.from
+from_of (Ack epoch from to number) = from
 from_of (Probe from nonce) = from
 from_of (Reply from to nonce) = from
 
 abbrev pub IsFrom : LifeId → Sent → Type 0
-IsFrom life x = from_of x.frame ≡ record { life = life; port = x.port }
+IsFrom life sent = from_of sent.frame ≡ record { life = life; port = sent.port }
 
 -- a step of a life, after which this is what happened at its ports: all that goes out is from this life, by
 -- the port that it says
@@ -87,4 +92,5 @@ pub record Keeps (life : LifeId) (ports : ℕ → History) (step : Step) : Type 
 
 -- nothing was sent at a port that has no link in this epoch
 abbrev pub AreUnused : SwitchOf → Type 0
-AreUnused s = (port : ℕ) → peer_among s.card.links port ≡ None → s.sendings port ≡ unused
+AreUnused switch =
+    (port : ℕ) → peer_among switch.card.links port ≡ None → switch.sendings port ≡ unused

@@ -1,5 +1,5 @@
 use Rattle.std.proofs.Common.{◌≡◌, ◌≢◌, ◌∙◌, sym, ap, refl, ℕ, zero, suc, ◌+◌, ◌<◌, ◌≤◌, ◌==◌, arith, List, [], ◌∷◌, ◌++◌, append_assoc, append-nil, map, length, Option, Some, None, is_some, Bool, true, false, cond, ◌&&◌, nat_lt, ◌⊎◌, inl, inr}
-use Rattle.std.proofs.lemmas.Bool.{and_left, and_right, cond_both, cond-false, eq-eqb, eqb-false, eqb-true, false≢true, true≢false, false_from_ne_true, le-ltb, ltb-true, ne_eqb}
+use Rattle.std.proofs.lemmas.Bool.{and_left, and_right, cond_both, cond-false, eq-eqb, eqb-true, false≢true, true≢false, false_from_ne_true, le-ltb, ltb-true, ne_eqb}
 use Rattle.an_base.specs.Values.{EndId, PeerAt, Place}
 use Rattle.an_base.specs.Frames.{CarryOf}
 use Rattle.an_base.specs.declared.body.Body.{Body}
@@ -18,12 +18,12 @@ use Rattle.epoch_core.specs.Log.{CardOf, OnPort, on_port}
 use Rattle.epoch_core.specs.Epoch.{adds, pos_at, position}
 use Rattle.epoch_core.proofs.JoinLemmas.{position_none}
 use Rattle.epoch_core.proofs.LawLemmas.{on_port-append}
-use Rattle.switch_core.specs.Switch.{SwitchOf, at_port, card_of, counts, end_at, good_links, good_peer, ports_of}
+use Rattle.switch_core.specs.Switch.{SwitchOf, card_of, counts, end_at, good_links, good_peer, ports_of}
 use Rattle.switch_core.specs.Steps.{Step, acknowledges, after, all_added, all_pushed, all_resent, answers_body, begun, clocked, fills, framed, goes_on, is_change_due, is_spent_by, joins, on_ack, on_carry, peer_among, probes, pushed, pushed_to, receives, sampled_by, sends_next, still}
 use Rattle.switch_core.proofs.CountLemmas.{joining_few, one_from}
-use Rattle.switch_core.proofs.PushLemmas.{push_pushed}
 use Rattle.switch_core.proofs.SessionLemmas.{at_other_port}
 use Rattle.switch_core.proofs.WindowLemmas.{OnlySends, all_pushed_few, all_resent_few, on_ack_few}
+use Rattle.switch_core.proofs.SendsLemmas.{pushed_at as adds_at}
 
 -- joining changes only what is sent of the epoch that begins
 joins_only : (epoch : ℕ) (s : SwitchOf) → OnlySends (begun epoch s) (joins epoch s).switch
@@ -159,12 +159,12 @@ pub ack_uncounted : (port epoch n : ℕ) (from to : EndId) (s : SwitchOf) → (g
 ack_uncounted port epoch n from to s other = cond-false (counts s port from to) (on_ack port from epoch n s) (still s) (uncounted port from to s other)
 
 -- what is sent leaves what is acknowledged
-sent_acked : (b : Bool) (now : ℕ) (t : Sending) → (cond b (record t { sent = t.sent ++ now ∷ [] }) t).acked ≡ t.acked
+pub sent_acked : (b : Bool) (now : ℕ) (t : Sending) → (cond b (record t { sent = t.sent ++ now ∷ [] }) t).acked ≡ t.acked
 sent_acked true now t = refl
 sent_acked false now t = refl
 
 -- so does a push
-push_acked : (body : Body) (now : ℕ) (t : Sending) → (push body now t).acked ≡ t.acked
+pub push_acked : (body : Body) (now : ℕ) (t : Sending) → (push body now t).acked ≡ t.acked
 push_acked body now t = cond_both (is_waiting t) (with_pushed body t) (send_next now (with_pushed body t)) (λ u. u.acked ≡ t.acked) (λ _. refl) (λ _. sent_acked (may_send (with_pushed body t)) now (with_pushed body t))
 
 -- at whichever port
@@ -175,22 +175,13 @@ pushed_acked (Some peer) x s q =
     (λ test. push_acked x.body s.tick (s.sendings x.port) ∙ ap (λ p. (s.sendings p).acked) (sym (eqb-true q x.port test))) (λ _. refl)
 
 -- and so do all that are pushed
-all_acked : (xs : List OnPort) (s : SwitchOf) (q : ℕ) → ((all_pushed xs s).switch.sendings q).acked ≡ (s.sendings q).acked
+pub all_acked : (xs : List OnPort) (s : SwitchOf) (q : ℕ) → ((all_pushed xs s).switch.sendings q).acked ≡ (s.sendings q).acked
 all_acked [] s q = refl
 all_acked (x ∷ xs) s q = all_acked xs (pushed x s).switch q ∙ pushed_acked (peer_among s.card.links x.port) x s q
 
 -- so by joining nothing is acknowledged
 pub joins_acked : (epoch port : ℕ) (s : SwitchOf) → ((joins epoch s).switch.sendings port).acked ≡ 0
 joins_acked epoch port s = all_acked (adds (begun epoch s).card []) (begun epoch s) port
-
--- a body that is pushed is the last one of its port, and of no other
-adds_at : (b : Bool) (x : OnPort) (now q : ℕ) (t : ℕ → Sending) → b ≡ (x.port == q) → (at_port x.port (push x.body now (t x.port)) t q).pushed ≡ (t q).pushed ++ cond b (x.body ∷ []) []
-adds_at true x now q t test =
-    let same : x.port ≡ q = eqb-true x.port q (sym test) in
-    ap (λ c. (cond c (push x.body now (t x.port)) (t q)).pushed) (eq-eqb q x.port (sym same)) ∙ push_pushed (is_waiting (t x.port)) x.body now (t x.port) ∙ ap (λ p. (t p).pushed ++ x.body ∷ []) same
-adds_at false x now q t test =
-    let other : x.port ≢ q = eqb-false x.port q (sym test) in
-    ap (λ c. (cond c (push x.body now (t x.port)) (t q)).pushed) (ne_eqb q x.port (λ same. other (sym same))) ∙ sym (append-nil (t q).pushed)
 
 -- so it is where its port has a link
 pushed_adds : (peer : Option EndId) (x : OnPort) (s : SwitchOf) (q : ℕ) → is_some peer ≡ true → ((pushed_to peer x s).switch.sendings q).pushed ≡ (s.sendings q).pushed ++ on_port q (x ∷ [])

@@ -1,3 +1,4 @@
+-- The peer of a port among the links that are left.
 use Rattle.std.proofs.Common.{◌≡◌, ◌≢◌, ◌∙◌, sym, ap, ℕ, suc, ◌+◌, ◌<◌, ◌==◌, List, ◌∷◌, length, drop, get_or, add-one, Some, cond}
 use Rattle.std.proofs.Math.Seq.{drop-cons}
 use Rattle.std.proofs.lemmas.Bool.{eq-eqb, ne_eqb}

@@ -1,3 +1,4 @@
+-- Bodies that are due: the least of them heads the list, and leaves it once it was sent again.
 use Rattle.std.proofs.Common.{◌≡◌, ◌∙◌, sym, ap, refl, subst, ℕ, zero, suc, ◌+◌, ◌-◌, ◌<◌, ◌≤◌, ◌==◌, arith, List, [], ◌∷◌, ◌++◌, append_assoc, add-one, drop, length, length-set, get_or, set, slice_get, Option, Some, None, IfSome, Bool, true, false, cond, ◌&&◌, nat_le}
 use Rattle.std.specs.Prelude.{IfNone}
 use Rattle.std.proofs.Math.Seq.{drop-cons}

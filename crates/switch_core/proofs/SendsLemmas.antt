@@ -153,7 +153,7 @@ pub joins_sends : (epoch : ℕ) (s : SwitchOf) → Sends (begun epoch s) (joins 
 joins_sends epoch s = all_pushed_sends (adds (begun epoch s).card []) (begun epoch s)
 
 -- On a port with a link all is pushed that is for it
-pushed_at : (b : Bool) (x : OnPort) (now q : ℕ) (t : ℕ → Sending) → b ≡ (x.port == q) → (at_port x.port (push x.body now (t x.port)) t q).pushed ≡ (t q).pushed ++ cond b (x.body ∷ []) []
+pub pushed_at : (b : Bool) (x : OnPort) (now q : ℕ) (t : ℕ → Sending) → b ≡ (x.port == q) → (at_port x.port (push x.body now (t x.port)) t q).pushed ≡ (t q).pushed ++ cond b (x.body ∷ []) []
 pushed_at true x now q t test =
     let same : x.port ≡ q = eqb-true x.port q (sym test) in
     ap (λ c. (cond c (push x.body now (t x.port)) (t q)).pushed) (eq-eqb q x.port (sym same)) ∙ push_pushed x.body now (t x.port) ∙ ap (λ p. (t p).pushed ++ x.body ∷ []) same

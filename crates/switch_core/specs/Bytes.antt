@@ -2,6 +2,7 @@
 
 use Rattle.std.specs.Prelude.{◌≡◌, ℕ, ◌≤◌, List, map, Bool}
 use Rattle.an_base.specs.declared.frame.Frame.{Frame}
+use Rattle.an_base.specs.declared.limits.TheConstants.{LAST_PORT}
 use Rattle.frame_codec.specs.Frames.{IsFrame}
 use Rattle.frame_codec.specs.Spelling.{spelling}
 use Rattle.switch_core.specs.Steps.{Sent}
@@ -14,7 +15,7 @@ pub record BytesOut : Type 0 where
 -- it is the spelling of a frame, and goes out by an external port
 pub record IsFrameOut (x : BytesOut) : Type 0 where
   pub least : 1 ≤ x.port
-  pub most : x.port ≤ 12
+  pub most : x.port ≤ LAST_PORT
   pub frame : Frame
   pub is_frame : IsFrame frame
   pub spelled : x.bytes ≡ spelling frame

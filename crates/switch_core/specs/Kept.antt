@@ -6,6 +6,7 @@ use Rattle.an_base.specs.Numbers.{AreNumbers}
 use Rattle.an_base.specs.Values.{TopoOf}
 use Rattle.an_base.specs.declared.frame.Frame.{Frame}
 use Rattle.an_base.specs.declared.port.Sample.{Sample}
+use Rattle.an_base.specs.declared.limits.TheConstants.{MOST_NUMBER}
 use Rattle.frame_codec.specs.Frames.{IsFrame, IsNoFrame}
 use Rattle.frame_codec.specs.Spelling.{spelling}
 use Rattle.topo_graph.specs.Topology.{IsGraph}
@@ -67,4 +68,4 @@ pub record Loads (s : SwitchOf) (Is : SwitchOf → Type 0) (table : TableOf) : T
   pub is_table : IsTableOf topo.entries topo.numbers s.any s.life table
   pub stands : Is (loaded table.number s)
   pub least : 1 ≤ table.number
-  pub most : table.number ≤ 126
+  pub most : table.number ≤ MOST_NUMBER

@@ -3,6 +3,7 @@
 
 use Rattle.std.specs.Prelude.{◌≡◌, ◌==◌, ℕ, zero, suc, ◌+◌, ◌*◌, ◌<◌, ◌≤◌, List, map, sum, filter, length, None, false, true, is_some, if◌then◌else◌}
 use Rattle.an_base.specs.Values.{PeerAt}
+use Rattle.an_base.specs.declared.limits.TheConstants.{MOST_NUMBER}
 use Rattle.ordered_link.specs.Receiving.{Receiving, last}
 use Rattle.port_monitor.specs.Histories.{externals}
 use Rattle.switch_core.specs.Switch.{SwitchOf, port_of, good_links, good_peer, finish_of}
@@ -28,7 +29,7 @@ pub record IsSound (works : ℕ) (switch : SwitchOf) : Type 0 where
   -- its card is of its life, and its number is one of 1 to 126
   pub me : switch.card.me ≡ switch.life
   pub least : 1 ≤ switch.number
-  pub most : switch.number ≤ 126
+  pub most : switch.number ≤ MOST_NUMBER
   -- the links of its card are its good links, at most one at each port; before it has joined there is none
   pub one_link : (port : ℕ) → length (links_at port switch.card.links) ≤ 1
   pub links : switch.spent ≡ false → switch.card.links ≡ good_links switch

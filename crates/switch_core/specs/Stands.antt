@@ -4,6 +4,7 @@ use Rattle.std.specs.Prelude.{◌≡◌, ℕ, ◌+◌, ◌^◌, ◌<◌, ◌≤�
 use Rattle.an_base.specs.Values.{EndId}
 use Rattle.an_base.specs.declared.body.Body.{Body}
 use Rattle.an_base.specs.declared.port.Sample.{Sample}
+use Rattle.an_base.specs.declared.limits.TheConstants.{MOST_NUMBER}
 use Rattle.port_monitor.specs.Histories.{IsAfter}
 use Rattle.ordered_link.specs.Sending.{Sending}
 use Rattle.ordered_link.specs.Session.{put_out}
@@ -65,7 +66,7 @@ pub record MayJoin (c : Control) : Type 0 where
   pub switch : SwitchOf
   pub stands : Stands c switch
   pub least : 1 ≤ switch.number
-  pub most : switch.number ≤ 126
+  pub most : switch.number ≤ MOST_NUMBER
 
 -- at each port at most eight bodies are outstanding
 pub record HasWindows (c : Control) : Type 0 where

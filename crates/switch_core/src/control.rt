@@ -1,6 +1,7 @@
 //! What a switch keeps, and what it does with what comes in.
 
 ghost use Rattle.std.specs.Prelude.{◌≡◌, ◌+◌, ◌<◌, ◌≤◌, ◌^◌, ◌∷◌, ◌++◌, [], ℕ, suc, None, Some, length, map, slice_get, IfOk, IfSome, IsSome, OnErr, OnOk, option_copied, ◌-◌, List, true, false, not, is_some, ◌||◌};
+ghost use Rattle.an_base.specs.declared.limits.TheConstants.{LAST_PORT};
 ghost use Rattle.epoch_core.specs.Log.{OnPort, on_port};
 ghost use Rattle.epoch_core.specs.Epoch.{adds};
 ghost use Rattle.ordered_link.specs.Sending.{IsOut, Sending, IsKeptOf, push, sent_by_push};
@@ -54,7 +55,7 @@ pub struct Control {
 // The other end of the link at a port, if there is one.
 fn peer_of(links: &Links, port: u8) -> Option<End>
     ensures peer { result ≡ peer_among links.now port }
-    ensures range { IfSome result (λ _. (1 ≤ port) × (port ≤ 12)) }
+    ensures range { IfSome result (λ _. (1 ≤ port) × (port ≤ LAST_PORT)) }
 {
     'links: for link in links.as_slice() {
         if link.port() == port {
@@ -113,7 +114,7 @@ impl Control {
     // The end of this switch at a port.
     fn end_at(&self, port: u8) -> End
         requires least { 1 ≤ port }
-        requires most { port ≤ 12 }
+        requires most { port ≤ LAST_PORT }
         ensures { result ≡ record { life = self.now.life; port = port } }
     {
         End::new(self.life, port)
@@ -122,7 +123,7 @@ impl Control {
     // Puts a frame out by a port.
     fn put(&mut self, port: u8, frame: &Frame, out: &mut Frames) -> Result<(), OutOfMemory>
         requires least { 1 ≤ port }
-        requires most { port ≤ 12 }
+        requires most { port ≤ LAST_PORT }
         ensures same { OnOk result (IsSame self.old self.new) }
         ensures out { OnOk result (out.new ≡ out.old ++ record { port = port; bytes = spelling frame.now } ∷ []) }
     {
@@ -134,7 +135,7 @@ impl Control {
     // Puts out the outstanding body with this number of the session at a port.
     fn carry(&mut self, port: u8, peer: End, k: u32, out: &mut Frames) -> Result<(), OutOfMemory>
         requires least { 1 ≤ port }
-        requires most { port ≤ 12 }
+        requires most { port ≤ LAST_PORT }
         requires number { IsOutAt self.old.sessions port k }
         ensures same { OnOk result (IsSame self.old self.new) }
         ensures out { OnOk result (Carries self.old port peer k out.old out.new) }
@@ -198,7 +199,7 @@ impl Control {
     // Puts out waiting bodies of the session at a port until its window is full.
     fn fill(&mut self, port: u8, peer: End, out: &mut Frames) -> Result<(), OutOfMemory>
         requires least { 1 ≤ port }
-        requires most { port ≤ 12 }
+        requires most { port ≤ LAST_PORT }
         ensures { OnOk result (Does (fills 7 port peer) self.old self.new out.old out.new) }
     {
         'window: for _ in 0..WINDOW - 1 {
@@ -220,7 +221,7 @@ impl Control {
         out: &mut Frames,
     ) -> Result<(), OutOfMemory>
         requires least { 1 ≤ port }
-        requires most { port ≤ 12 }
+        requires most { port ≤ LAST_PORT }
         ensures { OnOk result (Does (on_ack port peer epoch n) self.old self.new out.old out.new) }
     {
         if epoch != self.epoch {
@@ -236,7 +237,7 @@ impl Control {
     // Accepts a wanted body that came by a port, and each held one that follows it.
     fn accept(&mut self, port: u8, body: Body, sends: &mut Sends) -> Result<(), OutOfMemory>
         requires least { 1 ≤ port }
-        requires most { port ≤ 12 }
+        requires most { port ≤ LAST_PORT }
         requires core { HasAccepting self.old.core }
         ensures { OnOk result (Accepts port body self.old self.new sends.old sends.new) }
     {
@@ -260,7 +261,7 @@ impl Control {
         sends: &mut Sends,
     ) -> Result<bool, OutOfMemory>
         requires least { 1 ≤ port }
-        requires most { port ≤ 12 }
+        requires most { port ≤ LAST_PORT }
         requires core { HasAccepting self.old.core }
         ensures { IfOk result (Receives port k body self.old self.new sends.old sends.new) }
     {
@@ -278,7 +279,7 @@ impl Control {
     // Acknowledges all bodies that were accepted at a port.
     fn acknowledge(&mut self, port: u8, peer: End, out: &mut Frames) -> Result<(), OutOfMemory>
         requires least { 1 ≤ port }
-        requires most { port ≤ 12 }
+        requires most { port ≤ LAST_PORT }
         ensures { OnOk result (Does (answered port peer) self.old self.new out.old out.new) }
     {
         let ack = Frame::Ack {
@@ -301,7 +302,7 @@ impl Control {
         out: &mut Frames,
     ) -> Result<(), OutOfMemory>
         requires least { 1 ≤ port }
-        requires most { port ≤ 12 }
+        requires most { port ≤ LAST_PORT }
         requires room { HasRoom self.old }
         requires joined { IsSome self.old.core }
         ensures { OnOk result (Does (answers_body port peer k body) self.old self.new out.old out.new) }
@@ -317,7 +318,7 @@ impl Control {
     // A body comes from the peer of a good port. A greater epoch is joined first.
     fn on_carry(&mut self, port: u8, carry: CarryFrame, out: &mut Frames) -> Result<(), OutOfMemory>
         requires least { 1 ≤ port }
-        requires most { port ≤ 12 }
+        requires most { port ≤ LAST_PORT }
         requires room { HasRoom self.old }
         requires joined { IsSome self.old.core }
         ensures { OnOk result (Does (on_carry port carry) self.old self.new out.old out.new) }
@@ -337,7 +338,7 @@ impl Control {
     // Whether a frame of a session counts that came by a port.
     fn counts(&self, port: u8, from: End, to: End) -> bool
         requires least { 1 ≤ port }
-        requires most { port ≤ 12 }
+        requires most { port ≤ LAST_PORT }
         ensures { (s : SwitchOf) → Stands self.now s → result ≡ counts s port from to }
     {
         if self.monitor.state(port) != PortState::Good {
@@ -355,7 +356,7 @@ impl Control {
         out: &mut Frames,
     ) -> Result<(), OutOfMemory>
         requires least { 1 ≤ port }
-        requires most { port ≤ 12 }
+        requires most { port ≤ LAST_PORT }
         ensures { OnOk result (Does (framed port (Probe from nonce)) self.old self.new out.old out.new) }
     {
         if let Some(reply) = self.monitor.on_probe(port, from, nonce) {
@@ -367,7 +368,7 @@ impl Control {
     // A reply comes by a port.
     fn on_reply(&mut self, port: u8, from: End, to: End, nonce: u64)
         requires least { 1 ≤ port }
-        requires most { port ≤ 12 }
+        requires most { port ≤ LAST_PORT }
         ensures { (out : List BytesOut) → Does (framed port (Reply from to nonce)) self.old self.new out out }
     {
         if to == self.end_at(port) {
@@ -378,7 +379,7 @@ impl Control {
     /// A frame comes by a port, 1 to 12.
     pub fn on_frame(&mut self, port: u8, frame: Frame, out: &mut Frames) -> Result<(), OutOfMemory>
         requires least { 1 ≤ port }
-        requires most { port ≤ 12 }
+        requires most { port ≤ LAST_PORT }
         requires room { HasRoom self.old }
         ensures { OnOk result (Does (framed port frame) self.old self.new out.old out.new) }
     {
@@ -406,7 +407,7 @@ impl Control {
     /// Bytes come by a port, 1 to 12. Answers whether they are a frame.
     pub fn handle(&mut self, bytes: &[u8], port: u8, out: &mut Frames) -> Result<bool, OutOfMemory>
         requires least { 1 ≤ port }
-        requires most { port ≤ 12 }
+        requires most { port ≤ LAST_PORT }
         requires room { HasRoom self.old }
         requires none { out.old ≡ [] }
         ensures handled { (s : SwitchOf) → Stands self.old s
@@ -573,7 +574,7 @@ fn accept_in_turn(
     sends: &mut Sends,
 ) -> Result<(), OutOfMemory>
     requires least { 1 ≤ port }
-    requires most { port ≤ 12 }
+    requires most { port ≤ LAST_PORT }
     requires room { core.old.version + 8 ≤ 2 ^ 30 }
     ensures { OnOk result (AcceptsInTurn port body core.old core.new sessions.old sessions.new sends.old sends.new) }
 {

@@ -1,4 +1,5 @@
 ghost use Rattle.std.specs.Prelude.{◌≡◌, ◌≢◌, ◌⊎◌, ◌+◌, ◌<◌, ◌≤◌, ℕ, List, [], ◌∷◌, All, None, Some, false};
+ghost use Rattle.an_base.specs.declared.limits.TheConstants.{LAST_PORT, MOST_NUMBER};
 ghost use Rattle.an_base.specs.Values.{EndId};
 ghost use Rattle.an_base.specs.Frames.{CarryOf};
 ghost use Rattle.an_base.specs.declared.body.Body.TheVariants.{Pos};
@@ -82,13 +83,13 @@ pub fn an_uncounted_frame_changes_nothing()
 /// A switch is sound, which bounds its numbers by how many clocks and frames came, from its start on:
 /// each clock, each frame and each load of a number of 1 to 126 keeps it so.
 pub fn a_switch_stays_sound()
-    ensures start { (x : StartOf) → 1 ≤ x.had → x.had ≤ 126 → IsSound 0 (started_as x) }
+    ensures start { (x : StartOf) → 1 ≤ x.had → x.had ≤ MOST_NUMBER → IsSound 0 (started_as x) }
     ensures more { (works later : ℕ) (s : SwitchOf) → works ≤ later → IsSound works s → IsSound later s }
-    ensures frame { (works port : ℕ) (frame : Frame) (s : SwitchOf) → 1 ≤ port → port ≤ 12 → s.spent ≡ false
-        → IsSound works s → IsSound (works + 1) (framed port frame s).switch }
+    ensures frame { (works port : ℕ) (frame : Frame) (s : SwitchOf) → 1 ≤ port → port ≤ LAST_PORT
+        → s.spent ≡ false → IsSound works s → IsSound (works + 1) (framed port frame s).switch }
     ensures clock { (works now : ℕ) (samples : List Sample) (s : SwitchOf)
         → IsSound works s → IsSound (works + 1) (clocked now samples s).switch }
-    ensures load { (works number : ℕ) (s : SwitchOf) → 1 ≤ number → number ≤ 126
+    ensures load { (works number : ℕ) (s : SwitchOf) → 1 ≤ number → number ≤ MOST_NUMBER
         → IsSound works s → IsSound works (loaded number s) }
 {}
 
@@ -97,8 +98,8 @@ pub fn a_switch_stays_sound()
 pub fn the_links_are_the_good_ones()
     ensures links { (works : ℕ) (s : SwitchOf) → IsSound works s → s.spent ≡ false
         → s.card.links ≡ good_links s }
-    ensures peers { (works port : ℕ) (s : SwitchOf) → IsSound works s → s.spent ≡ false → 1 ≤ port → port ≤ 12
-        → peer_among s.card.links port ≡ good_peer s port }
+    ensures peers { (works port : ℕ) (s : SwitchOf) → IsSound works s → s.spent ≡ false
+        → 1 ≤ port → port ≤ LAST_PORT → peer_among s.card.links port ≡ good_peer s port }
     ensures unjoined { (works port : ℕ) (s : SwitchOf) → IsSound works s → s.spent ≡ false → s.joined ≡ false
         → good_peer s port ≡ None }
 {}
@@ -107,8 +108,8 @@ pub fn the_links_are_the_good_ones()
 /// is of the present epoch, to the other end of the port's link: the body is the one that was pushed
 /// with its number, and no more is acknowledged than was accepted.
 pub fn what_goes_out_is_of_its_sessions()
-    ensures frame { (works port : ℕ) (frame : Frame) (s : SwitchOf) → 1 ≤ port → port ≤ 12 → s.spent ≡ false
-        → IsSound works s → All (IsSentBy (framed port frame s).switch) (framed port frame s).frames }
+    ensures frame { (works port : ℕ) (frame : Frame) (s : SwitchOf) → 1 ≤ port → port ≤ LAST_PORT
+        → s.spent ≡ false → IsSound works s → All (IsSentBy (framed port frame s).switch) (framed port frame s).frames }
     ensures clock { (works now : ℕ) (samples : List Sample) (s : SwitchOf) → s.spent ≡ false
         → IsSound works s → All (IsSentBy (clocked now samples s).switch) (clocked now samples s).frames }
 {}

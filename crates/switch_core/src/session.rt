@@ -4,6 +4,7 @@ ghost use Rattle.std.specs.Prelude.{◌≡◌, ◌+◌, ◌-◌, ◌<◌, ◌≤
 ghost use Rattle.ordered_link.specs.Sending.{IsOut, Sending, acknowledge, next_to_send, push, send_again, send_next, sent_by_ack, sent_by_push, unused, first_due};
 ghost use Rattle.ordered_link.specs.Receiving.{Receiving, come, follow, last, untouched, verdict};
 ghost use Rattle.std.specs.List.{list_any};
+ghost use Rattle.an_base.specs.declared.limits.TheConstants.{LAST_PORT};
 ghost use Rattle.port_monitor.specs.Histories.{externals};
 ghost use Rattle.switch_core.specs.Switch.{at_port, is_unacked};
 ghost use Rattle.switch_core.specs.Sessions.{AreSessions, IsNew, IsOutAt, IsSessionOf, OfSender, Receives, ReceivesBy, Sends, SendsBy, wanted};
@@ -109,7 +110,7 @@ impl Sessions {
     /// Pushes a body at a port, and answers its number where it is to be sent now.
     pub fn push(&mut self, port: u8, body: Body, now: u32) -> Result<Option<u32>, OutOfMemory>
         requires least { 1 ≤ port }
-        requires most { port ≤ 12 }
+        requires most { port ≤ LAST_PORT }
         requires room { OfSender self.old port (λ v. v.acked + length v.bodies < 2 ^ 30) }
         ensures ok { IfOk result (λ number. Sends port (push body now) (sent_by_push body) self.old self.new number) }
         ensures out { IfOk result (λ number. IfSome number (IsOutAt self.new port)) }
@@ -120,7 +121,7 @@ impl Sessions {
     /// The number of the first waiting body of a port, where it is to be sent now.
     pub fn more(&mut self, port: u8, now: u32) -> Option<u32>
         requires least { 1 ≤ port }
-        requires most { port ≤ 12 }
+        requires most { port ≤ LAST_PORT }
         ensures sent { Sends port (send_next now) next_to_send self.old self.new result }
         ensures out { IfSome result (IsOutAt self.new port) }
     {
@@ -130,7 +131,7 @@ impl Sessions {
     /// An acknowledgement comes by a port. Answers the number of the body that is to be sent now.
     pub fn on_ack(&mut self, port: u8, n: u32, now: u32) -> Option<u32>
         requires least { 1 ≤ port }
-        requires most { port ≤ 12 }
+        requires most { port ≤ LAST_PORT }
         ensures sent { Sends port (acknowledge n now) (sent_by_ack n) self.old self.new result }
         ensures out { IfSome result (IsOutAt self.new port) }
     {
@@ -141,7 +142,7 @@ impl Sessions {
     /// none exactly where there is none.
     pub fn due(&self, port: u8, now: u32) -> Option<u32>
         requires least { 1 ≤ port }
-        requires most { port ≤ 12 }
+        requires most { port ≤ LAST_PORT }
         ensures first { (t : ℕ → Sending) (r : ℕ → Receiving) → AreSessions self.now t r → result ≡ first_due now (t port) }
         ensures out { IfSome result (IsOutAt self.now port) }
     {
@@ -151,7 +152,7 @@ impl Sessions {
     /// The outstanding body with this number at a port is sent again at this tick.
     pub fn resent(&mut self, port: u8, k: u32, now: u32)
         requires least { 1 ≤ port }
-        requires most { port ≤ 12 }
+        requires most { port ≤ LAST_PORT }
         requires out { IsOutAt self.old port k }
         ensures { (t : ℕ → Sending) (r : ℕ → Receiving) → AreSessions self.old t r → AreSessions self.new (at_port port (send_again k now (t port)) t) r }
     {
@@ -161,7 +162,7 @@ impl Sessions {
     /// The outstanding body with this number at a port.
     pub fn body(&self, port: u8, k: u32) -> &Body
         requires least { 1 ≤ port }
-        requires most { port ≤ 12 }
+        requires most { port ≤ LAST_PORT }
         requires out { IsOutAt self.now port k }
         ensures { (t : ℕ → Sending) (r : ℕ → Receiving) → AreSessions self.now t r → slice_get (t port).pushed (k - 1) ≡ Some result.now }
     {
@@ -171,7 +172,7 @@ impl Sessions {
     /// How many bodies were accepted at a port.
     pub fn last(&self, port: u8) -> u32
         requires least { 1 ≤ port }
-        requires most { port ≤ 12 }
+        requires most { port ≤ LAST_PORT }
         ensures { (t : ℕ → Sending) (r : ℕ → Receiving) → AreSessions self.now t r → result ≡ last (r port) }
     {
         self.items[usize::from(port - 1)].receiver.last()
@@ -192,7 +193,7 @@ impl Sessions {
     /// A body comes by a port.
     pub fn on_carry(&mut self, port: u8, k: u32, body: Body) -> Verdict
         requires least { 1 ≤ port }
-        requires most { port ≤ 12 }
+        requires most { port ≤ LAST_PORT }
         ensures { Receives port (come k body) (verdict k body) self.old self.new result }
     {
         self.items[usize::from(port - 1)].on_carry(k, body)
@@ -201,7 +202,7 @@ impl Sessions {
     /// The held body that is wanted next at a port, which is then accepted.
     pub fn next(&mut self, port: u8) -> Option<Body>
         requires least { 1 ≤ port }
-        requires most { port ≤ 12 }
+        requires most { port ≤ LAST_PORT }
         ensures { Receives port follow wanted self.old self.new result }
     {
         self.items[usize::from(port - 1)].next()

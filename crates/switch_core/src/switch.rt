@@ -1,6 +1,7 @@
 //! One switch.
 
 ghost use Rattle.std.specs.Prelude.{◌≡◌, ◌+◌, ◌<◌, ◌≤◌, ◌^◌, ℕ, IfOk, OnOk, OnErr, Err, [], false, true, option_copied};
+ghost use Rattle.an_base.specs.declared.limits.TheConstants.{LAST_PORT, MOST_NUMBER};
 ghost use Rattle.switch_core.specs.Switch.{finish_of, note_of, started, started_as, SwitchOf};
 ghost use Rattle.switch_core.specs.Stands.{Stands};
 ghost use Rattle.switch_core.specs.Kept.{Handles, IsLoadDue, IsWorking, Loads, StandsFor, Ticks, is_spent, load_due};
@@ -49,12 +50,13 @@ impl Model for Switch {
     ghost use Rattle.std.specs.Prelude.{◌≤◌};
     ghost use Rattle.switch_core.specs.Stands.{HasState};
     ghost use Rattle.switch_core.specs.Kept.{KeptOf};
+    ghost use Rattle.an_base.specs.declared.limits.TheConstants.{MOST_NUMBER};
 
     ghost Value = { KeptOf };
 
     ghost view = { λ v. record { start = record { life = v.start.life; epoch = v.start.epoch; had = v.start.had; any = v.start.any }; control = v.control; works = v.works } };
 
-    ghost invariant = { λ v. (1 ≤ v.start.had) × (v.start.had ≤ 126) × HasState v.works v.control };
+    ghost invariant = { λ v. (1 ≤ v.start.had) × (v.start.had ≤ MOST_NUMBER) × HasState v.works v.control };
 }
 
 /// A table, and the epoch whose topology it is of.
@@ -87,7 +89,7 @@ impl Switch {
         any: bool,
     ) -> Result<Switch, OutOfMemory>
         requires least { 1 ≤ had }
-        requires most { had ≤ 126 }
+        requires most { had ≤ MOST_NUMBER }
         ensures start { IfOk result (λ switch. switch.start ≡ record { life = life; epoch = epoch; had = had; any = any }) }
         ensures stands { IfOk result (λ switch. StandsFor switch (started life epoch had any)) }
         ensures works { IfOk result (λ switch. switch.works ≡ 0) }
@@ -109,7 +111,7 @@ impl Switch {
     /// goes out.
     pub fn handle(&mut self, frame: &[u8], port: u8, out: &mut Out) -> Result<(), OutOfMemory>
         requires least { 1 ≤ port }
-        requires most { port ≤ 12 }
+        requires most { port ≤ LAST_PORT }
         requires works { self.old.works < 2 ^ 28 }
         requires working { IsWorking self.old }
         ensures start { self.new.start ≡ self.old.start }

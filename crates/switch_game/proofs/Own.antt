@@ -1,16 +1,16 @@
-use Rattle.std.proofs.Common.{◌≡◌, ◌∙◌, sym, ap, refl, subst, ℕ, zero, suc, ◌≤◌, ◌==◌, ◌&&◌, arith, List, [], ◌∷◌, ◌++◌, append-nil, length, length-append, reverse, Option, Some, None, is_some, Bool, true, false, cond, ◌⊎◌, inl, inr}
+use Rattle.std.proofs.Common.{◌≡◌, ◌∙◌, sym, ap, refl, subst, ℕ, zero, suc, ◌≤◌, ◌==◌, ◌&&◌, arith, List, [], ◌∷◌, ◌++◌, append-nil, length, length-append, reverse, None, is_some, Bool, true, false, cond, ◌⊎◌, inl, inr}
 use Rattle.std.proofs.lemmas.Bool.{and_parts, cond_both, eqb-true, eqb-false, false≢true, true≢false}
 use Rattle.an_base.specs.Values.{EndId, LifeId, PeerAt}
 use Rattle.an_base.specs.declared.body.Body.{Body}
-use Rattle.ordered_link.specs.Sending.{Sending, acknowledge, forget, is_outstanding, is_waiting, may_send, push, send_again, send_next, with_pushed, due}
+use Rattle.ordered_link.specs.Sending.{Sending, acknowledge, forget, is_outstanding, may_send, send_again, send_next, due}
 use Rattle.ordered_link.specs.Receiving.{Receiving, accepted_by, received}
 use Rattle.ordered_link.specs.Session.{IsFrontOf}
-use Rattle.epoch_core.specs.Log.{CardOf, Log, OnPort, on_port}
+use Rattle.epoch_core.specs.Log.{CardOf, Log, on_port}
 use Rattle.epoch_core.specs.Epoch.{adds}
 use Rattle.switch_core.specs.Switch.{SwitchOf, at_port, good_links, good_peer, started}
-use Rattle.switch_core.specs.Steps.{acknowledges, after, all_added, all_again, all_pushed, all_resent, answers_body, begun, fills, joins, log_with, on_ack, peer_among, pushed, pushed_to, receives, resends_on, sends_again, sends_next, still}
+use Rattle.switch_core.specs.Steps.{acknowledges, after, all_added, all_again, all_pushed, all_resent, answers_body, begun, fills, joins, log_with, on_ack, peer_among, pushed, receives, resends_on, sends_again, sends_next, still}
 use Rattle.switch_core.proofs.WindowLemmas.{SendsUpTo, all_pushed_few, none_more}
-use Rattle.switch_core.proofs.LawLemmas.{joins_card, joins_log, joins_pushed, joins_receivings}
+use Rattle.switch_core.proofs.LawLemmas.{joins_card, joins_log, joins_pushed, joins_receivings, sent_acked, all_acked}
 use Rattle.switch_core.proofs.SoundLemmas.{joins_joined}
 use Rattle.switch_core.proofs.FarLemmas.{hears, hears_peer}
 use Rattle.switch_core.proofs.LinkLemmas.{hears_links}
@@ -126,27 +126,11 @@ own_body x port k peer body s joined h =
     let xs = all_added s.card port (accepted_by k body (s.receivings port)) s.log in
     subst (IsOwn x) (sym (all_pushed_few xs u).only) (own_receives x port k body s (all_pushed xs u).switch.sendings joined h (λ q linked. all_pushed_on xs u q linked))
 
--- What is acknowledged: pushing and sending leave it
-sent_acked : (b : Bool) (now : ℕ) (t : Sending) → (cond b (record t { sent = t.sent ++ now ∷ [] }) t).acked ≡ t.acked
-sent_acked true now t = refl
-sent_acked false now t = refl
-
-push_acked : (body : Body) (now : ℕ) (t : Sending) → (push body now t).acked ≡ t.acked
-push_acked body now t = cond_both (is_waiting t) (with_pushed body t) (send_next now (with_pushed body t)) (λ (u : Sending). u.acked ≡ t.acked) (λ _. refl) (λ _. sent_acked (may_send (with_pushed body t)) now (with_pushed body t))
-
 acked_at : (q port : ℕ) (t : Sending) (ts : ℕ → Sending) → t.acked ≡ (ts port).acked → (at_port port t ts q).acked ≡ (ts q).acked
 acked_at q port t ts same = cond_both (q == port) t (ts q) (λ (u : Sending). u.acked ≡ (ts q).acked) (λ test. same ∙ ap (λ (p : ℕ). (ts p).acked) (sym (eqb-true q port test))) (λ _. refl)
 
-pushed_acked : (o : Option EndId) (x : OnPort) (s : SwitchOf) (q : ℕ) → ((pushed_to o x s).switch.sendings q).acked ≡ (s.sendings q).acked
-pushed_acked None x s q = refl
-pushed_acked (Some peer) x s q = acked_at q x.port (push x.body s.tick (s.sendings x.port)) s.sendings (push_acked x.body s.tick (s.sendings x.port))
-
-all_pushed_acked : (xs : List OnPort) (s : SwitchOf) (q : ℕ) → ((all_pushed xs s).switch.sendings q).acked ≡ (s.sendings q).acked
-all_pushed_acked [] s q = refl
-all_pushed_acked (x ∷ xs) s q = all_pushed_acked xs (pushed x s).switch q ∙ pushed_acked (peer_among s.card.links x.port) x s q
-
 pub body_acked : (port k : ℕ) (peer : EndId) (body : Body) (s : SwitchOf) (q : ℕ) → ((answers_body port peer k body s).switch.sendings q).acked ≡ (s.sendings q).acked
-body_acked port k peer body s q = all_pushed_acked (all_added s.card port (accepted_by k body (s.receivings port)) s.log) (receives port k body s) q
+body_acked port k peer body s q = all_acked (all_added s.card port (accepted_by k body (s.receivings port)) s.log) (receives port k body s) q
 
 all_again_acked : (l : PeerAt) (ks : List ℕ) (s : SwitchOf) (q : ℕ) → ((all_again l ks s).switch.sendings q).acked ≡ (s.sendings q).acked
 all_again_acked l [] s q = refl

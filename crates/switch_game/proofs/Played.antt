@@ -93,8 +93,9 @@ grown lives first g h x e n play more sx = has_grown lives (slice e g) (slice e 
 stream_later : (a b : CardOf) (q : ℕ) (h l : Log) → b ≡ a → Earlier h l → IsFrontOf (stream a q h) (stream b q l)
 stream_later a b q h l same e = subst (λ (c : CardOf). IsFrontOf (stream a q h) (stream c q l)) (sym same) (stream_grows a q h l e)
 
-comes_later : (lives : List LifeId) (first : LifeId → ℕ) (g h : Game) (x : LifeId) (c : CardOf) (e p k : ℕ) (b : Body) → Play lives (begins first) g → Play lives g h → ComesIn g x c e p k b → ComesIn h x c e p k b
-comes_later lives first g h x c e p k b play more w =
+-- what came of a body stays so as the game goes on
+pub held_later : (lives : List LifeId) (first : LifeId → ℕ) (g h : Game) (x : LifeId) (c : CardOf) (e p k : ℕ) (b : Body) → Play lives (begins first) g → Play lives g h → ComesIn g x c e p k b → ComesIn h x c e p k b
+held_later lives first g h x c e p k b play more w =
     let n = grown lives first g h w.far.life e w.node play more w.joined in
     record {
       far = w.far;
@@ -121,9 +122,6 @@ heard_later lives first g h x c e q m play more w =
 pub counted_later : (lives : List LifeId) (first : LifeId → ℕ) (g h : Game) (x : LifeId) (c : CardOf) (e q m : ℕ) → Play lives (begins first) g → Play lives g h → (m ≡ 0) ⊎ IsHeard g x c e q m → (m ≡ 0) ⊎ IsHeard h x c e q m
 counted_later lives first g h x c e q m play more (inl none) = inl none
 counted_later lives first g h x c e q m play more (inr w) = inr (heard_later lives first g h x c e q m play more w)
-
-pub held_later : (lives : List LifeId) (first : LifeId → ℕ) (g h : Game) (x : LifeId) (c : CardOf) (e p k : ℕ) (b : Body) → Play lives (begins first) g → Play lives g h → ComesIn g x c e p k b → ComesIn h x c e p k b
-held_later = comes_later
 
 pub told_later : (lives : List LifeId) (first : LifeId → ℕ) (g h : Game) (frame : Frame) → Play lives (begins first) g → Play lives g h → IsTold g frame → IsTold h frame
 told_later lives first g h (Carry f) play more w =
@@ -197,7 +195,7 @@ part_later lives first g h x y s play more else ne part = record {
         unjoined = λ e is. else.nodes y e ne ∙ a.unjoined e is;
         load_due = a.load_due ∙ ap (λ (b : Bool). is_some (finish_of s) && not b) (sym (else.loaded y s.epoch ne));
       };
-  held = λ p k b is. comes_later lives first g h y s.card s.epoch p k b play more (part.held p k b is);
+  held = λ p k b is. held_later lives first g h y s.card s.epoch p k b play more (part.held p k b is);
   acked = λ q. counted_later lives first g h y s.card s.epoch q (s.sendings q).acked play more (part.acked q);
 }
 

@@ -15,7 +15,7 @@ abbrev pub Leads : List EntryOf → Bool → (ℕ × ℕ) → Type 0
 Leads es up a = (z q : ℕ) × (far_of es a.0 a.1 ≡ Some (z, q)) × (is_up_end es z a.0 ≡ up)
 
 -- what is higher than what is higher
-higher : (es : List EntryOf) (x y z : ℕ) → is_up_end es x y ≡ true → is_up_end es y z ≡ true → is_up_end es x z ≡ true
+pub higher : (es : List EntryOf) (x y z : ℕ) → is_up_end es x y ≡ true → is_up_end es y z ≡ true → is_up_end es x z ≡ true
 higher es x y z a b = let less = (height_total es).trans x y z (less_is (height_cmp es x y) a) (less_is (height_cmp es y z) b) in rw less refl
 
 -- the next channel leads up only where the first does
@@ -69,7 +69,7 @@ up_walk es any (suc n) a b graph up (c, on, walk) =
     (one.0, higher es b.0 c.0 a.0 rest.1 one.1)
 
 -- nothing is higher than itself
-not_itself : (es : List EntryOf) (x : ℕ) → is_up_end es x x ≡ true → ⊥
+pub not_itself : (es : List EntryOf) (x : ℕ) → is_up_end es x x ≡ true → ⊥
 not_itself es x up = absurd (let not_up = not_both_higher es x x up in cc)
 
 -- so no channel leads back to itself

@@ -38,11 +38,11 @@ way_more es true x to p n (z, q, e, inr (down, (ps, len, r))) = (ps, len, legal_
 way_more es false x to p n (z, q, e, down, (ps, len, r)) = (ps, len, down_more es x p ps to z q e down r)
 
 -- a way and its length
-has_way : (es : List EntryOf) (up : Bool) (x to n : ℕ) (ps : List ℕ) → LeadsTo es up x ps to → length ps ≡ n → HasWay es up x to n
+pub has_way : (es : List EntryOf) (up : Bool) (x to n : ℕ) (ps : List ℕ) → LeadsTo es up x ps to → length ps ≡ n → HasWay es up x to n
 has_way es true x to n ps way len = (ps, len, way)
 has_way es false x to n ps way len = (ps, len, way)
 
-way_of : (es : List EntryOf) (up : Bool) (x to n : ℕ) → HasWay es up x to n → (ps : List ℕ) × (length ps ≡ n) × LeadsTo es up x ps to
+pub way_of : (es : List EntryOf) (up : Bool) (x to n : ℕ) → HasWay es up x to n → (ps : List ℕ) × (length ps ≡ n) × LeadsTo es up x ps to
 way_of es true x to n has = has
 way_of es false x to n has = has
 

@@ -1,4 +1,3 @@
-pub mod ListLemmas
 pub mod ExitLemmas
 pub mod RoutingLemmas
 pub mod TableLemmas

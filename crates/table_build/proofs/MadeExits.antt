@@ -1,11 +1,9 @@
-use Rattle.std.proofs.Common.{◌≡◌, ◌≢◌, sym, subst, refl, ℕ, zero, suc, ◌+◌, ◌*◌, ◌<◌, ◌≤◌, List, [], ◌∷◌, Option, Some, None, Bool, true, false, not, arith, length, Contains, inl, inr, ◌==◌, ◌&&◌, ◌↔◌}
+use Rattle.std.proofs.Common.{◌≡◌, ◌≢◌, sym, subst, refl, ℕ, ◌+◌, ◌*◌, ◌<◌, ◌≤◌, List, Option, Some, None, Bool, true, false, not, arith, length, Contains, inl, inr, ◌==◌, ◌↔◌}
 use Rattle.std.specs.Prelude.{if◌then◌else◌, filter}
-use Rattle.std.specs.List.{list_any}
 use Rattle.std.specs.Option.{option_map_or}
-use Rattle.std.proofs.lemmas.Bool.{cases_Bool, and_parts, and_from, eqb-true, eq-eqb}
+use Rattle.std.proofs.lemmas.Bool.{cases_Bool, and_parts, and_from}
 use Rattle.std.proofs.lemmas.Bool.Decides.{nat_tests}
 use Rattle.std.proofs.lemmas.List.Elements.{All-weaker, filter_passes}
-use Rattle.std.proofs.lemmas.List.Folds.{Any-from_list_any, list_any_at}
 use Rattle.std.proofs.lemmas.List.Kept.{AllPairs-filter}
 use Rattle.an_base.specs.Values.{EntryOf}
 use Rattle.an_base.specs.Rows.{ExitsRise}
@@ -13,89 +11,20 @@ use Rattle.topo_graph.specs.Topology.{far_of, IsGraph}
 use Rattle.topo_graph.proofs.FarLemmas.{one_far}
 use Rattle.updown.specs.Routes.{is_up_end, HasLegal, HasDown, IsLeast}
 use Rattle.updown.proofs.LeastLemmas.{least_iff}
-use Rattle.updown.proofs.RouteLemmas.{legal_none, down_none}
-use Rattle.table_build.specs.Exits.{LeadsTo, Begins, Behind, AreExits, passes}
-use Rattle.table_build.proofs.ExitLemmas.{HasWay, exit_is, none_behind, up_not_behind, down_behind}
-use Rattle.table_build.proofs.WayLaws.{May, way_far, way_next, way_before}
+use Rattle.table_build.specs.Exits.{Begins, Behind, AreExits, passes}
+use Rattle.table_build.proofs.ExitLemmas.{HasWay, exit_is, none_behind, up_not_behind, down_behind, has_way, way_of}
+use Rattle.table_build.proofs.WayLaws.{way_far}
 use Rattle.table_build.proofs.LengthLaws.{way_short}
 use Rattle.table_build.specs.Made.{exit_ports, leads_in, shortest, left_behind, is_exit, exits_to}
-use Rattle.table_build.proofs.MadeLists.{kept, in_range, range_rising, find_least, same_list}
-
--- whether a link goes on to y, with n links behind it
-abbrev goes_on : List EntryOf → ℕ → ℕ → Bool → ℕ → ℕ × ℕ → Bool
-goes_on es y n up x far = if is_up_end es far.0 x then (up && leads_in es y n true far.0) else leads_in es y n false far.0
-
--- whether a port does
-abbrev by_port : List EntryOf → ℕ → ℕ → Bool → ℕ → ℕ → Bool
-by_port es y n up x p = option_map_or (goes_on es y n up x) (far_of es x p) false
-
--- no ports are a way
-stay : (es : List EntryOf) (up : Bool) (x y : ℕ) → x ≡ y → LeadsTo es up x [] y
-stay es true x y same = subst (λ (w : ℕ). LeadsTo es true x [] w) same (legal_none es x)
-stay es false x y same = subst (λ (w : ℕ). LeadsTo es false x [] w) same (down_none es x)
-
--- a way that is found
-found : (es : List EntryOf) (y n : ℕ) (up : Bool) (x : ℕ) → leads_in es y n up x ≡ true → (ps : List ℕ) × (length ps ≡ n) × LeadsTo es up x ps y
-found es y zero up x test = ([], refl, stay es up x y (eqb-true x y test))
-found es y (suc n) up x test =
-    let any = Any-from_list_any (by_port es y n up x) exit_ports test in
-    go (λ u z t. found es y n u z t) any.1 (far_of es x any.1) refl any.4
-  where
-    go : ((u : Bool) (z : ℕ) → leads_in es y n u z ≡ true → (ps : List ℕ) × (length ps ≡ n) × LeadsTo es u z ps y) → (p : ℕ) (o : Option (ℕ × ℕ)) → far_of es x p ≡ o → option_map_or (goes_on es y n up x) o false ≡ true → (ps : List ℕ) × (length ps ≡ suc n) × LeadsTo es up x ps y
-    go on p None e t = absurd (cc)
-    go on p (Some (z, q)) e t = elim (cases_Bool (is_up_end es z x)) [
-      | inl is ↦ (
-          let f : (up && leads_in es y n true z) ≡ true = rw is at t in
-          let parts = and_parts up (leads_in es y n true z) f in
-          let rest = on true z parts.1 in
-          (p ∷ rest.0, let l = rest.1 in omega arith, way_before es up true x y p z q rest.0 e is (λ _. parts.0) rest.2))
-      | inr level ↦ (
-          let f : leads_in es y n false z ≡ true = rw level at t in
-          let rest = on false z f in
-          (p ∷ rest.0, let l = rest.1 in omega arith, way_before es up false x y p z q rest.0 e level (λ bad. absurd (cc)) rest.2))
-    ]
-
--- an external port
-pub external : (p : ℕ) → 1 ≤ p → p ≤ 12 → Contains exit_ports p
-external p least most = in_range 1 12 p least (omega arith)
-
--- what passes somewhere passes
-pub passes_any : (q : ℕ → Bool) (xs : List ℕ) (p : ℕ) → Contains xs p → q p ≡ true → list_any q xs ≡ true
-passes_any q xs p (k, low, e) t = list_any_at q xs k p low (subst (λ (r : ℕ). q r ≡ true) (sym e) t)
-
--- and each way is found
-finds : (es : List EntryOf) (y : ℕ) (up : Bool) (x : ℕ) (ps : List ℕ) → IsGraph es → LeadsTo es up x ps y → leads_in es y (length ps) up x ≡ true
-finds es y up x [] graph way = eq-eqb x y (here up way)
-  where
-    here : (u : Bool) → LeadsTo es u x [] y → x ≡ y
-    here true w = w.route
-    here false w = w.route
-finds es y up x (p ∷ ps) graph way =
-    let far = way_far es up x y p ps way in
-    let within = graph.within x p (far.0, far.1) far.2 in
-    let next = way_next es up x y p far.0 far.1 ps far.2 way in
-    let rest = finds es y (is_up_end es far.0 x) far.0 ps graph next.0 in
-    passes_any (by_port es y (length ps) up x) exit_ports p (external p within.port_least within.port_most)
-    (subst (λ (o : Option (ℕ × ℕ)). option_map_or (goes_on es y (length ps) up x) o false ≡ true) (sym far.2) (go far.0 far.1 (is_up_end es far.0 x) refl next.1 rest))
-  where
-    go : (z q : ℕ) (u : Bool) → is_up_end es z x ≡ u → May up u → leads_in es y (length ps) u z ≡ true → goes_on es y (length ps) up x (z, q) ≡ true
-    go z q true is may rest = rw is (and_from up (leads_in es y (length ps) true z) (may refl) rest)
-    go z q false is may rest = rw is rest
-
--- a way and its length
-has_way : (es : List EntryOf) (up : Bool) (x to n : ℕ) (ps : List ℕ) → length ps ≡ n → LeadsTo es up x ps to → HasWay es up x to n
-has_way es true x to n ps len way = (ps, len, way)
-has_way es false x to n ps len way = (ps, len, way)
-
-way_of : (es : List EntryOf) (up : Bool) (x to n : ℕ) → HasWay es up x to n → (ps : List ℕ) × (length ps ≡ n) × LeadsTo es up x ps to
-way_of es true x to n has = has
-way_of es false x to n has = has
+use Rattle.table_build.proofs.MadeLists.{kept, range_rising, find_least}
+use Rattle.table_build.proofs.ShortestLaws.{found, finds, external}
+use Rattle.an_base.proofs.MemberLemmas.{one_rising}
 
 -- the search finds the least length of the ways
 pub shortest_least : (es : List EntryOf) (up : Bool) (x y : ℕ) → IsGraph es → x < length es → IsLeast (HasWay es up x y) (shortest es y up x)
 shortest_least es up x y graph low =
     least_iff (λ m. (0 ≤ m) × (m < 0 + 2 * length es) × (leads_in es y m up x ≡ true)) (HasWay es up x y) (shortest es y up x)
-    (λ n h. let w = found es y n up x h.2 in has_way es up x y n w.0 w.1 w.2)
+    (λ n h. let w = found es y n up x h.2 in has_way es up x y n w.0 w.2 w.1)
     (λ n has.
     let w = way_of es up x y n has in
     let len = w.1 in
@@ -175,7 +104,7 @@ made_exits es any up x y graph low = exits_among es any up x y exit_ports graph 
 -- and there are no others
 pub one_exits : (es : List EntryOf) (any up : Bool) (x y : ℕ) (ps qs : List ℕ) → AreExits es any up x y ps → AreExits es any up x y qs → ps ≡ qs
 one_exits es any up x y ps qs a b =
-    same_list (λ p q. p < q) (λ p q less more. omega arith) ps qs a.rising b.rising
+    one_rising (λ p q. p < q) ps qs (λ p q has has' less more. omega arith) a.rising b.rising
     (λ p has. b.whole p (begins ps a p has))
     (λ p has. a.whole p (begins qs b p has))
   where

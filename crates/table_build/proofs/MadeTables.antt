@@ -1,3 +1,4 @@
+-- The table that is computed is the table of its member.
 use Rattle.std.proofs.Common.{◌≡◌, ◌≢◌, ◌∙◌, sym, ap, subst, refl, ℕ, ◌<◌, ◌≤◌, List, [], ◌∷◌, Option, Some, None, Bool, true, false, arith, length, Contains, All, AllPairs, inl, inr, ◌==◌, ◌||◌}
 use Rattle.std.specs.Prelude.{filter, position, slice_index, Any, is_some}
 use Rattle.std.specs.List.{flat_map, range_with_len}
@@ -18,8 +19,10 @@ use Rattle.table_build.specs.Exits.{AreExits, IsEntry, is_entry, may_go_up}
 use Rattle.table_build.specs.Tables.{TableOf, IsRow, IsBefore, IsTable, IsTableOf}
 use Rattle.table_build.proofs.TableLemmas.{one_number}
 use Rattle.table_build.specs.Made.{exits_to, row_to, rows_for, rows_of, table_of}
-use Rattle.table_build.proofs.MadeLists.{kept, in_flat, all_flat, flat_rising, in_range, range_rising, same_list}
+use Rattle.table_build.proofs.MadeLists.{kept, in_flat, flat_rising, in_range, range_rising}
 use Rattle.table_build.proofs.MadeExits.{made_exits, one_exits}
+use Rattle.an_base.proofs.FlatMapLemmas.{All-flat_map}
+use Rattle.an_base.proofs.MemberLemmas.{one_rising}
 
 differ : (x y : ℕ) → x ≢ y → (x == y) ≡ false
 differ x y other = grind (arith, nat_tests)
@@ -81,7 +84,7 @@ abbrev rows_at : TopoOf → Bool → ℕ → List ℕ → ℕ → List RowOf
 rows_at t any x ns entry = flat_map (rows_for t any x entry) ns
 
 entries_at : (t : TopoOf) (any : Bool) (x : ℕ) (ns : List ℕ) (entry : ℕ) → All (λ r. r.entry ≡ entry) (rows_at t any x ns entry)
-entries_at t any x ns entry = all_flat (λ r. r.entry ≡ entry) (rows_for t any x entry) ns (λ k d low. each_for (λ r. r.entry ≡ entry) t any x entry _ (λ y l at other. refl))
+entries_at t any x ns entry = All-flat_map (λ r. r.entry ≡ entry) (rows_for t any x entry) ns (λ k d low. each_for (λ r. r.entry ≡ entry) t any x entry _ (λ y l at other. refl))
 
 rising_at : (t : TopoOf) (any : Bool) (x : ℕ) (ns : List ℕ) (entry : ℕ) → AllPairs (λ a b. a < b) ns → AllPairs IsBefore (rows_at t any x ns entry)
 rising_at t any x ns entry rising =
@@ -112,7 +115,7 @@ entry_from es x entry test = elim (cases_Bool (entry == 0)) [
     go None e t = absurd (cc)
     go (Some far) e t = (far, e)
 
-entry_passes : (es : List EntryOf) (x entry : ℕ) → IsEntry es x entry → is_entry es x entry ≡ true
+pub entry_passes : (es : List EntryOf) (x entry : ℕ) → IsEntry es x entry → is_entry es x entry ≡ true
 entry_passes es x entry (inl first) = subst (λ (b : Bool). (b || is_some (far_of es x entry)) ≡ true) (sym (eq-eqb entry 0 first)) refl
 entry_passes es x entry (inr (far, e)) = subst (λ (o : Option (ℕ × ℕ)). ((entry == 0) || is_some o) ≡ true) (sym e) (go (entry == 0))
   where
@@ -120,7 +123,7 @@ entry_passes es x entry (inr (far, e)) = subst (λ (o : Option (ℕ × ℕ)). ((
     go true = refl
     go false = refl
 
-entry_low : (es : List EntryOf) (x entry : ℕ) → IsGraph es → IsEntry es x entry → entry < 13
+pub entry_low : (es : List EntryOf) (x entry : ℕ) → IsGraph es → IsEntry es x entry → entry < 13
 entry_low es x entry graph (inl first) = omega arith
 entry_low es x entry graph (inr (far, e)) = let w = graph.within x entry far e in omega (arith, w.port_most)
 
@@ -138,9 +141,9 @@ is_row t any x entry n graph count low entered = each_for (IsRow t.entries t.num
 
 is_row_all : (t : TopoOf) (any : Bool) (x : ℕ) (ns entries : List ℕ) → IsGraph t.entries → length t.numbers ≡ length t.entries → x < length t.entries → All (λ entry. is_entry t.entries x entry ≡ true) entries → All (IsRow t.entries t.numbers any x) (all_at t any x ns entries)
 is_row_all t any x ns entries graph count low passes =
-    all_flat (IsRow t.entries t.numbers any x) (rows_at t any x ns) entries
+    All-flat_map (IsRow t.entries t.numbers any x) (rows_at t any x ns) entries
     (All-weaker (λ entry. is_entry t.entries x entry ≡ true) (λ entry. All (IsRow t.entries t.numbers any x) (rows_at t any x ns entry))
-    (λ entry test. all_flat (IsRow t.entries t.numbers any x) (rows_for t any x entry) ns (λ k d l. is_row t any x entry _ graph count low (entry_from t.entries x entry test)))
+    (λ entry test. All-flat_map (IsRow t.entries t.numbers any x) (rows_for t any x entry) ns (λ k d l. is_row t any x entry _ graph count low (entry_from t.entries x entry test)))
     entries passes)
 
 whole_all : (t : TopoOf) (any : Bool) (x : ℕ) (ns entries : List ℕ) (entry y : ℕ) → AreNumbers t.numbers → y < length t.numbers → x ≢ y → Contains ns (slice_index t.numbers y) → Contains entries entry → Any (λ r. (r.entry ≡ entry) × (r.to ≡ slice_index t.numbers y)) (all_at t any x ns entries)
@@ -185,7 +188,7 @@ made_table t any life graph are count member =
 same_row : (r s : RowOf) → r.at ≡ s.at → r.entry ≡ s.entry → r.to ≡ s.to → r.exits ≡ s.exits → r ≡ s
 same_row r s a b c d = λ i. record { at = a i; entry = b i; to = c i; exits = d i }
 
-not_both : (a b : RowOf) → IsBefore a b → IsBefore b a → ⊥
+pub not_both : (a b : RowOf) → IsBefore a b → IsBefore b a → ⊥
 not_both a b (inl p) (inl q) = omega arith
 not_both a b (inl p) (inr (q, r)) = omega arith
 not_both a b (inr (p, r)) (inl q) = omega arith
@@ -210,7 +213,7 @@ row_too es numbers any x t u are count a b r has =
 pub one_table : (es : List EntryOf) (numbers : List ℕ) (any : Bool) (x : ℕ) (t u : TableOf) → AreNumbers numbers → length numbers ≡ length es → IsTable es numbers any x t → IsTable es numbers any x u → t ≡ u
 one_table es numbers any x t u are count a b =
     let number : t.number ≡ u.number = a.number ∙ sym b.number in
-    let rows : t.rows ≡ u.rows = same_list IsBefore not_both t.rows u.rows a.rising b.rising (row_too es numbers any x t u are count a b) (row_too es numbers any x u t are count b a) in
+    let rows : t.rows ≡ u.rows = one_rising IsBefore t.rows u.rows (λ r s has has' before after. not_both r s before after) a.rising b.rising (row_too es numbers any x t u are count a b) (row_too es numbers any x u t are count b a) in
     λ i. record { number = number i; rows = rows i }
 
 -- whatever is the table of the member is what is made

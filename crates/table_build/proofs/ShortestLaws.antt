@@ -1,9 +1,9 @@
-use Rattle.std.proofs.Common.{◌≡◌, ◌≢◌, ◌∙◌, sym, subst, refl, ℕ, zero, suc, ◌+◌, ◌<◌, List, [], ◌∷◌, Option, Some, None, Bool, true, false, arith, length, ◌⊎◌, inl, inr, ◌==◌, ◌&&◌, get_or}
+use Rattle.std.proofs.Common.{◌≡◌, ◌≢◌, sym, subst, refl, ℕ, zero, suc, ◌+◌, ◌<◌, ◌≤◌, List, [], ◌∷◌, Option, Some, None, Bool, true, false, arith, length, Contains, ◌⊎◌, inl, inr, ◌==◌, ◌&&◌}
 use Rattle.std.specs.Prelude.{if◌then◌else◌}
-use Rattle.std.specs.List.{list_any, range_with_len}
+use Rattle.std.specs.List.{list_any}
+use Rattle.std.specs.Option.{option_map_or}
 use Rattle.std.proofs.lemmas.Bool.{cases_Bool, cases_eq, cases_lt, and_parts, and_from, eqb-true, eq-eqb}
 use Rattle.std.proofs.lemmas.List.Folds.{Any-from_list_any, list_any_at}
-use Rattle.std.proofs.lemmas.List.FromFn.{get_or-range_with_len, length-range_with_len}
 use Rattle.an_base.specs.Values.{EntryOf}
 use Rattle.topo_graph.specs.Topology.{far_of, IsGraph, IsTree}
 use Rattle.updown.specs.Routes.{is_up_end}
@@ -12,44 +12,53 @@ use Rattle.table_build.specs.Exits.{LeadsTo, Begins}
 use Rattle.table_build.specs.Laws.{IsShortest}
 use Rattle.table_build.proofs.WayLaws.{May, way_far, way_next, way_before, shortest_exit}
 use Rattle.table_build.proofs.TreeRoutes.{joined}
+use Rattle.table_build.specs.Made.{exit_ports, leads_in}
+use Rattle.table_build.proofs.MadeLists.{in_range}
 
--- whether a way of n links leads there, by trying every port
-abbrev behind : (ℕ → Bool) → (ℕ → Bool) → List EntryOf → Bool → ℕ → Option (ℕ × ℕ) → Bool
-behind ups downs es up x None = false
-behind ups downs es up x (Some far) = if is_up_end es far.0 x then (up && ups far.0) else downs far.0
+-- whether a link goes on to y, with n links behind it
+abbrev goes_on : List EntryOf → ℕ → ℕ → Bool → ℕ → ℕ × ℕ → Bool
+goes_on es y n up x far = if is_up_end es far.0 x then (up && leads_in es y n true far.0) else leads_in es y n false far.0
 
-abbrev reach : List EntryOf → ℕ → ℕ → Bool → ℕ → Bool
-reach es y zero up x = x == y
-reach es y (suc n) up x = list_any (λ p. behind (reach es y n true) (reach es y n false) es up x (far_of es x p)) (range_with_len 0 13)
+-- whether a port does
+abbrev by_port : List EntryOf → ℕ → ℕ → Bool → ℕ → ℕ → Bool
+by_port es y n up x p = option_map_or (goes_on es y n up x) (far_of es x p) false
 
 -- no ports are a way
 stay : (es : List EntryOf) (up : Bool) (x y : ℕ) → x ≡ y → LeadsTo es up x [] y
 stay es true x y same = subst (λ (w : ℕ). LeadsTo es true x [] w) same (legal_none es x)
 stay es false x y same = subst (λ (w : ℕ). LeadsTo es false x [] w) same (down_none es x)
 
--- a way that the test finds
-found : (es : List EntryOf) (y n : ℕ) (up : Bool) (x : ℕ) → reach es y n up x ≡ true → (ps : List ℕ) × (length ps ≡ n) × LeadsTo es up x ps y
+-- a way that is found
+pub found : (es : List EntryOf) (y n : ℕ) (up : Bool) (x : ℕ) → leads_in es y n up x ≡ true → (ps : List ℕ) × (length ps ≡ n) × LeadsTo es up x ps y
 found es y zero up x test = ([], refl, stay es up x y (eqb-true x y test))
 found es y (suc n) up x test =
-    let any = Any-from_list_any (λ p. behind (reach es y n true) (reach es y n false) es up x (far_of es x p)) (range_with_len 0 13) test in
+    let any = Any-from_list_any (by_port es y n up x) exit_ports test in
     go (λ u z t. found es y n u z t) any.1 (far_of es x any.1) refl any.4
   where
-    go : ((u : Bool) (z : ℕ) → reach es y n u z ≡ true → (ps : List ℕ) × (length ps ≡ n) × LeadsTo es u z ps y) → (p : ℕ) (o : Option (ℕ × ℕ)) → far_of es x p ≡ o → behind (reach es y n true) (reach es y n false) es up x (far_of es x p) ≡ true → (ps : List ℕ) × (length ps ≡ suc n) × LeadsTo es up x ps y
-    go on p None e t = absurd (let f : behind (reach es y n true) (reach es y n false) es up x None ≡ true = rw e at t in cc)
+    go : ((u : Bool) (z : ℕ) → leads_in es y n u z ≡ true → (ps : List ℕ) × (length ps ≡ n) × LeadsTo es u z ps y) → (p : ℕ) (o : Option (ℕ × ℕ)) → far_of es x p ≡ o → option_map_or (goes_on es y n up x) o false ≡ true → (ps : List ℕ) × (length ps ≡ suc n) × LeadsTo es up x ps y
+    go on p None e t = absurd (cc)
     go on p (Some (z, q)) e t = elim (cases_Bool (is_up_end es z x)) [
       | inl is ↦ (
-          let f : (up && reach es y n true z) ≡ true = rw (e, is) at t in
-          let parts = and_parts up (reach es y n true z) f in
+          let f : (up && leads_in es y n true z) ≡ true = rw is at t in
+          let parts = and_parts up (leads_in es y n true z) f in
           let rest = on true z parts.1 in
           (p ∷ rest.0, let l = rest.1 in omega arith, way_before es up true x y p z q rest.0 e is (λ _. parts.0) rest.2))
       | inr level ↦ (
-          let f : reach es y n false z ≡ true = rw (e, level) at t in
+          let f : leads_in es y n false z ≡ true = rw level at t in
           let rest = on false z f in
           (p ∷ rest.0, let l = rest.1 in omega arith, way_before es up false x y p z q rest.0 e level (λ bad. absurd (cc)) rest.2))
     ]
 
+-- an external port
+pub external : (p : ℕ) → 1 ≤ p → p ≤ 12 → Contains exit_ports p
+external p least most = in_range 1 12 p least (omega arith)
+
+-- what passes somewhere passes
+pub passes_any : (q : ℕ → Bool) (xs : List ℕ) (p : ℕ) → Contains xs p → q p ≡ true → list_any q xs ≡ true
+passes_any q xs p (k, low, e) t = list_any_at q xs k p low (subst (λ (r : ℕ). q r ≡ true) (sym e) t)
+
 -- and each way is found
-finds : (es : List EntryOf) (y : ℕ) (up : Bool) (x : ℕ) (ps : List ℕ) → IsGraph es → LeadsTo es up x ps y → reach es y (length ps) up x ≡ true
+pub finds : (es : List EntryOf) (y : ℕ) (up : Bool) (x : ℕ) (ps : List ℕ) → IsGraph es → LeadsTo es up x ps y → leads_in es y (length ps) up x ≡ true
 finds es y up x [] graph way = eq-eqb x y (here up way)
   where
     here : (u : Bool) → LeadsTo es u x [] y → x ≡ y
@@ -59,18 +68,13 @@ finds es y up x (p ∷ ps) graph way =
     let far = way_far es up x y p ps way in
     let within = graph.within x p (far.0, far.1) far.2 in
     let next = way_next es up x y p far.0 far.1 ps far.2 way in
-    let low : p < 13 = omega (arith, within.port_most) in
-    let at : get_or (range_with_len 0 13) p 0 ≡ p = get_or-range_with_len 0 13 p 0 low ∙ plus p in
     let rest = finds es y (is_up_end es far.0 x) far.0 ps graph next.0 in
-    list_any_at (λ r. behind (reach es y (length ps) true) (reach es y (length ps) false) es up x (far_of es x r)) (range_with_len 0 13) p 0 (omega (arith, length-range_with_len 0 13))
-    (subst (λ (r : ℕ). behind (reach es y (length ps) true) (reach es y (length ps) false) es up x (far_of es x r) ≡ true) (sym at) (rw far.2 (go (is_up_end es far.0 x) refl next.1 rest)))
+    passes_any (by_port es y (length ps) up x) exit_ports p (external p within.port_least within.port_most)
+    (subst (λ (o : Option (ℕ × ℕ)). option_map_or (goes_on es y (length ps) up x) o false ≡ true) (sym far.2) (go far.0 far.1 (is_up_end es far.0 x) refl next.1 rest))
   where
-    plus : (k : ℕ) → 0 + k ≡ k
-    plus k = omega arith
-
-    go : (u : Bool) → is_up_end es (way_far es up x y p ps way).0 x ≡ u → May up u → reach es y (length ps) u (way_far es up x y p ps way).0 ≡ true → behind (reach es y (length ps) true) (reach es y (length ps) false) es up x (Some ((way_far es up x y p ps way).0, (way_far es up x y p ps way).1)) ≡ true
-    go true is may rest = rw is (and_from up (reach es y (length ps) true (way_far es up x y p ps way).0) (may refl) rest)
-    go false is may rest = rw is rest
+    go : (z q : ℕ) (u : Bool) → is_up_end es z x ≡ u → May up u → leads_in es y (length ps) u z ≡ true → goes_on es y (length ps) up x (z, q) ≡ true
+    go z q true is may rest = rw is (and_from up (leads_in es y (length ps) true z) (may refl) rest)
+    go z q false is may rest = rw is rest
 
 -- the least number that passes a test, below end
 search_least : (P : ℕ → Bool) (end : ℕ) → ((m : ℕ) × (P m ≡ true) × ((k : ℕ) → k < m → P k ≡ false)) ⊎ ((k : ℕ) → k < end → P k ≡ false)
@@ -88,7 +92,7 @@ search_least P (suc end) = elim (search_least P end) [
 
 -- where a way leads, a shortest one does
 pub has_shortest : (es : List EntryOf) (up : Bool) (x y : ℕ) (ps : List ℕ) → IsGraph es → LeadsTo es up x ps y → (n : ℕ) × IsShortest es up x y n
-has_shortest es up x y ps graph way = elim (search_least (λ n. reach es y n up x) (suc (length ps))) [
+has_shortest es up x y ps graph way = elim (search_least (λ n. leads_in es y n up x) (suc (length ps))) [
   | inl least ↦ (
       let shortest = found es y least.0 up x least.1 in (
         least.0,

@@ -1,3 +1,4 @@
+-- What a table has at an entry for a number, and what it has not.
 use Rattle.std.proofs.Common.{◌≡◌, ◌≢◌, ◌∙◌, sym, subst, refl, ℕ, suc, ◌<◌, List, [], ◌∷◌, Option, Some, None, Bool, true, arith, length, get_or, ◌==◌, Equal, inl, inr}
 use Rattle.std.specs.Prelude.{find, slice_index, Any}
 use Rattle.std.specs.Ordering.{nat_cmp, ordering_then}

@@ -12,7 +12,7 @@ use Rattle.updown.proofs.RouteLemmas.{not_both_higher, down_here, down_zero, dow
 use Rattle.topo_graph.proofs.FarLemmas.{far_back}
 
 -- a lower level is higher up
-level_up : (a b : ℕ) (o : Ordering) → a < b → is_lt (ordering_then (nat_cmp a b) o) ≡ true
+pub level_up : (a b : ℕ) (o : Ordering) → a < b → is_lt (ordering_then (nat_cmp a b) o) ≡ true
 level_up a b o less = grind (arith, nat_tests)
 
 -- one link more at the end of a route downward

@@ -1,4 +1,5 @@
 ghost use Rattle.std.specs.Prelude.{◌≡◌, ◌<◌, ◌≤◌, ◌++◌, Any, length, map, IfOk, OnOk};
+ghost use Rattle.an_base.specs.declared.limits.TheConstants.{MOST_NUMBER};
 ghost use Rattle.table_build.specs.Routing.{IsRouting};
 ghost use Rattle.table_build.specs.Tables.{AreRowsBelow, AreWays, exits_of, IsTable, IsTableOf, row_of};
 
@@ -69,12 +70,13 @@ pub struct Table {
 impl Model for Table {
     ghost use Rattle.std.specs.Prelude.{◌≤◌, AllPairs};
     ghost use Rattle.table_build.specs.Tables.{IsBefore, TableOf};
+    ghost use Rattle.an_base.specs.declared.limits.TheConstants.{MOST_NUMBER};
 
     ghost Value = { TableOf };
 
     ghost view = { λ t. record { number = t.number; rows = t.rows.items } };
 
-    ghost invariant = { λ t. (1 ≤ t.number) × (t.number ≤ 126) × AllPairs IsBefore t.rows.items };
+    ghost invariant = { λ t. (1 ≤ t.number) × (t.number ≤ MOST_NUMBER) × AllPairs IsBefore t.rows.items };
 }
 
 impl Table {
@@ -121,7 +123,7 @@ impl Table {
     pub fn number(&self) -> u8
         ensures number { result ≡ self.now.number }
         ensures least { 1 ≤ self.now.number }
-        ensures most { self.now.number ≤ 126 }
+        ensures most { self.now.number ≤ MOST_NUMBER }
     {
         self.number
     }
@@ -170,51 +172,8 @@ impl Table {
 #[cfg(test)]
 mod tests {
     use super::*;
-    use an_base::entry::{Entries, Entry};
-    use an_base::life::End;
-    use an_base::links::{Links, PortLink};
-    use an_base::position::Position;
     use std::test::Fail;
-
-    // The life of this identifier, in its first boot.
-    fn life_of(uid: u64) -> Life
-        requires { uid ≤ 99 }
-        ensures { result ≡ record { uid = uid; boot = 1 } }
-    {
-        Life::new(uid, 1)
-    }
-
-    // A link from a port to a port of this life.
-    fn link(port: u8, uid: u64, far: u8) -> PortLink
-        requires uid { uid ≤ 99 }
-        requires least { 1 ≤ port }
-        requires most { port ≤ 12 }
-        requires far_least { 1 ≤ far }
-        requires far_most { far ≤ 12 }
-        ensures { result.port ≡ port }
-    {
-        PortLink::new(port, End::new(life_of(uid), far))
-    }
-
-    // The entry of this life at this level, with links at its ports 1 and 2.
-    fn entry(uid: u64, level: u8, one: PortLink, two: PortLink) -> Entry
-        requires uid { uid ≤ 99 }
-        requires level { level ≤ 125 }
-        requires one { one.port ≡ 1 }
-        requires two { two.port ≡ 2 }
-        ensures { result.life ≡ record { uid = uid; boot = 1 } }
-    {
-        let mut links = Links::new();
-        links.push(one);
-        links.push(two);
-        let life = life_of(uid);
-        Entry {
-            life,
-            position: Position::new(life_of(1), level, life, 1),
-            proposed: 1,
-            links,
-        }
-    }
+    use topo_graph::sample::{life_of, ring};
 
     // The exits of a member of a ring of lives 1, 2, 4 and 3, numbered so, of which 4 is at level 2.
     fn exits_in_ring(
@@ -226,11 +185,7 @@ mod tests {
     ) -> Result<Vec<u8>, Fail>
         requires { uid ≤ 99 }
     {
-        let mut entries = Entries::of(rt.alloc(), entry(1, 0, link(1, 2, 1), link(2, 3, 1)))?;
-        entries.push(entry(2, 1, link(1, 1, 1), link(2, 4, 1)))?;
-        entries.push(entry(3, 1, link(1, 1, 2), link(2, 4, 2)))?;
-        entries.push(entry(4, 2, link(1, 2, 2), link(2, 3, 2)))?;
-        let graph = Graph::of(rt.alloc(), &entries)?;
+        let graph = ring(rt.alloc())?;
         let numbers = numbers_of(rt)?;
         let me = life_of(uid);
         let Some(_place) = graph.place(me) else {

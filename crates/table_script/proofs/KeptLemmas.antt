@@ -1,6 +1,6 @@
 use Rattle.std.proofs.Common.{◌≡◌, ◌∙◌, sym, ap, refl, subst, ℕ, ◌<◌, ◌≤◌, List, [], ◌∷◌, ◌++◌, append_assoc, append-nil, arith, length, get_or, map, None, Bool, true, false, eqb, ltb, leb, not, ◌&&◌, ◌||◌, All, AllPairs, Result, Ok, Err, OnOk}
 use Rattle.std.specs.List.{list_any, list_all}
-use Rattle.std.proofs.lemmas.Bool.{and_parts}
+use Rattle.std.proofs.lemmas.Bool.{and_parts, not-true}
 use Rattle.std.proofs.lemmas.Bool.Decides.{nat_tests, Decides-eqb}
 use Rattle.std.proofs.lemmas.List.Folds.{list_any-append}
 use Rattle.std.proofs.lemmas.List.Quantifiers.{all_pairs_push}
@@ -21,7 +21,7 @@ use Rattle.table_script.specs.TableRules.{is_pair, are_pairs, rise_above, pair_n
 use Rattle.net_script.specs.Steps.{ScriptStop}
 use Rattle.text_lines.specs.declared.stop.Stop.TheVariants.{Fault, OutOfMemory}
 use Rattle.table_script.specs.TableTexts.{AddsTableForm}
-use Rattle.text_lines.proofs.FaultLemmas.{no_first, holds, not_true}
+use Rattle.text_lines.proofs.FaultLemmas.{no_first, holds}
 use Rattle.net_script.proofs.RangeLemmas.{known_low, in_range}
 use Rattle.text_lines.specs.Stops.{IsStep}
 
@@ -159,7 +159,7 @@ form_kept s d (NumberLine name n) kept unended good =
     let low = known_low s.switch_names name a.0 in
     let range = in_range 1 126 n c.0 in
     number_kept s d (place s.switch_names name) (number_value n) kept unended (omega (arith, kept.named)) range.0 range.1
-    (not_true _ (holds _ NameTwice b.0)) (not_true _ (holds _ NameTwice e.0))
+    (not-true _ (holds _ NameTwice b.0)) (not-true _ (holds _ NameTwice e.0))
 form_kept s d (RowLine name entry pairs) kept unended good =
     let a = no_first (known_cause s.switch_names name) _ good in
     let b = no_first (entry_cause entry) _ a.1 in
@@ -167,7 +167,7 @@ form_kept s d (RowLine name entry pairs) kept unended good =
     let e = no_first (unless (are_pairs 0 pairs) BadNumber) None c.1 in
     let low = known_low s.switch_names name a.0 in
     rows_kept s d (place s.switch_names name) (number_value entry) pairs kept unended (omega (arith, kept.named)) (entry_most entry b.0)
-    (not_true _ (holds _ NameTwice c.0)) (holds _ BadNumber e.0)
+    (not-true _ (holds _ NameTwice c.0)) (holds _ BadNumber e.0)
 form_kept s d EndLine kept unended good = record {
   named = kept.named;
   numbers = kept.numbers;

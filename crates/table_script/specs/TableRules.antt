@@ -89,7 +89,8 @@ unfoldable pub number_line_cause : ScriptOf → TableDraftOf → (name number : 
 number_line_cause script draft name number =
     first_of (known_cause script.switch_names name
     ∷ unless (not (is_numbered draft (place script.switch_names name))) NameTwice ∷ number_cause 1 126 number
-    ∷ unless (not (is_number_taken script.wires draft (place script.switch_names name) (number_value number))) NameTwice ∷ [])
+    ∷ unless (not (is_number_taken script.wires draft (place script.switch_names name) (number_value number)))
+    NameTwice ∷ [])
 
 -- a row,
 unfoldable pub row_line_cause :

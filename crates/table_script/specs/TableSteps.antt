@@ -31,7 +31,8 @@ pub record IsReady (reading : Reading) : Type 0 where
   pub unbegun : reading.script.part ≢ After → reading.tables ≡ no_tables
   pub labels :
       reading.script.part ≡ After
-      → AreLabels (length reading.script.script.wires.switches) reading.script.script.wires.links reading.labels.items
+      → AreLabels (length reading.script.script.wires.switches) reading.script.script.wires.links
+      reading.labels.items
   pub kept : reading.script.part ≡ After → IsKept reading.script.script reading.tables
 
 -- the refusal says the first fault of the bytes, or that no memory was found

@@ -1,3 +1,4 @@
+-- Chains of lines: they lead to one state, have one first cause, and one of the two comes.
 use Rattle.std.proofs.Common.{◌≡◌, ◌∙◌, sym, ap, subst, refl, ℕ, ◌+◌, ◌⊎◌, inl, inr, List, [], ◌∷◌, ◌++◌, append_assoc, append-nil, length, length-append, arith}
 use Rattle.text_lines.specs.Lines.{lines_of}
 use Rattle.text_lines.specs.Chains.{LeadsBy, IsFaultOf}

@@ -12,10 +12,6 @@ pub holds : {Cause : Type 0} (b : Bool) (c : Cause) → unless b c ≡ None → 
 holds true c none = refl
 holds false c none = absurd (cc)
 
-pub not_true : (b : Bool) → not b ≡ true → b ≡ false
-not_true true t = absurd (cc)
-not_true false t = refl
-
 -- a cause that comes says that what is asked for does not hold
 pub fails : {Cause : Type 0} (b : Bool) (e c : Cause) → unless b e ≡ Some c → (b ≡ false) × (c ≡ e)
 fails true e c some = absurd (cc)

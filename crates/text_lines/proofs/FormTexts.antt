@@ -4,13 +4,7 @@ use Rattle.std.proofs.lemmas.List.{take_more, map_push, map-append}
 use Rattle.std.proofs.lemmas.Grind.{flat_map-append}
 use Rattle.text_lines.specs.Lines.{line_text}
 use Rattle.text_lines.specs.Grammar.{forms_text_by}
-
--- pairs with one more
-zip_push : {X Y : Type 0} (xs : List X) (ys : List Y) (x : X) (y : Y) → length xs ≡ length ys → zip (xs ++ x ∷ []) (ys ++ y ∷ []) ≡ zip xs ys ++ (x, y) ∷ []
-zip_push [] [] x y same = refl
-zip_push [] (v ∷ ys) x y same = absurd (omega arith)
-zip_push (u ∷ xs) [] x y same = absurd (omega arith)
-zip_push {X} {Y} (u ∷ xs) (v ∷ ys) x y same = ap (λ (ps : List (X × Y)). (u, v) ∷ ps) (zip_push xs ys x y (omega arith))
+use Rattle.an_base.proofs.ListLemmas.{zip_push}
 
 -- The text of lines of forms.
 module _ {Form : Type 0} (words_of_form : Form → List (List ℕ)) where

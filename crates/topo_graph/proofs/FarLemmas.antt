@@ -2,7 +2,7 @@ use Rattle.std.proofs.Common.{◌≡◌, ◌∙◌, sym, ap, subst, refl, ℕ, z
 use Rattle.std.specs.Prelude.{not, if◌then◌else◌}
 use Rattle.std.specs.Option.{option_and_then}
 use Rattle.std.specs.Ordering.{is_eq}
-use Rattle.std.proofs.lemmas.Bool.{cases_Bool, cases_eq, cases_lt, and_parts, and_from, eqb-true, eq-eqb, eqb-false}
+use Rattle.std.proofs.lemmas.Bool.{cases_Bool, cases_eq, cases_lt, and_parts, and_from, eqb-true, eq-eqb, eqb-false, not-true}
 use Rattle.std.proofs.lemmas.Option.{same_Some}
 use Rattle.std.proofs.lemmas.List.{get_or_default}
 use Rattle.std.proofs.lemmas.List.Folds.{Any-from_list_any, list_any-from_Any}
@@ -87,10 +87,6 @@ then_some : {A B : Type 0} (f : A → Option B) (o : Option A) (b : B) → optio
 then_some f None b e = absurd (cc)
 then_some f (Some a) b e = (a, refl, e)
 
-not_is : (b : Bool) → not b ≡ true → b ≡ false
-not_is true e = absurd (cc)
-not_is false e = refl
-
 -- a guarded option that is some
 guarded : {A : Type 0} (t : Bool) (a b : A) → (if t then Some a else None) ≡ Some b → (t ≡ true) × (a ≡ b)
 guarded true a b e = (refl, same_Some a b e)
@@ -124,7 +120,7 @@ far_is_link es x p y q rising e = elim (cases_lt x (length es)) [
         record {
           there = (entry_at es x, Contains-get_or es x nothing low, refl, there);
           back = (entry_at es y, Contains-get_or es y nothing y_low, refl, back');
-          apart = λ same. eqb-false z x (not_is (z == x) test.0) (zy ∙ sym (one_place es x y rising low y_low same));
+          apart = λ same. eqb-false z x (not-true (z == x) test.0) (zy ∙ sym (one_place es x y rising low y_low same));
         },
       ))
 ]

@@ -7,6 +7,7 @@ use Rattle.std.specs.Ordering.{is_eq}
 use Rattle.an_base.specs.Values.{LifeId, EndId, PeerAt, EntryOf}
 use Rattle.an_base.specs.Order.{life_cmp, LivesRise, PortsRise}
 use Rattle.an_base.specs.Tree.{Network, IsPlace}
+use Rattle.an_base.specs.declared.limits.TheConstants.{LAST_PORT, MOST_SWITCHES}
 
 -- an entry of the life at the first end names the second end at the port of the first
 abbrev pub Names : List EntryOf → EndId → EndId → Type 0
@@ -89,15 +90,15 @@ IsTree es = (x : ℕ) → x < length es → IsPlace (network es) 0 x (entry_at e
 pub record AreWithin (es : List EntryOf) (x p : ℕ) (far : ℕ × ℕ) : Type 0 where
   pub place : x < length es
   pub port_least : 1 ≤ p
-  pub port_most : p ≤ 12
+  pub port_most : p ≤ LAST_PORT
   pub far_place : far.0 < length es
   pub far_port_least : 1 ≤ far.1
-  pub far_port_most : far.1 ≤ 12
+  pub far_port_most : far.1 ≤ LAST_PORT
 
 -- what every graph keeps of its entries
 pub record IsGraph (es : List EntryOf) : Type 0 where
   pub some : 1 ≤ length es
-  pub most : length es ≤ 126
+  pub most : length es ≤ MOST_SWITCHES
   pub rising : LivesRise es
   pub ports : (x : ℕ) → PortsRise (entry_at es x).links
   pub within : (x p : ℕ) (far : ℕ × ℕ) → far_of es x p ≡ Some far → AreWithin es x p far

@@ -1,6 +1,7 @@
 ghost use Rattle.std.specs.Prelude.{◌≡◌, ◌↔◌, ◌<◌, ◌≤◌, length, ℕ, Any, IsTrue, IsSome, IfOk, IfSome};
 ghost use Rattle.std.specs.Prelude.{MatchOption};
 ghost use Rattle.an_base.specs.Values.{EndId};
+ghost use Rattle.an_base.specs.declared.limits.TheConstants.{LAST_PORT, MOST_LEVEL, MOST_SWITCHES};
 ghost use Rattle.an_base.specs.Order.{LivesRise, PortsRise};
 ghost use Rattle.topo_graph.specs.Topology.{AreWithin, entry_at, far_of, is_to, IsLink, joined, level_at};
 ghost use Rattle.topo_graph.specs.Topology.{life_at, place_of};
@@ -32,7 +33,7 @@ fn cell(rows: &[PortRow], x: u8, port: u8) -> Option<(u8, u8)>
 // The place of the entry of a life.
 fn place(entries: &[Entry], life: Life) -> Option<u8>
     requires rising { LivesRise entries.now }
-    requires most { length entries.now ≤ 126 }
+    requires most { length entries.now ≤ MOST_SWITCHES }
     ensures { result ≡ place_of entries.now life }
 {
     match entries.binary_search_by(|e| e.life.cmp(&life)) {
@@ -51,7 +52,7 @@ fn names(links: &[PortLink], port: u8, end: End) -> bool
 // The far place and port of a link that the entry at x names, where the far entry names it too.
 fn far_end(entries: &[Entry], x: u8, link: &PortLink) -> Option<(u8, u8)>
     requires rising { LivesRise entries.now }
-    requires most { length entries.now ≤ 126 }
+    requires most { length entries.now ≤ MOST_SWITCHES }
     requires within { x < length entries.now }
     ensures far { result ≡ joined entries.now x link.now }
     ensures range { IfSome result (AreWithin entries.now x link.now.port) }
@@ -73,7 +74,7 @@ fn far_end(entries: &[Entry], x: u8, link: &PortLink) -> Option<(u8, u8)>
 // What is at the far side of each port of the entry at x.
 fn row_of(entries: &[Entry], x: u8) -> PortRow
     requires rising { LivesRise entries.now }
-    requires most { length entries.now ≤ 126 }
+    requires most { length entries.now ≤ MOST_SWITCHES }
     requires within { x < length entries.now }
     ensures links { HasLinks entries.now x (entry_at entries.now x).links result.cells }
     ensures range { LinksAreWithin entries.now x result.cells }
@@ -90,7 +91,7 @@ fn row_of(entries: &[Entry], x: u8) -> PortRow
 // What is at the far side of each port of each entry.
 fn rows_of(alloc: Global, entries: &[Entry]) -> Result<Vec<PortRow>, OutOfMemory>
     requires rising { LivesRise entries.now }
-    requires most { length entries.now ≤ 126 }
+    requires most { length entries.now ≤ MOST_SWITCHES }
     ensures { IfOk result (λ rows. AreRows entries.now rows.items (length entries.now)) }
 {
     let count = entries.len() as u8;
@@ -181,7 +182,7 @@ impl Graph {
     pub fn level(&self, x: u8) -> u8
         requires { x < length self.now }
         ensures level { result ≡ level_at self.now x }
-        ensures most { result ≤ 125 }
+        ensures most { result ≤ MOST_LEVEL }
     {
         let entry = &self.entries.as_slice()[usize::from(x)];
         entry.position.level()
@@ -284,44 +285,9 @@ impl Graph {
 #[cfg(test)]
 mod tests {
     use super::*;
+    use crate::sample::{entry, life_of, link};
     use an_base::links::Links;
     use std::test::Fail;
-
-    // The life of this identifier, in its first boot.
-    fn life_of(uid: u64) -> Life
-        requires { uid < 100 }
-        ensures { result ≡ record { uid = uid; boot = 1 } }
-    {
-        Life::new(uid, 1)
-    }
-
-    // A link from a port to a port of this life.
-    fn link(port: u8, uid: u64, far: u8) -> PortLink
-        requires uid { uid < 100 }
-        requires least { 1 ≤ port }
-        requires most { port ≤ 12 }
-        requires far_least { 1 ≤ far }
-        requires far_most { far ≤ 12 }
-        ensures { result.port ≡ port }
-    {
-        PortLink::new(port, End::new(life_of(uid), far))
-    }
-
-    // The entry of this life, in the tree of life 1.
-    fn entry(uid: u64, level: u8, parent: u64, port: u8, links: Links) -> Entry
-        requires uid { uid < 100 }
-        requires level { level ≤ 125 }
-        requires parent { parent < 100 }
-        requires port { port ≤ 12 }
-        ensures { result.life ≡ record { uid = uid; boot = 1 } }
-    {
-        Entry {
-            life: life_of(uid),
-            position: Position::new(life_of(1), level, life_of(parent), port),
-            proposed: 1,
-            links,
-        }
-    }
 
     // Lives 1 and 2 with two links between them, a link of life 1 to itself and one that life 2
     // alone names; life 2 states this level and port.

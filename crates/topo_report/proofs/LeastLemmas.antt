@@ -1,3 +1,4 @@
+-- The least entry of each life among entries.
 use Rattle.std.proofs.Common.{◌≡◌, ◌∙◌, ap, refl, subst, List, [], ◌∷◌, ◌++◌, length, ◌⊎◌, inl, inr, Less, Equal, Greater, arith}
 use Rattle.std.specs.declared.cmp.Ordering.{Ordering}
 use Rattle.std.specs.Ordering.{is_lt}

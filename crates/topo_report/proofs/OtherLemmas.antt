@@ -1,3 +1,4 @@
+-- The entries that are not those of the life itself, and how many of them are kept.
 use Rattle.std.proofs.Common.{◌≡◌, ◌∙◌, sym, ap, refl, subst, ℕ, zero, suc, ◌≤◌, Bool, true, false, cond, not, List, [], ◌∷◌, length, ◌⊎◌, inl, inr, arith}
 use Rattle.an_base.specs.Values.{LifeId, EntryOf}
 use Rattle.an_base.specs.Order.{IsBelow}

@@ -1,3 +1,4 @@
+-- Reports are of their members alone, in whichever order and however often they are made.
 use Rattle.std.proofs.Common.{◌≡◌, ◌∙◌, sym, ap, refl, subst, ℕ, suc, ◌+◌, ◌≤◌, Bool, true, false, List, [], ◌∷◌, ◌++◌, length, map, ◌⊎◌, inl, inr, Contains, slice_index_or, arith}
 use Rattle.std.proofs.lemmas.List.Elements.{Contains-get_or, All-contains}
 use Rattle.an_base.specs.Values.{LifeId, EntryOf}

@@ -3,6 +3,7 @@ use Rattle.std.specs.Prelude.{◌≡◌, ◌<◌, ◌≤◌, ℕ, zero, suc, min
 use Rattle.std.specs.Prelude.{slice_index_or, if◌then◌else◌}
 use Rattle.std.specs.Option.{option_and_then}
 use Rattle.an_base.specs.Values.{EntryOf}
+use Rattle.an_base.specs.declared.limits.TheConstants.{MOST_LEVEL}
 use Rattle.topo_graph.specs.Topology.{far_of}
 use Rattle.updown.specs.declared.order.Height.{Height}
 use Rattle.updown.specs.Order.{place_at}
@@ -55,7 +56,7 @@ pub record AreDownSoFar (es : List EntryOf) (to : ℕ) (order : List Height) (do
   pub known :
       (k : ℕ) → i ≤ k → k < length order
       → IsLeast (HasDown es (place_at order k) to) (length_at down (place_at order k))
-  pub most : AreAtMost down 125
+  pub most : AreAtMost down MOST_LEVEL
 
 -- the table has the lengths of legal routes of the places of the order before i
 pub record AreUpSoFar (es : List EntryOf) (to : ℕ) (order : List Height) (up : List (Option ℕ)) (i : ℕ)

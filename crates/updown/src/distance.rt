@@ -1,4 +1,5 @@
 ghost use Rattle.std.specs.Prelude.{◌≡◌, ◌≤◌, length};
+ghost use Rattle.an_base.specs.declared.limits.TheConstants.{MOST_SWITCHES};
 ghost use Rattle.updown.specs.Distances.{down_of, place_in, up_of};
 
 use crate::length::Lengths;
@@ -16,18 +17,19 @@ pub struct Distances {
 impl Model for Distances {
     ghost use Rattle.std.specs.Prelude.{length, ◌≤◌};
     ghost use Rattle.updown.specs.Distances.{DistancesOf};
+    ghost use Rattle.an_base.specs.declared.limits.TheConstants.{MOST_SWITCHES};
 
     ghost Value = { DistancesOf };
 
     ghost view = { λ d. record { lives = d.lives.items; lengths = d.lengths } };
 
-    ghost invariant = { λ d. length d.lives.items ≤ 126 };
+    ghost invariant = { λ d. length d.lives.items ≤ MOST_SWITCHES };
 }
 
 impl Distances {
     // The distances of these lives, at most 126.
     pub(crate) fn new(lives: Vec<Life>, lengths: Lengths) -> Self
-        requires { length lives.items ≤ 126 }
+        requires { length lives.items ≤ MOST_SWITCHES }
         ensures { result ≡ record { lives = lives.items; lengths = lengths } }
     {
         Distances { lives, lengths }

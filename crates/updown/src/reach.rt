@@ -1,4 +1,5 @@
 ghost use Rattle.std.specs.Prelude.{◌≡◌, ◌≤◌, Any, map, length, IfOk};
+ghost use Rattle.an_base.specs.declared.limits.TheConstants.{MOST_SWITCHES};
 ghost use Rattle.updown.specs.Distances.{AreDistances};
 
 use crate::distance::Distances;
@@ -12,7 +13,7 @@ use topo_graph::graph::Graph;
 // The lives of a graph, in the order of its entries.
 fn lives_of(alloc: Global, graph: &Graph) -> Result<Vec<Life>, OutOfMemory>
     ensures lives { IfOk result (λ lives. lives.items ≡ map (λ e. e.life) graph.now) }
-    ensures most { IfOk result (λ lives. length lives.items ≤ 126) }
+    ensures most { IfOk result (λ lives. length lives.items ≤ MOST_SWITCHES) }
 {
     let entries = graph.entries().as_slice();
     let mut lives = Vec::with_capacity(alloc, entries.len())?;
@@ -38,64 +39,12 @@ pub fn distances(alloc: Global, graph: &Graph, to: Life) -> Result<Distances, Ou
 mod tests {
     use super::*;
     use crate::route::{is_legal, up_end};
-    use an_base::entry::{Entries, Entry};
-    use an_base::life::End;
-    use an_base::links::{Links, PortLink};
-    use an_base::position::Position;
     use std::test::Fail;
-
-    // The life of this identifier, in its first boot.
-    fn life_of(uid: u64) -> Life
-        requires { uid ≤ 99 }
-        ensures { result ≡ record { uid = uid; boot = 1 } }
-    {
-        Life::new(uid, 1)
-    }
-
-    // A link from a port to a port of this life.
-    fn link(port: u8, uid: u64, far: u8) -> PortLink
-        requires uid { uid ≤ 99 }
-        requires least { 1 ≤ port }
-        requires most { port ≤ 12 }
-        requires far_least { 1 ≤ far }
-        requires far_most { far ≤ 12 }
-        ensures { result.port ≡ port }
-    {
-        PortLink::new(port, End::new(life_of(uid), far))
-    }
-
-    // The entry of this life at this level, with links at its ports 1 and 2.
-    fn entry(uid: u64, level: u8, one: PortLink, two: PortLink) -> Entry
-        requires uid { uid ≤ 99 }
-        requires level { level ≤ 125 }
-        requires one { one.port ≡ 1 }
-        requires two { two.port ≡ 2 }
-        ensures { result.life ≡ record { uid = uid; boot = 1 } }
-    {
-        let mut links = Links::new();
-        links.push(one);
-        links.push(two);
-        let life = life_of(uid);
-        Entry {
-            life,
-            position: Position::new(life_of(1), level, life, 1),
-            proposed: 1,
-            links,
-        }
-    }
-
-    // A ring of lives 1, 2, 4 and 3, of which 4 is at level 2.
-    fn ring(rt: &HostRuntime) -> Result<Graph, Fail> {
-        let mut entries = Entries::of(rt.alloc(), entry(1, 0, link(1, 2, 1), link(2, 3, 1)))?;
-        entries.push(entry(2, 1, link(1, 1, 1), link(2, 4, 1)))?;
-        entries.push(entry(3, 1, link(1, 1, 2), link(2, 4, 2)))?;
-        entries.push(entry(4, 2, link(1, 2, 2), link(2, 3, 2)))?;
-        Ok(Graph::of(rt.alloc(), &entries)?)
-    }
+    use topo_graph::sample::{life_of, ring};
 
     #[test]
     fn the_up_end_is_nearer_to_the_root(rt: HostRuntime) -> Result<(), Fail> {
-        let graph = ring(&rt)?;
+        let graph = ring(rt.alloc())?;
         let Some(_end) = graph.far(life_of(4), 1) else {
             return Err("link".into());
         };
@@ -112,7 +61,7 @@ mod tests {
 
     #[test]
     fn no_upward_link_follows_a_downward_one(rt: HostRuntime) -> Result<(), Fail> {
-        let graph = ring(&rt)?;
+        let graph = ring(rt.alloc())?;
         let Some(_place) = graph.place(life_of(3)) else {
             return Err("place".into());
         };

@@ -78,7 +78,8 @@ side_of far = record { far = far; is_up = is_some far; lose = 0; again = 0; swap
 abbrev pub start : Wires → ℕ → WiresOf
 start wiring blocks = record {
   sides =
-      map (λ at. side_of (far_at wiring (at / 13) (at % 13))) (range_with_len 0 (13 * length wiring.switches));
+      map (λ at. side_of (far_at wiring (at / 13) (at % 13)))
+      (range_with_len 0 (13 * length wiring.switches));
   frames = record { queues = replicate (13 * length wiring.switches) []; free = blocks; limit = blocks };
 }
 

@@ -41,6 +41,15 @@ impl Model for WireSet {
     ghost invariant = { λ w. IsSound (record { sides = w.sides.items; frames = w.frames }) };
 }
 
+// A port without a link.
+const UNUSED: Side = Side {
+    far: None,
+    is_up: false,
+    lose: 0,
+    again: 0,
+    swap: 0,
+};
+
 // How many places a switch has: twelve ports, and port 0, whose queue is the frame that it holds.
 const PLACES: usize = 13;
 
@@ -161,6 +170,17 @@ impl WireSet {
         ensures { self.new ≡ repair_at (place s port) self.old }
     {
         self.set_link(place_of(s, port), true);
+    }
+
+    /// The side of a port: what is at its far side, whether its link is up, and what is told of the wire
+    /// into it. It answers for all values.
+    pub fn side(&self, s: u8, port: u8) -> Side
+        ensures { result ≡ side_at self.now (place s port) }
+    {
+        match self.sides.get(place_of(s, port)) {
+            Some(side) => *side,
+            None => UNUSED,
+        }
     }
 
     /// Whether the link of a port, which has one or a host, is up.

@@ -1,4 +1,4 @@
-use Rattle.fabric_world.proofs.ExampleLemmas.{restart_works, packets_works, spent_works, full_works, unsettled_works, told_works, first_uses, second_uses}
+use Rattle.fabric_world.proofs.ExampleLemmas.{restart_works, packets_works, spent_works, full_works, unsettled_works, told_works, routed_works, routed_trace, first_uses, second_uses}
 use Rattle.fabric_world.proofs.law.some_histories_are_worked_out.Goals as goal
 
 pub returns-clause-restart : goal.returns-clause-restart
@@ -24,3 +24,9 @@ returns-clause-first c = first_uses
 
 pub returns-clause-second : goal.returns-clause-second
 returns-clause-second c = second_uses
+
+pub returns-clause-routed : goal.returns-clause-routed
+returns-clause-routed c = routed_works
+
+pub returns-clause-traced : goal.returns-clause-traced
+returns-clause-traced c = routed_trace

@@ -1,7 +1,8 @@
 use Rattle.std.proofs.Common.{◌∙◌, sym, ap, length}
 use Rattle.std.specs.Prelude.{is_some}
 use Rattle.epoch_core.specs.StandsFor.{CoreOf}
-use Rattle.epoch_core.proofs.SettleLemmas.{on_ok_with, length-numbering, finishes_as_root}
+use Rattle.epoch_core.proofs.SettleLemmas.{on_ok_with, finishes_as_root}
+use Rattle.switch_numbering.proofs.Differing.{length-numbering}
 use Rattle.epoch_core.proofs.epoch.Core.finish_as_root.Goals as goal
 
 pub new-requires : goal.new-requires

@@ -1,0 +1,11 @@
+pub use Rattle.host_traffic.specs.Packets
+pub mod PortStates
+pub mod Fabric
+pub mod Starts
+pub mod Agree
+pub mod Lawful
+pub mod Effects
+pub mod Choices
+pub mod Fits
+pub mod Tallies
+pub mod Kept

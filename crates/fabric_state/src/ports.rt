@@ -1,0 +1,112 @@
+ghost use Rattle.std.specs.Prelude.{◌≡◌, ◌&&◌, ◌≤◌, nat_lt, map, find};
+ghost use Rattle.port_monitor.specs.Histories.{externals};
+ghost use Rattle.wire_set.specs.WireState.{is_link, place, side_at};
+ghost use Rattle.fabric_state.specs.Fabric.{has_frame_on, is_external, sample_of, switch_behind};
+ghost use Rattle.fabric_state.specs.PortStates.{is_dead, is_good, is_host, is_loop};
+
+use an_base::port::{PortState, Sample};
+use net_graph::wiring::Far;
+use wire_set::side::Side;
+use wire_set::wires::WireSet;
+
+// Which state a port is in.
+pub fn is_dead(state: PortState) -> bool
+    ensures { result ≡ is_dead state }
+{
+    matches!(state, PortState::Dead)
+}
+
+pub fn is_host(state: PortState) -> bool
+    ensures { result ≡ is_host state }
+{
+    matches!(state, PortState::Host)
+}
+
+pub fn is_loop(state: PortState) -> bool
+    ensures { result ≡ is_loop state }
+{
+    matches!(state, PortState::Loop)
+}
+
+pub fn is_good(state: PortState) -> bool
+    ensures { result ≡ is_good state }
+{
+    matches!(state, PortState::Good)
+}
+
+// Whether a port is an external one.
+pub fn is_external(port: u8) -> bool
+    ensures { result ≡ is_external port }
+{
+    1 <= port && port <= 12
+}
+
+// Whether there is a link of two switch ports.
+pub fn is_link(far: Option<Far>) -> bool
+    ensures { result ≡ is_link far }
+{
+    matches!(far, Some(Far::Switch { s: _, port: _ }))
+}
+
+// The switch and port behind a link of two switch ports.
+pub fn switch_behind(far: Option<Far>) -> Option<(u8, u8)>
+    ensures { result ≡ switch_behind far }
+{
+    match far {
+        Some(Far::Switch { s, port }) => Some((s, port)),
+        _ => None,
+    }
+}
+
+// What the hardware says of a port.
+pub fn sample_of(side: Side) -> Sample
+    ensures { result ≡ sample_of side }
+{
+    if !side.is_up {
+        return Sample::Down;
+    }
+    match side.far {
+        None => Sample::Down,
+        Some(Far::Switch { s: _, port: _ }) => Sample::Switch,
+        Some(Far::HostAt { host: _ }) => Sample::Host,
+    }
+}
+
+// What the hardware says of the ports of a switch, by rising port.
+pub fn samples(wires: &WireSet, s: u8) -> [Sample; 12]
+    ensures { result ≡ map (λ port. sample_of (side_at wires.now (place s port))) externals }
+{
+    let mut samples = [Sample::Down; 12];
+    'ports: for port in 1..13u8 {
+        samples[usize::from(port - 1)] = sample_of(wires.side(s, port));
+    }
+    samples
+}
+
+// Whether the wire into a port of a switch has a frame.
+pub fn has_frame(wires: &WireSet, s: u8, port: u8) -> bool
+    requires { port ≤ 12 }
+    ensures { result ≡ has_frame_on wires.now (place s port) }
+{
+    is_link(wires.side(s, port).far) && wires.len(s, port) > 0
+}
+
+// Whether a port is above this one and has a frame.
+fn is_next(wires: &WireSet, s: u8, last: u8, port: u8) -> bool
+    requires { port ≤ 12 }
+    ensures { result ≡ (nat_lt last port && has_frame_on wires.now (place s port)) }
+{
+    last < port && has_frame(wires, s, port)
+}
+
+// The lowest port above this one that has a frame.
+pub fn port_above(wires: &WireSet, s: u8, last: u8) -> Option<u8>
+    ensures { result ≡ find (λ port. nat_lt last port && has_frame_on wires.now (place s port)) externals }
+{
+    'ports: for port in 1..13u8 {
+        if is_next(wires, s, last, port) {
+            return Some(port);
+        }
+    }
+    None
+}

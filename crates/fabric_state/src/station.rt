@@ -1,0 +1,166 @@
+//! What all may see at the place of a switch.
+
+ghost use Rattle.std.specs.Prelude.{◌≡◌, ◌==◌, None, Some, false, not, option_copied};
+ghost use Rattle.std.specs.Option.{option_map};
+ghost use Rattle.an_base.specs.Ports.{NoteOf};
+ghost use Rattle.fabric_state.specs.declared.hand.Hand.TheVariants as in_hand;
+ghost use Rattle.fabric_state.specs.Fabric.{is_empty};
+ghost use Rattle.fabric_state.specs.Effects.{kept_table};
+ghost use Rattle.fabric_state.specs.Starts.{started_note};
+
+use crate::hand::Hand;
+use an_base::life::Life;
+use an_base::port::{Note, Ports};
+use std::marker::Model;
+use switch_core::switch::TableFor;
+use table_build::table::Table;
+
+/// What all may see at the place of a switch: what it has in hand, the tick at which its next clock is due,
+/// the table in use, what the switch shows of itself, and whether its epochs are spent.
+#[derive(Debug, Drop)]
+pub struct Station {
+    hand: Hand,
+    clock: u32,
+    table: Option<TableFor>,
+    note: Note,
+    spent: bool,
+}
+
+impl Model for Station {
+    ghost use Rattle.fabric_state.specs.Fabric.{StationOf};
+
+    ghost Value = { StationOf };
+
+    ghost view = { λ s. record { hand = s.hand; clock = s.clock; table = s.table; note = s.note; spent = s.spent } };
+}
+
+/// What a switch shows of itself as it starts, in this life and epoch.
+pub fn started_note(life: Life, epoch: u64) -> Note
+    ensures { result ≡ started_note life epoch }
+{
+    Note {
+        life,
+        epoch,
+        ports: Ports::new(),
+        load_due: false,
+        unacked: false,
+    }
+}
+
+impl Station {
+    // At the beginning: its clock is due, and nothing is in hand or in use.
+    pub(crate) fn begin(note: Note) -> Self
+        ensures { result ≡ record { hand = in_hand.Empty; clock = 0; table = None; note = note; spent = false } }
+    {
+        Station {
+            hand: Hand::Empty,
+            clock: 0,
+            table: None,
+            note,
+            spent: false,
+        }
+    }
+
+    /// What the switch has in hand.
+    pub fn hand(&self) -> Hand
+        ensures { result ≡ self.now.hand }
+    {
+        self.hand
+    }
+
+    /// Whether it has something in hand.
+    pub fn is_full(&self) -> bool
+        ensures { result ≡ not (is_empty self.now.hand) }
+    {
+        match self.hand {
+            Hand::Empty => false,
+            Hand::Clock { now: _, samples: _ } => true,
+            Hand::Frame { port: _ } => true,
+        }
+    }
+
+    /// The tick at which its next clock is due.
+    pub fn clock(&self) -> u32
+        ensures { result ≡ self.now.clock }
+    {
+        self.clock
+    }
+
+    /// The table in use, with the epoch of its topology.
+    pub fn table_for(&self) -> Option<&TableFor>
+        ensures { option_copied result ≡ self.now.table }
+    {
+        self.table.as_ref()
+    }
+
+    /// The table in use.
+    pub fn table(&self) -> Option<&Table>
+        ensures { option_copied result ≡ option_map (λ used. used.table) self.now.table }
+    {
+        match &self.table {
+            Some(used) => Some(&used.table),
+            None => None,
+        }
+    }
+
+    /// What the switch shows of itself.
+    pub fn note(&self) -> &Note
+        ensures { result.now ≡ self.now.note }
+    {
+        &self.note
+    }
+
+    /// Whether its epochs are spent.
+    pub fn is_spent(&self) -> bool
+        ensures { result ≡ self.now.spent }
+    {
+        self.spent
+    }
+
+    // It takes this in hand.
+    pub(crate) fn take(&mut self, hand: Hand)
+        ensures { self.new ≡ record self.old { hand = hand } }
+    {
+        self.hand = hand;
+    }
+
+    // Its next clock is due at this tick.
+    pub(crate) fn set_clock(&mut self, clock: u32)
+        ensures { self.new ≡ record self.old { clock = clock } }
+    {
+        self.clock = clock;
+    }
+
+    // The switch shows this now. Where it has joined another epoch the table goes out of use.
+    pub(crate) fn show(&mut self, note: &Note, spent: bool)
+        ensures { self.new ≡ record self.old {
+          table = kept_table (note.now.epoch == self.old.note.epoch) self.old.table;
+          note = note.now;
+          spent = spent;
+        } }
+    {
+        if note.epoch != self.note.epoch {
+            self.table = None;
+        }
+        self.note = note.copy();
+        self.spent = spent;
+    }
+
+    // The switch uses this table, and shows this.
+    pub(crate) fn load(&mut self, table: TableFor, note: &Note)
+        ensures { self.new ≡ record self.old { table = Some table; note = note.now } }
+    {
+        self.table = Some(table);
+        self.note = note.copy();
+    }
+
+    // The switch begins its next life at this tick.
+    pub(crate) fn restart(&mut self, tick: u32, note: Note)
+        ensures { self.new ≡ record self.old { clock = tick; table = None; note = note; spent = false } }
+    {
+        self.clock = tick;
+        self.table = None;
+        self.note = note;
+        self.spent = false;
+    }
+}

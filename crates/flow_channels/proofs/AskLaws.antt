@@ -1,0 +1,140 @@
+-- Who may ask: where a flow is sound once a packet has asked, it waited nowhere before, and has exits.
+use Rattle.std.proofs.Common.{◌≡◌, ◌≢◌, ◌∙◌, sym, ap, subst, refl, ℕ, zero, suc, ◌+◌, ◌<◌, ◌≤◌, List, [], ◌∷◌, ◌++◌, Some, Bool, arith, length, get_or, inl, inr}
+use Rattle.std.specs.Prelude.{All, Contains, ◌⊎◌, filter}
+use Rattle.std.specs.List.{range_with_len}
+use Rattle.std.proofs.lemmas.Bool.{cases_Bool, cases_eq}
+use Rattle.std.proofs.lemmas.List.{get_or_append_left, get_or_push, length_push, length-set}
+use Rattle.std.proofs.lemmas.List.Elements.{All-head, Contains-get_or}
+use Rattle.std.proofs.lemmas.Option.{same_Some}
+use Rattle.an_base.specs.Rows.{ArePorts, ExitsRise}
+use Rattle.dep_check.specs.declared.channel.Channel.{Channel}
+use Rattle.dep_check.specs.Packets.{AllAreJoined}
+use Rattle.dep_check.proofs.SpotLemmas.{option_cases}
+use Rattle.flow_channels.specs.Layout.{LayoutOf, spot, exits_of, IsWired}
+use Rattle.flow_channels.specs.Flows.{FlowOf, PacketOf, WaitOf, asks, waiting_at}
+use Rattle.flow_channels.specs.Sound.{IsSound, IsIn, IsInOne, WaitApart, WaitsThere}
+use Rattle.flow_channels.proofs.ExitLemmas.{exit_has, has_way_on, no_gap}
+use Rattle.flow_channels.proofs.FewLaws.{few_waiting}
+use Rattle.flow_channels.proofs.SoundLaws.{brought, near, not_start, starts_there}
+use Rattle.flow_channels.proofs.StateLemmas.{waiting_here, waiting_there}
+
+-- what a test keeps of a range rises
+first_above : (a : ℕ) (xs : List ℕ) → ((k d : ℕ) → k < length xs → a + 1 ≤ get_or xs k d) → (k d : ℕ) → k < length (a ∷ xs) → a ≤ get_or (a ∷ xs) k d
+first_above a xs rest zero d low = omega arith
+first_above a xs rest (suc k) d low = let high = rest k d (omega arith) in omega arith
+
+above : (p : ℕ → Bool) (n a k d : ℕ) → k < length (filter p (range_with_len a n)) → a ≤ get_or (filter p (range_with_len a n)) k d
+above p zero a k d low = absurd (omega arith)
+above p (suc n) a k d low = elim (cases_Bool (p a)) [
+  | inl passes ↦ rw passes (first_above a (filter p (range_with_len (a + 1) n)) (λ j e below. above p n (a + 1) j e below) k d (rw passes at low))
+  | inr fails ↦ rw fails (let rest = above p n (a + 1) k d (rw fails at low) in omega arith)
+]
+
+first_rises : (a : ℕ) (xs : List ℕ) → ((k d : ℕ) → k < length xs → a + 1 ≤ get_or xs k d) → ExitsRise xs → (i j d : ℕ) → i < j → j < length (a ∷ xs) → get_or (a ∷ xs) i d < get_or (a ∷ xs) j d
+first_rises a xs high rise i zero d less low = absurd (omega arith)
+first_rises a xs high rise zero (suc j) d less low = let h = high j d (omega arith) in omega arith
+first_rises a xs high rise (suc i) (suc j) d less low = rise i j d (omega arith) (omega arith)
+
+pub range_rises : (p : ℕ → Bool) (n a : ℕ) → ExitsRise (filter p (range_with_len a n))
+range_rises p zero a = λ i j d less low. absurd (omega arith)
+range_rises p (suc n) a = elim (cases_Bool (p a)) [
+  | inl passes ↦ rw passes (first_rises a (filter p (range_with_len (a + 1) n)) (λ j e below. above p n (a + 1) j e below) (range_rises p n (a + 1)))
+  | inr fails ↦ rw fails (range_rises p n (a + 1))
+]
+
+module _ (layout : LayoutOf) (wired : IsWired layout) (joined : AllAreJoined layout.far layout.numbers layout.rows) (known : List ℕ) where
+  -- one that waits at two switches waits at one
+  record IsAt (sound_place : ℕ → Channel) (at : ℕ) (w : WaitOf) : Type 0 where
+    channel : Channel
+    place : sound_place w.packet.packet ≡ channel
+    is : (channel ≡ spot at 0) ⊎ (layout.far channel ≡ Some (spot at w.entry))
+
+  at_of : (flow : FlowOf) (at : ℕ) (w : WaitOf) → (sound : IsSound layout known flow) → WaitsThere layout flow at w → IsInOne known sound.place at w → IsAt sound.place at w
+  at_of flow at w sound there one = elim (option_cases (layout.far (spot at w.entry))) [
+    | inl none ↦ record { channel = spot at 0; place = (one (starts_there layout wired known flow at w none there)).1; is = inl refl }
+    | inr (c, by) ↦ (
+        let first = brought layout wired known flow at w c by there in
+        let back = wired.back (spot at w.entry) c by in
+        let own = All-head (IsIn known sound.place c) w.packet first.0 (subst (λ (ps : List PacketOf). All (IsIn known sound.place c) ps) first.1 (sound.in_queue c (near layout wired known c (spot at w.entry) back))) in
+        record { channel = c; place = own.1; is = inr back })
+  ]
+
+  one_switch : (c : Channel) (a b : ℕ) (v w : WaitOf) → (c ≡ spot a 0) ⊎ (layout.far c ≡ Some (spot a v.entry)) → (c ≡ spot b 0) ⊎ (layout.far c ≡ Some (spot b w.entry)) → a ≡ b
+  one_switch c a b v w (inl e) (inl f) = ap (λ (s : Channel). s.at) (sym e ∙ f)
+  one_switch c a b v w (inl e) (inr f) = absurd (not_start layout wired known c (spot b w.entry) a f e)
+  one_switch c a b v w (inr e) (inl f) = absurd (not_start layout wired known c (spot a v.entry) b e f)
+  one_switch c a b v w (inr e) (inr f) = ap (λ (s : Channel). s.at) (same_Some (spot a v.entry) (spot b w.entry) (sym e ∙ f))
+
+  pub waits_once : (flow : FlowOf) (a b : ℕ) (v w : WaitOf) → (sound : IsSound layout known flow) → WaitsThere layout flow a v → IsInOne known sound.place a v → WaitsThere layout flow b w → IsInOne known sound.place b w → v.packet.packet ≡ w.packet.packet → a ≡ b
+  waits_once flow a b v w sound there one there' one' same =
+      let x = at_of flow a v sound there one in
+      let y = at_of flow b w sound there' one' in
+      let c : y.channel ≡ x.channel = sym y.place ∙ ap sound.place (sym same) ∙ x.place in
+      one_switch x.channel a b v w x.is (subst (λ (d : Channel). (d ≡ spot b 0) ⊎ (layout.far d ≡ Some (spot b w.entry))) c y.is)
+
+  module _ (flow : FlowOf) (at : ℕ) (w : WaitOf) (low : at < 127) (sound : IsSound layout known (asks at w flow)) where
+    size : length flow.waiting ≡ 127
+    size = sym (length-set flow.waiting at (waiting_at flow at ++ (w ∷ []))) ∙ sound.waiting
+
+    pub asked_list : waiting_at (asks at w flow) at ≡ waiting_at flow at ++ (w ∷ [])
+    asked_list = waiting_here flow at (waiting_at flow at ++ (w ∷ [])) size low
+
+    pub room_left : length (waiting_at flow at) < length known
+    room_left =
+        let most = few_waiting layout known (asks at w flow) at wired sound in
+        let n = ap (λ (ws : List WaitOf). length ws) asked_list ∙ length_push (waiting_at flow at) w in
+        omega arith
+
+    last_is : get_or (waiting_at (asks at w flow) at) (length (waiting_at flow at)) w ≡ w
+    last_is = ap (λ (ws : List WaitOf). get_or ws (length (waiting_at flow at)) w) asked_list ∙ get_or_push (waiting_at flow at) w w (length (waiting_at flow at)) refl
+
+    last_low : length (waiting_at flow at) < length (waiting_at (asks at w flow) at)
+    last_low = let n = ap (λ (ws : List WaitOf). length ws) asked_list ∙ length_push (waiting_at flow at) w in omega arith
+
+    pub it_waits : WaitsThere layout (asks at w flow) at w
+    it_waits = subst (λ (v : WaitOf). WaitsThere layout (asks at w flow) at v) last_is (sound.waits at (length (waiting_at flow at)) w last_low)
+
+    it_is_one : IsInOne known sound.place at w
+    it_is_one = subst (λ (v : WaitOf). IsInOne known sound.place at v) last_is (sound.starts at (length (waiting_at flow at)) w last_low)
+
+    pub has_exits : 1 ≤ length (exits_of layout (spot at w.entry) w.packet.to)
+    has_exits =
+        let way = has_way_on layout wired joined w.packet.to (spot at w.entry) it_waits.1 it_waits.0 in
+        let low' = way.named.1 in
+        omega arith
+
+    pub exits_are_ports : ArePorts (exits_of layout (spot at w.entry) w.packet.to)
+    exits_are_ports k d below =
+        let port = get_or (exits_of layout (spot at w.entry) w.packet.to) k d in
+        let named : Contains (exits_of layout (spot at w.entry) w.packet.to) port = Contains-get_or (exits_of layout (spot at w.entry) w.packet.to) k d below in
+        elim (option_cases (layout.far (spot at port))) [
+          | inl none ↦ absurd (no_gap layout wired joined w.packet.to (spot at w.entry) it_waits.1 (record { before = it_waits.0; gap = inr (port, exit_has layout (spot at w.entry) w.packet.to port named, none) }))
+          | inr (end, link) ↦ (
+              let is = (wired.near (spot at port) end link).port in
+              let some : port ≢ 0 = (λ (zero_is : port ≡ 0). not_start layout wired known (spot at port) end at link (ap (λ (p : ℕ). spot at p) zero_is)) in
+              (omega arith, omega arith))
+        ]
+
+    not_here : All (λ v. v.packet.packet ≢ w.packet.packet) (waiting_at flow at)
+    not_here k d below same =
+        let ws = waiting_at flow at in
+        let pairs : WaitApart (ws ++ (w ∷ [])) = subst (λ (vs : List WaitOf). WaitApart vs) asked_list (sound.apart at) in
+        let n = length_push ws w in
+        pairs k (length ws) d below (omega arith) (
+        ap (λ (v : WaitOf). v.packet.packet) (get_or_append_left ws (w ∷ []) d k below)
+        ∙ same
+        ∙ ap (λ (v : WaitOf). v.packet.packet) (sym (get_or_push ws w d (length ws) refl)))
+
+    not_there : (b : ℕ) → b ≢ at → All (λ v. v.packet.packet ≢ w.packet.packet) (waiting_at flow b)
+    not_there b other k d below same =
+        let list = waiting_there flow at b (waiting_at flow at ++ (w ∷ [])) other in
+        let v = get_or (waiting_at flow b) k d in
+        let there = subst (λ (vs : List WaitOf). All (WaitsThere layout (asks at w flow) b) vs) list (sound.waits b) k d below in
+        let one = subst (λ (vs : List WaitOf). All (IsInOne known sound.place b) vs) list (sound.starts b) k d below in
+        other (waits_once (asks at w flow) b at v w sound there one it_waits it_is_one same)
+
+    pub waits_nowhere : (b : ℕ) → All (λ v. v.packet.packet ≢ w.packet.packet) (waiting_at flow b)
+    waits_nowhere b = elim (cases_eq b at) [
+      | inl here ↦ subst (λ (x : ℕ). All (λ v. v.packet.packet ≢ w.packet.packet) (waiting_at flow x)) (sym here) not_here
+      | inr other ↦ not_there b other
+    ]

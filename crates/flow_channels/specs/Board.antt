@@ -1,0 +1,104 @@
+-- Where packets are and may go, as the program keeps it.
+use Rattle.std.specs.Prelude.{◌≡◌, ◌+◌, ◌*◌, ◌<◌, ◌≤◌, ℕ, List, [], Option, All, length, map, min, slice_index, slice_index_or, vec_capacity}
+use Rattle.dep_check.specs.declared.channel.Channel.{Channel}
+use Rattle.dep_check.specs.Packets.{AllAreJoined}
+use Rattle.dep_check.specs.Tables.{IsSpot, place_of, wire_at, WiresAreWithin}
+use Rattle.fcfc_router.specs.Router.{RequestOf}
+use Rattle.fcfc_router.specs.Shown.{ports_of, RouterOf}
+use Rattle.flow_channels.specs.declared.board.Board.{Board}
+use Rattle.flow_channels.specs.declared.board.Departure.{Departure}
+use Rattle.flow_channels.specs.declared.board.Packet.{Packet}
+use Rattle.flow_channels.specs.declared.tables.Tables.{Tables}
+use Rattle.flow_channels.specs.Layout.{LayoutOf, IsWired, exits_of, spot}
+use Rattle.flow_channels.specs.Flows.{FlowOf, PacketOf, WaitOf, comes_into, leaves_by}
+use Rattle.flow_channels.specs.Queue.{QueueOf}
+use Rattle.flow_channels.specs.Sound.{IsSound}
+
+-- the set of the exits for what came in at a spot and goes to a number
+abbrev pub exit_set : List ℕ → Channel → ℕ → ℕ
+exit_set sets came to = slice_index sets (place_of came * 127 + to)
+
+-- the far sides, the exits and the room are those of a layout
+pub record AreTablesOf (layout : LayoutOf) (wires : List (Option Channel)) (sets : List ℕ) (room : ℕ)
+    : Type 0 where
+  pub far : (channel : Channel) → wire_at wires channel ≡ layout.far channel
+  pub exits :
+      (came : Channel) (to : ℕ) → IsSpot came → to < 127
+      → ports_of (exit_set sets came to) ≡ exits_of layout came to
+  pub room_is : room ≡ layout.most
+
+-- the packet in a place
+abbrev pub packet_of : Packet → PacketOf
+packet_of packet = record { packet = packet.packet; to = packet.to }
+
+abbrev pub packet_at : List Packet → ℕ → PacketOf
+packet_at packets slot = packet_of (slice_index_or packets slot (record { packet = 0; to = 0 }))
+
+-- one that waits
+abbrev pub wait_at : List Packet → List ℕ → ℕ → WaitOf
+wait_at packets entries slot = record { packet = packet_at packets slot; entry = slice_index entries slot }
+
+-- the packets in the queues, and those that wait at the routers
+abbrev pub packets_in : List Packet → QueueOf → List PacketOf
+packets_in packets queue = map (packet_at packets) queue.slots
+
+abbrev pub waits_at : List Packet → List ℕ → RouterOf → List WaitOf
+waits_at packets entries router = map (λ request. wait_at packets entries request.packet) router.waiting
+
+abbrev pub flow_of : Board → FlowOf
+flow_of board = record {
+  queues = map (packets_in board.packets.items) board.queues.items;
+  waiting = map (waits_at board.packets.items board.entries.items) board.routers.items;
+}
+
+-- the steps of the flow need the far sides alone
+abbrev pub ways : Tables → LayoutOf
+ways tables = record { far = wire_at tables.wires.items; numbers = []; rows = []; most = tables.room }
+
+-- one that was let go has left the channel that brought it, and has come into that of its port
+abbrev pub departed_from : Board → Departure → Channel
+departed_from board departure = spot departure.at (slice_index board.entries.items departure.slot)
+
+abbrev pub left_by : Tables → Board → Departure → FlowOf
+left_by tables board departure =
+    leaves_by (ways tables) ((ways tables).far (departed_from board departure)) (flow_of board)
+
+abbrev pub gone_by : Tables → Board → Departure → FlowOf
+gone_by tables board departure =
+    comes_into (ways tables) (spot departure.at departure.exit) (packet_at board.packets.items departure.slot)
+    (left_by tables board departure)
+
+-- a request at a switch names a packet that entered, and its exits
+pub record IsAsked (sets : List ℕ) (board : Board) (at : ℕ) (request : RequestOf) : Type 0 where
+  pub slot : request.packet < length board.packets.items
+  pub ports :
+      request.ports
+      ≡ ports_of (exit_set sets (spot at (slice_index board.entries.items request.packet))
+      (packet_at board.packets.items request.packet).to)
+
+-- there is a queue for each spot, a router for each number, and an entry for each packet; what is in
+-- them entered; and each has room
+pub record IsKept (tables : Tables) (board : Board) : Type 0 where
+  pub within : WiresAreWithin tables.wires.items
+  pub sets : length tables.exits.sets.items ≡ 1651 * 127
+  pub queues : length board.queues.items ≡ 1651
+  pub routers : length board.routers.items ≡ 127
+  pub count : length board.entries.items ≡ length board.packets.items
+  pub capacity : (tables.limit ≤ vec_capacity board.packets) × (tables.limit ≤ vec_capacity board.entries)
+  pub few : length board.packets.items ≤ tables.limit
+  pub targets : All (λ packet. packet.to < 127) board.packets.items
+  pub queued : All (λ queue. All (λ slot. slot < length board.packets.items) queue.slots) board.queues.items
+  pub places : All (λ queue. queue.places ≡ min tables.room tables.limit) board.queues.items
+  pub asked : (at : ℕ) (none : RouterOf) → at < 127
+      → All (IsAsked tables.exits.sets.items board at) (slice_index_or board.routers.items at none).waiting
+  pub most : All (λ router. router.most ≡ tables.limit) board.routers.items
+
+-- a flow over these tables is sound
+pub record IsSoundOver (tables : Tables) (flow : FlowOf) : Type 0 where
+  pub layout : LayoutOf
+  pub known : List ℕ
+  pub tables_are : AreTablesOf layout tables.wires.items tables.exits.sets.items tables.room
+  pub wired : IsWired layout
+  pub joined : AllAreJoined layout.far layout.numbers layout.rows
+  pub few : length known ≤ tables.limit
+  pub sound : IsSound layout known flow

@@ -1,0 +1,10 @@
+pub mod Layout
+pub mod Flows
+pub mod Moves
+pub mod Runs
+pub mod Sound
+pub mod Queue
+pub mod Board
+pub mod Exits
+pub mod Turns
+pub mod View

@@ -1,0 +1,68 @@
+-- Flows that come about: packets enter, and turns are made.
+use Rattle.std.specs.Prelude.{◌≡◌, ◌≢◌, ◌==◌, ◌<◌, ◌+◌, ◌*◌, max, ℕ, suc, List, [], ◌∷◌, Option, Contains, length, unwrap_or, if◌then◌else◌}
+use Rattle.flow_channels.specs.declared.went.Went.{Went}
+use Rattle.flow_channels.specs.declared.went.Went.TheVariants.{Arrived, Out}
+use Rattle.flow_channels.specs.Layout.{LayoutOf}
+use Rattle.flow_channels.specs.Flows.{FlowOf, PacketOf, all_starting, empty_flow, enters}
+use Rattle.flow_channels.specs.Moves.{IsTurn}
+
+-- a packet enters at a switch towards another one, or there is a turn
+pub data Act : Type 0 where
+  Enter : (packet from to : ℕ) → Act
+  Turn : (went : Went) → Act
+
+-- the packets that entered, by a list of acts, the newest first
+abbrev pub entered : List Act → List ℕ
+entered [] = []
+entered (Enter packet from to ∷ acts) = packet ∷ entered acts
+entered (Turn went ∷ acts) = entered acts
+
+-- the condition of entering: the packet has not entered, and the two are different switches of the topology
+pub record MayEnter (layout : LayoutOf) (limit : ℕ) (before : List ℕ) (packet from to : ℕ) : Type 0 where
+  pub few : length before < limit
+  pub new : Contains before packet → ⊥
+  pub from_in : Contains layout.numbers from
+  pub to_in : Contains layout.numbers to
+  pub apart : from ≢ to
+
+-- the flow comes about by these acts, the newest first
+abbrev pub Comes : LayoutOf → ℕ → List Act → FlowOf → Type 0
+Comes layout limit [] flow = flow ≡ empty_flow
+Comes layout limit (Enter packet from to ∷ acts) flow =
+    (old : FlowOf) × Comes layout limit acts old × MayEnter layout limit (entered acts) packet from to
+    × (flow ≡ enters packet from to old)
+Comes layout limit (Turn went ∷ acts) flow =
+    (old : FlowOf) × Comes layout limit acts old × IsTurn layout old went flow
+
+-- turns one after another, the first one first
+abbrev pub Turns : LayoutOf → FlowOf → List Went → FlowOf → Type 0
+Turns layout old [] new = old ≡ new
+Turns layout old (went ∷ rest) new =
+    (next : FlowOf) × IsTurn layout old went next × Turns layout next rest new
+
+-- the greatest rank of all
+abbrev pub greatest : List (Option ℕ) → ℕ
+greatest [] = 0
+greatest (rank ∷ ranks) = max (unwrap_or rank 0) (greatest ranks)
+
+-- How many moves may be left at most: behind a channel one more than its rank, before the first one two
+-- more than the greatest
+abbrev pub moves_in : List (Option ℕ) → List (List PacketOf) → ℕ
+moves_in [] queues = 0
+moves_in (rank ∷ ranks) [] = 0
+moves_in (rank ∷ ranks) (packets ∷ queues) = length packets * suc (unwrap_or rank 0) + moves_in ranks queues
+
+abbrev pub moves_left : List (Option ℕ) → FlowOf → ℕ
+moves_left ranks flow = moves_in ranks flow.queues + all_starting flow.waiting * (greatest ranks + 2)
+
+-- how often a packet went out
+abbrev pub hops_of : ℕ → List Went → ℕ
+hops_of packet [] = 0
+hops_of packet (Arrived other at ∷ rest) = hops_of packet rest
+hops_of packet (Out other at exit ∷ rest) = (if other == packet then 1 else 0) + hops_of packet rest
+
+-- how often it went out in all these acts
+abbrev pub hops_in : ℕ → List Act → ℕ
+hops_in packet [] = 0
+hops_in packet (Enter other from to ∷ acts) = hops_in packet acts
+hops_in packet (Turn went ∷ acts) = hops_of packet (went ∷ []) + hops_in packet acts

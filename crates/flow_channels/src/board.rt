@@ -1,0 +1,320 @@
+ghost use Rattle.std.specs.Prelude.{◌≡◌, ◌<◌, ◌≤◌, ◌+◌, ◌++◌, ◌∷◌, [], ℕ, length, drop, min, remove, replicate, slice_get, slice_index, slice_index_or, All, IfOk, IsTrue, IsNone, MatchOption, ◌↔◌};
+ghost use Rattle.dep_check.specs.declared.channel.Channel.{Channel};
+ghost use Rattle.dep_check.specs.Tables.{IsSpot, place_of, WiresAreWithin};
+ghost use Rattle.flow_channels.specs.Board.{flow_of, gone_by, IsKept, IsSoundOver, left_by, packet_at, ways};
+ghost use Rattle.flow_channels.specs.Flows.{asks, comes_into, empty_flow, enters, first_asks, leaves, leaves_by, queue_at, with_queue};
+ghost use Rattle.flow_channels.specs.Layout.{spot};
+ghost use Rattle.flow_channels.specs.Moves.{CanArrive, HasRoom};
+ghost use Rattle.flow_channels.specs.Queue.{QueueOf};
+ghost use Rattle.flow_channels.specs.Turns.{AreFree, HasDeparted, IsAtTarget, IsFirstArrival, IsSame, NoneArrives, NoneGoes};
+
+use crate::exits::NUMBERS;
+use crate::places::{SPOTS, place_of, spot_at};
+use crate::queue::Queue;
+use crate::tables::Tables;
+use an_base::memory::OutOfMemory;
+use dep_check::channel::Channel;
+use fcfc_router::router::{Grant, Router};
+use std::alloc::Global;
+
+/// A packet that entered, and the number of the switch to which it goes.
+#[derive(Clone, Copy, Debug)]
+pub struct Packet {
+    /// The packet.
+    pub packet: u32,
+    /// The number of the switch.
+    pub to: u8,
+}
+
+/// A packet that is at its target, the first one of a channel.
+#[derive(Clone, Copy, Debug)]
+pub struct Arrival {
+    /// The channel.
+    pub channel: Channel,
+    /// The packet.
+    pub packet: Packet,
+}
+
+/// A packet that is let go, by its place among those that entered.
+#[derive(Clone, Copy, Debug)]
+pub struct Departure {
+    /// The number of the switch.
+    pub at: u8,
+    /// The port.
+    pub exit: u8,
+    /// The place of the packet.
+    pub slot: u32,
+}
+
+/// Where the packets are. Each has a place in the order in which they entered, its slot.
+#[derive(Debug, Drop)]
+pub struct Board {
+    /// The packets that entered.
+    pub packets: Vec<Packet>,
+    /// For each packet that waits the entry at which it came in, 0 where it starts.
+    pub entries: Vec<u8>,
+    /// The packets in the channel of each spot.
+    pub queues: Vec<Queue>,
+    /// Who waits at the switch of each number.
+    pub routers: Vec<Router>,
+}
+
+impl Board {
+    // The first packet of a channel.
+    fn first(&self, channel: Channel) -> Option<u32>
+        requires spot { IsSpot channel }
+        requires queues { length self.now.queues.items ≡ 1651 }
+        ensures { (none : QueueOf) → result ≡ slice_get (slice_index_or self.now.queues.items (place_of channel) none).slots 0 }
+    {
+        self.queues[place_of(channel)].first()
+    }
+
+    // A packet asks at a switch for the exits of the entry at which it came in.
+    fn ask(&mut self, tables: &Tables, at: u8, slot: u32, entry: u8)
+        requires kept { IsKept tables.now self.old }
+        requires at { at < 127 }
+        requires entry { entry < 13 }
+        requires slot { slot < length self.old.packets.items }
+        requires sound { IsSoundOver tables.now (asks at (record { packet = packet_at self.old.packets.items slot; entry = entry }) (flow_of self.old)) }
+        ensures kept { IsKept tables.now self.new }
+        ensures flow { flow_of self.new ≡ asks at (record { packet = packet_at self.old.packets.items slot; entry = entry }) (flow_of self.old) }
+        ensures packets { self.new.packets.items ≡ self.old.packets.items }
+    {
+        let came = Channel { at, port: entry };
+        let exits = tables.exits.get(came, self.packets[slot as usize].to);
+        self.entries[slot as usize] = entry;
+        self.routers[usize::from(at)].ask_set(slot, exits);
+    }
+
+    // The first packet of a channel asks at the far side, unless that is its target.
+    fn first_asks(&mut self, tables: &Tables, channel: Channel)
+        requires kept { IsKept tables.now self.old }
+        requires spot { IsSpot channel }
+        requires sound { IsSoundOver tables.now (first_asks (ways tables.now) channel (flow_of self.old)) }
+        ensures kept { IsKept tables.now self.new }
+        ensures flow { flow_of self.new ≡ first_asks (ways tables.now) channel (flow_of self.old) }
+        ensures packets { self.new.packets.items ≡ self.old.packets.items }
+    {
+        let Some(end) = tables.far(channel) else {
+            return;
+        };
+        let Some(slot) = self.first(channel) else {
+            return;
+        };
+        if self.packets[slot as usize].to != end.at {
+            self.ask(tables, end.at, slot, end.port);
+        }
+    }
+
+    /// The first packet of a channel leaves it, and the next one asks.
+    pub fn leave(&mut self, tables: &Tables, channel: Channel)
+        requires kept { IsKept tables.now self.old }
+        requires spot { IsSpot channel }
+        requires sound { IsSoundOver tables.now (leaves (ways tables.now) channel (flow_of self.old)) }
+        ensures kept { IsKept tables.now self.new }
+        ensures flow { flow_of self.new ≡ leaves (ways tables.now) channel (flow_of self.old) }
+        ensures packets { self.new.packets.items ≡ self.old.packets.items }
+    {
+        self.queues[place_of(channel)].pop();
+        self.first_asks(tables, channel);
+    }
+
+    // A packet comes last in a channel, and asks where it is the first there.
+    fn come_into(&mut self, tables: &Tables, channel: Channel, slot: u32)
+        requires kept { IsKept tables.now self.old }
+        requires spot { IsSpot channel }
+        requires slot { slot < length self.old.packets.items }
+        requires sound { IsSoundOver tables.now (comes_into (ways tables.now) channel (packet_at self.old.packets.items slot) (flow_of self.old)) }
+        ensures kept { IsKept tables.now self.new }
+        ensures flow { flow_of self.new ≡ comes_into (ways tables.now) channel (packet_at self.old.packets.items slot) (flow_of self.old) }
+        ensures packets { self.new.packets.items ≡ self.old.packets.items }
+    {
+        let count = self.queues[place_of(channel)].len();
+        self.queues[place_of(channel)].push(slot);
+        if count == 0 {
+            self.first_asks(tables, channel);
+        }
+    }
+
+    // What came in at a spot leaves the channel that brought it, if one did.
+    fn leave_by(&mut self, tables: &Tables, came: Channel)
+        requires kept { IsKept tables.now self.old }
+        requires spot { IsSpot came }
+        requires sound { IsSoundOver tables.now (leaves_by (ways tables.now) ((ways tables.now).far came) (flow_of self.old)) }
+        ensures kept { IsKept tables.now self.new }
+        ensures flow { flow_of self.new ≡ leaves_by (ways tables.now) ((ways tables.now).far came) (flow_of self.old) }
+        ensures packets { self.new.packets.items ≡ self.old.packets.items }
+    {
+        if let Some(channel) = tables.far(came) {
+            self.leave(tables, channel);
+        }
+    }
+
+    /// A packet that was let go leaves the channel that brought it, and goes into that of the port.
+    pub fn go(&mut self, tables: &Tables, departure: Departure)
+        requires kept { IsKept tables.now self.old }
+        requires at { departure.at < 127 }
+        requires exit { departure.exit < 13 }
+        requires slot { departure.slot < length self.old.packets.items }
+        requires entry { slice_index self.old.entries.items departure.slot < 13 }
+        requires left { IsSoundOver tables.now (left_by tables.now self.old departure) }
+        requires sound { IsSoundOver tables.now (gone_by tables.now self.old departure) }
+        ensures kept { IsKept tables.now self.new }
+        ensures flow { flow_of self.new ≡ gone_by tables.now self.old departure }
+        ensures packets { self.new.packets.items ≡ self.old.packets.items }
+    {
+        let came = Channel {
+            at: departure.at,
+            port: self.entries[departure.slot as usize],
+        };
+        self.leave_by(tables, came);
+        let channel = Channel {
+            at: departure.at,
+            port: departure.exit,
+        };
+        self.come_into(tables, channel, departure.slot);
+    }
+
+    // The first packet of a channel, where it is at its target.
+    fn arrived_in(&self, tables: &Tables, channel: Channel) -> Option<Packet>
+        requires kept { IsKept tables.now self.now }
+        requires spot { IsSpot channel }
+        ensures { MatchOption result (CanArrive (ways tables.now) (flow_of self.now) channel → ⊥) (IsAtTarget tables.now self.now channel) }
+    {
+        let end = tables.far(channel)?;
+        let slot = self.first(channel)?;
+        let packet = self.packets[slot as usize];
+        if packet.to == end.at {
+            return Some(packet);
+        }
+        None
+    }
+
+    /// The first channel whose first packet is at its target, and that packet.
+    pub fn arrival(&self, tables: &Tables) -> Option<Arrival>
+        requires { IsKept tables.now self.now }
+        ensures { MatchOption result (NoneArrives tables.now self.now 1651) (IsFirstArrival tables.now self.now) }
+    {
+        'spots: for place in 0..SPOTS {
+            let channel = spot_at(place);
+            if let Some(packet) = self.arrived_in(tables, channel) {
+                return Some(Arrival { channel, packet });
+            }
+        }
+        None
+    }
+
+    // Whether a port has a channel with room.
+    fn has_room(&self, tables: &Tables, channel: Channel) -> bool
+        requires kept { IsKept tables.now self.now }
+        requires spot { IsSpot channel }
+        ensures { IsTrue result ↔ HasRoom (ways tables.now) (flow_of self.now) channel }
+    {
+        tables.far(channel).is_some() && self.queues[place_of(channel)].len() < tables.room
+    }
+
+    // The ports of a switch whose channels have room.
+    fn free_ports(&self, tables: &Tables, at: u8) -> u16
+        requires kept { IsKept tables.now self.now }
+        requires at { at < 127 }
+        ensures { AreFree tables.now self.now at result }
+    {
+        let mut free = 0;
+        'ports: for port in 0..13u8 {
+            if self.has_room(tables, Channel { at, port }) {
+                free |= 1u16 << port;
+            }
+        }
+        free
+    }
+
+    /// Lets go the packet that asked first of those that can go, at the first switch where one can.
+    pub fn departure(&mut self, tables: &Tables) -> Option<Departure>
+        requires { IsKept tables.now self.old }
+        ensures departed { MatchOption result (NoneGoes tables.now self.old 127) (HasDeparted tables.now self.old self.new) }
+        ensures same { IsNone result → IsSame self.old self.new }
+        ensures kept { IsKept tables.now self.new }
+    {
+        'numbers: for at in 0..NUMBERS {
+            let free = self.free_ports(tables, at);
+            if let Some(Grant { packet, port }) = self.routers[usize::from(at)].grant(free) {
+                return Some(Departure {
+                    at,
+                    exit: port,
+                    slot: packet,
+                });
+            }
+        }
+        None
+    }
+
+    /// A packet enters at a switch, and asks there.
+    pub fn enter(&mut self, tables: &Tables, packet: Packet, from: u8)
+        requires kept { IsKept tables.now self.old }
+        requires from { from < 127 }
+        requires to { packet.to < 127 }
+        requires few { length self.old.packets.items < tables.now.limit }
+        requires limit { tables.now.limit ≤ 10012 }
+        requires sound { IsSoundOver tables.now (enters packet.packet from packet.to (flow_of self.old)) }
+        ensures kept { IsKept tables.now self.new }
+        ensures flow { flow_of self.new ≡ enters packet.packet from packet.to (flow_of self.old) }
+        ensures packets { self.new.packets.items ≡ self.old.packets.items ++ (packet ∷ []) }
+    {
+        let slot = self.packets.len() as u32;
+        match self.packets.push(packet) {
+            Ok(()) => (),
+            Err(_) => unreachable!(),
+        }
+        match self.entries.push(0) {
+            Ok(()) => (),
+            Err(_) => unreachable!(),
+        }
+        self.ask(tables, from, slot, 0);
+    }
+}
+
+// An empty queue for each spot.
+fn empty_queues(alloc: Global, places: usize) -> Result<Vec<Queue>, OutOfMemory>
+    ensures { IfOk result (λ queues. queues.items ≡ replicate 1651 (record { places = places; slots = [] })) }
+{
+    let mut queues = Vec::with_capacity(alloc, usize::from(SPOTS))?;
+    'spots: for _ in 0..SPOTS {
+        queues.push(Queue::new(alloc, places)?)?;
+    }
+    Ok(queues)
+}
+
+// A router for each number.
+fn empty_routers(alloc: Global, most: u32) -> Result<Vec<Router>, OutOfMemory>
+    requires least { 1 ≤ most }
+    requires limit { most ≤ 10012 }
+    ensures { IfOk result (λ routers. routers.items ≡ replicate 127 (record { most = most; waiting = [] })) }
+{
+    let mut routers = Vec::with_capacity(alloc, usize::from(NUMBERS))?;
+    'numbers: for _ in 0..NUMBERS {
+        routers.push(Router::new(alloc, most)?)?;
+    }
+    Ok(routers)
+}
+
+impl Board {
+    /// Nobody is on the way.
+    pub fn new(alloc: Global, tables: &Tables) -> Result<Self, OutOfMemory>
+        requires within { WiresAreWithin tables.now.wires.items }
+        requires sets { length tables.now.exits.sets.items ≡ 209677 }
+        requires least { 1 ≤ tables.now.limit }
+        requires limit { tables.now.limit ≤ 10012 }
+        ensures kept { IfOk result (IsKept tables.now) }
+        ensures flow { IfOk result (λ board. flow_of board ≡ empty_flow) }
+        ensures packets { IfOk result (λ board. board.packets.items ≡ []) }
+    {
+        let most = tables.limit;
+        let places = tables.room.min(most as usize);
+        Ok(Board {
+            packets: Vec::with_capacity(alloc, most as usize)?,
+            entries: Vec::with_capacity(alloc, most as usize)?,
+            queues: empty_queues(alloc, places)?,
+            routers: empty_routers(alloc, most)?,
+        })
+    }
+}

@@ -1,0 +1,141 @@
+ghost use Rattle.std.specs.Prelude.{◌≡◌, ◌+◌, ◌≤◌, ◌↔◌, [], ◌∷◌, ◌++◌, length, IfOk, IfSome, IfNone, IsNone, MatchOption};
+ghost use Rattle.dep_check.specs.Answer.{Passes};
+ghost use Rattle.flow_channels.specs.Board.{flow_of};
+ghost use Rattle.flow_channels.specs.Flows.{enters, left_of};
+ghost use Rattle.flow_channels.specs.Layout.{layout_of, LayoutOf};
+ghost use Rattle.flow_channels.specs.Runs.{MayEnter};
+ghost use Rattle.flow_channels.specs.Turns.{IsSame, NoneArrives};
+ghost use Rattle.flow_channels.specs.View.{HasTurned, IsFresh, IsOver, IsRunning, IsStill, MayEnterNow, TurnsTo};
+
+use crate::board::{Arrival, Board, Packet};
+use crate::tables::Tables;
+use crate::went::Went;
+use an_base::memory::OutOfMemory;
+use an_base::numbers::Numbers;
+use an_base::row::Row;
+use dep_check::check::Ranks;
+use std::alloc::Global;
+use std::marker::Model;
+use topo_graph::graph::Graph;
+
+/// Packets on their way through a topology, whose channels hold a few packets each.
+#[derive(Debug, Drop)]
+pub struct Flow {
+    tables: Tables,
+    board: Board,
+    left: u32,
+}
+
+impl Model for Flow {
+    ghost use Rattle.flow_channels.specs.View.{FlowView, HasLeft, view_of};
+
+    ghost Value = { FlowView };
+
+    ghost view = { λ f. view_of f.tables f.board };
+
+    ghost invariant = { λ f. HasLeft f.tables f.board f.left };
+}
+
+// The first packet of the least channel whose first packet is at its target arrives.
+fn arrive(tables: &Tables, board: &mut Board) -> Option<Went>
+    requires { IsRunning tables.now board.old }
+    ensures turned { MatchOption result (NoneArrives tables.now board.old 1651) (HasTurned tables.now board.old board.new) }
+    ensures same { IfNone result (board.new ≡ board.old) }
+    ensures left { IfSome result (λ _. left_of (flow_of board.new) + 1 ≡ left_of (flow_of board.old)) }
+{
+    let Some(Arrival { channel, packet }) = board.arrival(tables) else {
+        return None;
+    };
+    board.leave(tables, channel);
+    Some(Went::Arrived {
+        packet: packet.packet,
+        at: packet.to,
+    })
+}
+
+// The packet that is let go at the least number goes out, where nobody arrives.
+fn depart(tables: &Tables, board: &mut Board) -> Option<Went>
+    requires running { IsRunning tables.now board.old }
+    requires none { NoneArrives tables.now board.old 1651 }
+    ensures turned { MatchOption result (IsStill tables.now board.old) (HasTurned tables.now board.old board.new) }
+    ensures same { IfNone result (IsSame board.old board.new) }
+    ensures running { IsNone result → IsRunning tables.now board.new }
+    ensures left { IfSome result (λ _. left_of (flow_of board.new) ≡ left_of (flow_of board.old)) }
+{
+    let Some(departure) = board.departure(tables) else {
+        return None;
+    };
+    let packet = board.packets[departure.slot as usize].packet;
+    board.go(tables, departure);
+    Some(Went::Out {
+        packet,
+        at: departure.at,
+        exit: departure.exit,
+    })
+}
+
+impl Flow {
+    /// No packet is on its way. The ranks are those that `check` answers for these rows; a channel holds
+    /// `b` packets, at least 1; and at most `most` packets may enter, 1 to 10,000.
+    pub fn new(
+        alloc: Global,
+        graph: &Graph,
+        numbers: &Numbers,
+        rows: &[Row],
+        ranks: &Ranks,
+        b: u16,
+        most: u32,
+    ) -> Result<Self, OutOfMemory>
+        requires same { length numbers.now ≡ length graph.now }
+        requires passes { Passes graph.now numbers.now rows.now ranks.now }
+        requires room { 1 ≤ b }
+        requires least { 1 ≤ most }
+        requires limit { most ≤ 10000 }
+        ensures { IfOk result (IsFresh (layout_of graph.now numbers.now rows.now b) most) }
+    {
+        let _ranks = ranks;
+        let _count = graph.count();
+        let _numbers = numbers.as_slice();
+        let tables = Tables::of(alloc, graph, numbers, rows, usize::from(b), most)?;
+        let board = Board::new(alloc, &tables)?;
+        Ok(Flow {
+            tables,
+            board,
+            left: 0,
+        })
+    }
+
+    /// A packet enters at the switch with the number `from`, for the one with the number `to`, and asks
+    /// there. It has not entered before, and the two are different numbers of the topology. It takes no
+    /// memory.
+    pub fn enter(&mut self, packet: u32, from: u8, to: u8)
+        requires { MayEnterNow self.old packet from to }
+        ensures flow { self.new ≡ record self.old { known = self.old.known ++ (packet ∷ []); flow = enters packet from to self.old.flow } }
+        ensures over { (layout : LayoutOf) → IsOver layout self.old → MayEnter layout self.old.limit self.old.known packet from to → IsOver layout self.new }
+    {
+        self.board.enter(&self.tables, Packet { packet, to }, from);
+        self.left += 1;
+    }
+
+    /// Makes the next move: the first packet of the least channel, by number and port, that is at its
+    /// target arrives; else the packet that is let go at the least number goes out. None exactly where no
+    /// packet is left, and then nothing changes. It takes no memory.
+    pub fn turn(&mut self) -> Option<Went>
+        ensures turned { (layout : LayoutOf) → IsOver layout self.old → TurnsTo layout self.old self.new result }
+        ensures over { (layout : LayoutOf) → IsOver layout self.old → IsOver layout self.new }
+        ensures none { IsNone result ↔ (left_of self.old.flow ≡ 0) }
+    {
+        if let Some(went) = arrive(&self.tables, &mut self.board) {
+            self.left -= 1;
+            return Some(went);
+        }
+        depart(&self.tables, &mut self.board)
+    }
+
+    /// How many packets entered and have not arrived.
+    pub fn left(&self) -> u32
+        ensures { result ≡ left_of self.now.flow }
+    {
+        self.left
+    }
+}

@@ -1,0 +1,61 @@
+ghost use Rattle.std.specs.Prelude.{◌≡◌, ◌*◌, ◌≤◌, length, IfOk};
+ghost use Rattle.an_base.specs.Numbers.{AreNumbers};
+ghost use Rattle.dep_check.specs.Tables.{IsSpot, wire_at, WiresAreWithin};
+ghost use Rattle.flow_channels.specs.Board.{AreTablesOf};
+ghost use Rattle.flow_channels.specs.Layout.{layout_of};
+
+use crate::exits::ExitTable;
+use crate::places::place_of;
+use crate::wires::wires_of;
+use an_base::memory::OutOfMemory;
+use an_base::numbers::Numbers;
+use an_base::row::Row;
+use dep_check::channel::Channel;
+use std::alloc::Global;
+use topo_graph::graph::Graph;
+
+/// What never changes.
+#[derive(Debug, Drop)]
+pub struct Tables {
+    /// The far side of each spot.
+    pub wires: Vec<Option<Channel>>,
+    /// The exits by which packets go on.
+    pub exits: ExitTable,
+    /// How many packets a channel holds.
+    pub room: usize,
+    /// How many packets may enter.
+    pub limit: u32,
+}
+
+impl Tables {
+    /// Those of a topology.
+    pub fn of(
+        alloc: Global,
+        graph: &Graph,
+        numbers: &Numbers,
+        rows: &[Row],
+        room: usize,
+        limit: u32,
+    ) -> Result<Self, OutOfMemory>
+        requires { length numbers.now ≡ length graph.now }
+        ensures tables { IfOk result (λ tables. AreTablesOf (layout_of graph.now numbers.now rows.now room) tables.wires.items tables.exits.sets.items tables.room) }
+        ensures within { IfOk result (λ tables. WiresAreWithin tables.wires.items) }
+        ensures sets { IfOk result (λ tables. length tables.exits.sets.items ≡ 1651 * 127) }
+        ensures limit { IfOk result (λ tables. tables.limit ≡ limit) }
+    {
+        Ok(Tables {
+            wires: wires_of(alloc, graph, numbers)?,
+            exits: ExitTable::of(alloc, rows)?,
+            room,
+            limit,
+        })
+    }
+
+    /// The far side of a spot, if a link is there.
+    pub fn far(&self, spot: Channel) -> Option<Channel>
+        requires { IsSpot spot }
+        ensures { result ≡ wire_at self.now.wires.items spot }
+    {
+        self.wires.get(place_of(spot)).copied().flatten()
+    }
+}

@@ -1,0 +1,5 @@
+pub mod FiledLemmas
+pub mod HopLemmas
+pub mod PacketLemmas
+pub mod SearchLemmas
+pub mod StepLemmas

@@ -1,0 +1,101 @@
+-- Packets under way, and their hops.
+
+use Rattle.std.specs.Prelude.{ℕ, ◌/◌, ◌%◌, ◌==◌, nat_lt, List, [], ◌∷◌, ◌++◌, map, filter, not, Option, Some, None, is_some, Bool, false, if◌then◌else◌}
+use Rattle.std.specs.List.{find}
+use Rattle.table_build.specs.Tables.{TableOf, exits_of}
+use Rattle.host_traffic.specs.declared.hop.Hop.{Hop}
+use Rattle.host_traffic.specs.declared.hop.Hop.TheVariants as hop
+use Rattle.host_traffic.specs.declared.hop.DropCause.TheVariants as cause
+
+-- A packet under way: its number; the switch at which it is, and the port by which it came in; whether its
+-- host has just sent it; the address to which it goes, and the identifier of the host that it is for.
+pub record PacketOf : Type 0 where
+  pub packet : ℕ
+  pub at : ℕ
+  pub entry : ℕ
+  pub is_new : Bool
+  pub address : ℕ
+  pub uid : ℕ
+
+-- the packets under way by rising number, and how many there may be at once
+pub record TrafficOf : Type 0 where
+  pub packets : List PacketOf
+  pub most : ℕ
+
+-- the row that serves it: that of entry 0 until its first hop
+abbrev pub row_entry : PacketOf → ℕ
+row_entry packet = if packet.is_new then 0 else packet.entry
+
+-- At the switch of its address it is delivered to the host at the port of its address, which is the one that
+-- it is for.
+abbrev pub delivered_to : ℕ → Option (ℕ × ℕ) → PacketOf → Hop
+delivered_to port None packet = hop.Dropped cause.NoHost
+delivered_to port (Some host) packet =
+    if host.1 == packet.uid then hop.Delivered port host.0 else hop.Dropped cause.WrongHost
+
+-- elsewhere it goes by the lowest exit
+abbrev pub goes_by : List ℕ → (ℕ → Option (ℕ × ℕ)) → Hop
+goes_by [] next = hop.Dropped cause.NoExit
+goes_by (port ∷ ports) next = if is_some (next port) then hop.Went port else hop.Dropped cause.LinkDown
+
+-- Its next hop, by the table in use, the host that each port reaches and what lies behind each port.
+abbrev pub hop_by : Option TableOf → (ℕ → Option (ℕ × ℕ)) → (ℕ → Option (ℕ × ℕ)) → PacketOf → Hop
+hop_by None host next packet = hop.Dropped cause.NoTable
+hop_by (Some table) host next packet =
+    if packet.address / 16 == table.number
+    then delivered_to (packet.address % 16) (host (packet.address % 16)) packet
+    else goes_by (exits_of table (row_entry packet) (packet.address / 16)) next
+
+-- the same, where these are read from a network by the place of a switch
+abbrev pub hop_in :
+    (ℕ → Option TableOf) → (ℕ → ℕ → Option (ℕ × ℕ)) → (ℕ → ℕ → Option (ℕ × ℕ)) → PacketOf → Hop
+hop_in table host next packet = hop_by (table packet.at) (host packet.at) (next packet.at) packet
+
+-- the switch and port where it is now, and where it is after a hop, if it is under way still
+abbrev pub place_now : PacketOf → ℕ × ℕ
+place_now packet = (packet.at, packet.entry)
+
+abbrev pub place_after : Hop → (ℕ → Option (ℕ × ℕ)) → Option (ℕ × ℕ)
+place_after (hop.Went exit) next = next exit
+place_after (hop.Delivered exit host) next = None
+place_after (hop.Dropped why) next = None
+
+-- the number of the first packet
+abbrev pub first_packet : List PacketOf → Option ℕ
+first_packet [] = None
+first_packet (packet ∷ more) = Some packet.packet
+
+-- the packets with a new one, which stands between those of lower and those of higher numbers
+abbrev pub with_new : PacketOf → List PacketOf → List PacketOf
+with_new new packets =
+    filter (λ packet. nat_lt packet.packet new.packet) packets
+    ++ new ∷ filter (λ packet. nat_lt new.packet packet.packet) packets
+
+-- the packet of a number, and the packets without it
+abbrev pub packet_of : ℕ → List PacketOf → Option PacketOf
+packet_of number packets = find (λ packet. packet.packet == number) packets
+
+abbrev pub without : ℕ → List PacketOf → List PacketOf
+without number packets = filter (λ packet. not (packet.packet == number)) packets
+
+-- it is at the far end of a link then
+abbrev pub moved_to : Option (ℕ × ℕ) → PacketOf → PacketOf
+moved_to None packet = packet
+moved_to (Some far) packet = record packet { at = far.0; entry = far.1; is_new = false }
+
+abbrev pub moved : ℕ → Option (ℕ × ℕ) → List PacketOf → List PacketOf
+moved number far packets =
+    map (λ packet. if packet.packet == number then moved_to far packet else packet) packets
+
+-- what its hop makes of the packets under way
+abbrev pub after_hop : Hop → (ℕ → Option (ℕ × ℕ)) → ℕ → List PacketOf → List PacketOf
+after_hop (hop.Went exit) next number packets = moved number (next exit) packets
+after_hop (hop.Delivered exit host) next number packets = without number packets
+after_hop (hop.Dropped why) next number packets = without number packets
+
+abbrev pub hopped_in :
+    (ℕ → Option TableOf) → (ℕ → ℕ → Option (ℕ × ℕ)) → (ℕ → ℕ → Option (ℕ × ℕ)) → ℕ → Option PacketOf
+    → List PacketOf → List PacketOf
+hopped_in table host next number None packets = packets
+hopped_in table host next number (Some packet) packets =
+    after_hop (hop_in table host next packet) (next packet.at) number packets

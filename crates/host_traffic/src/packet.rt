@@ -1,0 +1,83 @@
+ghost use Rattle.std.specs.Prelude.{◌≡◌, ◌/◌, ◌%◌, ◌<◌, ◌^◌, Some};
+ghost use Rattle.host_traffic.specs.Packets.{moved_to, row_entry};
+
+use std::marker::Model;
+
+/// A packet under way.
+#[derive(Clone, Copy, Debug)]
+pub struct Packet {
+    /// Its number.
+    pub packet: u32,
+    /// The place of the switch at which it is.
+    pub at: u8,
+    /// The port by which it came in.
+    pub entry: u8,
+    /// Whether its host has just sent it.
+    pub is_new: bool,
+    /// The address to which it goes.
+    pub address: u16,
+    /// The identifier of the host that it is for.
+    pub uid: u64,
+}
+
+impl Model for Packet {
+    ghost use Rattle.std.specs.Prelude.{◌<◌, ◌^◌};
+    ghost use Rattle.host_traffic.specs.Packets.{PacketOf};
+
+    ghost Value = { PacketOf };
+
+    ghost view = { λ p. record {
+      packet = p.packet;
+      at = p.at;
+      entry = p.entry;
+      is_new = p.is_new;
+      address = p.address;
+      uid = p.uid;
+    } };
+
+    ghost invariant = { λ p. p.address < 2 ^ 12 };
+
+    ghost inverse = { λ v. record {
+      packet = v.packet;
+      at = v.at;
+      entry = v.entry;
+      is_new = v.is_new;
+      address = v.address;
+      uid = v.uid;
+    } };
+}
+
+impl Packet {
+    // The number of the switch to which it goes.
+    pub fn switch_number(self) -> u8
+        ensures { result ≡ self.address / 16 }
+    {
+        (self.address / 16) as u8
+    }
+
+    // The port there.
+    pub fn last_port(self) -> u8
+        ensures { result ≡ self.address % 16 }
+    {
+        (self.address % 16) as u8
+    }
+
+    // The entry whose row serves it.
+    pub fn row_entry(self) -> u8
+        ensures { result ≡ row_entry self }
+    {
+        if self.is_new { 0 } else { self.entry }
+    }
+
+    // The packet at the far end of a link.
+    pub fn moved_to(self, at: u8, entry: u8) -> Packet
+        ensures { result ≡ moved_to (Some (at, entry)) self }
+    {
+        Packet {
+            at,
+            entry,
+            is_new: false,
+            ..self
+        }
+    }
+}

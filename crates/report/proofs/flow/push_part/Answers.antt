@@ -1,0 +1,22 @@
+use Rattle.std.proofs.Common.{◌∙◌, ap}
+use Rattle.net_graph.specs.Wires.{Wires}
+use Rattle.report.proofs.FlowTexts.{part_done}
+use Rattle.report.proofs.FlowTurns.{numbered_component, those_may_enter}
+use Rattle.report.proofs.flow.push_part.Goals as goal
+
+pub run-requires-clause-numbered : goal.run-requires-clause-numbered
+run-requires-clause-numbered c =
+    let (root, component) = c.requires.component in
+    numbered_component c.args.script.now root c.args.component.now c.in_ok-graph.graph c.in_ok-numbers.numbers c.wiring.ensures.kept component c.in_ok-graph.ensures c.in_ok-numbers.ensures
+
+pub run-requires-clause-sends : goal.run-requires-clause-sends
+run-requires-clause-sends c =
+    let (root, component) = c.requires.component in
+    let switches = c.switches-switches.ensures.all ∙ ap (λ (w : Wires). w.switches) c.wiring.ensures.wires in
+    those_may_enter c.args.script.now root c.args.component.now c.switches-switches.result.now c.in_ok-numbers.numbers c.in_ok-home.home c.deref.result.now c.args.sends.now c.wiring.ensures.kept component c.in_ok-numbers.ensures switches c.in_ok-home.ensures (c.deref.ensures.value ∙ c.in_ok-those.ensures) c.requires.sends
+
+pub returns : goal.returns
+returns c =
+    let switches = c.switches-switches.ensures.all ∙ ap (λ (w : Wires). w.switches) c.wiring.ensures.wires in
+    part_done c.args.script.now c.args.b c.any_routes-any.result c.args.component.now c.in_ok-graph.graph c.as_slice-entries.result.now c.switches-switches.result.now c.in_ok-home.home c.deref.result.now c.args.sends.now c.in_ok-moves.moves.items c.deref-2.result.now c.args.all.now.items c.append.new.self.items c.args.text.now.items c.push_moves.new.text.items
+    c.any_routes-any.ensures c.in_ok-graph.ensures c.as_slice-entries.ensures.all switches c.in_ok-home.ensures (c.deref.ensures.value ∙ c.in_ok-those.ensures) c.requires.sends c.in_ok-moves.ensures c.deref-2.ensures.value c.in_ok-push_moves.ensures c.in_ok-append.ensures.items
