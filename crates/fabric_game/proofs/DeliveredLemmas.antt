@@ -1,6 +1,6 @@
 -- A packet that is delivered is at the host to which it was sent.
 
-use Rattle.std.specs.Prelude.{◌≡◌, ◌⊎◌, ◌+◌, ◌*◌, ◌/◌, ◌%◌, ◌==◌, ◌&&◌, ◌<◌, ℕ, zero, suc, not, List, [], ◌∷◌, ◌++◌, map, length, cond, slice_index_or, IfSome, Option, Some, None, is_some, Bool, true, false, refl}
+use Rattle.std.specs.Prelude.{◌≡◌, ◌⊎◌, ◌+◌, ◌*◌, ◌/◌, ◌%◌, ◌==◌, ◌&&◌, ◌<◌, ℕ, zero, suc, not, List, [], ◌∷◌, ◌++◌, map, length, cond, slice_index_or, IfSome, Option, Some, None, Ok, Err, is_some, Bool, true, false, refl}
 use Rattle.std.specs.Option.{option_map, option_map_or}
 use Rattle.std.proofs.Common.{sym, ◌∙◌, ap, subst, inl, inr, arith, append_assoc}
 use Rattle.std.proofs.lemmas.Bool.{cases_order, eqb-true}
@@ -8,7 +8,7 @@ use Rattle.std.proofs.lemmas.List.{length-append, length-map}
 use Rattle.std.proofs.lemmas.List.Elements.{All-get_or}
 use Rattle.an_base.specs.Values.{TopoOf}
 use Rattle.an_base.specs.declared.event.Event.{Event}
-use Rattle.an_base.specs.declared.event.Event.TheVariants.{Tick, Clock, Take, Handle, Load, Fail, Repair, Lose, Again, Swap, Noise, Send, Move, Restart}
+use Rattle.an_base.specs.declared.event.Event.TheVariants.{Load, Send, Move}
 use Rattle.net_graph.specs.declared.wiring.SwitchAt.{SwitchAt}
 use Rattle.net_graph.specs.declared.wiring.HostOn.{HostOn}
 use Rattle.net_graph.specs.declared.wiring.Far.{Far}
@@ -30,7 +30,7 @@ use Rattle.host_traffic.specs.Packets.{PacketOf, packet_of, hop_by, delivered_to
 use Rattle.fabric_state.specs.PortStates.{is_host}
 use Rattle.fabric_state.specs.Fabric.{FabricOf, station, table_at, host_at, host_on, host_behind, no_host, next_at, is_up, port_shown, side_of_port}
 use Rattle.fabric_state.specs.Lawful.{is_lawful}
-use Rattle.fabric_state.specs.Effects.{admitted, hop_of, hopped, packet_to}
+use Rattle.fabric_state.specs.Effects.{address_of, admitted, admitted_as, hop_of, hopped}
 use Rattle.fabric_state.proofs.FitsLemmas.{event_fits}
 use Rattle.fabric_state.proofs.HopLemmas.{goes_to}
 use Rattle.fabric_world.specs.World.{WorldOf, effect, loads_with, step, world_after}
@@ -116,7 +116,7 @@ hopped_addressed script hosts h k (Some x) f all = after_addressed script hosts 
 admitted_addressed : (script : ScriptOf) (h : List Event) (f : FabricOf) (from to : ℕ) → to < length f.script.wires.hosts → WasSentTo script h (f.sent + 1) to
     → Each (IsAddressed script f.script.wires.hosts h) (admitted f (host_on f from) (host_on f to))
 admitted_addressed script h f from to there sent = by (is_some (host_at f (host_on f from).s (host_on f from).port)) (table_at f (host_on f to).s) where
-  by : (b : Bool) (o : Option TableOf) → Each (IsAddressed script f.script.wires.hosts h) (cond b (option_map_or (λ t. packet_to f (host_on f from) (host_on f to) t ∷ []) o []) [])
+  by : (b : Bool) (o : Option TableOf) → Each (IsAddressed script f.script.wires.hosts h) (admitted_as (f.sent + 1) (host_on f from) (host_on f to) (cond b (option_map_or (λ t. Ok (address_of t (host_on f to).port)) o (Err cause.NoTable)) (Err cause.NoPort)))
   by false o = tt
   by true None = tt
   by true (Some t) = (record { host = to; there = there; sent = sent; uid = refl; number = t.number; address = refl }, tt)
@@ -139,17 +139,7 @@ effect_addressed script kept h (Send from to) lawful all =
     each_append (IsAddressed script script.wires.hosts (h ++ Send from to ∷ [])) f.packets (admitted f (host_on f from) (host_on f to)) all
     (subst (λ (z : ScriptOf). Each (IsAddressed script z.wires.hosts (h ++ Send from to ∷ [])) (admitted f (host_on f from) (host_on f to))) (world_script script h) new)
 effect_addressed script kept h (Load s) lawful all = let w = world_after script h in loads_addressed script (h ++ Load s ∷ []) (finish_of (w.switches s)) s w all
-effect_addressed script kept h Tick lawful all = all
-effect_addressed script kept h (Clock s) lawful all = all
-effect_addressed script kept h (Take s p) lawful all = all
-effect_addressed script kept h (Handle s) lawful all = all
-effect_addressed script kept h (Fail s p) lawful all = all
-effect_addressed script kept h (Repair s p) lawful all = all
-effect_addressed script kept h (Lose s p n) lawful all = all
-effect_addressed script kept h (Again s p n) lawful all = all
-effect_addressed script kept h (Swap s p n) lawful all = all
-effect_addressed script kept h (Noise s p n) lawful all = all
-effect_addressed script kept h (Restart s) lawful all = all
+effect_addressed script kept h e lawful all = all
 
 none_at_first : (script : ScriptOf) → AreAddressed script [] (world_after script []).fabric.packets
 unfolding world_after

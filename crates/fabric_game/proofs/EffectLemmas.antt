@@ -1,8 +1,8 @@
 -- Each lawful event is none, or one step of the network.
 
-use Rattle.std.specs.Prelude.{◌≡◌, ◌≤◌, ◌⊎◌, ◌<◌, ◌+◌, ◌&&◌, not, ℕ, suc, cond, map, List, [], ◌∷◌, ◌++◌, Option, Some, None, Bool, true, false, refl, Contains}
+use Rattle.std.specs.Prelude.{◌≡◌, ◌≤◌, ◌⊎◌, ◌<◌, ◌+◌, not, ℕ, suc, cond, map, List, [], ◌∷◌, ◌++◌, Option, Some, None, Bool, true, false, refl, Contains}
 use Rattle.std.proofs.Common.{true≢false, sym, ◌∙◌, ap, subst, inl, inr, arith}
-use Rattle.std.proofs.lemmas.Bool.{and_parts, eq-eqb}
+use Rattle.std.proofs.lemmas.Bool.{eq-eqb}
 use Rattle.switch_core.proofs.SoundLemmas.{sound_framed, sound_clocked}
 use Rattle.switch_game.proofs.Own.{IsOwn}
 use Rattle.switch_game.proofs.Laws.{own_of}
@@ -43,7 +43,10 @@ use Rattle.an_base.specs.Order.{life_cmp}
 use Rattle.epoch_game.proofs.Nodes.{life_ne}
 use Rattle.epoch_game.proofs.Basics.{bool_cases}
 use Rattle.fabric_game.proofs.HoldsLemmas.{switch_here, switch_else, Holds, step_holds, restart_holds, started_ranged, can_clock, can_hand, can_load}
-use Rattle.fabric_game.proofs.WorldFacts.{lawful_parts, is_place, IsIdle, full_works}
+use Rattle.fabric_world.proofs.SpentLemmas.{AreEmptyIfSpent, full_unspent}
+use Rattle.fabric_state.proofs.FitsLemmas.{switch_below}
+use Rattle.fabric_state.proofs.LawfulLemmas.{lawful_is}
+use Rattle.fabric_state.proofs.ReadyLemmas.{handle_ready, load_ready}
 use Rattle.an_base.proofs.LifeLemmas.{same_life}
 use Rattle.fabric_game.proofs.EachLemmas.{Each, each_index, each_map}
 
@@ -67,7 +70,7 @@ pub record At (script : ScriptOf) (lives : List LifeId) (w : WorldOf) (v : Netwo
   pub script_is : w.fabric.script ≡ script
   pub kept : IsScript script
   pub firm : IsFirm script lives w
-  pub idle : IsIdle w.fabric
+  pub empty : AreEmptyIfSpent w.fabric
   pub port : (s p : ℕ) → s < places script → (station w.fabric s).hand ≡ hand.Frame p → (1 ≤ p) × (p ≤ 12)
   pub holds : Holds script lives w.switches w.fabric.wires v g
 
@@ -153,7 +156,7 @@ handle_goes script lives w v g s at low full = by_hand (station w.fabric s).hand
     among = at.firm.among s low
 
     works : u.spent ≡ false
-    works = sym (at.firm.spent s low) ∙ full_works w.fabric s at.idle full
+    works = sym (at.firm.spent s low) ∙ full_unspent w.fabric s at.empty full
 
     -- the moves of what is in hand
     moves : Hand → Game
@@ -232,7 +235,7 @@ restart_goes script lives w v g s at boot = record {
     by low = subst (λ (b : Bool). IsCounted (cond b (Rattle.fabric_world.specs.World.next_life s w) (w.switches s)).life.boot) (eq-eqb s s refl) (boot low)
 
 within : (script : ScriptOf) (lives : List LifeId) (w : WorldOf) (v : Network) (g : Game) (s : ℕ) → At script lives w v g → is_switch w.fabric s ≡ true → s < places script
-within script lives w v g s at is = let low = is_place w.fabric s is in let same = ap places at.script_is in omega (arith, low, same)
+within script lives w v g s at is = let low = switch_below w.fabric s is in let same = ap places at.script_is in omega (arith, low, same)
 
 -- each lawful event is none, or one step of the network
 pub effect_goes : (script : ScriptOf) (lives : List LifeId) (w : WorldOf) (v : Network) (g : Game) (e : Event) → At script lives w v g → IsFirm script lives (effect e w) → is_lawful w.fabric e ≡ true → GoesOn script lives w e v g (all_moves (acts_of w e) w.switches g) (effect e w).switches (effect e w).fabric.wires
@@ -241,12 +244,11 @@ effect_goes script lives w v g Tick at new lawful = quiet script lives w Tick v 
 effect_goes script lives w v g (Clock s) at new lawful = quiet script lives w (Clock s) v g _ at at.holds.heard
 effect_goes script lives w v g (Take s p) at new lawful = quiet script lives w (Take s p) v g _ at (take_each (IsKnown v.sent) (place s p) (place s 0) w.fabric.wires (inr empty_none) at.holds.heard)
 effect_goes script lives w v g (Handle s) at new lawful =
-    let ready = and_parts (is_switch w.fabric s) (is_full_at w.fabric s) (lawful_parts w.fabric (Handle s) lawful).0 in
+    let ready = handle_ready w.fabric s (lawful_is w.fabric (Handle s) lawful).ready in
     handle_goes script lives w v g s at (within script lives w v g s at ready.0) ready.1
 effect_goes script lives w v g (Load s) at new lawful =
-    let ready = and_parts (is_switch w.fabric s && not (is_full_at w.fabric s)) (load_due_at w.fabric s) (lawful_parts w.fabric (Load s) lawful).0 in
-    let here = and_parts (is_switch w.fabric s) (not (is_full_at w.fabric s)) ready.0 in
-    load_goes script lives w v g s (finish_of (w.switches s)) at (within script lives w v g s at here.0) ready.1 (new.sound s (within script lives w v g s at here.0))
+    let ready = load_ready w.fabric s (lawful_is w.fabric (Load s) lawful).ready in
+    load_goes script lives w v g s (finish_of (w.switches s)) at (within script lives w v g s at ready.0) ready.2 (new.sound s (within script lives w v g s at ready.0))
 effect_goes script lives w v g (Restart s) at new lawful = restart_goes script lives w v g s at (new.boot s)
 effect_goes script lives w v g (Fail s p) at new lawful = quiet script lives w (Fail s p) v g _ at (fail_each (IsKnown v.sent) (place s p) w.fabric.wires at.holds.heard)
 effect_goes script lives w v g (Repair s p) at new lawful = quiet script lives w (Repair s p) v g _ at (repair_each (IsKnown v.sent) (place s p) w.fabric.wires at.holds.heard)

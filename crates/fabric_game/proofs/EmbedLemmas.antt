@@ -28,7 +28,7 @@ use Rattle.fabric_game.proofs.Firm.{IsFirm, AreFirm, places}
 use Rattle.fabric_game.proofs.RangedSwitch.{IsRanged}
 use Rattle.fabric_game.proofs.KnownLemmas.{IsKnown, known_sent, empty_none}
 use Rattle.fabric_game.proofs.HoldsLemmas.{Holds, begun_holds}
-use Rattle.fabric_game.proofs.WorldFacts.{IsIdle, begun_idle, effect_idle}
+use Rattle.fabric_world.proofs.SpentLemmas.{AreEmptyIfSpent, begun_empty, effect_empty}
 use Rattle.fabric_game.proofs.PortFacts.{external}
 use Rattle.fabric_game.proofs.EffectLemmas.{IsSentBy, effect_goes}
 use Rattle.fabric_world.proofs.InductionLemmas.{effect_script}
@@ -68,7 +68,7 @@ snoc_split (x ∷ xs) (b ∷ bs) later e is = by (snoc_split xs bs later e (ap t
 pub record State (script : ScriptOf) (lives : List LifeId) (h : List Event) (w : WorldOf) (g : Game) : Type 0 where
   pub network : Network
   pub script_is : w.fabric.script ≡ script
-  pub idle : IsIdle w.fabric
+  pub empty : AreEmptyIfSpent w.fabric
   pub holds : Holds script lives w.switches w.fabric.wires network g
   pub was : (f : Frame) → In f network.sent → WasSent script h f
 
@@ -99,6 +99,13 @@ event_game script h e = moves_append h (e ∷ []) (begun script) (first_game scr
     moves_append [] more w g = refl
     moves_append (x ∷ h) more w g = moves_append h more (step w x) (event_moves w x g)
 
+pub game_next : (script : ScriptOf) (h : List Event) (e : Event) (b : Bool) → is_lawful (world_after script h).fabric e ≡ b
+    → game_after script (h ++ e ∷ []) ≡ cond b (all_moves (acts_of (world_after script h) e) (world_after script h).switches (game_after script h)) (game_after script h)
+game_next script h e b is =
+    let w = world_after script h in
+    let g = game_after script h in
+    event_game script h e ∙ ap (λ (x : Bool). cond x (all_moves (acts_of w e) w.switches g) g) is
+
 Next : (script : ScriptOf) (lives : List LifeId) (h : List Event) (e : Event) → State script lives h (world_after script h) (game_after script h) → WorldOf → Game → Type 0
 Next script lives h e old w g = (new : State script lives (h ++ e ∷ []) w g) × Happens lives old.network (game_after script h) new.network g
 
@@ -113,27 +120,24 @@ state_next script lives kept firm h e old = by (is_lawful w.fabric e) refl
     g : Game
     g = game_after script h
 
-    game_is : (b : Bool) → is_lawful w.fabric e ≡ b → game_after script (h ++ e ∷ []) ≡ cond b (all_moves (acts_of w e) w.switches g) g
-    game_is b is = event_game script h e ∙ ap (λ (x : Bool). cond x (all_moves (acts_of w e) w.switches g) g) is
-
     by : (b : Bool) → is_lawful w.fabric e ≡ b → Next script lives h e old (world_after script (h ++ e ∷ [])) (game_after script (h ++ e ∷ []))
     by true lawful =
-        let n = effect_goes script lives w old.network g e (record { script_is = old.script_is; kept = kept; firm = firm h; idle = old.idle; port = external script kept h; holds = old.holds }) (subst (IsFirm script lives) (world_after-event script h e ∙ step-lawful w e lawful) (firm (h ++ e ∷ []))) lawful in
-        subst (Next script lives h e old (world_after script (h ++ e ∷ []))) (sym (game_is true lawful))
+        let n = effect_goes script lives w old.network g e (record { script_is = old.script_is; kept = kept; firm = firm h; empty = old.empty; port = external script kept h; holds = old.holds }) (subst (IsFirm script lives) (world_after-event script h e ∙ step-lawful w e lawful) (firm (h ++ e ∷ []))) lawful in
+        subst (Next script lives h e old (world_after script (h ++ e ∷ []))) (sym (game_next script h e true lawful))
         (subst (λ (x : WorldOf). Next script lives h e old x (all_moves (acts_of w e) w.switches g)) (sym (world_after-event script h e ∙ step-lawful w e lawful)) (
           record {
             network = n.network;
             script_is = effect_script e w ∙ old.script_is;
-            idle = effect_idle e w lawful old.idle;
+            empty = effect_empty e w lawful old.empty;
             holds = n.holds;
             was = λ f i. elim (n.sent f i) [ inl j ↦ sent_before script h e f (old.was f j) | inr k ↦ sent_now script h e f lawful k ];
           },
           n.more,
         ))
     by false unlawful =
-        subst (Next script lives h e old (world_after script (h ++ e ∷ []))) (sym (game_is false unlawful))
+        subst (Next script lives h e old (world_after script (h ++ e ∷ []))) (sym (game_next script h e false unlawful))
         (subst (λ (x : WorldOf). Next script lives h e old x g) (sym (world_after-event script h e ∙ step-unlawful w e unlawful))
-        (record { network = old.network; script_is = old.script_is; idle = old.idle; holds = old.holds; was = λ f i. sent_before script h e f (old.was f i) }, none))
+        (record { network = old.network; script_is = old.script_is; empty = old.empty; holds = old.holds; was = λ f i. sent_before script h e f (old.was f i) }, none))
 
 is_in : (script : ScriptOf) (lives : List LifeId) (h : List Event) (s : State script lives h (world_after script h) (game_after script h)) → IsIn script lives h s.network
 is_in script lives h s = record {
@@ -172,7 +176,7 @@ unfolding world_after
 state_first script lives kept = record {
   network = dark (powered script);
   script_is = refl;
-  idle = begun_idle script;
+  empty = begun_empty script;
   holds = begun_holds script lives kept;
   was = λ f i. absurd i;
 }

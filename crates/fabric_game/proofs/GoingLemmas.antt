@@ -1,7 +1,6 @@
 -- Each hop of a trace begins where the one before led.
 
-use Rattle.std.specs.Prelude.{◌≡◌, ◌⊎◌, ◌+◌, ◌/◌, ◌==◌, ◌<◌, ◌≤◌, ℕ, not, List, [], ◌∷◌, ◌++◌, All, Contains, length, cond, slice_index, Option, Some, None, is_some, Bool, true, false, refl}
-use Rattle.std.specs.Option.{option_map_or}
+use Rattle.std.specs.Prelude.{◌≡◌, ◌⊎◌, ◌+◌, ◌/◌, ◌==◌, ◌<◌, ◌≤◌, ℕ, not, List, [], ◌∷◌, ◌++◌, All, Contains, length, cond, slice_index, Option, Some, None, Result, Ok, Err, is_some, Bool, true, false, refl}
 use Rattle.std.proofs.Common.{true≢false, sym, ◌∙◌, ap, subst, inl, inr, arith}
 use Rattle.std.proofs.lemmas.Bool.{eqb-true, eqb-false, eq-eqb}
 use Rattle.std.proofs.lemmas.List.{append-nil}
@@ -20,10 +19,11 @@ use Rattle.epoch_game.proofs.Basics.{none_some, some_same}
 use Rattle.switch_core.specs.Switch.{finish_of}
 use Rattle.host_traffic.specs.declared.hop.Hop.{Hop}
 use Rattle.host_traffic.specs.declared.hop.Hop.TheVariants as hop
+use Rattle.host_traffic.specs.declared.hop.DropCause.{DropCause}
 use Rattle.host_traffic.specs.Packets.{PacketOf, after_hop, moved, moved_to, packet_of, row_entry, without}
-use Rattle.fabric_state.specs.Fabric.{FabricOf, host_at, host_on, is_up, next_at, side_of_port, switch_behind, table_at}
+use Rattle.fabric_state.specs.Fabric.{FabricOf, host_on, is_up, next_at, side_of_port, switch_behind}
 use Rattle.fabric_state.specs.Lawful.{is_lawful}
-use Rattle.fabric_state.specs.Effects.{admitted, hop_of, hopped, packet_to}
+use Rattle.fabric_state.specs.Effects.{address_for, admitted, admitted_as, hop_of, hopped, packet_to}
 use Rattle.fabric_world.specs.World.{WorldOf, effect, loads_with, step, world_after}
 use Rattle.fabric_world.specs.Traces.{Hopped, hopped_at, hopped_by, hopped_of, event_hop, trace_of, IsHopAt, IsHopOf}
 use Rattle.fabric_world.specs.Clauses.{FinishedAt, IsTopology}
@@ -235,15 +235,14 @@ packet_append k (y ∷ xs) ys x is = by (y.packet == k) is (packet_append k xs y
   by false found rest = rest found
 
 admitted_number : (k : ℕ) (f : FabricOf) (from to : HostOn) (x : PacketOf) → packet_of k (admitted f from to) ≡ Some x → k ≡ f.sent + 1
-admitted_number k f from to x = by (is_some (host_at f from.s from.port)) (table_at f to.s) where
-  one : (t : TableOf) (b : Bool) → ((f.sent + 1) == k) ≡ b → cond b (Some (packet_to f from to t)) None ≡ Some x → k ≡ f.sent + 1
-  one t true is found = sym (eqb-true (f.sent + 1) k is)
-  one t false is found = absurd (none_some found)
+admitted_number k f from to x = by (address_for f from to) where
+  one : (address : ℕ) (b : Bool) → ((f.sent + 1) == k) ≡ b → cond b (Some (packet_to (f.sent + 1) from to address)) None ≡ Some x → k ≡ f.sent + 1
+  one address true is found = sym (eqb-true (f.sent + 1) k is)
+  one address false is found = absurd (none_some found)
 
-  by : (b : Bool) (o : Option TableOf) → packet_of k (cond b (option_map_or (λ t. packet_to f from to t ∷ []) o []) []) ≡ Some x → k ≡ f.sent + 1
-  by false o found = absurd (none_some found)
-  by true None found = absurd (none_some found)
-  by true (Some t) found = one t ((f.sent + 1) == k) refl found
+  by : (o : Result ℕ DropCause) → packet_of k (admitted_as (f.sent + 1) from to o) ≡ Some x → k ≡ f.sent + 1
+  by (Err why) found = absurd (none_some found)
+  by (Ok address) found = one address ((f.sent + 1) == k) refl found
 
 -- A packet is sent
 sends_on : (script : ScriptOf) (h : List Event) (e : Event) (k : ℕ) (xs : List Hopped) (f g : FabricOf) (from to : HostOn) → g.packets ≡ f.packets ++ admitted f from to → g.sent ≡ f.sent + 1 → IsGoing script h k xs f → IsGoing script (h ++ e ∷ []) k (xs ++ []) g

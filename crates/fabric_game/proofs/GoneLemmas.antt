@@ -1,14 +1,14 @@
 -- A life that is gone makes no further move.
 
-use Rattle.std.specs.Prelude.{◌≡◌, ◌<◌, ◌≤◌, ◌==◌, ◌&&◌, not, nat_lt, ℕ, map, cond, List, [], ◌∷◌, ◌++◌, Option, Some, None, Bool, true, false, refl}
+use Rattle.std.specs.Prelude.{◌≡◌, ◌<◌, ◌≤◌, ◌==◌, nat_lt, ℕ, map, cond, List, [], ◌∷◌, ◌++◌, Option, Some, None, Bool, true, false, refl}
 use Rattle.std.proofs.Common.{sym, ◌∙◌, ap, subst, arith, append_assoc}
-use Rattle.std.proofs.lemmas.Bool.{and_parts, cond_both, eqb-true}
+use Rattle.std.proofs.lemmas.Bool.{cond_both, eqb-true}
 use Rattle.std.proofs.lemmas.List.{append-nil}
 use Rattle.an_base.specs.Values.{LifeId, TopoOf}
 use Rattle.an_base.specs.Frames.{CarryOf}
 use Rattle.an_base.specs.declared.body.Body.{Body}
 use Rattle.an_base.specs.declared.event.Event.{Event}
-use Rattle.an_base.specs.declared.event.Event.TheVariants.{Tick, Clock, Take, Handle, Load, Fail, Repair, Lose, Again, Swap, Noise, Send, Move, Restart}
+use Rattle.an_base.specs.declared.event.Event.TheVariants.{Handle, Load, Restart}
 use Rattle.an_base.specs.declared.frame.Frame.{Frame}
 use Rattle.an_base.specs.declared.frame.Frame.TheVariants.{Carry, Ack, Probe, Reply}
 use Rattle.net_graph.specs.Wires.{uid_of}
@@ -26,7 +26,7 @@ use Rattle.fabric_state.specs.declared.hand.Hand.TheVariants as hand
 use Rattle.table_build.specs.Made.{number_in}
 use Rattle.fabric_world.specs.Acts.{Act, Starts, Clocks, Hears, HearsNothing, Loads, hears}
 use Rattle.fabric_world.specs.Heard.{acts_of, at_place, handles_as, loads_as}
-use Rattle.fabric_state.specs.Fabric.{station, held_bytes, is_full_at, is_switch, load_due_at}
+use Rattle.fabric_state.specs.Fabric.{station, held_bytes}
 use Rattle.fabric_state.specs.Lawful.{is_lawful}
 use Rattle.fabric_state.specs.Starts.{life_of}
 use Rattle.fabric_world.specs.World.{WorldOf, effect, handled, loads_with, next_life, world_after}
@@ -34,11 +34,12 @@ use Rattle.fabric_world.proofs.WorldLemmas.{world_after-event, step-lawful, step
 use Rattle.fabric_world.proofs.LawLemmas.{world_is_sound}
 use Rattle.fabric_game.specs.Moves.{HasRested, act_moves, all_moves, game_after}
 use Rattle.fabric_game.proofs.Firm.{places}
-use Rattle.fabric_game.proofs.WorldFacts.{lawful_parts, is_place}
+use Rattle.fabric_state.proofs.LawfulLemmas.{lawful_is}
+use Rattle.fabric_state.proofs.ReadyLemmas.{handle_ready, load_ready}
+use Rattle.fabric_world.proofs.PlaceLemmas.{switch_below}
 use Rattle.fabric_game.proofs.TableFacts.{handled_on}
-use Rattle.fabric_game.proofs.EmbedLemmas.{event_game}
+use Rattle.fabric_game.proofs.EmbedLemmas.{game_next}
 use Rattle.ordered_link.specs.Receiving.{accepted_by}
-use Rattle.fabric_world.proofs.InductionLemmas.{world_script}
 
 -- no move of another life is one of this
 rested : (y : LifeId) (g : Game) → HasRested y g g
@@ -106,32 +107,17 @@ gone_apart script kept h s b t low within gone same =
     let here = ap (λ (n : ℕ). ((world_after script h).switches n).life.boot) place in
     omega (arith, boot, here, gone)
 
-place_within : (script : ScriptOf) (h : List Event) (t : ℕ) → is_switch (world_after script h).fabric t ≡ true → t < places script
-place_within script h t is = let low = is_place (world_after script h).fabric t is in let same = ap places (world_script script h) in omega (arith, low, same)
-
 lawful_rests : (script : ScriptOf) → IsScript script → (h : List Event) (e : Event) (s b : ℕ) (g : Game) → s < places script → b < ((world_after script h).switches s).life.boot → is_lawful (world_after script h).fabric e ≡ true
     → HasRested (life_of script s b) g (all_moves (acts_of (world_after script h) e) (world_after script h).switches g)
 lawful_rests script kept h (Handle t) s b g low gone lawful =
     let w = world_after script h in
-    let ready = and_parts (is_switch w.fabric t) (is_full_at w.fabric t) (lawful_parts w.fabric (Handle t) lawful).0 in
-    hand_rests (station w.fabric t).hand (held_bytes w.fabric t) t w.switches (life_of script s b) (gone_apart script kept h s b t low (place_within script h t ready.0) gone) g
+    let ready = handle_ready w.fabric t (lawful_is w.fabric (Handle t) lawful).ready in
+    hand_rests (station w.fabric t).hand (held_bytes w.fabric t) t w.switches (life_of script s b) (gone_apart script kept h s b t low (switch_below script h t ready.0) gone) g
 lawful_rests script kept h (Load t) s b g low gone lawful =
     let w = world_after script h in
-    let ready = and_parts (is_switch w.fabric t && not (is_full_at w.fabric t)) (load_due_at w.fabric t) (lawful_parts w.fabric (Load t) lawful).0 in
-    let here = and_parts (is_switch w.fabric t) (not (is_full_at w.fabric t)) ready.0 in
-    load_rests (finish_of (w.switches t)) t w.switches (life_of script s b) (gone_apart script kept h s b t low (place_within script h t here.0) gone) g
-lawful_rests script kept h (Restart t) s b g low gone lawful = rested (life_of script s b) g
-lawful_rests script kept h Tick s b g low gone lawful = rested (life_of script s b) g
-lawful_rests script kept h (Clock t) s b g low gone lawful = rested (life_of script s b) g
-lawful_rests script kept h (Take t p) s b g low gone lawful = rested (life_of script s b) g
-lawful_rests script kept h (Fail t p) s b g low gone lawful = rested (life_of script s b) g
-lawful_rests script kept h (Repair t p) s b g low gone lawful = rested (life_of script s b) g
-lawful_rests script kept h (Lose t p n) s b g low gone lawful = rested (life_of script s b) g
-lawful_rests script kept h (Again t p n) s b g low gone lawful = rested (life_of script s b) g
-lawful_rests script kept h (Swap t p n) s b g low gone lawful = rested (life_of script s b) g
-lawful_rests script kept h (Noise t p n) s b g low gone lawful = rested (life_of script s b) g
-lawful_rests script kept h (Send m n) s b g low gone lawful = rested (life_of script s b) g
-lawful_rests script kept h (Move k) s b g low gone lawful = rested (life_of script s b) g
+    let ready = load_ready w.fabric t (lawful_is w.fabric (Load t) lawful).ready in
+    load_rests (finish_of (w.switches t)) t w.switches (life_of script s b) (gone_apart script kept h s b t low (switch_below script h t ready.0) gone) g
+lawful_rests script kept h e s b g low gone lawful = rested (life_of script s b) g
 
 -- boots only rise
 loads_boot : (o : Option TopoOf) (t s : ℕ) (w : WorldOf) → (w.switches s).life.boot ≤ ((loads_with o t w).switches s).life.boot
@@ -150,17 +136,7 @@ boot_rises (Load t) s w = loads_boot (finish_of (w.switches t)) t s w
 boot_rises (Restart t) s w =
     cond_both (s == t) (next_life t w) (w.switches s) (λ (v : SwitchOf). (w.switches s).life.boot ≤ v.life.boot)
     (λ is. let same = ap (λ (n : ℕ). (w.switches n).life.boot) (eqb-true s t is) in omega (arith, same)) (λ _. omega arith)
-boot_rises Tick s w = omega arith
-boot_rises (Clock t) s w = omega arith
-boot_rises (Take t p) s w = omega arith
-boot_rises (Fail t p) s w = omega arith
-boot_rises (Repair t p) s w = omega arith
-boot_rises (Lose t p n) s w = omega arith
-boot_rises (Again t p n) s w = omega arith
-boot_rises (Swap t p n) s w = omega arith
-boot_rises (Noise t p n) s w = omega arith
-boot_rises (Send m n) s w = omega arith
-boot_rises (Move k) s w = omega arith
+boot_rises e s w = omega arith
 
 -- so after one more event, and after more
 record IsGone (script : ScriptOf) (s b : ℕ) (h next : List Event) : Type 0 where
@@ -176,16 +152,13 @@ gone_next script kept h e s b low gone = by (is_lawful w.fabric e) refl
     g : Game
     g = game_after script h
 
-    game_is : (t : Bool) → is_lawful w.fabric e ≡ t → game_after script (h ++ e ∷ []) ≡ cond t (all_moves (acts_of w e) w.switches g) g
-    game_is t is = event_game script h e ∙ ap (λ (x : Bool). cond x (all_moves (acts_of w e) w.switches g) g) is
-
     by : (t : Bool) → is_lawful w.fabric e ≡ t → IsGone script s b h (h ++ e ∷ [])
     by true is = record {
-      rests = subst (HasRested (life_of script s b) g) (sym (game_is true is)) (lawful_rests script kept h e s b g low gone is);
+      rests = subst (HasRested (life_of script s b) g) (sym (game_next script h e true is)) (lawful_rests script kept h e s b g low gone is);
       gone = subst (λ (v : WorldOf). b < (v.switches s).life.boot) (sym (world_after-event script h e ∙ step-lawful w e is)) (let up = boot_rises e s w in omega (arith, up, gone));
     }
     by false is = record {
-      rests = subst (HasRested (life_of script s b) g) (sym (game_is false is)) (rested (life_of script s b) g);
+      rests = subst (HasRested (life_of script s b) g) (sym (game_next script h e false is)) (rested (life_of script s b) g);
       gone = subst (λ (v : WorldOf). b < (v.switches s).life.boot) (sym (world_after-event script h e ∙ step-unlawful w e is)) gone;
     }
 

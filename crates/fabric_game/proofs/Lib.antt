@@ -4,7 +4,6 @@ pub mod EachLemmas
 pub mod HistoryLemmas
 pub mod BytesLemmas
 pub mod KnownLemmas
-pub mod WorldFacts
 pub mod HoldsLemmas
 pub mod EffectLemmas
 pub mod EmbedLemmas

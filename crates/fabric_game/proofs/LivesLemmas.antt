@@ -8,7 +8,7 @@ use Rattle.std.proofs.lemmas.List.Elements.{Contains-append_left, Contains-appen
 use Rattle.std.proofs.lemmas.List.Sums.{sum_by-cons, sum_by-take-le}
 use Rattle.an_base.specs.Values.{LifeId}
 use Rattle.an_base.specs.declared.event.Event.{Event}
-use Rattle.an_base.specs.declared.event.Event.TheVariants.{Tick, Clock, Take, Handle, Load, Fail, Repair, Lose, Again, Swap, Noise, Send, Move, Restart}
+use Rattle.an_base.specs.declared.event.Event.TheVariants.{Restart}
 use Rattle.net_script.specs.declared.command.Command.{Command}
 use Rattle.net_script.specs.Commands.{is_restart}
 use Rattle.net_script.specs.Scripts.{ScriptOf, IsScript, restarts_of}
@@ -63,20 +63,8 @@ none_most : (n m : ℕ) → sum_below (λ s. 0) n ≤ m
 none_most n m = let h = none_below n in omega (arith, h)
 
 event_below : (e : Event) (n : ℕ) → sum_below (λ s. one_if (is_restart_at s e)) n ≤ one_if (is_restart e)
-event_below Tick n = none_most n 0
-event_below (Clock t) n = none_most n 0
-event_below (Take t p) n = none_most n 0
-event_below (Handle t) n = none_most n 0
-event_below (Load t) n = none_most n 0
-event_below (Fail t p) n = none_most n 0
-event_below (Repair t p) n = none_most n 0
-event_below (Lose t p k) n = none_most n 0
-event_below (Again t p k) n = none_most n 0
-event_below (Swap t p k) n = none_most n 0
-event_below (Noise t p k) n = none_most n 0
-event_below (Send a b) n = none_most n 0
-event_below (Move k) n = none_most n 0
 event_below (Restart t) n = once_below t n
+event_below e n = none_most n 0
 
 -- the restarts of all switches are those of the script
 cons_below : (c : Command) (cs : List Command) (n : ℕ) → sum_below (λ s. restarts_at s (c ∷ cs)) n ≡ sum_below (λ s. one_if (is_restart_at s c.event)) n + sum_below (λ s. restarts_at s cs) n

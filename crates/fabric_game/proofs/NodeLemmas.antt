@@ -9,7 +9,7 @@ use Rattle.an_base.specs.Order.{life_cmp, LivesRise}
 use Rattle.an_base.specs.Frames.{CarryOf}
 use Rattle.an_base.specs.declared.body.Body.{Body}
 use Rattle.an_base.specs.declared.event.Event.{Event}
-use Rattle.an_base.specs.declared.event.Event.TheVariants.{Tick, Clock, Take, Handle, Load, Fail, Repair, Lose, Again, Swap, Noise, Send, Move, Restart}
+use Rattle.an_base.specs.declared.event.Event.TheVariants.{Handle, Load}
 use Rattle.an_base.specs.declared.frame.Frame.{Frame}
 use Rattle.an_base.specs.declared.frame.Frame.TheVariants.{Carry, Ack, Probe, Reply}
 use Rattle.an_base.proofs.LifeLemmas.{same_life}
@@ -139,18 +139,7 @@ event_nodes script lives kept firm h (Handle t) g lawful old =
     let low = switch_below script h t (handle_ready w.fabric t (lawful_is w.fabric (Handle t) lawful).ready).0 in
     hand_nodes script (h ++ Handle t ∷ []) t (station w.fabric t).hand (held_bytes w.fabric t) w.switches g low (at_more script h (Handle t) t (w.switches t) ((all_met script lives kept firm h).switches t low)) old
 event_nodes script lives kept firm h (Load t) g lawful old = let w = world_after script h in load_nodes (λ x. LinkOk (MetAt script (h ++ Load t ∷ []) x)) (finish_of (w.switches t)) t w.switches g old
-event_nodes script lives kept firm h (Restart t) g lawful old = old
-event_nodes script lives kept firm h Tick g lawful old = old
-event_nodes script lives kept firm h (Clock t) g lawful old = old
-event_nodes script lives kept firm h (Take t p) g lawful old = old
-event_nodes script lives kept firm h (Fail t p) g lawful old = old
-event_nodes script lives kept firm h (Repair t p) g lawful old = old
-event_nodes script lives kept firm h (Lose t p n) g lawful old = old
-event_nodes script lives kept firm h (Again t p n) g lawful old = old
-event_nodes script lives kept firm h (Swap t p n) g lawful old = old
-event_nodes script lives kept firm h (Noise t p n) g lawful old = old
-event_nodes script lives kept firm h (Send a b) g lawful old = old
-event_nodes script lives kept firm h (Move k) g lawful old = old
+event_nodes script lives kept firm h e g lawful old = old
 
 -- of each history
 nodes_met : (script : ScriptOf) (lives : List LifeId) → IsScript script → AreFirm script lives → (h : List Event) → AllNodes (λ x. LinkOk (MetAt script h x)) (game_after script h)

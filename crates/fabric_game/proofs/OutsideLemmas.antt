@@ -1,19 +1,20 @@
 -- Past the last place nobody has joined.
 
-use Rattle.std.specs.Prelude.{◌≡◌, ◌≢◌, ◌≤◌, ◌==◌, ◌&&◌, not, ℕ, List, Option, Some, None, Bool, true, false, cond, refl}
+use Rattle.std.specs.Prelude.{◌≡◌, ◌≢◌, ◌≤◌, ◌==◌, ℕ, List, Option, Some, None, Bool, true, false, cond, refl}
 use Rattle.std.proofs.Common.{sym, ◌∙◌, ap, arith, ne_eqb}
-use Rattle.std.proofs.lemmas.Bool.{and_parts}
 use Rattle.an_base.specs.Values.{TopoOf}
 use Rattle.an_base.specs.declared.event.Event.{Event}
-use Rattle.an_base.specs.declared.event.Event.TheVariants.{Tick, Clock, Take, Handle, Load, Fail, Repair, Lose, Again, Swap, Noise, Send, Move, Restart}
+use Rattle.an_base.specs.declared.event.Event.TheVariants.{Handle, Load, Restart}
 use Rattle.net_script.specs.Scripts.{ScriptOf}
 use Rattle.switch_core.specs.Switch.{SwitchOf, at_port, finish_of}
-use Rattle.fabric_state.specs.Fabric.{is_switch, is_full_at, load_due_at}
+use Rattle.fabric_state.specs.Fabric.{is_switch}
 use Rattle.fabric_state.specs.Lawful.{is_lawful}
 use Rattle.fabric_world.specs.World.{WorldOf, effect, world_after, loads_with}
 use Rattle.fabric_world.proofs.WorldLemmas.{at_other}
 use Rattle.fabric_game.proofs.Firm.{places}
-use Rattle.fabric_game.proofs.WorldFacts.{lawful_parts, is_place}
+use Rattle.fabric_state.proofs.FitsLemmas.{switch_below}
+use Rattle.fabric_state.proofs.LawfulLemmas.{lawful_is}
+use Rattle.fabric_state.proofs.ReadyLemmas.{handle_ready, load_ready}
 use Rattle.fabric_world.proofs.InductionLemmas.{always, world_script}
 
 -- there is no switch at places past the last one: nothing is done there but to start anew
@@ -29,29 +30,18 @@ loads_one None s t w other old = old
 loads_one (Some topo) s t w other old = at_one s t _ w.switches other ∙ old
 
 differs : (script : ScriptOf) (s t : ℕ) (w : WorldOf) → w.fabric.script ≡ script → places script ≤ s → is_switch w.fabric t ≡ true → t ≢ s
-differs script s t w script_is past is = λ e. let low = is_place w.fabric t is in let same = ap places script_is in omega (arith, low, same, past, e)
+differs script s t w script_is past is = λ e. let low = switch_below w.fabric t is in let same = ap places script_is in omega (arith, low, same, past, e)
 
 effect_outside : (script : ScriptOf) (e : Event) (s : ℕ) (w : WorldOf) → w.fabric.script ≡ script → places script ≤ s → is_lawful w.fabric e ≡ true → (w.switches s).joined ≡ false → ((effect e w).switches s).joined ≡ false
 unfolding effect
-effect_outside script Tick s w script_is past lawful old = old
-effect_outside script (Clock t) s w script_is past lawful old = old
-effect_outside script (Take t p) s w script_is past lawful old = old
 effect_outside script (Handle t) s w script_is past lawful old =
-    let ready = and_parts (is_switch w.fabric t) (is_full_at w.fabric t) (lawful_parts w.fabric (Handle t) lawful).0 in
+    let ready = handle_ready w.fabric t (lawful_is w.fabric (Handle t) lawful).ready in
     at_one s t _ w.switches (differs script s t w script_is past ready.0) ∙ old
 effect_outside script (Load t) s w script_is past lawful old =
-    let ready = and_parts (is_switch w.fabric t && not (is_full_at w.fabric t)) (load_due_at w.fabric t) (lawful_parts w.fabric (Load t) lawful).0 in
-    let here = and_parts (is_switch w.fabric t) (not (is_full_at w.fabric t)) ready.0 in
-    loads_one (finish_of (w.switches t)) s t w (differs script s t w script_is past here.0) old
+    let ready = load_ready w.fabric t (lawful_is w.fabric (Load t) lawful).ready in
+    loads_one (finish_of (w.switches t)) s t w (differs script s t w script_is past ready.0) old
 effect_outside script (Restart t) s w script_is past lawful old = started_one (s == t) _ (w.switches s) refl old
-effect_outside script (Fail t p) s w script_is past lawful old = old
-effect_outside script (Repair t p) s w script_is past lawful old = old
-effect_outside script (Lose t p n) s w script_is past lawful old = old
-effect_outside script (Again t p n) s w script_is past lawful old = old
-effect_outside script (Swap t p n) s w script_is past lawful old = old
-effect_outside script (Noise t p n) s w script_is past lawful old = old
-effect_outside script (Send h g) s w script_is past lawful old = old
-effect_outside script (Move k) s w script_is past lawful old = old
+effect_outside script e s w script_is past lawful old = old
 
 pub outside : (script : ScriptOf) (h : List Event) (s : ℕ) → places script ≤ s → ((world_after script h).switches s).joined ≡ false
 outside script h s past = always script (λ w. (w.switches s).joined ≡ false) refl (λ g e lawful old. effect_outside script e s (world_after script g) (world_script script g) past lawful old) h

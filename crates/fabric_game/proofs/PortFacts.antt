@@ -1,9 +1,9 @@
 -- A good port has a link of the script; who has not joined has its clock due or in hand.
 
-use Rattle.std.specs.Prelude.{◌≡◌, ◌≢◌, ◌⊎◌, ◌<◌, ◌≤◌, ◌+◌, ◌*◌, ◌==◌, ◌&&◌, ◌||◌, not, nat_lt, nat_le, ℕ, length, map, filter, List, [], ◌∷◌, ◌++◌, Option, Some, None, slice_index_or, Bool, true, false, cond, refl}
+use Rattle.std.specs.Prelude.{◌≡◌, ◌≢◌, ◌⊎◌, ◌<◌, ◌≤◌, ◌==◌, not, nat_lt, ℕ, length, map, filter, List, [], ◌∷◌, Option, Some, None, slice_index_or, Bool, true, false, cond, refl}
 use Rattle.std.specs.List.{range_with_len}
 use Rattle.std.proofs.Common.{true≢false, sym, ◌∙◌, ap, subst, inl, inr, arith}
-use Rattle.std.proofs.lemmas.Bool.{false≢true, cond_both, and_parts, not-true, leb-true, le-leb, ne_eqb, cases_eq}
+use Rattle.std.proofs.lemmas.Bool.{false≢true, cond_both, and_parts, le-leb, lt-leb, ne_eqb, cases_eq}
 use Rattle.std.proofs.lemmas.List.{length-set}
 use Rattle.std.proofs.lemmas.List.Sums.{length-filter}
 use Rattle.std.proofs.lemmas.List.FromFn.{length-map-range_with_len}
@@ -11,7 +11,7 @@ use Rattle.std.proofs.lemmas.List.Folds.{list_any_at}
 use Rattle.an_base.specs.Values.{EndId, TopoOf}
 use Rattle.an_base.specs.Frames.{CarryOf}
 use Rattle.an_base.specs.declared.event.Event.{Event}
-use Rattle.an_base.specs.declared.event.Event.TheVariants.{Tick, Clock, Take, Handle, Load, Fail, Repair, Lose, Again, Swap, Noise, Send, Move, Restart}
+use Rattle.an_base.specs.declared.event.Event.TheVariants.{Tick, Clock, Take, Handle, Load, Restart}
 use Rattle.an_base.specs.declared.frame.Frame.{Frame}
 use Rattle.an_base.specs.declared.frame.Frame.TheVariants.{Carry, Ack, Probe, Reply}
 use Rattle.an_base.specs.declared.port.Sample.{Sample}
@@ -41,18 +41,18 @@ use Rattle.switch_core.proofs.WindowLemmas.{all_pushed_few, all_resent_few, on_a
 use Rattle.switch_core.proofs.SoundLemmas.{unchanged_joined}
 use Rattle.fabric_state.specs.declared.hand.Hand.{Hand}
 use Rattle.fabric_state.specs.declared.hand.Hand.TheVariants as hand
-use Rattle.fabric_state.specs.Fabric.{FabricOf, StationOf, station, vacant, is_empty, is_full_at, is_switch, is_external, is_clock_due, is_some_clock_due, clock_due_at, has_frame, held_bytes, full_hands}
+use Rattle.fabric_state.specs.Fabric.{FabricOf, StationOf, station, vacant, is_empty, is_full_at, is_clock_due, is_some_clock_due, clock_due_at, held_bytes, full_hands}
 use Rattle.fabric_state.specs.Lawful.{is_lawful}
 use Rattle.fabric_world.specs.World.{WorldOf, effect, handled, handles, handles_bytes, loads_with, world_after}
 use Rattle.fabric_world.specs.World as world
 use Rattle.fabric_world.proofs.FabricLemmas.{world_fars}
 use Rattle.fabric_game.proofs.Firm.{places}
 use Rattle.fabric_game.proofs.PortClaims.{HasLinkAt, HasPorts}
-use Rattle.fabric_game.proofs.WorldFacts.{lawful_parts, is_place}
+use Rattle.fabric_state.proofs.LawfulLemmas.{lawful_is}
 use Rattle.ordered_link.specs.Receiving.{accepted_by}
-use Rattle.fabric_world.proofs.InductionLemmas.{always, world_script}
-use Rattle.fabric_state.proofs.ReadyLemmas.{set_one}
-use Rattle.fabric_world.proofs.PlaceLemmas.{world_size, set_both}
+use Rattle.fabric_world.proofs.InductionLemmas.{always}
+use Rattle.fabric_state.proofs.ReadyLemmas.{handle_ready, set_one, take_ready}
+use Rattle.fabric_world.proofs.PlaceLemmas.{set_both, switch_below, world_size}
 use Rattle.fabric_world.proofs.LawLemmas.{world_is_sound}
 use Rattle.fabric_world.specs.Sound.{HandFits}
 use Rattle.fabric_game.proofs.EachLemmas.{Each}
@@ -252,14 +252,10 @@ take_parts : (script : ScriptOf) → IsScript script → (h : List Event) (t p :
     → (t < places script) × HasLinkAt script t p × (is_full_at (world_after script h).fabric t ≡ false) × (clock_due_at (world_after script h).fabric t ≡ false)
 take_parts script kept h t p lawful =
     let f = (world_after script h).fabric in
-    let a = and_parts (is_switch f t && is_external p && not (is_full_at f t) && not (clock_due_at f t)) (has_frame f t p) (lawful_parts f (Take t p) lawful).0 in
-    let b = and_parts (is_switch f t && is_external p && not (is_full_at f t)) (not (clock_due_at f t)) a.0 in
-    let c = and_parts (is_switch f t && is_external p) (not (is_full_at f t)) b.0 in
-    let d = and_parts (is_switch f t) (is_external p) c.0 in
-    let port = and_parts (nat_le 1 p) (nat_le p 12) d.1 in
-    let low : t < places script = let l = is_place f t d.0 in let same = ap places (world_script script h) in omega (arith, l, same) in
-    let most = leb-true p 12 port.1 in
-    (low, has_link script kept h t p low (omega (arith, most)) (and_parts (is_link (side_at f.wires (place t p)).far) _ a.1).0, not-true (is_full_at f t) c.1, not-true (clock_due_at f t) b.1)
+    let ready = take_ready f t p (lawful_is f (Take t p) lawful).ready in
+    let low = switch_below script h t ready.switch in
+    let most = ready.most in
+    (low, has_link script kept h t p low (omega (arith, most)) (and_parts (is_link (side_at f.wires (place t p)).far) _ ready.frame).0, ready.empty, lt-leb (station f t).clock f.tick ready.later)
 
 no_clock : (x : Hand) → not (is_empty x) ≡ false → is_clock x ≡ false
 unfolding is_clock
@@ -297,7 +293,7 @@ effect_told script kept h (Take t p) lawful old =
     }
 effect_told script kept h (Handle t) lawful old =
     let w = world_after script h in
-    let full = (and_parts (is_switch w.fabric t) (is_full_at w.fabric t) (lawful_parts w.fabric (Handle t) lawful).0).1 in
+    let full = (handle_ready w.fabric t (lawful_is w.fabric (Handle t) lawful).ready).1 in
     record {
       size = length-set w.fabric.stations t _ ∙ old.size;
       tells = λ s low. set_both (TellsAt script w.fabric.tick s) w.fabric.stations w.switches t s _ _ (let e = old.size in omega (arith, e, low))
@@ -311,14 +307,7 @@ effect_told script kept h (Restart t) lawful old =
       tells = λ s low. set_both (TellsAt script w.fabric.tick s) w.fabric.stations w.switches t s _ _ (let e = old.size in omega (arith, e, low))
           (λ is. tells_move script w.fabric.tick s t _ _ is (record { hands = (old.tells t (omega (arith, is, low))).hands; heard = λ p. inr tt; timed = λ j wk. inl (omega arith) })) (old.tells s low);
     }
-effect_told script kept h (Fail t p) lawful old = record { size = old.size; tells = old.tells }
-effect_told script kept h (Repair t p) lawful old = record { size = old.size; tells = old.tells }
-effect_told script kept h (Lose t p n) lawful old = record { size = old.size; tells = old.tells }
-effect_told script kept h (Again t p n) lawful old = record { size = old.size; tells = old.tells }
-effect_told script kept h (Swap t p n) lawful old = record { size = old.size; tells = old.tells }
-effect_told script kept h (Noise t p n) lawful old = record { size = old.size; tells = old.tells }
-effect_told script kept h (Send a b) lawful old = record { size = old.size; tells = old.tells }
-effect_told script kept h (Move k) lawful old = record { size = old.size; tells = old.tells }
+effect_told script kept h e lawful old = record { size = old.size; tells = old.tells }
 
 pub index_of : (P : StationOf → Type 0) (f : ℕ → StationOf) (xs : List ℕ) (s : ℕ) → ((n : ℕ) → P (f n)) → P vacant → P (slice_index_or (map f xs) s vacant)
 index_of P f [] s each none = none

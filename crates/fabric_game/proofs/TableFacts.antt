@@ -3,13 +3,13 @@
 use Rattle.std.specs.Prelude.{◌≡◌, ◌⊎◌, ◌<◌, ◌==◌, ◌&&◌, ◌||◌, not, nat_lt, ℕ, suc, List, [], Option, Some, None, is_some, Bool, true, false, cond, refl}
 use Rattle.std.specs.List.{range_with_len}
 use Rattle.std.proofs.Common.{true≢false, sym, ◌∙◌, ap, subst, inl, inr, arith}
-use Rattle.std.proofs.lemmas.Bool.{cond_both, and_parts, and_cases, or_parts, not-false, eq-eqb}
+use Rattle.std.proofs.lemmas.Bool.{cond_both, and_cases, or_parts, not-false, eq-eqb}
 use Rattle.an_base.specs.Values.{LifeId, EndId, TopoOf}
 use Rattle.an_base.specs.Frames.{CarryOf}
 use Rattle.an_base.specs.Ports.{NoteOf}
 use Rattle.an_base.specs.declared.body.Body.{Body}
 use Rattle.an_base.specs.declared.event.Event.{Event}
-use Rattle.an_base.specs.declared.event.Event.TheVariants.{Tick, Clock, Take, Handle, Load, Fail, Repair, Lose, Again, Swap, Noise, Send, Move, Restart}
+use Rattle.an_base.specs.declared.event.Event.TheVariants.{Clock, Take, Handle, Load, Restart}
 use Rattle.an_base.specs.declared.frame.Frame.{Frame}
 use Rattle.an_base.specs.declared.frame.Frame.TheVariants.{Carry, Ack, Probe, Reply}
 use Rattle.an_base.specs.declared.port.Sample.{Sample}
@@ -26,20 +26,20 @@ use Rattle.switch_core.proofs.WindowLemmas.{all_pushed_few, all_resent_few, on_a
 use Rattle.fabric_state.specs.declared.hand.Hand.{Hand}
 use Rattle.fabric_state.specs.declared.hand.Hand.TheVariants as hand
 use Rattle.table_build.specs.Made.{table_of}
-use Rattle.fabric_state.specs.Fabric.{station, is_full_at, is_switch, held_bytes}
+use Rattle.fabric_state.specs.Fabric.{station, held_bytes}
 use Rattle.fabric_state.specs.Effects.{kept_table}
 use Rattle.fabric_state.specs.Lawful.{is_lawful}
 use Rattle.fabric_world.specs.World.{WorldOf, effect, handled, handles, handles_bytes, loads_with, table_for, world_after}
 use Rattle.fabric_world.specs.World as world
 use Rattle.fabric_game.proofs.Firm.{places, AreFirm}
-use Rattle.fabric_game.proofs.WorldFacts.{lawful_parts, is_place}
+use Rattle.fabric_state.proofs.LawfulLemmas.{lawful_is}
 use Rattle.fabric_game.proofs.PortFacts.{index_of, has_size}
 use Rattle.ordered_link.specs.Receiving.{accepted_by}
-use Rattle.fabric_world.proofs.InductionLemmas.{always, world_script}
+use Rattle.fabric_world.proofs.InductionLemmas.{always}
 use Rattle.fabric_world.proofs.TableLemmas.{finish_more}
 use Rattle.an_base.proofs.ListLemmas.{some_is}
-use Rattle.fabric_state.proofs.ReadyLemmas.{set_one}
-use Rattle.fabric_world.proofs.PlaceLemmas.{set_both}
+use Rattle.fabric_state.proofs.ReadyLemmas.{handle_ready, set_one}
+use Rattle.fabric_world.proofs.PlaceLemmas.{set_both, switch_below}
 
 -- A switch that has finished and is to load no more had finished with that before, in the same epoch, and was to load no more
 pub record Was (u : SwitchOf) (topo : TopoOf) (v : SwitchOf) : Type 0 where
@@ -164,7 +164,6 @@ loads_on script h (Some topo) t is old = record {
 
 effect_on : (script : ScriptOf) (lives : List LifeId) → AreFirm script lives → (h : List Event) (e : Event) → is_lawful (world_after script h).fabric e ≡ true → AreTables script (world_after script h) → AreTables script (effect e (world_after script h))
 unfolding effect
-effect_on script lives firm h Tick lawful old = record { at = old.at }
 effect_on script lives firm h (Clock t) lawful old =
     let w = world_after script h in
     record { at = λ s low. set_one (λ x. TableAt x.table (w.switches s)) w.fabric.stations t s _ (let e = has_size script h in omega (arith, e, low)) (λ is. subst (λ (n : ℕ). TableAt (station w.fabric n).table (w.switches s)) is (old.at s low)) (old.at s low) }
@@ -173,9 +172,7 @@ effect_on script lives firm h (Take t p) lawful old =
     record { at = λ s low. set_one (λ x. TableAt x.table (w.switches s)) w.fabric.stations t s _ (let e = has_size script h in omega (arith, e, low)) (λ is. subst (λ (n : ℕ). TableAt (station w.fabric n).table (w.switches s)) is (old.at s low)) (old.at s low) }
 effect_on script lives firm h (Handle t) lawful old =
     let w = world_after script h in
-    let place = is_place w.fabric t (and_parts (is_switch w.fabric t) (is_full_at w.fabric t) (lawful_parts w.fabric (Handle t) lawful).0).0 in
-    let same = ap places (world_script script h) in
-    let t_low : t < places script = omega (arith, place, same) in
+    let t_low = switch_below script h t (handle_ready w.fabric t (lawful_is w.fabric (Handle t) lawful).ready).0 in
     record {
       at = λ s low. set_both (λ x u. TableAt x.table u) w.fabric.stations w.switches t s _ _ (let e = has_size script h in omega (arith, e, low))
           (λ _. kept_on (station w.fabric t).table (station w.fabric t).note.epoch (w.switches t) (handled t w).switch (ap (λ (n : NoteOf). n.epoch) ((firm h).note t t_low)) (handled_on t w) (old.at t t_low)) (old.at s low);
@@ -184,14 +181,7 @@ effect_on script lives firm h (Load t) lawful old = loads_on script h (finish_of
 effect_on script lives firm h (Restart t) lawful old =
     let w = world_after script h in
     record { at = λ s low. set_both (λ x u. TableAt x.table u) w.fabric.stations w.switches t s _ _ (let e = has_size script h in omega (arith, e, low)) (λ _. record { table_is = λ topo fin due. absurd (none_some fin) }) (old.at s low) }
-effect_on script lives firm h (Fail t p) lawful old = record { at = old.at }
-effect_on script lives firm h (Repair t p) lawful old = record { at = old.at }
-effect_on script lives firm h (Lose t p n) lawful old = record { at = old.at }
-effect_on script lives firm h (Again t p n) lawful old = record { at = old.at }
-effect_on script lives firm h (Swap t p n) lawful old = record { at = old.at }
-effect_on script lives firm h (Noise t p n) lawful old = record { at = old.at }
-effect_on script lives firm h (Send a b) lawful old = record { at = old.at }
-effect_on script lives firm h (Move k) lawful old = record { at = old.at }
+effect_on script lives firm h e lawful old = record { at = old.at }
 
 first_on : (script : ScriptOf) → AreTables script (world.begun script)
 first_on script = record {

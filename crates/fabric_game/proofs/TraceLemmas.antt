@@ -9,7 +9,7 @@ use Rattle.std.proofs.lemmas.List.Elements.{recursion_from_All}
 use Rattle.an_base.specs.Values.{LifeId, EntryOf, TopoOf}
 use Rattle.an_base.specs.Rows.{RowOf, ExitsRise}
 use Rattle.an_base.specs.declared.event.Event.{Event}
-use Rattle.an_base.specs.declared.event.Event.TheVariants.{Tick, Clock, Take, Handle, Load, Fail, Repair, Lose, Again, Swap, Noise, Send, Move, Restart}
+use Rattle.an_base.specs.declared.event.Event.TheVariants.{Move}
 use Rattle.net_script.specs.Scripts.{ScriptOf, IsScript}
 use Rattle.topo_report.proofs.Members.{in_from}
 use Rattle.epoch_game.proofs.Basics.{none_some, some_same}
@@ -185,19 +185,7 @@ hops_event script lives few kept firm h k (Move n) lawful = by (n == k) refl whe
       let is = eqb-true n k same in
       subst (λ (m : ℕ). Each (IsHopOf script (h ++ Move m ∷ []) k) (hopped_of (packet_of m (world_after script h).fabric.packets) (world_after script h))) (sym is)
       (hops_move script lives few kept firm h k (subst (λ (m : ℕ). is_lawful (world_after script h).fabric (Move m) ≡ true) is lawful))
-hops_event script lives few kept firm h k Tick lawful = tt
-hops_event script lives few kept firm h k (Clock s) lawful = tt
-hops_event script lives few kept firm h k (Take s p) lawful = tt
-hops_event script lives few kept firm h k (Handle s) lawful = tt
-hops_event script lives few kept firm h k (Load s) lawful = tt
-hops_event script lives few kept firm h k (Fail s p) lawful = tt
-hops_event script lives few kept firm h k (Repair s p) lawful = tt
-hops_event script lives few kept firm h k (Lose s p n) lawful = tt
-hops_event script lives few kept firm h k (Again s p n) lawful = tt
-hops_event script lives few kept firm h k (Swap s p n) lawful = tt
-hops_event script lives few kept firm h k (Noise s p n) lawful = tt
-hops_event script lives few kept firm h k (Send a b) lawful = tt
-hops_event script lives few kept firm h k (Restart s) lawful = tt
+hops_event script lives few kept firm h k e lawful = tt
 
 abbrev pub hop_more : (script : ScriptOf) (h : List Event) (e : Event) (k : ℕ) (x : Hopped) → IsHopOf script h k x → IsHopOf script (h ++ e ∷ []) k x
 hop_more script h e k x is = record {

@@ -55,7 +55,7 @@ use Rattle.fabric_game.proofs.KnownLemmas.{IsKnown, known_frame, empty_none, noi
 use Rattle.fabric_game.proofs.RangedFrames.{IsOut, AreFrames, IsSender, clocked_frames, framed_frames}
 use Rattle.fabric_game.proofs.RangedSwitch.{ranged_sampled}
 use Rattle.fabric_game.proofs.EmbedLemmas.{all_ranged, chain_of, embedded}
-use Rattle.fabric_game.proofs.WorldFacts.{full_works}
+use Rattle.fabric_world.proofs.SpentLemmas.{full_unspent}
 use Rattle.fabric_game.proofs.PortFacts.{external}
 use Rattle.fabric_game.proofs.DeliveredLemmas.{far_is}
 use Rattle.fabric_game.proofs.PeerFacts.{HeardOk, LinkOk, good_links_ok}
@@ -92,7 +92,7 @@ hand_known script lives kept firm h s f read =
     known_frame state.network.sent (held_bytes w.fabric s) f (each_index (IsKnown state.network.sent) (hand_of w.fabric.wires s) 0 [] (inr empty_none) (state.holds.heard (place s 0))) read
 
 unspent_full : (script : ScriptOf) (lives : List LifeId) → IsScript script → AreFirm script lives → (h : List Event) (s : ℕ) → s < places script → is_full_at (world_after script h).fabric s ≡ true → (switch_after script h s).spent ≡ false
-unspent_full script lives kept firm h s low full = sym ((firm h).spent s low) ∙ full_works (world_after script h).fabric s (chain_of script lives kept firm h).state.idle full
+unspent_full script lives kept firm h s low full = sym ((firm h).spent s low) ∙ full_unspent (world_after script h).fabric s (chain_of script lives kept firm h).state.empty full
 
 handled_frames : (script : ScriptOf) (lives : List LifeId) → IsScript script → AreFirm script lives → (h : List Event) (t : ℕ) → t < places script → is_lawful (world_after script h).fabric (Handle t) ≡ true → AreFrames (handled t (world_after script h)).frames
 unfolding handles
@@ -314,14 +314,7 @@ wires_next script lives kept firm h (Noise t p n) lawful old now =
     let w = (world_after script h).fabric.wires in
     put_queue (IsFrom script (h ++ Noise t p n ∷ [])) (place t p) (wire_out w t p) (noise n) w now (from_none script (h ++ Noise t p n ∷ []) (wire_out w t p) (noise n) (noise_none n))
 wires_next script lives kept firm h (Load t) lawful old now = let w = world_after script h in loads_wired script (h ++ Load t ∷ []) (finish_of (w.switches t)) t w now
-wires_next script lives kept firm h Tick lawful old now = now
-wires_next script lives kept firm h (Clock t) lawful old now = now
-wires_next script lives kept firm h (Restart t) lawful old now = now
-wires_next script lives kept firm h (Lose t p n) lawful old now = now
-wires_next script lives kept firm h (Again t p n) lawful old now = now
-wires_next script lives kept firm h (Swap t p n) lawful old now = now
-wires_next script lives kept firm h (Send a b) lawful old now = now
-wires_next script lives kept firm h (Move k) lawful old now = now
+wires_next script lives kept firm h e lawful old now = now
 
 -- The hands after an event
 abbrev port_in : Hand → Option ℕ
@@ -419,15 +412,7 @@ own_hand script kept h (Restart s) t low own lawful old now =
     let same : t ≡ s = omega (arith, own) in
     let P : ℕ → Type 0 = λ n. HandOf script (h ++ Restart s ∷ []) n (station (effect (Restart s) w).fabric n) (effect (Restart s) w).fabric.wires in
     subst P (sym same) (stands script h (h ++ Restart s ∷ []) s _ w.fabric.wires (subst (λ (n : ℕ). n < places script) same low) (subst (λ (n : ℕ). HandOf script (h ++ Restart s ∷ []) n (station w.fabric n) w.fabric.wires) same now))
-own_hand script kept h Tick t low own lawful old now = absurd (omega (arith, own))
-own_hand script kept h (Fail s p) t low own lawful old now = absurd (omega (arith, own))
-own_hand script kept h (Repair s p) t low own lawful old now = absurd (omega (arith, own))
-own_hand script kept h (Lose s p n) t low own lawful old now = absurd (omega (arith, own))
-own_hand script kept h (Again s p n) t low own lawful old now = absurd (omega (arith, own))
-own_hand script kept h (Swap s p n) t low own lawful old now = absurd (omega (arith, own))
-own_hand script kept h (Noise s p n) t low own lawful old now = absurd (omega (arith, own))
-own_hand script kept h (Send a b) t low own lawful old now = absurd (omega (arith, own))
-own_hand script kept h (Move k) t low own lawful old now = absurd (omega (arith, own))
+own_hand script kept h e t low own lawful old now = absurd (omega (arith, own))
 
 hands_next : (script : ScriptOf) → IsScript script → (h : List Event) (e : Event) → is_lawful (world_after script h).fabric e ≡ true → AreMet script h (world_after script h) → (s : ℕ) → s < places script
     → HandOf script (h ++ e ∷ []) s (station (effect e (world_after script h)).fabric s) (effect e (world_after script h)).fabric.wires

@@ -57,11 +57,22 @@ any_at p (x ∷ xs) d some = by (p x) refl (any_at p xs d) where
   by true is rest = record { at = 0; below = omega arith; passes = is }
   by false is rest = let r = rest (sym (ap (λ b. b || list_any p xs) is) ∙ some) in let lt = r.below in record { at = suc r.at; below = omega (arith, lt); passes = r.passes }
 
+-- the first switch that is spent, where one is
+mapped : (o : Option StationOf) → is_some o ≡ true → is_some (option_map (λ (x : StationOf). x.note.life) o) ≡ true
+mapped None some = some
+mapped (Some x) some = refl
+
+pub spent_some : (f : FabricOf) → is_some_spent f ≡ true → is_some (first_spent f) ≡ true
+spent_some f some = mapped (find (λ (x : StationOf). x.spent) f.stations) (any_found (λ (x : StationOf). x.spent) f.stations some)
+
+pub spent_none : (f : FabricOf) → is_some_spent f ≡ false → first_spent f ≡ None
+spent_none f none = ap (option_map (λ (x : StationOf). x.note.life)) (find_none (λ (x : StationOf). x.spent) f.stations none)
+
 -- no end has come where no switch is spent, there is room, and it is neither settled nor unsettled
 pub no_end : (f : FabricOf) → IsOpen f → is_settled f ≡ false → is_unsettled f ≡ false → is_some (ending_of f) ≡ false
 unfolding ending_of
 no_end f o settled unsettled =
-    let none : first_spent f ≡ None = ap (option_map (λ (x : StationOf). x.note.life)) (find_none (λ (x : StationOf). x.spent) f.stations o.unspent) in
+    let none = spent_none f o.unspent in
     let roomy : nat_lt (room f) 2 ≡ false = le-ltb (room f) 2 o.roomy in
     ap (λ (o : Option Ending). is_some (cond (nat_lt 0 (full_hands f)) None o)) (ends_is f (first_spent f)) ∙ by (nat_lt 0 (full_hands f)) (is_settled f) (nat_lt (room f) 2) (is_unsettled f) (first_spent f) none settled roomy unsettled where
       by : (full s r u : Bool) (spent : Option LifeId) → spent ≡ None → s ≡ false → r ≡ false → u ≡ false → is_some (cond full None (ends_by spent s r u)) ≡ false
@@ -161,12 +172,9 @@ going_on f none goes =
     let no_hand : nat_lt 0 (full_hands f) ≡ false = ap (nat_lt 0) none in
     let now : is_some (ending_by (first_spent f) f) ≡ false = sym (ap (λ b. is_some (cond b None (ending_by (first_spent f) f))) no_hand) ∙ goes in
     by (first_spent f) refl now where
-      spent_none : (b : Bool) → is_some_spent f ≡ b → first_spent f ≡ None → is_some_spent f ≡ false
-      spent_none false is none = is
-      spent_none true is none = absurd (true≢false (sym (mapped (find (λ (x : StationOf). x.spent) f.stations) (any_found (λ (x : StationOf). x.spent) f.stations is)) ∙ ap is_some none)) where
-        mapped : (o : Option StationOf) → is_some o ≡ true → is_some (option_map (λ (x : StationOf). x.note.life) o) ≡ true
-        mapped None some = some
-        mapped (Some x) some = refl
+      unspent : (b : Bool) → is_some_spent f ≡ b → first_spent f ≡ None → is_some_spent f ≡ false
+      unspent false is none = is
+      unspent true is none = absurd (true≢false (sym (spent_some f is) ∙ ap is_some none))
 
       rest : (s r u : Bool) → is_settled f ≡ s → nat_lt (room f) 2 ≡ r → is_unsettled f ≡ u → is_some_spent f ≡ false → is_some (ends_by None s r u) ≡ false → IsGoingOn f
       rest true r u si ri ui spent differs = absurd (true≢false differs)
@@ -176,7 +184,7 @@ going_on f none goes =
 
       by : (o : Option LifeId) → first_spent f ≡ o → is_some (ending_by o f) ≡ false → IsGoingOn f
       by (Some life) is differs = absurd (true≢false differs)
-      by None is differs = rest (is_settled f) (nat_lt (room f) 2) (is_unsettled f) refl refl refl (spent_none (is_some_spent f) refl is) differs
+      by None is differs = rest (is_settled f) (nat_lt (room f) 2) (is_unsettled f) refl refl refl (unspent (is_some_spent f) refl is) differs
 
 -- an event is the same as itself
 pub same_itself : (e : Event) → is_same_event e e ≡ true

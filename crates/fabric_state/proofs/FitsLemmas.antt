@@ -1,7 +1,6 @@
 -- Each event leaves a fabric as fabrics are to be.
 
-use Rattle.std.specs.Option.{option_map_or}
-use Rattle.std.specs.Prelude.{◌≡◌, ◌≢◌, ◌⊎◌, ◌+◌, ◌-◌, ◌*◌, ◌==◌, ◌<◌, ◌≤◌, ℕ, not, List, [], ◌∷◌, cond, is_some, length, slice_index_or, slice_set, IfSome, Option, Some, None, Bool, true, false, refl}
+use Rattle.std.specs.Prelude.{◌≡◌, ◌≢◌, ◌⊎◌, ◌+◌, ◌-◌, ◌*◌, ◌==◌, ◌<◌, ◌≤◌, ℕ, not, List, cond, length, slice_index_or, slice_set, IfSome, Option, Some, None, Result, Ok, Err, Bool, true, false, refl}
 use Rattle.std.proofs.Common.{sym, ◌∙◌, ap, subst, inl, inr, arith}
 use Rattle.std.proofs.lemmas.Bool.{cases_eq, ltb-true}
 use Rattle.std.proofs.lemmas.Option.{slice_get_within}
@@ -23,17 +22,17 @@ use Rattle.wire_set.proofs.WireLemmas.{port_is}
 use Rattle.wire_set.proofs.FarLemmas.{fars_then, put_fars, take_fars, fail_fars, link_fars, told_fars}
 use Rattle.switch_core.specs.Bytes.{BytesOut}
 use Rattle.switch_core.specs.declared.switch.TableFor.{TableFor}
-use Rattle.table_build.specs.Tables.{TableOf}
+use Rattle.host_traffic.specs.declared.hop.DropCause.{DropCause}
 use Rattle.host_traffic.specs.declared.hop.Hop.{Hop}
 use Rattle.host_traffic.specs.declared.hop.Hop.TheVariants as hop
 use Rattle.host_traffic.specs.Packets.{PacketOf, after_hop, moved, packet_of, without}
 use Rattle.fabric_state.specs.declared.hand.Hand.TheVariants as hand
 use Rattle.fabric_state.specs.Fabric.{FabricOf, StationOf, station, with_station, vacant, count, full_hands, is_switch, is_full_at, samples_of}
-use Rattle.fabric_state.specs.Fabric.{host_at, host_on, is_up, next_at, no_host, side_of_port, switch_behind, table_at}
+use Rattle.fabric_state.specs.Fabric.{host_on, is_up, next_at, no_host, side_of_port, switch_behind}
 use Rattle.fabric_state.specs.Fits.{Fits, HandFitsAt, IsHandPort, HoldsFor, AreWiresSound, wires_at_first}
 use Rattle.fabric_state.specs.Lawful.{is_lawful, is_ready, is_command, is_handle}
 use Rattle.fabric_state.specs.Effects.{counted, after_tick, after_clock, after_take, after_load, after_restart, emptied, shows, showing}
-use Rattle.fabric_state.specs.Effects.{released, put_out, on_wires, noise, noise_out, restarted, admitted, packet_to}
+use Rattle.fabric_state.specs.Effects.{released, put_out, on_wires, noise, noise_out, restarted, address_for, admitted, admitted_as}
 use Rattle.fabric_state.specs.Effects.{after_move, after_send, hop_of, hopped}
 use Rattle.fabric_state.proofs.LawfulLemmas.{lawful_is, next_open, IsCommandOf, ready_command, command_is, command_fits}
 use Rattle.fabric_state.proofs.ReadyLemmas.{empty_at, tick_is, clock_ready, load_ready, restart_ready, take_ready}
@@ -380,11 +379,10 @@ move_fits f k fits lawful =
 
 -- A host sends a packet
 admitted_few : (f : FabricOf) (from to : HostOn) → length (admitted f from to) ≤ 1
-admitted_few f from to = by (is_some (host_at f from.s from.port)) (table_at f to.s) where
-  by : (b : Bool) (o : Option TableOf) → length (cond b (option_map_or (λ t. packet_to f from to t ∷ []) o []) []) ≤ 1
-  by false o = omega arith
-  by true None = omega arith
-  by true (Some t) = omega arith
+admitted_few f from to = by (address_for f from to) where
+  by : (o : Result ℕ DropCause) → length (admitted_as (f.sent + 1) from to o) ≤ 1
+  by (Err why) = omega arith
+  by (Ok address) = omega arith
 
 pub send_fits : (f : FabricOf) (from to : ℕ) → Fits f → is_lawful f (Send from to) ≡ true → Fits (after_send from to f)
 send_fits f from to fits lawful =

@@ -1,7 +1,6 @@
 -- A hop, and a packet that is sent, leave the packets under way as they are to be.
 
-use Rattle.std.specs.Prelude.{◌≡◌, ◌+◌, ◌==◌, ◌<◌, ◌≤◌, ℕ, not, List, [], ◌∷◌, ◌++◌, length, cond, slice_index_or, All, AllPairs, IfSome, Option, Some, None, is_some, Bool, true, false, refl, if◌then◌else◌}
-use Rattle.std.specs.Option.{option_map_or}
+use Rattle.std.specs.Prelude.{◌≡◌, ◌+◌, ◌==◌, ◌<◌, ◌≤◌, ℕ, not, List, [], ◌∷◌, ◌++◌, length, cond, slice_index_or, All, AllPairs, IfSome, Option, Some, None, Result, Ok, Err, Bool, true, false, refl, if◌then◌else◌}
 use Rattle.std.proofs.Common.{sym, subst, arith, true≢false}
 use Rattle.std.proofs.lemmas.List.{append-nil}
 use Rattle.std.proofs.lemmas.List.Elements.{All-nil, All-cons, All-get_or, All-append, All-weaker, All-map, All-filter}
@@ -11,13 +10,13 @@ use Rattle.an_base.proofs.PairLemmas.{AllPairs-map}
 use Rattle.net_graph.specs.declared.wiring.HostOn.{HostOn}
 use Rattle.net_graph.specs.Wires.{IsHost}
 use Rattle.net_script.specs.Scripts.{ScriptOf}
-use Rattle.table_build.specs.Tables.{TableOf}
+use Rattle.host_traffic.specs.declared.hop.DropCause.{DropCause}
 use Rattle.wire_set.specs.WireState.{place, side_at, is_link}
 use Rattle.host_traffic.specs.declared.hop.Hop.{Hop}
 use Rattle.host_traffic.specs.declared.hop.Hop.TheVariants as hop
 use Rattle.host_traffic.specs.Packets.{PacketOf, moved_to, moved, after_hop}
-use Rattle.fabric_state.specs.Fabric.{FabricOf, host_at, table_at}
-use Rattle.fabric_state.specs.Effects.{packet_to, admitted}
+use Rattle.fabric_state.specs.Fabric.{FabricOf}
+use Rattle.fabric_state.specs.Effects.{address_for, admitted, admitted_as, packet_to}
 use Rattle.fabric_state.specs.Fits.{wires_at_first, IsPacketSound}
 
 -- the port of a switch at the far end of a link
@@ -95,11 +94,10 @@ one_more script sent xs x number sound h = record {
 }
 
 pub sent_sound : (script : ScriptOf) (f : FabricOf) (from to : HostOn) → IsHost (length script.wires.switches) from → AreSound script f.sent f.packets → AreSound script (f.sent + 1) (f.packets ++ admitted f from to)
-sent_sound script f from to host h = by (is_some (host_at f from.s from.port)) (table_at f to.s) where
-  new : (t : TableOf) → IsPacketSound script (f.sent + 1) (packet_to f from to t)
-  new t = record { least = omega arith; most = omega arith; at = host.s; entry_least = host.port_least; entry_most = host.port_most; linked = λ (is : true ≡ false). absurd (true≢false is) }
+sent_sound script f from to host h = by (address_for f from to) where
+  new : (address : ℕ) → IsPacketSound script (f.sent + 1) (packet_to (f.sent + 1) from to address)
+  new address = record { least = omega arith; most = omega arith; at = host.s; entry_least = host.port_least; entry_most = host.port_most; linked = λ (is : true ≡ false). absurd (true≢false is) }
 
-  by : (b : Bool) (o : Option TableOf) → AreSound script (f.sent + 1) (f.packets ++ cond b (option_map_or (λ t. packet_to f from to t ∷ []) o []) [])
-  by false o = none_more script f.sent f.packets h
-  by true None = none_more script f.sent f.packets h
-  by true (Some t) = one_more script f.sent f.packets (packet_to f from to t) refl (new t) h
+  by : (o : Result ℕ DropCause) → AreSound script (f.sent + 1) (f.packets ++ admitted_as (f.sent + 1) from to o)
+  by (Err why) = none_more script f.sent f.packets h
+  by (Ok address) = one_more script f.sent f.packets (packet_to (f.sent + 1) from to address) refl (new address) h

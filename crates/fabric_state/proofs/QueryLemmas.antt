@@ -1,25 +1,14 @@
 -- Questions to a fabric, answered by its parts.
 
-use Rattle.std.specs.Prelude.{◌≡◌, nat_lt, cond, find, Option, Some, None, is_some, Bool, true, false, refl}
+use Rattle.std.specs.Prelude.{◌≡◌, nat_lt, cond, Option, Some, None, is_some, Bool, true, false, refl}
 use Rattle.std.specs.Option.{option_map}
 use Rattle.std.proofs.Common.{sym, ◌∙◌, ap, true≢false}
 use Rattle.an_base.specs.Values.{LifeId}
 use Rattle.fabric_state.specs.declared.ending.Ending.{Ending}
 use Rattle.fabric_state.specs.declared.ending.Ending.TheVariants as ending
-use Rattle.fabric_state.specs.Fabric.{FabricOf, StationOf, full_hands, is_some_spent, room}
+use Rattle.fabric_state.specs.Fabric.{FabricOf, full_hands, is_some_spent, room}
 use Rattle.fabric_state.specs.Agree.{ending_by, ending_of, first_spent, is_settled, is_unsettled}
-use Rattle.fabric_state.proofs.EndLemmas.{any_found, find_none}
-
--- the life of a station that is found
-mapped : (o : Option StationOf) → is_some o ≡ true → is_some (option_map (λ (x : StationOf). x.note.life) o) ≡ true
-mapped None some = some
-mapped (Some x) some = refl
-
-spent_some : (f : FabricOf) → is_some_spent f ≡ true → is_some (first_spent f) ≡ true
-spent_some f some = mapped (find (λ (x : StationOf). x.spent) f.stations) (any_found (λ (x : StationOf). x.spent) f.stations some)
-
-spent_none : (f : FabricOf) → is_some_spent f ≡ false → first_spent f ≡ None
-spent_none f none = ap (option_map (λ (x : StationOf). x.note.life)) (find_none (λ (x : StationOf). x.spent) f.stations none)
+use Rattle.fabric_state.proofs.EndLemmas.{spent_none, spent_some}
 
 abbrev end_unspent : FabricOf → Option Ending
 end_unspent f = cond (is_settled f) (Some ending.Settled) (cond (nat_lt (room f) 2) (Some ending.Full) (cond (is_unsettled f) (Some ending.Unsettled) None))

@@ -1,7 +1,6 @@
 -- What the calls of a fabric ask of its parts, from what is so of a fabric.
 
-use Rattle.std.specs.Prelude.{Ok, Err, ◌≡◌, ◌≢◌, ◌+◌, ◌==◌, ◌<◌, ◌≤◌, ◌^◌, ℕ, cond, not, List, [], ◌∷◌, All, length, slice_index_or, Option, Some, None, is_some, Bool, true, false, refl}
-use Rattle.std.specs.Option.{option_map_or}
+use Rattle.std.specs.Prelude.{◌≡◌, ◌≢◌, ◌+◌, ◌==◌, ◌<◌, ◌≤◌, ◌^◌, ℕ, cond, not, List, [], ◌∷◌, All, length, slice_index_or, Some, is_some, Bool, true, false, refl}
 use Rattle.std.proofs.Common.{sym, ◌∙◌, ap, subst, arith}
 use Rattle.std.proofs.lemmas.Bool.{leb-true, not-true, eqb-true}
 use Rattle.std.proofs.lemmas.List.Elements.{All-head, All-tail}
@@ -15,14 +14,10 @@ use Rattle.frame_codec.proofs.Lengths.{spelling_length}
 use Rattle.switch_core.specs.Bytes.{BytesOut, IsFrameOut}
 use Rattle.host_traffic.specs.Packets.{PacketOf, packet_of}
 use Rattle.fabric_state.specs.declared.hand.Hand.{Hand}
-use Rattle.fabric_state.specs.Fabric.{FabricOf, station, count, held_bytes, is_empty, is_full_at, is_some_clock_due, host_at, table_at}
+use Rattle.fabric_state.specs.Fabric.{FabricOf, station, count, held_bytes, is_empty, is_full_at, is_some_clock_due}
 use Rattle.fabric_state.specs.Fits.{Fits, wires_at_first}
 use Rattle.fabric_state.specs.Lawful.{is_lawful}
-use Rattle.fabric_state.specs.Effects.{after_take, admitted, address_for, address_of, packet_to}
-use Rattle.fabric_state.specs.Kept.{admitted_as}
-use Rattle.host_traffic.specs.declared.hop.DropCause.TheVariants as cause
-use Rattle.table_build.specs.Tables.{TableOf}
-use Rattle.net_graph.specs.declared.wiring.HostOn.{HostOn}
+use Rattle.fabric_state.specs.Effects.{after_take}
 use Rattle.fabric_state.proofs.LawfulLemmas.{lawful_is, command_is, command_fits}
 use Rattle.fabric_state.proofs.ReadyLemmas.{clock_ready, empty_at, load_ready, restart_ready, take_ready, tick_is, tick_none_due}
 use Rattle.fabric_state.proofs.QueueLemmas.{port_is_no_hand, copied_elsewhere}
@@ -51,6 +46,9 @@ few_are f fits =
     let done = fits.time.commands in
     let sent = fits.packets.sent in
     record { events = omega (arith, room, events_most); since = omega (arith, room, since, events_most); done = omega (arith, done, commands); sent = omega (arith, sent, done, commands) }
+
+pub events_most : (f : FabricOf) → Fits f → f.events ≤ 16000000
+events_most f fits = let limit = fits.script.limits.events_most in let room = fits.room in omega (arith, room, limit)
 
 -- a tick
 pub record IsTickNext (f : FabricOf) : Type 0 where
@@ -196,11 +194,3 @@ send_room f from to fits lawful =
     let few = fits.few in
     let sent = fits.packets.sent in
     omega (arith, more, few, sent)
-
--- what is admitted
-pub admitted_is : (f : FabricOf) (from to : HostOn) → admitted_as (f.sent + 1) from to (address_for f from to) ≡ admitted f from to
-admitted_is f from to = by (is_some (host_at f from.s from.port)) (table_at f to.s) where
-  by : (b : Bool) (o : Option TableOf) → admitted_as (f.sent + 1) from to (cond b (option_map_or (λ table. Ok (address_of table to.port)) o (Err cause.NoTable)) (Err cause.NoPort)) ≡ cond b (option_map_or (λ table. packet_to f from to table ∷ []) o []) []
-  by false o = refl
-  by true None = refl
-  by true (Some table) = refl

@@ -10,9 +10,9 @@ use Rattle.std.proofs.lemmas.List.Sums.{sum_by-set, sum_by-cons}
 use Rattle.net_graph.specs.Wires.{Wires}
 use Rattle.fabric_state.specs.declared.stations.Tally.{Tally}
 use Rattle.fabric_state.specs.declared.stations.TheConstants.{MOST_TICK}
-use Rattle.fabric_state.specs.Fabric.{StationOf, vacant, is_empty}
+use Rattle.fabric_state.specs.Fabric.{StationOf, is_due_at, is_empty, vacant}
 use Rattle.fabric_state.specs.Starts.{begun_station}
-use Rattle.fabric_state.specs.Tallies.{IsTally, one_if, is_due_at}
+use Rattle.fabric_state.specs.Tallies.{IsTally, one_if}
 
 -- one station changes
 pub count_set : (p : StationOf → Bool) (xs : List StationOf) (s : ℕ) (x : StationOf) → s < length xs → count_by p (slice_set xs s x) + one_if (p (slice_index_or xs s vacant)) ≡ count_by p xs + one_if (p x)

@@ -150,29 +150,31 @@ noise_out place port bytes wires =
 abbrev pub address_of : TableOf → ℕ → ℕ
 address_of table port = table.number * 16 + port
 
--- A host sends a packet to another one: it is under way where its port shows a host and the switch of the
--- other has a table in use.
-abbrev pub packet_to : FabricOf → HostOn → HostOn → TableOf → PacketOf
-packet_to fabric from to table = record {
-  packet = fabric.sent + 1;
-  at = from.s;
-  entry = from.port;
-  is_new = true;
-  address = address_of table to.port;
-  uid = to.uid;
-}
-
+-- A host sends a packet to another one: it has an address where the port of the first shows a host and the
+-- switch of the other has a table in use.
 abbrev pub address_for : FabricOf → HostOn → HostOn → Result ℕ DropCause
 address_for fabric from to =
     if is_some (host_at fabric from.s from.port)
     then option_map_or (λ table. Ok (address_of table to.port)) (table_at fabric to.s) (Err cause.NoTable)
     else Err cause.NoPort
 
+-- it is under way where it has an address
+abbrev pub packet_to : ℕ → HostOn → HostOn → ℕ → PacketOf
+packet_to number from to address = record {
+  packet = number;
+  at = from.s;
+  entry = from.port;
+  is_new = true;
+  address = address;
+  uid = to.uid;
+}
+
+abbrev pub admitted_as : ℕ → HostOn → HostOn → Result ℕ DropCause → List PacketOf
+admitted_as number from to (Ok address) = packet_to number from to address ∷ []
+admitted_as number from to (Err why) = []
+
 abbrev pub admitted : FabricOf → HostOn → HostOn → List PacketOf
-admitted fabric from to =
-    if is_some (host_at fabric from.s from.port)
-    then option_map_or (λ table. packet_to fabric from to table ∷ []) (table_at fabric to.s) []
-    else []
+admitted fabric from to = admitted_as (fabric.sent + 1) from to (address_for fabric from to)
 
 abbrev pub after_send : ℕ → ℕ → FabricOf → FabricOf
 after_send from to fabric = done_command (record fabric {
@@ -202,7 +204,8 @@ told_of_send packet (Err why) = told.Unsent packet why
 abbrev pub told_of : Event → FabricOf → Told
 told_of (Fail place port) fabric = told.Cut (dropped_at (port_place place port) fabric.wires)
 told_of (Noise place port bytes) fabric =
-    told.Noise (what_becomes (port_place place port) (wire_out fabric.wires place port) (noise bytes) fabric.wires)
+    told.Noise
+    (what_becomes (port_place place port) (wire_out fabric.wires place port) (noise bytes) fabric.wires)
 told_of (Send from to) fabric =
     told_of_send (fabric.sent + 1) (address_for fabric (host_on fabric from) (host_on fabric to))
 told_of event fabric = told.Nothing

@@ -123,15 +123,21 @@ abbrev pub held_bytes : FabricOf → ℕ → List ℕ
 held_bytes fabric place = slice_index_or (hand_of fabric.wires place) 0 []
 
 -- how many hands are full, and how many more events there is room for
+abbrev pub full_among : List StationOf → ℕ
+full_among stations = count_by (λ at. not (is_empty at.hand)) stations
+
 abbrev pub full_hands : FabricOf → ℕ
-full_hands fabric = count_by (λ at. not (is_empty at.hand)) fabric.stations
+full_hands fabric = full_among fabric.stations
 
 abbrev pub room : FabricOf → ℕ
 room fabric = fabric.script.limits.events - fabric.events - full_hands fabric
 
 -- what is due at the place of a switch: its clock, or a load
+abbrev pub is_due_at : ℕ → StationOf → Bool
+is_due_at tick at = nat_le at.clock tick
+
 abbrev pub is_clock_due : FabricOf → StationOf → Bool
-is_clock_due fabric at = nat_le at.clock fabric.tick
+is_clock_due fabric at = is_due_at fabric.tick at
 
 abbrev pub clock_due_at : FabricOf → ℕ → Bool
 clock_due_at fabric place = is_clock_due fabric (station fabric place)

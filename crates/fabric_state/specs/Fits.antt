@@ -72,9 +72,9 @@ pub record HandFitsAt (fabric : FabricOf) (place : ℕ) : Type 0 where
   pub port : IsHandPort (station fabric place).hand
   pub holds : HoldsFor (station fabric place).hand (hand_of fabric.wires place)
 
--- All that is so of a fabric: there is a station for each switch; the wires hold what is in hand; far ends are
--- those of the wiring; there is room to handle what is in hand; the clock and the commands done are within the
--- script; packets stand by rising number, and there are no more than were sent.
+-- All that is so of a fabric: there is a station for each switch; the wires hold what is in hand; far ends
+-- are those of the wiring; there is room to handle what is in hand; the clock and the commands done are
+-- within the script; packets stand by rising number, and there are no more than were sent.
 pub record Fits (fabric : FabricOf) : Type 0 where
   pub script : IsScript fabric.script
   pub size : length fabric.stations ≡ count fabric

@@ -1,6 +1,6 @@
 -- How a `Fabric` is stored. No public clause cites this module.
 
-use Rattle.std.specs.Prelude.{◌≡◌, ℕ, List, [], ◌∷◌, length, Option, Result, Ok, Err, true}
+use Rattle.std.specs.Prelude.{◌≡◌, ℕ, List, [], length, Option}
 use Rattle.net_graph.specs.declared.wiring.SwitchAt.{SwitchAt}
 use Rattle.net_graph.specs.declared.wiring.LinkAt.{LinkAt}
 use Rattle.net_graph.specs.declared.wiring.HostOn.{HostOn}
@@ -8,8 +8,7 @@ use Rattle.net_script.specs.declared.command.Command.{Command}
 use Rattle.net_script.specs.declared.setting.Limits.{Limits}
 use Rattle.net_script.specs.Scripts.{ScriptOf, IsScript}
 use Rattle.wire_set.specs.WireState.{WiresOf}
-use Rattle.host_traffic.specs.declared.hop.DropCause.{DropCause}
-use Rattle.host_traffic.specs.Packets.{PacketOf, TrafficOf}
+use Rattle.host_traffic.specs.Packets.{TrafficOf}
 use Rattle.fabric_state.specs.declared.past.Past.{Past}
 use Rattle.fabric_state.specs.Fabric.{FabricOf}
 use Rattle.fabric_state.specs.Fits.{Fits}
@@ -17,7 +16,8 @@ use Rattle.fabric_state.specs.Tallies.{StationsOf}
 
 -- this is what a run reads of a script
 pub record IsPlanOf (script : ScriptOf) (switches : List SwitchAt) (links : List LinkAt)
-    (hosts : List HostOn) (commands : List Command) (epoch : ℕ) (pace : Option ℕ) (limits : Limits) : Type 0 where
+    (hosts : List HostOn) (commands : List Command) (epoch : ℕ) (pace : Option ℕ)
+    (limits : Limits) : Type 0 where
   pub is_script : IsScript script
   pub switches_are : switches ≡ script.wires.switches
   pub links_are : links ≡ script.wires.links
@@ -56,9 +56,3 @@ fabric_of_all script wires stations traffic sent past =
 pub record IsKept (fabric : FabricOf) (traffic : TrafficOf) : Type 0 where
   pub fits : Fits fabric
   pub most : traffic.most ≡ length fabric.script.commands
-
--- The packet of this number that one host sends to another: it is under way where it has an address.
-abbrev pub admitted_as : ℕ → HostOn → HostOn → Result ℕ DropCause → List PacketOf
-admitted_as number from to (Ok address) =
-    record { packet = number; at = from.s; entry = from.port; is_new = true; address = address; uid = to.uid } ∷ []
-admitted_as number from to (Err why) = []

@@ -1,10 +1,10 @@
 -- The places of switches, and how many of each kind there are.
 
-use Rattle.std.specs.Prelude.{◌≡◌, ◌+◌, ◌≤◌, ℕ, nat_le, not, List, All, length, count_by, slice_index_or, slice_set, Bool, if◌then◌else◌}
+use Rattle.std.specs.Prelude.{◌≡◌, ◌+◌, ◌≤◌, ℕ, List, All, length, count_by, slice_index_or, slice_set, Bool, if◌then◌else◌}
 use Rattle.an_base.specs.Ports.{NoteOf}
 use Rattle.fabric_state.specs.declared.stations.Tally.{Tally}
 use Rattle.fabric_state.specs.declared.stations.TheConstants.{MOST_TICK}
-use Rattle.fabric_state.specs.Fabric.{StationOf, is_empty, vacant}
+use Rattle.fabric_state.specs.Fabric.{StationOf, full_among, is_due_at, vacant}
 
 -- the tick of the network, and what stands at the places of its switches
 pub record StationsOf : Type 0 where
@@ -17,19 +17,13 @@ station_in stations place = slice_index_or stations.items place vacant
 abbrev pub with_station_in : ℕ → StationOf → StationsOf → StationsOf
 with_station_in place new stations = record stations { items = slice_set stations.items place new }
 
--- what is counted
-abbrev pub is_due_at : ℕ → StationOf → Bool
-is_due_at tick at = nat_le at.clock tick
-
-abbrev pub hands_full : List StationOf → ℕ
-hands_full stations = count_by (λ at. not (is_empty at.hand)) stations
-
 abbrev pub one_if : Bool → ℕ
 one_if test = if test then 1 else 0
 
--- Each count is how many there are; and each clock is due at the next tick or before, so that all are due then.
+-- Each count is how many there are; and each clock is due at the next tick or before, so that all are due
+-- then.
 pub record IsTally (tick : ℕ) (stations : List StationOf) (tally : Tally) : Type 0 where
-  pub full : tally.full ≡ hands_full stations
+  pub full : tally.full ≡ full_among stations
   pub clocks : tally.clocks ≡ count_by (is_due_at tick) stations
   pub loads : tally.loads ≡ count_by (λ at. at.note.load_due) stations
   pub unacked : tally.unacked ≡ count_by (λ at. at.note.unacked) stations

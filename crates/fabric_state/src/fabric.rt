@@ -6,6 +6,7 @@ ghost use Rattle.std.specs.Option.{option_map};
 ghost use Rattle.an_base.specs.declared.event.Event.TheVariants as events;
 ghost use Rattle.net_graph.specs.Wires.{IsLink};
 ghost use Rattle.net_script.specs.Commands.{is_restart};
+ghost use Rattle.net_script.specs.Scripts.{IsScript};
 ghost use Rattle.wire_set.specs.WireState.{again_on, dropped_at, fail_at, lose_on, place, repair_at, swap_on};
 ghost use Rattle.wire_set.specs.WireState.{hand_of, what_becomes, wire_out};
 ghost use Rattle.switch_core.specs.Bytes.{IsFrameOut};
@@ -16,12 +17,11 @@ ghost use Rattle.fabric_state.specs.Fabric.{samples_of, side_of_port, station, s
 ghost use Rattle.fabric_state.specs.Agree.{agrees, are_peers, ending_of, first_spent, host_agrees, is_good_to, is_idle};
 ghost use Rattle.fabric_state.specs.Agree.{is_settled, is_unsettled, link_agrees};
 ghost use Rattle.fabric_state.specs.Lawful.{is_barred, is_command, is_lawful, is_paced, is_ready, is_tick_due};
-ghost use Rattle.fabric_state.specs.Effects.{address_for, after_clock, after_command, after_load, after_move};
+ghost use Rattle.fabric_state.specs.Effects.{address_for, admitted_as, after_clock, after_command, after_load, after_move};
 ghost use Rattle.fabric_state.specs.Effects.{after_restart, after_send, after_take, after_tick, copy_becomes, emptied};
 ghost use Rattle.fabric_state.specs.Effects.{hop_of, noise, noise_out, on_wires, put_becomes, put_out, released, shows};
 ghost use Rattle.fabric_state.specs.Effects.{told_of, told_of_send};
 ghost use Rattle.fabric_state.specs.Fits.{HoldsFor};
-ghost use Rattle.fabric_state.specs.Kept.{admitted_as};
 ghost use Rattle.fabric_state.specs.Choices.{command_or_move, next_drive, next_port, next_work};
 ghost use Rattle.fabric_state.specs.Starts.{begun_fabric, next_life_at, next_note_at};
 
@@ -80,7 +80,8 @@ impl Model for Fabric {
 
     ghost view = { λ f. fabric_of_all f.plan f.wires f.stations f.traffic f.sent f.past };
 
-    ghost invariant = { λ f. IsKept (fabric_of_all f.plan f.wires f.stations f.traffic f.sent f.past) f.traffic };
+    ghost invariant = { λ f.
+        IsKept (fabric_of_all f.plan f.wires f.stations f.traffic f.sent f.past) f.traffic };
 }
 
 // What a switch has in hand is given up on the wires.
@@ -146,9 +147,11 @@ impl Fabric {
         self.stations.now()
     }
 
-    /// How many events there were, 0 to 16,000,000.
+    /// How many events there were, 0 to 16,000,000. Its script is one that can be.
     pub fn events(&self) -> u32
-        ensures { result ≡ self.now.events }
+        ensures events { result ≡ self.now.events }
+        ensures most { result ≤ 16000000 }
+        ensures kept { IsScript self.now.script }
     {
         self.past.events
     }
@@ -615,8 +618,8 @@ impl Fabric {
         taken.copied
     }
 
-    /// The first of the three parts of handling: what a switch has in hand is given up. `put` follows for each
-    /// frame that goes out, and then `show`.
+    /// The first of the three parts of handling: what a switch has in hand is given up. `put` follows for
+    /// each frame that goes out, and then `show`.
     pub fn release(&mut self, s: u8)
         requires within { s < count self.old }
         requires full { is_full_at self.old s ≡ true }
@@ -756,7 +759,8 @@ impl Fabric {
     fn noise(&mut self, s: u8, port: u8, bytes: u32) -> Put
         requires { is_lawful self.old (events.Noise s port bytes) ≡ true }
         ensures put { self.new ≡ on_wires (noise_out s port bytes) self.old }
-        ensures what { result ≡ what_becomes (place s port) (wire_out self.old.wires s port) (noise bytes) self.old.wires }
+        ensures what { result
+            ≡ what_becomes (place s port) (wire_out self.old.wires s port) (noise bytes) self.old.wires }
     {
         let put = self.wires.put(s, port, &NOISE[..bytes as usize]);
         self.past.command();

@@ -44,7 +44,11 @@ impl Past {
         requires events { self.old.events < 2 ^ 31 }
         requires since { self.old.since < 2 ^ 31 }
         requires done { self.old.done < 2 ^ 31 }
-        ensures { self.new ≡ record self.old { done = self.old.done + 1; since = self.old.since + 1; events = self.old.events + 1 } }
+        ensures { self.new ≡ record self.old {
+          done = self.old.done + 1;
+          since = self.old.since + 1;
+          events = self.old.events + 1;
+        } }
     {
         self.done += 1;
         self.event();

@@ -33,7 +33,8 @@ impl Model for Plan {
 
     ghost view = { λ p. p.script.value };
 
-    ghost invariant = { λ p. IsPlanOf p.script.value p.switches.items p.links.items p.hosts.items p.commands.items p.epoch p.pace p.limits };
+    ghost invariant = { λ p. IsPlanOf p.script.value p.switches.items p.links.items p.hosts.items
+        p.commands.items p.epoch p.pace p.limits };
 }
 
 // No host.

@@ -9,25 +9,28 @@ use net_graph::wiring::Far;
 use wire_set::side::Side;
 use wire_set::wires::WireSet;
 
-// Which state a port is in.
+// Whether a port shows that nothing answers behind it.
 pub fn is_dead(state: PortState) -> bool
     ensures { result ≡ is_dead state }
 {
     matches!(state, PortState::Dead)
 }
 
+// Whether it shows a host.
 pub fn is_host(state: PortState) -> bool
     ensures { result ≡ is_host state }
 {
     matches!(state, PortState::Host)
 }
 
+// Whether it shows the switch itself.
 pub fn is_loop(state: PortState) -> bool
     ensures { result ≡ is_loop state }
 {
     matches!(state, PortState::Loop)
 }
 
+// Whether it shows another switch, which knows of it.
 pub fn is_good(state: PortState) -> bool
     ensures { result ≡ is_good state }
 {

@@ -2,7 +2,6 @@
 
 ghost use Rattle.std.specs.Prelude.{◌≡◌, ◌==◌, None, Some, false, not, option_copied};
 ghost use Rattle.std.specs.Option.{option_map};
-ghost use Rattle.an_base.specs.Ports.{NoteOf};
 ghost use Rattle.fabric_state.specs.declared.hand.Hand.TheVariants as in_hand;
 ghost use Rattle.fabric_state.specs.Fabric.{is_empty};
 ghost use Rattle.fabric_state.specs.Effects.{kept_table};
@@ -31,7 +30,13 @@ impl Model for Station {
 
     ghost Value = { StationOf };
 
-    ghost view = { λ s. record { hand = s.hand; clock = s.clock; table = s.table; note = s.note; spent = s.spent } };
+    ghost view = { λ s. record {
+      hand = s.hand;
+      clock = s.clock;
+      table = s.table;
+      note = s.note;
+      spent = s.spent;
+    } };
 }
 
 /// What a switch shows of itself as it starts, in this life and epoch.
@@ -50,7 +55,13 @@ pub fn started_note(life: Life, epoch: u64) -> Note
 impl Station {
     // At the beginning: its clock is due, and nothing is in hand or in use.
     pub(crate) fn begin(note: Note) -> Self
-        ensures { result ≡ record { hand = in_hand.Empty; clock = 0; table = None; note = note; spent = false } }
+        ensures { result ≡ record {
+          hand = in_hand.Empty;
+          clock = 0;
+          table = None;
+          note = note;
+          spent = false;
+        } }
     {
         Station {
             hand: Hand::Empty,

@@ -3,11 +3,10 @@ ghost use Rattle.std.specs.List.{list_any, range_with_len};
 ghost use Rattle.std.specs.Option.{option_map};
 ghost use Rattle.fabric_state.specs.declared.hand.Hand.TheVariants as in_hand;
 ghost use Rattle.fabric_state.specs.declared.stations.TheConstants.{MOST_TICK};
-ghost use Rattle.fabric_state.specs.Fabric.{is_empty, no_view};
+ghost use Rattle.fabric_state.specs.Fabric.{full_among, is_due_at, is_empty, no_view};
 ghost use Rattle.fabric_state.specs.Effects.{restarted, showing};
 ghost use Rattle.fabric_state.specs.Starts.{begun_station};
-ghost use Rattle.fabric_state.specs.Tallies.{IsCounted, IsCountedAnew, hands_full, is_due_at, one_if, station_in};
-ghost use Rattle.fabric_state.specs.Tallies.{with_station_in};
+ghost use Rattle.fabric_state.specs.Tallies.{IsCounted, IsCountedAnew, one_if, station_in, with_station_in};
 
 use crate::hand::Hand;
 use crate::station::{Station, started_note};
@@ -182,14 +181,14 @@ impl Stations {
 
     /// How many hands are full.
     pub fn full(&self) -> u32
-        ensures { result ≡ hands_full self.now.items }
+        ensures { result ≡ full_among self.now.items }
     {
         self.tally.full
     }
 
     /// Whether some hand is full.
     pub fn is_some_full(&self) -> bool
-        ensures { result ≡ nat_lt 0 (hands_full self.now.items) }
+        ensures { result ≡ nat_lt 0 (full_among self.now.items) }
     {
         self.tally.full > 0
     }
@@ -238,7 +237,10 @@ impl Stations {
         requires empty { is_empty (station_in self.old s).hand ≡ true }
         requires due { (station_in self.old s).clock ≤ self.old.tick }
         ensures { self.new ≡ with_station_in s
-            (record (station_in self.old s) { hand = in_hand.Clock self.old.tick samples; clock = self.old.tick + 1 })
+            (record (station_in self.old s) {
+              hand = in_hand.Clock self.old.tick samples;
+              clock = self.old.tick + 1;
+            })
             self.old }
     {
         let now = self.tick;
@@ -253,7 +255,8 @@ impl Stations {
     pub fn take_frame(&mut self, s: u8, port: u8)
         requires within { s < length self.old.items }
         requires empty { is_empty (station_in self.old s).hand ≡ true }
-        ensures { self.new ≡ with_station_in s (record (station_in self.old s) { hand = in_hand.Frame port }) self.old }
+        ensures { self.new ≡ with_station_in s
+            (record (station_in self.old s) { hand = in_hand.Frame port }) self.old }
     {
         self.items[usize::from(s)].take(Hand::Frame { port });
         self.tally.full += 1;
@@ -263,7 +266,8 @@ impl Stations {
     pub fn empty(&mut self, s: u8)
         requires within { s < length self.old.items }
         requires full { is_empty (station_in self.old s).hand ≡ false }
-        ensures { self.new ≡ with_station_in s (record (station_in self.old s) { hand = in_hand.Empty }) self.old }
+        ensures { self.new ≡ with_station_in s
+            (record (station_in self.old s) { hand = in_hand.Empty }) self.old }
     {
         self.items[usize::from(s)].take(Hand::Empty);
         self.tally.full -= 1;
@@ -293,7 +297,8 @@ impl Stations {
     /// A switch begins its next life, in which it shows this: its clock is due, and it uses no table.
     pub fn restart(&mut self, s: u8, note: Note)
         requires within { s < length self.old.items }
-        ensures { self.new ≡ with_station_in s (restarted self.old.tick note (station_in self.old s)) self.old }
+        ensures { self.new ≡ with_station_in s
+            (restarted self.old.tick note (station_in self.old s)) self.old }
     {
         let is_due = self.is_clock_due(s);
         let station = &mut self.items[usize::from(s)];

@@ -7,7 +7,7 @@ use Rattle.std.specs.List.{AllByRecursion as ByRecursion}
 use Rattle.std.proofs.lemmas.List.Elements.{recursion_from_All}
 use Rattle.an_base.specs.Values.{TopoOf}
 use Rattle.an_base.specs.declared.event.Event.{Event}
-use Rattle.an_base.specs.declared.event.Event.TheVariants.{Tick, Clock, Take, Handle, Load, Fail, Repair, Lose, Again, Swap, Noise, Send, Move, Restart}
+use Rattle.an_base.specs.declared.event.Event.TheVariants.{Clock, Take, Handle, Load, Restart}
 use Rattle.net_script.specs.Scripts.{ScriptOf}
 use Rattle.switch_core.specs.Switch.{SwitchOf, at_port, finish_of}
 use Rattle.fabric_state.specs.Fabric.{FabricOf, StationOf, station, vacant, with_station}
@@ -44,20 +44,12 @@ loads_elsewhere s t (Some topo) w other = record { place = get_or-set_other w.fa
 -- an event of another owner leaves them alone
 effect_elsewhere : (e : Event) (s : ℕ) (w : WorldOf) → owner_of e ≢ s + 1 → AreSameAt s w (effect e w)
 unfolding effect
-effect_elsewhere Tick s w other = record { place = refl; switch = refl }
 effect_elsewhere (Clock t) s w other = record { place = get_or-set_other w.fabric.stations t s _ vacant (places_differ s t other); switch = refl }
 effect_elsewhere (Take t p) s w other = record { place = get_or-set_other w.fabric.stations t s _ vacant (places_differ s t other); switch = refl }
 effect_elsewhere (Handle t) s w other = record { place = get_or-set_other w.fabric.stations t s _ vacant (places_differ s t other); switch = others s t _ w.switches (places_differ s t other) }
 effect_elsewhere (Load t) s w other = loads_elsewhere s t (finish_of (w.switches t)) w (places_differ s t other)
 effect_elsewhere (Restart t) s w other = record { place = get_or-set_other w.fabric.stations t s _ vacant (places_differ s t other); switch = others s t _ w.switches (places_differ s t other) }
-effect_elsewhere (Fail t p) s w other = record { place = refl; switch = refl }
-effect_elsewhere (Repair t p) s w other = record { place = refl; switch = refl }
-effect_elsewhere (Lose t p n) s w other = record { place = refl; switch = refl }
-effect_elsewhere (Again t p n) s w other = record { place = refl; switch = refl }
-effect_elsewhere (Swap t p n) s w other = record { place = refl; switch = refl }
-effect_elsewhere (Noise t p n) s w other = record { place = refl; switch = refl }
-effect_elsewhere (Send h g) s w other = record { place = refl; switch = refl }
-effect_elsewhere (Move k) s w other = record { place = refl; switch = refl }
+effect_elsewhere e s w other = record { place = refl; switch = refl }
 
 pub step_elsewhere : (e : Event) (s : ℕ) (w : WorldOf) → owner_of e ≢ s + 1 → AreSameAt s w (step w e)
 step_elsewhere e s w other = by_law (is_lawful w.fabric e) refl where

@@ -63,14 +63,4 @@ pub lawful_port : (script : ScriptOf) → IsScript script → (h : List Event) (
 lawful_port script kept h (Take t p) lawful = let f = (world_after script h).fabric in let ready = take_ready f t p (lawful_is f (Take t p) lawful).ready in (ready.least, ready.most)
 lawful_port script kept h (Fail t p) lawful = let fits = event_fits (world_after script h).fabric (Fail t p) (world_fits script kept h) lawful refl in (fits.port.port_least, fits.port.port_most)
 lawful_port script kept h (Noise t p n) lawful = let f = (world_after script h).fabric in let fits = world_fits script kept h in change_link f t p n 64 fits (event_fits f (Noise t p n) fits lawful refl)
-lawful_port script kept h Tick lawful = tt
-lawful_port script kept h (Clock t) lawful = tt
-lawful_port script kept h (Handle t) lawful = tt
-lawful_port script kept h (Load t) lawful = tt
-lawful_port script kept h (Repair t p) lawful = tt
-lawful_port script kept h (Lose t p n) lawful = tt
-lawful_port script kept h (Again t p n) lawful = tt
-lawful_port script kept h (Swap t p n) lawful = tt
-lawful_port script kept h (Send a b) lawful = tt
-lawful_port script kept h (Move k) lawful = tt
-lawful_port script kept h (Restart t) lawful = tt
+lawful_port script kept h e lawful = tt

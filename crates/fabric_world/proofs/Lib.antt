@@ -13,6 +13,9 @@ pub mod FitLemmas
 pub mod NextLemmas
 pub mod ProgressLemmas
 pub mod SoundLemmas
+pub mod SpentLemmas
+pub mod CountLemmas
+pub mod SoloLemmas
 pub mod LawLemmas
 pub mod BodyLemmas
 pub mod FedLemmas

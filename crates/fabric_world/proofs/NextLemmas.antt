@@ -178,12 +178,7 @@ command_ready script f (Swap t p n) fits empty is = is
 command_ready script f (Noise t p n) fits empty is = is
 command_ready script f (Send a b) fits empty is = is
 command_ready script f (Restart t) fits empty is = and_from (is_command f (Restart t)) (not (is_full_at f t)) is (not_from_false (is_full_at f t) (empty refl t))
-command_ready script f Tick fits empty is = absurd fits
-command_ready script f (Clock t) fits empty is = absurd fits
-command_ready script f (Take t p) fits empty is = absurd fits
-command_ready script f (Handle t) fits empty is = absurd fits
-command_ready script f (Load t) fits empty is = absurd fits
-command_ready script f (Move k) fits empty is = absurd fits
+command_ready script f e fits empty is = absurd fits
 
 tick_lawful : (f : FabricOf) (b : Bool) → is_tick_due f ≡ b → IsOpen f → is_some (ending_of f) ≡ false → All (Lawful f) (event_of_drive (tick_or_wait b))
 tick_lawful f true due o goes = All-cons (Lawful f) Tick [] (open_next f Tick o goes due) (All-nil (Lawful f))

@@ -7,7 +7,7 @@ use Rattle.std.proofs.lemmas.List.{get_or-set_other, get_or-set_same, length-set
 use Rattle.std.proofs.lemmas.List.FromFn.{get_or-map-range_with_len, length-map-range_with_len}
 use Rattle.an_base.specs.Values.{TopoOf}
 use Rattle.an_base.specs.declared.event.Event.{Event}
-use Rattle.an_base.specs.declared.event.Event.TheVariants.{Tick, Clock, Take, Handle, Load, Fail, Repair, Lose, Again, Swap, Noise, Send, Move, Restart}
+use Rattle.an_base.specs.declared.event.Event.TheVariants.{Tick, Clock, Take, Handle, Load, Restart}
 use Rattle.net_script.specs.Scripts.{ScriptOf, IsScript}
 use Rattle.switch_core.specs.Switch.{SwitchOf, at_port, finish_of, note_of}
 use Rattle.switch_core.specs.declared.switch.TableFor.{TableFor}
@@ -34,20 +34,12 @@ loads_size (Some topo) s w = length-set w.fabric.stations s _
 
 pub effect_size : (e : Event) (w : WorldOf) → length (effect e w).fabric.stations ≡ length w.fabric.stations
 unfolding effect
-effect_size Tick w = refl
 effect_size (Clock s) w = length-set w.fabric.stations s _
 effect_size (Take s p) w = length-set w.fabric.stations s _
 effect_size (Handle s) w = length-set w.fabric.stations s _
 effect_size (Load s) w = loads_size (finish_of (w.switches s)) s w
-effect_size (Fail s p) w = refl
-effect_size (Repair s p) w = refl
-effect_size (Lose s p n) w = refl
-effect_size (Again s p n) w = refl
-effect_size (Swap s p n) w = refl
-effect_size (Noise s p n) w = refl
-effect_size (Send h g) w = refl
-effect_size (Move k) w = refl
 effect_size (Restart s) w = length-set w.fabric.stations s _
+effect_size e w = refl
 
 pub world_size : (script : ScriptOf) (h : List Event) → length (world_after script h).fabric.stations ≡ length script.wires.switches
 world_size script h = always script (λ w. length w.fabric.stations ≡ length script.wires.switches)
@@ -208,14 +200,7 @@ place_step script kept h (Restart t) lawful before s below =
     (subst (λ (z : ScriptOf). IsPlaceSound script w.fabric.tick t (record (station w.fabric t) { clock = w.fabric.tick; table = None; note = note_of (started_at z t (b + 1)); spent = false }) (started_at z t (b + 1))) (sym (world_script script h))
     (restart_sound script w.fabric.tick t b (station w.fabric t) (empty_at w.fabric t ready.1))))
     (before s below)
-place_step script kept h (Fail t p) lawful before s below = before s below
-place_step script kept h (Repair t p) lawful before s below = before s below
-place_step script kept h (Lose t p n) lawful before s below = before s below
-place_step script kept h (Again t p n) lawful before s below = before s below
-place_step script kept h (Swap t p n) lawful before s below = before s below
-place_step script kept h (Noise t p n) lawful before s below = before s below
-place_step script kept h (Send a b) lawful before s below = before s below
-place_step script kept h (Move k) lawful before s below = before s below
+place_step script kept h e lawful before s below = before s below
 
 -- in each world that is reached, each place is sound
 pub world_places : (script : ScriptOf) → IsScript script → (h : List Event) → ArePlacesSound script (world_after script h)

@@ -7,7 +7,7 @@ use Rattle.std.proofs.lemmas.List.Elements.{All-nil, All-get_or}
 use Rattle.std.proofs.lemmas.Option.{slice_get_within, get_or_from_slice_get}
 use Rattle.an_base.specs.Values.{LifeId, TopoOf}
 use Rattle.an_base.specs.declared.event.Event.{Event}
-use Rattle.an_base.specs.declared.event.Event.TheVariants.{Tick, Clock, Take, Handle, Load, Fail, Repair, Lose, Again, Swap, Noise, Send, Move, Restart}
+use Rattle.an_base.specs.declared.event.Event.TheVariants.{Handle, Load, Restart}
 use Rattle.an_base.specs.declared.frame.Frame.{Frame}
 use Rattle.net_graph.specs.declared.wiring.SwitchAt.{SwitchAt}
 use Rattle.net_graph.specs.Wires.{had_of, IsSwitch}
@@ -130,17 +130,7 @@ well_step script kept h (Restart t) lawful before s below =
     set_switch (IsWell (w.fabric.events + 1)) w.switches t s (next_life t w)
     (λ _. subst (λ (z : ScriptOf). IsWell (w.fabric.events + 1) (started_at z t (b + 1))) (sym (world_script script h)) (started_well script kept (w.fabric.events + 1) t (b + 1)))
     (λ _. well_next w s (before s below))
-well_step script kept h Tick lawful before s below = well_next (world_after script h) s (before s below)
-well_step script kept h (Clock t) lawful before s below = well_next (world_after script h) s (before s below)
-well_step script kept h (Take t p) lawful before s below = well_next (world_after script h) s (before s below)
-well_step script kept h (Fail t p) lawful before s below = well_next (world_after script h) s (before s below)
-well_step script kept h (Repair t p) lawful before s below = well_next (world_after script h) s (before s below)
-well_step script kept h (Lose t p n) lawful before s below = well_next (world_after script h) s (before s below)
-well_step script kept h (Again t p n) lawful before s below = well_next (world_after script h) s (before s below)
-well_step script kept h (Swap t p n) lawful before s below = well_next (world_after script h) s (before s below)
-well_step script kept h (Noise t p n) lawful before s below = well_next (world_after script h) s (before s below)
-well_step script kept h (Send a b) lawful before s below = well_next (world_after script h) s (before s below)
-well_step script kept h (Move k) lawful before s below = well_next (world_after script h) s (before s below)
+well_step script kept h e lawful before s below = well_next (world_after script h) s (before s below)
 
 pub world_well : (script : ScriptOf) → IsScript script → (h : List Event) (s : ℕ) → s < length script.wires.switches → IsWell (world_after script h).fabric.events ((world_after script h).switches s)
 world_well script kept h = always script (AreWell script) (λ s below. started_well script kept 0 s 1) (well_step script kept) h

@@ -8,7 +8,7 @@ use Rattle.an_base.specs.Values.{EndId, TopoOf}
 use Rattle.an_base.specs.Frames.{CarryOf}
 use Rattle.an_base.specs.declared.body.Body.{Body}
 use Rattle.an_base.specs.declared.event.Event.{Event}
-use Rattle.an_base.specs.declared.event.Event.TheVariants.{Tick, Clock, Take, Handle, Load, Fail, Repair, Lose, Again, Swap, Noise, Send, Move, Restart}
+use Rattle.an_base.specs.declared.event.Event.TheVariants.{Clock, Take, Handle, Load, Restart}
 use Rattle.an_base.specs.declared.frame.Frame.{Frame}
 use Rattle.an_base.specs.declared.frame.Frame.TheVariants.{Carry, Ack, Probe, Reply}
 use Rattle.an_base.specs.declared.port.Sample.{Sample}
@@ -153,7 +153,6 @@ InUse script w = (s : ℕ) → s < length script.wires.switches → HasTable w s
 
 table_step : (script : ScriptOf) → IsScript script → (h : List Event) (e : Event) → is_lawful (world_after script h).fabric e ≡ true → InUse script (world_after script h) → InUse script (effect e (world_after script h))
 unfolding effect
-table_step script kept h Tick lawful before s below = before s below
 table_step script kept h (Clock t) lawful before s below =
     let w = world_after script h in
     set_one (λ (x : StationOf). UsesTable x (w.switches s)) w.fabric.stations t s _ (below_station script h s below) (λ same. subst (λ (k : ℕ). UsesTable (station w.fabric k) (w.switches s)) same (before s below)) (before s below)
@@ -172,14 +171,7 @@ table_step script kept h (Load t) lawful before s below =
 table_step script kept h (Restart t) lawful before s below =
     let w = world_after script h in
     set_both UsesTable w.fabric.stations w.switches t s (record (station w.fabric t) { clock = w.fabric.tick; table = None; note = note_of (next_life t w); spent = false }) (next_life t w) (below_station script h s below) (λ _. tt) (before s below)
-table_step script kept h (Fail t p) lawful before s below = before s below
-table_step script kept h (Repair t p) lawful before s below = before s below
-table_step script kept h (Lose t p n) lawful before s below = before s below
-table_step script kept h (Again t p n) lawful before s below = before s below
-table_step script kept h (Swap t p n) lawful before s below = before s below
-table_step script kept h (Noise t p n) lawful before s below = before s below
-table_step script kept h (Send a b) lawful before s below = before s below
-table_step script kept h (Move k) lawful before s below = before s below
+table_step script kept h e lawful before s below = before s below
 
 first_use : (script : ScriptOf) → InUse script (begun_world script)
 first_use script s below = subst (λ (x : StationOf). UsesTable x ((begun_world script).switches s)) (sym (get_or-map-range_with_len (first_station script) 0 (length script.wires.switches) s s vacant below (omega arith))) tt

@@ -112,13 +112,13 @@ abbrev pub AreHopsByTables : ScriptOf → List Event → Type 0
 AreHopsByTables script history = (number : ℕ) (hop : Hopped)
     → Contains (trace_of script history number) hop → IsHopOf script history number hop
 
--- hops lead over the links of a topology from the entry at one place to that at another, each from the life
--- that is there
+-- Hops lead over the links of a topology from one member to another, by their places among the entries, each
+-- from the life that is there.
 abbrev pub LeadAlong : List EntryOf → ℕ → List Hopped → ℕ → Type 0
-LeadAlong entries x [] y = x ≡ y
-LeadAlong entries x (hop ∷ hops) y =
-    (life_at entries x ≡ hop.life)
-    × ((z q : ℕ) × (far_of entries x hop.exit ≡ Some (z, q)) × LeadAlong entries z hops y)
+LeadAlong entries from [] to = from ≡ to
+LeadAlong entries from (hop ∷ hops) to =
+    (life_at entries from ≡ hop.life)
+    × ((next port : ℕ) × (far_of entries from hop.exit ≡ Some (next, port)) × LeadAlong entries next hops to)
 
 -- hops are by tables of one topology, and form a legal route of it
 pub record FormRoute (topo : TopoOf) (hops : List Hopped) : Type 0 where

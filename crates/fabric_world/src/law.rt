@@ -11,6 +11,7 @@ ghost use Rattle.switch_core.specs.Sound.{IsSound};
 ghost use Rattle.switch_core.specs.Switch.{finish_of};
 ghost use Rattle.wire_set.specs.WireState.{hand_of};
 ghost use Rattle.fabric_world.specs.declared.ask.Ask.{Ask};
+ghost use Rattle.fabric_state.specs.declared.ending.Ending.{Ending};
 ghost use Rattle.fabric_state.specs.declared.ending.Ending.TheVariants as ending;
 ghost use Rattle.fabric_state.specs.Fabric.{is_full_at, load_due_at, station, table_at};
 ghost use Rattle.fabric_state.specs.Agree.{ending_of};
@@ -18,9 +19,10 @@ ghost use Rattle.fabric_state.specs.Lawful.{is_lawful, is_barred};
 ghost use Rattle.fabric_world.specs.World.{begun, world_after};
 ghost use Rattle.fabric_world.specs.Lines.{all_lines};
 ghost use Rattle.fabric_world.specs.Traces.{moved_line, tells_of_hop, trace_of};
-ghost use Rattle.fabric_world.specs.Histories.{IsLawful, owner_of};
+ghost use Rattle.fabric_world.specs.Histories.{IsLawful, IsLegal, owner_of};
 ghost use Rattle.fabric_state.specs.Choices.{next_work, event_of_work, next_drive, event_of_drive};
 ghost use Rattle.fabric_world.specs.Turns.{IsFit};
+ghost use Rattle.fabric_world.specs.Solo.{IsSolo};
 ghost use Rattle.fabric_world.specs.Sound.{IsSoundWorld, HasNext, AllMayCome, TopoFits};
 ghost use Rattle.fabric_world.specs.Examples.{IsWorkedOut};
 ghost use Rattle.fabric_world.specs.Examples.{restart_script, restart_history, restart_lines};
@@ -106,6 +108,24 @@ pub fn others_change_nothing_here()
     ensures fit { (script : ScriptOf) (history : List Event) (caller : ℕ) (ask : Ask) (more : List Event)
         → IsFit script history caller ask → filter (λ event. owner_of event == caller) more ≡ []
         → IsFit script (history ++ more) caller ask }
+{}
+
+/// The fabric has counted each event of a lawful history.
+pub fn each_lawful_event_counts()
+    ensures { (script : ScriptOf) → IsScript script → (history : List Event) → IsLawful script history
+        → (world_after script history).fabric.events ≡ length history }
+{}
+
+/// One thread makes one history of a script, with one end.
+pub fn one_run_on_one_thread()
+    ensures { (script : ScriptOf) (one other : List Event) (end last : Ending)
+        → IsSolo script one end → IsSolo script other last → (one ≡ other) × (end ≡ last) }
+{}
+
+/// What one thread makes is a lawful history with that end.
+pub fn a_run_on_one_thread_is_legal()
+    ensures { (script : ScriptOf) → IsScript script → (history : List Event) (end : Ending)
+        → IsSolo script history end → IsLegal script history end }
 {}
 
 /// What is told of the hops of a packet to other switches, in a lawful history, is its trace.

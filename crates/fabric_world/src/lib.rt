@@ -9,7 +9,8 @@
 //!
 //! Its laws: after any events the world keeps its invariant, and each switch is sound; where no end has
 //! come some event may come next; what a turn of a worker or of the driver appends may come next, and
-//! events of others leave a switch as it was.
+//! events of others leave a switch as it was; the fabric counts lawful events; and one thread makes one
+//! history, which is legal.
 #![tactic(auto)]
 
 pub mod ask;

@@ -1,5 +1,5 @@
 use Rattle.std.proofs.Common.{nat_lt, ap, ◌∙◌}
-use Rattle.fabric_state.specs.Tallies.{is_due_at}
+use Rattle.fabric_state.specs.Fabric.{is_due_at}
 use Rattle.fabric_state.proofs.TallyLemmas.{some_counted}
 use Rattle.fabric_state.proofs.stations.Stations.is_some_clock_due.Goals as goal
 

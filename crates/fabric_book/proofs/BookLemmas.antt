@@ -1,0 +1,363 @@
+-- Each call of a book is one event of the world.
+
+use Rattle.std.specs.Prelude.{◌≡◌, ◌≢◌, ◌⊎◌, ◌+◌, ◌-◌, ◌^◌, ◌&&◌, not, ◌==◌, ◌<◌, ◌≤◌, ℕ, List, [], ◌∷◌, ◌++◌, map, length, slice_index_or, slice_set, cond, Bool, true, false, refl}
+use Rattle.std.specs.List.{range_with_len}
+use Rattle.std.proofs.Common.{sym, ◌∙◌, ap, subst, arith, true≢false, length-append, eq-eqb, ne_eqb, inl, inr}
+use Rattle.std.proofs.lemmas.Bool.{and_parts, cases_eq, ltb-true}
+use Rattle.std.proofs.lemmas.List.{get_or-set_other, get_or-set_same, length-set}
+use Rattle.std.proofs.lemmas.List.FromFn.{fill_by_all, get_or-map-range_with_len, length-map-range_with_len}
+use Rattle.an_base.specs.Ports.{NoteOf}
+use Rattle.an_base.specs.Values.{LifeId, TopoOf}
+use Rattle.an_base.specs.declared.event.Event.{Event}
+use Rattle.an_base.specs.declared.event.Event.TheVariants.{Tick, Clock, Take, Handle, Load, Fail, Repair, Lose, Again, Swap, Noise, Send, Move, Restart}
+use Rattle.net_script.specs.Commands.{IsCommandEvent, is_restart}
+use Rattle.net_script.specs.Scripts.{ScriptOf, IsScript}
+use Rattle.table_build.proofs.MadeTables.{only_table}
+use Rattle.table_build.specs.Made.{table_of, number_in}
+use Rattle.table_build.specs.Tables.{TableOf}
+use Rattle.switch_core.specs.Bytes.{BytesOut, all_spelled}
+use Rattle.switch_core.specs.Steps.{loaded}
+use Rattle.switch_core.specs.Switch.{SwitchOf, finish_of, note_of}
+use Rattle.switch_core.specs.declared.switch.TableFor.{TableFor}
+use Rattle.fabric_state.specs.Fabric.{FabricOf, clock_due_at, count, full_hands, has_frame, is_external, is_full_at, is_switch, places, station}
+use Rattle.fabric_state.specs.declared.work.Work.{Work}
+use Rattle.fabric_state.specs.Choices.{event_of_work, next_work}
+use Rattle.fabric_state.specs.Lawful.{is_lawful, is_command}
+use Rattle.fabric_state.specs.Effects.{after_clock, after_command, after_handle, after_load, after_move, after_restart, after_take, after_tick}
+use Rattle.fabric_state.specs.Effects.{all_put_out, emptied, shows}
+use Rattle.fabric_state.specs.Starts.{begun_fabric, life_of, next_note_at, started_note}
+use Rattle.fabric_state.specs.Fits.{Fits}
+use Rattle.fabric_world.specs.World.{WorldOf, after_all, begun, effect, handled, loads_with, next_life, step, table_for, world_after}
+use Rattle.fabric_world.specs.Histories.{HistoryOf, AreLawful, IsLawful, fabric_of, last_port, last_taken, with_event, world_of}
+use Rattle.fabric_world.specs.Sound.{AllMayCome}
+use Rattle.fabric_world.specs.Turns.{Handled, HasBytes, IsToLoad, TakesWork}
+use Rattle.fabric_book.specs.Kept.{IsKept, with_events}
+use Rattle.fabric_book.proofs.WorldFacts.{event_more, step_makes, begun_is, fits_after, work_may_come, world_script, place_sound, boot_most, command_fits, emptied_room, handle_may_come, ready_is, room_is, handled_parts}
+
+-- the fabric is as fabrics are
+pub fabric_fits : (f : FabricOf) (h : List Event) (taken : List ℕ) (room : ℕ) → IsKept f h taken room → Fits f
+fabric_fits f h taken room kept = subst Fits (sym kept.fabric_is) (fits_after f.script kept.script h)
+
+-- a lawful event at the end
+are_lawful-more : (w : WorldOf) (h : List Event) (e : Event) → AreLawful w h → is_lawful (after_all h w).fabric e ≡ true → AreLawful w (h ++ e ∷ [])
+are_lawful-more w [] e before lawful = (lawful, tt)
+are_lawful-more w (x ∷ h) e before lawful = (before.0, are_lawful-more (step w x) h e before.1 lawful)
+
+pub is_lawful-more : (script : ScriptOf) (h : List Event) (e : Event) → IsLawful script h → is_lawful (world_after script h).fabric e ≡ true → IsLawful script (h ++ e ∷ [])
+unfolding world_after
+is_lawful-more script h e before lawful = are_lawful-more (begun script) h e before lawful
+
+-- the world after one more lawful event
+pub world_more : (script : ScriptOf) (h : List Event) (e : Event) → is_lawful (world_after script h).fabric e ≡ true → world_after script (h ++ e ∷ []) ≡ effect e (world_after script h)
+world_more script h e lawful = event_more script h e ∙ step_makes (world_after script h) e lawful
+
+-- the port last taken, after more events
+pub last_port-append : (place port : ℕ) (h more : List Event) → last_port place port (h ++ more) ≡ last_port place (last_port place port h) more
+last_port-append place port [] more = refl
+last_port-append place port (Take other entry ∷ h) more = last_port-append place (cond (other == place) entry port) h more
+last_port-append place port (event ∷ h) more = last_port-append place port h more
+
+-- What is kept after one more event.
+pub kept_by : (f g : FabricOf) (h : List Event) (e : Event) (taken more : List ℕ) (room : ℕ) → IsKept f h taken room → is_lawful f e ≡ true
+    → (effect e (world_after f.script h)).fabric ≡ g → g.script ≡ f.script → g.events ≡ f.events + 1 → more ≡ map (λ place. last_taken place (h ++ e ∷ [])) (places f) → IsKept g (h ++ e ∷ []) more room
+kept_by f g h e taken more room kept lawful makes stays counts takes =
+    let here : is_lawful (world_after f.script h).fabric e ≡ true = subst (λ (x : FabricOf). is_lawful x e ≡ true) kept.fabric_is lawful in
+    let lawful_more : IsLawful f.script (h ++ e ∷ []) = is_lawful-more f.script h e kept.lawful here in
+    let is : (world_after f.script (h ++ e ∷ [])).fabric ≡ g = ap (λ (w : WorldOf). w.fabric) (world_more f.script h e here) ∙ makes in
+    let long : length (h ++ e ∷ []) ≡ length h + 1 = length-append h (e ∷ []) in
+    record {
+      script = subst IsScript (sym stays) kept.script;
+      lawful = subst (λ (s : ScriptOf). IsLawful s (h ++ e ∷ [])) (sym stays) lawful_more;
+      fabric_is = sym (ap (λ (s : ScriptOf). (world_after s (h ++ e ∷ [])).fabric) stays ∙ is);
+      counted = counts ∙ ap (λ n. n + 1) kept.counted ∙ sym long;
+      taken_is = takes ∙ ap (λ (s : ScriptOf). map (λ place. last_taken place (h ++ e ∷ [])) (range_with_len 0 (length s.wires.switches))) (sym stays);
+      room = subst (λ (s : ScriptOf). s.limits.events ≤ room) (sym stays) kept.room;
+    }
+
+-- the ports last taken stay under an event that takes no frame
+stay : (f : FabricOf) (h : List Event) (e : Event) (taken : List ℕ) (room : ℕ) → IsKept f h taken room → ((place port : ℕ) → last_port place port (e ∷ []) ≡ port) → taken ≡ map (λ place. last_taken place (h ++ e ∷ [])) (places f)
+stay f h e taken room kept same =
+    kept.taken_is ∙ (λ i. map (λ place. sym (last_port-append place 0 h (e ∷ []) ∙ same place (last_taken place h)) i) (places f))
+
+-- an event that changes the fabric by itself
+kept_on : (change : FabricOf → FabricOf) (f : FabricOf) (h : List Event) (e : Event) (taken : List ℕ) (room : ℕ) → IsKept f h taken room → is_lawful f e ≡ true
+    → ((w : WorldOf) → (effect e w).fabric ≡ change w.fabric) → (change f).script ≡ f.script → (change f).events ≡ f.events + 1 → ((place port : ℕ) → last_port place port (e ∷ []) ≡ port)
+    → IsKept (change f) (h ++ e ∷ []) taken room
+kept_on change f h e taken room kept lawful makes stays counts same =
+    kept_by f (change f) h e taken taken room kept lawful (makes (world_after f.script h) ∙ ap change (sym kept.fabric_is)) stays counts (stay f h e taken room kept same)
+
+pub tick_kept : (f : FabricOf) (h : List Event) (taken : List ℕ) (room : ℕ) → IsKept f h taken room → is_lawful f Tick ≡ true → IsKept (after_tick f) (h ++ Tick ∷ []) taken room
+unfolding effect
+tick_kept f h taken room kept lawful = kept_on after_tick f h Tick taken room kept lawful (λ w. refl) refl refl (λ place port. refl)
+
+pub clock_kept : (f : FabricOf) (h : List Event) (s : ℕ) (taken : List ℕ) (room : ℕ) → IsKept f h taken room → is_lawful f (Clock s) ≡ true → IsKept (after_clock s f) (h ++ Clock s ∷ []) taken room
+unfolding effect
+clock_kept f h s taken room kept lawful = kept_on (after_clock s) f h (Clock s) taken room kept lawful (λ w. refl) refl refl (λ place port. refl)
+
+pub move_kept : (f : FabricOf) (h : List Event) (packet : ℕ) (taken : List ℕ) (room : ℕ) → IsKept f h taken room → is_lawful f (Move packet) ≡ true → IsKept (after_move packet f) (h ++ Move packet ∷ []) taken room
+unfolding effect
+move_kept f h packet taken room kept lawful = kept_on (after_move packet) f h (Move packet) taken room kept lawful (λ w. refl) refl refl (λ place port. refl)
+
+-- the place of the switch that takes a frame
+taken_at : (h : List Event) (s port n : ℕ) (taken : List ℕ) → s < n → taken ≡ map (λ place. last_taken place h) (range_with_len 0 n)
+    → slice_set taken s port ≡ map (λ place. last_taken place (h ++ Take s port ∷ [])) (range_with_len 0 n)
+taken_at h s port n taken below is =
+    fill_by_all (λ place. last_taken place (h ++ Take s port ∷ [])) (slice_set taken s port) n 0 (length-set taken s port ∙ long) each
+  where
+    long : length taken ≡ n
+    long = ap (length {A = ℕ}) is ∙ length-map-range_with_len (λ place. last_taken place h) 0 n
+
+    was : (k : ℕ) → k < n → slice_index_or taken k 0 ≡ last_taken k h
+    was k low = ap (λ xs. slice_index_or xs k 0) is ∙ get_or-map-range_with_len (λ place. last_taken place h) 0 n k k 0 low (omega arith)
+
+    now : (k : ℕ) → last_taken k (h ++ Take s port ∷ []) ≡ cond (s == k) port (last_taken k h)
+    now k = last_port-append k 0 h (Take s port ∷ [])
+
+    each : (k : ℕ) → k < n → slice_index_or (slice_set taken s port) k 0 ≡ last_taken k (h ++ Take s port ∷ [])
+    each k low = by (cases_eq k s) where
+      by : (k ≡ s) ⊎ (k ≡ s → ⊥) → slice_index_or (slice_set taken s port) k 0 ≡ last_taken k (h ++ Take s port ∷ [])
+      by (inl same) =
+          let at : s < length taken = omega (arith, below, long) in
+          ap (λ j. slice_index_or (slice_set taken s port) j 0) same ∙ get_or-set_same taken s port 0 at
+          ∙ sym (now k ∙ ap (λ b. cond b port (last_taken k h)) (eq-eqb s k (sym same)))
+      by (inr other) =
+          get_or-set_other taken s k port 0 other ∙ was k low
+          ∙ sym (now k ∙ ap (λ b. cond b port (last_taken k h)) (ne_eqb s k (λ (e : s ≡ k). other (sym e))))
+
+pub take_kept : (f : FabricOf) (h : List Event) (s port : ℕ) (taken : List ℕ) (room : ℕ) → IsKept f h taken room → s < count f → is_lawful f (Take s port) ≡ true
+    → IsKept (after_take s port f) (h ++ Take s port ∷ []) (slice_set taken s port) room
+unfolding effect
+take_kept f h s port taken room kept below lawful =
+    kept_by f (after_take s port f) h (Take s port) taken (slice_set taken s port) room kept lawful (ap (after_take s port) (sym kept.fabric_is)) refl refl
+    (taken_at h s port (count f) taken below kept.taken_is)
+
+-- what a switch shows in its next life
+next_note_is : (script : ScriptOf) (h : List Event) (s : ℕ) → IsScript script → s < length script.wires.switches → note_of (next_life s (world_after script h)) ≡ next_note_at (world_after script h).fabric s
+next_note_is script h s kept below =
+    let w = world_after script h in
+    let shown : (station w.fabric s).note.life ≡ (w.switches s).life = ap (λ (n : NoteOf). n.life) (place_sound script kept h s below).note in
+    ap (λ (life : LifeId). started_note (life_of w.fabric.script s (life.boot + 1)) w.fabric.script.epoch) (sym shown)
+
+pub restart_kept : (f : FabricOf) (h : List Event) (s : ℕ) (taken : List ℕ) (room : ℕ) → IsKept f h taken room → s < count f → is_lawful f (Restart s) ≡ true
+    → IsKept (after_restart s (next_note_at f s) f) (h ++ Restart s ∷ []) taken room
+unfolding effect
+restart_kept f h s taken room kept below lawful =
+    let is = kept.fabric_is in
+    kept_by f (after_restart s (next_note_at f s) f) h (Restart s) taken taken room kept lawful
+    (ap (λ (note : NoteOf). after_restart s note (world_after f.script h).fabric) (next_note_is f.script h s kept.script below)
+    ∙ ap (λ (x : FabricOf). after_restart s (next_note_at x s) x) (sym is)) refl refl (stay f h (Restart s) taken room kept (λ place port. refl))
+
+-- a command but a restart
+command_makes : (script : ScriptOf) (e : Event) → IsCommandEvent script.wires e → is_restart e ≡ false → (w : WorldOf) → (effect e w).fabric ≡ after_command e w.fabric
+unfolding effect
+command_makes script (Fail s p) fits other w = refl
+command_makes script (Repair s p) fits other w = refl
+command_makes script (Lose s p n) fits other w = refl
+command_makes script (Again s p n) fits other w = refl
+command_makes script (Swap s p n) fits other w = refl
+command_makes script (Noise s p n) fits other w = refl
+command_makes script (Send from to) fits other w = refl
+command_makes script (Restart s) fits other w = absurd (true≢false other)
+command_makes script Tick fits other w = absurd fits
+command_makes script (Clock s) fits other w = absurd fits
+command_makes script (Take s p) fits other w = absurd fits
+command_makes script (Handle s) fits other w = absurd fits
+command_makes script (Load s) fits other w = absurd fits
+command_makes script (Move k) fits other w = absurd fits
+
+record IsPlain (f : FabricOf) (e : Event) : Type 0 where
+  script : (after_command e f).script ≡ f.script
+  events : (after_command e f).events ≡ f.events + 1
+  takes : (place port : ℕ) → last_port place port (e ∷ []) ≡ port
+
+command_plain : (f : FabricOf) (e : Event) → IsCommandEvent f.script.wires e → is_restart e ≡ false → IsPlain f e
+command_plain f (Fail s p) fits other = record { script = refl; events = refl; takes = λ place port. refl }
+command_plain f (Repair s p) fits other = record { script = refl; events = refl; takes = λ place port. refl }
+command_plain f (Lose s p n) fits other = record { script = refl; events = refl; takes = λ place port. refl }
+command_plain f (Again s p n) fits other = record { script = refl; events = refl; takes = λ place port. refl }
+command_plain f (Swap s p n) fits other = record { script = refl; events = refl; takes = λ place port. refl }
+command_plain f (Noise s p n) fits other = record { script = refl; events = refl; takes = λ place port. refl }
+command_plain f (Send from to) fits other = record { script = refl; events = refl; takes = λ place port. refl }
+command_plain f (Restart s) fits other = absurd (true≢false other)
+command_plain f Tick fits other = absurd fits
+command_plain f (Clock s) fits other = absurd fits
+command_plain f (Take s p) fits other = absurd fits
+command_plain f (Handle s) fits other = absurd fits
+command_plain f (Load s) fits other = absurd fits
+command_plain f (Move k) fits other = absurd fits
+
+pub command_kept : (f : FabricOf) (h : List Event) (e : Event) (taken : List ℕ) (room : ℕ) → IsKept f h taken room → is_lawful f e ≡ true → IsCommandEvent f.script.wires e → is_restart e ≡ false
+    → IsKept (after_command e f) (h ++ e ∷ []) taken room
+command_kept f h e taken room kept lawful fits other =
+    let plain = command_plain f e fits other in
+    kept_on (after_command e) f h e taken room kept lawful (command_makes f.script e fits other) plain.script plain.events plain.takes
+
+-- what is in hand was handled
+pub handle_kept : (f : FabricOf) (h : List Event) (s : ℕ) (frames : List BytesOut) (note : NoteOf) (spent : Bool) (taken : List ℕ) (room : ℕ) → IsKept f h taken room → is_lawful f (Handle s) ≡ true
+    → Handled (world_after f.script h) s frames note spent → IsKept (after_handle s frames note spent f) (h ++ Handle s ∷ []) taken room
+unfolding effect
+handle_kept f h s frames note spent taken room kept lawful done =
+    kept_by f (after_handle s frames note spent f) h (Handle s) taken taken room kept lawful
+    (ap (λ (xs : List BytesOut). after_handle s xs (note_of (handled s (world_after f.script h)).switch) (handled s (world_after f.script h)).switch.spent (world_after f.script h).fabric) (sym done.frames_are)
+    ∙ ap (λ (n : NoteOf). after_handle s frames n (handled s (world_after f.script h)).switch.spent (world_after f.script h).fabric) (sym done.note_is)
+    ∙ ap (λ b. after_handle s frames note b (world_after f.script h).fabric) (sym done.spent_is)
+    ∙ ap (after_handle s frames note spent) (sym kept.fabric_is)) refl refl (stay f h (Handle s) taken room kept (λ place port. refl))
+
+pub parts_kept : (f : FabricOf) (h : List Event) (s : ℕ) (frames : List BytesOut) (note : NoteOf) (spent : Bool) (taken : List ℕ) (room : ℕ) → IsKept f h taken room → s < count f → is_lawful f (Handle s) ≡ true
+    → Handled (world_after f.script h) s frames note spent
+    → IsKept (shows s note spent (record (emptied s f) { wires = all_put_out s frames (emptied s f).wires })) (h ++ Handle s ∷ []) taken room
+parts_kept f h s frames note spent taken room kept below lawful done =
+    subst (λ (x : FabricOf). IsKept x (h ++ Handle s ∷ []) taken room) (sym (handled_parts s frames note spent f (subst (λ n. s < n) (sym (fabric_fits f h taken room kept).size) below)))
+    (handle_kept f h s frames note spent taken room kept lawful done)
+
+-- a table was loaded
+number_made : (topo : TopoOf) (any : Bool) (life : LifeId) (t : TableOf) → t ≡ table_of topo any life → t.number ≡ number_in topo life
+unfolding table_of
+number_made topo any life t made = ap (λ (u : TableOf). u.number) made
+
+loads_is : (w : WorldOf) (s : ℕ) (table : TableFor) (note : NoteOf) → IsToLoad w s table note → (loads_with (finish_of (w.switches s)) s w).fabric ≡ after_load s table note w.fabric
+loads_is w s table note is =
+    let y = w.switches s in
+    let made = only_table is.topo y.any y.life table.table is.graph is.numbers is.as_many is.table in
+    let same : table ≡ table_for is.topo y = λ i. record { epoch = is.epoch i; table = made i } in
+    let number : table.table.number ≡ number_in is.topo y.life = number_made is.topo y.any y.life table.table made in
+    ap (λ o. (loads_with o s w).fabric) is.finished
+    ∙ ap (λ (t : TableFor). after_load s t (note_of (loaded (number_in is.topo y.life) y)) w.fabric) (sym same)
+    ∙ ap (λ (n : NoteOf). after_load s table n w.fabric) (sym (is.note_is ∙ ap (λ k. note_of (loaded k y)) number))
+
+pub load_kept : (f : FabricOf) (h : List Event) (s : ℕ) (table : TableFor) (note : NoteOf) (taken : List ℕ) (room : ℕ) → IsKept f h taken room → is_lawful f (Load s) ≡ true
+    → IsToLoad (world_after f.script h) s table note → IsKept (after_load s table note f) (h ++ Load s ∷ []) taken room
+unfolding effect
+load_kept f h s table note taken room kept lawful is =
+    kept_by f (after_load s table note f) h (Load s) taken taken room kept lawful
+    (loads_is (world_after f.script h) s table note is ∙ ap (after_load s table note) (sym kept.fabric_is)) refl refl (stay f h (Load s) taken room kept (λ place port. refl))
+
+-- at first
+pub begun_kept : (script : ScriptOf) (taken : List ℕ) (room : ℕ) → IsScript script → taken ≡ map (λ place. 0) (range_with_len 0 (length script.wires.switches)) → script.limits.events ≤ room → IsKept (begun_fabric script) [] taken room
+unfolding world_after
+begun_kept script taken room kept zeros roomy =
+    record { script = kept; lawful = tt; fabric_is = sym (begun_is script); counted = refl; taken_is = zeros; room = roomy }
+
+-- Of a book that stands for a history
+module _ (f : FabricOf) (es : List Event) (taken : List ℕ) (room : ℕ) (kept : IsKept f es taken room) (h : HistoryOf) (view_is : record { script = f.script; events = es } ≡ h) where
+  pub fabric_at : f ≡ fabric_of h
+  fabric_at = kept.fabric_is ∙ ap fabric_of view_is
+
+  pub lawful_at : (e : Event) → is_lawful (fabric_of h) e ≡ true → is_lawful f e ≡ true
+  lawful_at e lawful = subst (λ (x : FabricOf). is_lawful x e ≡ true) (sym fabric_at) lawful
+
+  pub script_at : f.script ≡ h.script
+  script_at = ap (λ (x : HistoryOf). x.script) view_is
+
+  pub events_at : es ≡ h.events
+  events_at = ap (λ (x : HistoryOf). x.events) view_is
+
+  pub has_room : (e : Event) → is_lawful (fabric_of h) e ≡ true → length es < room
+  has_room e lawful =
+      let some = room_is f e (fabric_fits f es taken room kept) (lawful_at e lawful) in
+      let counted = kept.counted in
+      let roomy = kept.room in
+      omega (arith, some, counted, roomy)
+
+  pub shows_more : (g : FabricOf) (more : List Event) (e : Event) → g.script ≡ f.script → more ≡ es ++ e ∷ [] → record { script = g.script; events = more } ≡ with_event e h
+  shows_more g more e scripts events = (λ i. record { script = scripts i; events = events i }) ∙ ap (with_event e) view_is
+
+-- what is kept, of equal things
+pub kept_as : (f g : FabricOf) (es more : List Event) (taken now : List ℕ) (room roomy : ℕ) → IsKept f es taken room → g ≡ f → more ≡ es → now ≡ taken → roomy ≡ room → IsKept g more now roomy
+kept_as f g es more taken now room roomy kept fabrics events takes rooms =
+    subst (λ (x : FabricOf). IsKept x more now roomy) (sym fabrics)
+    (subst (λ (xs : List Event). IsKept f xs now roomy) (sym events)
+    (subst (λ (xs : List ℕ). IsKept f es xs roomy) (sym takes)
+    (subst (λ (n : ℕ). IsKept f es taken n) (sym rooms) kept)))
+
+-- the switch of an event is one of the script
+switch_below : (f : FabricOf) (s : ℕ) → is_switch f s ≡ true → s < count f
+switch_below f s is = ltb-true s (count f) is
+
+pub take_below : (f : FabricOf) (s p : ℕ) → is_lawful f (Take s p) ≡ true → s < count f
+take_below f s p lawful =
+    let p1 = and_parts (is_switch f s && is_external p && not (is_full_at f s) && not (clock_due_at f s)) (has_frame f s p) (ready_is f (Take s p) lawful) in
+    let p2 = and_parts (is_switch f s && is_external p && not (is_full_at f s)) (not (clock_due_at f s)) p1.0 in
+    let p3 = and_parts (is_switch f s && is_external p) (not (is_full_at f s)) p2.0 in
+    switch_below f s (and_parts (is_switch f s) (is_external p) p3.0).0
+
+pub restart_below : (f : FabricOf) (s : ℕ) → IsScript f.script → is_lawful f (Restart s) ≡ true → s < count f
+restart_below f s kept lawful = command_fits f (Restart s) kept (and_parts (is_command f (Restart s)) (not (is_full_at f s)) (ready_is f (Restart s) lawful)).0
+
+-- no switch has more lives than the script gives it
+pub boot_fits : (f : FabricOf) (es : List Event) (taken : List ℕ) (room s : ℕ) → IsKept f es taken room → s < count f → (station f s).note.life.boot < 2 ^ 32 - 1
+boot_fits f es taken room s kept below =
+    let w = world_after f.script es in
+    let shown : (station f s).note.life.boot ≡ (w.switches s).life.boot =
+    ap (λ (x : FabricOf). (station x s).note.life.boot) kept.fabric_is ∙ ap (λ (n : NoteOf). n.life.boot) (place_sound f.script kept.script es s below).note in
+    let most = boot_most f.script es s in
+    let lives = kept.script.lives in
+    omega (arith, shown, most, lives)
+
+-- What a switch handles, of a book that stands for a history
+module _ (f : FabricOf) (es : List Event) (taken : List ℕ) (room : ℕ) (kept : IsKept f es taken room) (h : HistoryOf) (view_is : record { script = f.script; events = es } ≡ h) (s : ℕ) (below : s < length h.script.wires.switches)
+    (frames : List BytesOut) (note : NoteOf) (spent : Bool) (done : Handled (world_of h) s frames note spent) where
+  pub handled_below : s < count f
+  handled_below = subst (λ (x : ScriptOf). s < length x.wires.switches) (sym (script_at f es taken room kept h view_is)) below
+
+  pub handled_full : is_full_at f s ≡ true
+  handled_full = ap (λ (x : FabricOf). is_full_at x s) (fabric_at f es taken room kept h view_is) ∙ done.full
+
+  pub handled_lawful : is_lawful (fabric_of h) (Handle s) ≡ true
+  handled_lawful = handle_may_come h.script h.events s below done.full
+
+  pub handled_here : Handled (world_after f.script es) s frames note spent
+  handled_here = subst (λ (x : HistoryOf). Handled (world_of x) s frames note spent) (sym view_is) done
+
+  pub handled_room : f.events + full_hands (emptied s f) < f.script.limits.events
+  handled_room = emptied_room f s (fabric_fits f es taken room kept) handled_below handled_full
+
+  pub handled_kept : IsKept (shows s note spent (record (emptied s f) { wires = all_put_out s frames (emptied s f).wires })) (es ++ Handle s ∷ []) taken room
+  handled_kept = parts_kept f es s frames note spent taken room kept handled_below (lawful_at f es taken room kept h view_is (Handle s) handled_lawful) handled_here
+
+-- the fabric after the three parts
+pub three_parts : (f released put shown : FabricOf) (s : ℕ) (frames : List BytesOut) (note : NoteOf) (spent : Bool) → released ≡ emptied s f → put ≡ record released { wires = all_put_out s frames released.wires } → shown ≡ shows s note spent put
+    → shown ≡ shows s note spent (record (emptied s f) { wires = all_put_out s frames (emptied s f).wires })
+three_parts f released put shown s frames note spent one two three =
+    three ∙ ap (λ (x : FabricOf). shows s note spent x) (two ∙ ap (λ (x : FabricOf). record x { wires = all_put_out s frames x.wires }) one)
+
+-- the ports last taken, by place
+pub taken_long : (f : FabricOf) (es : List Event) (taken : List ℕ) (room : ℕ) → IsKept f es taken room → length taken ≡ count f
+taken_long f es taken room kept = ap (length {A = ℕ}) kept.taken_is ∙ length-map-range_with_len (λ place. last_taken place es) 0 (count f)
+
+pub taken_here : (f : FabricOf) (es : List Event) (taken : List ℕ) (room s d : ℕ) → IsKept f es taken room → s < count f → slice_index_or taken s d ≡ last_taken s es
+taken_here f es taken room s d kept below =
+    ap (λ (xs : List ℕ). slice_index_or xs s d) kept.taken_is ∙ get_or-map-range_with_len (λ place. last_taken place es) 0 (count f) s s d below (omega arith)
+
+-- Of the history of a book
+module _ (f : FabricOf) (es : List Event) (taken : List ℕ) (room : ℕ) (kept : IsKept f es taken room) (h : HistoryOf) (view_is : record { script = f.script; events = es } ≡ h) where
+  pub good_at : IsScript h.script
+  good_at = subst IsScript (script_at f es taken room kept h view_is) kept.script
+
+  pub below_at : (s : ℕ) → s < length h.script.wires.switches → s < count f
+  below_at s below = subst (λ (x : ScriptOf). s < length x.wires.switches) (sym (script_at f es taken room kept h view_is)) below
+
+  pub room_at : length h.events + full_hands (fabric_of h) ≤ h.script.limits.events
+  room_at =
+      let fits = fits_after h.script good_at h.events in
+      let most = fits.room in
+      let counted = kept.counted in
+      let same : (fabric_of h).events ≡ f.events = ap (λ (x : FabricOf). x.events) (sym (fabric_at f es taken room kept h view_is)) in
+      let long : length es ≡ length h.events = ap (length {A = Event}) (events_at f es taken room kept h view_is) in
+      let limit : (fabric_of h).script.limits.events ≡ h.script.limits.events = ap (λ (x : ScriptOf). x.limits.events) (world_script h.script h.events) in
+      omega (arith, most, counted, same, long, limit)
+
+  pub work_at : (s last : ℕ) (job : Work) → job ≡ next_work f s last → s < length h.script.wires.switches → is_full_at (fabric_of h) s ≡ false → AllMayCome (fabric_of h) (event_of_work s job)
+  work_at s last job is below empty =
+      subst (λ (j : Work). AllMayCome (fabric_of h) (event_of_work s j)) (sym (is ∙ ap (λ (x : FabricOf). next_work x s last) (fabric_at f es taken room kept h view_is))) (work_may_come h.script h.events s last below empty)
+
+  pub takes_at : (s last : ℕ) (job : Work) (out : List ℕ) (new : HistoryOf) → job ≡ next_work f s last → last ≡ slice_index_or taken s last → s < length h.script.wires.switches → new ≡ with_events (event_of_work s job) h
+      → HasBytes job (fabric_of new) s out → TakesWork h.script h.events s job out new.events
+  takes_at s last job out new is at below event bytes =
+      let last_is : last ≡ last_taken s h.events = at ∙ taken_here f es taken room s last kept (below_at s below) ∙ ap (last_taken s) (events_at f es taken room kept h view_is) in
+      let scripts : new.script ≡ h.script = ap (λ (x : HistoryOf). x.script) event in
+      record {
+        work_is = is ∙ ap (λ (x : FabricOf). next_work x s last) (fabric_at f es taken room kept h view_is) ∙ ap (next_work (fabric_of h) s) last_is;
+        event = ap (λ (x : HistoryOf). x.events) event;
+        bytes = subst (λ (x : ScriptOf). HasBytes job (world_after x new.events).fabric s out) scripts bytes;
+      }

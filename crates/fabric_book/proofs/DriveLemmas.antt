@@ -1,0 +1,107 @@
+-- What the driver does is its own to do.
+
+use Rattle.std.specs.Prelude.{◌≡◌, ◌+◌, ℕ, List, [], ◌∷◌, cond, Option, Some, None, Bool, true, false, refl}
+use Rattle.std.proofs.Common.{sym, ◌∙◌, ap, subst, inl, inr, true≢false}
+use Rattle.std.proofs.lemmas.List.{append-nil}
+use Rattle.std.proofs.lemmas.List.Elements.{All-head}
+use Rattle.net_script.specs.Scripts.{ScriptOf, IsScript}
+use Rattle.switch_core.specs.declared.switch.TableFor.{TableFor}
+use Rattle.fabric_turn.specs.History.{AppendsAtMostOne}
+use Rattle.fabric_world.specs.declared.ask.LoadReply.{LoadReply}
+use Rattle.fabric_world.specs.Histories.{owner_of}
+use Rattle.fabric_world.specs.Sound.{AllMayCome}
+use Rattle.fabric_world.specs.Turns.{Drives, LoadsOrNot}
+use Rattle.fabric_world.specs.World.{world_after}
+use Rattle.an_base.specs.declared.event.Event.{Event}
+use Rattle.an_base.specs.declared.event.Event.TheVariants.{Tick, Clock, Take, Handle, Load, Fail, Repair, Lose, Again, Swap, Noise, Send, Move, Restart}
+use Rattle.net_script.specs.Commands.{is_restart}
+use Rattle.host_traffic.specs.Packets.{first_packet}
+use Rattle.fabric_state.specs.declared.ending.Ending.{Ending}
+use Rattle.fabric_state.specs.declared.work.Drive.{Drive}
+use Rattle.fabric_state.specs.declared.work.Drive.TheVariants as drive
+use Rattle.fabric_state.specs.Fabric.{FabricOf, due_command}
+use Rattle.fabric_state.specs.Lawful.{is_barred, is_command, is_lawful, is_tick_due}
+use Rattle.fabric_state.specs.Agree.{ending_of}
+use Rattle.fabric_state.specs.Choices.{command_or_move, drive_by, event_of_drive, move_or_tick, next_drive, tick_or_wait}
+use Rattle.fabric_book.specs.Kept.{IsDrivers, IsPlainCommand}
+use Rattle.fabric_book.proofs.WorldFacts.{command_fits, due_is_command, world_script}
+
+pub plain_is : (f : FabricOf) (e : Event) → IsPlainCommand f e → IsDrivers f e
+plain_is f Tick is = tt
+plain_is f (Move packet) is = tt
+plain_is f (Clock s) is = is
+plain_is f (Take s p) is = is
+plain_is f (Handle s) is = is
+plain_is f (Load s) is = is
+plain_is f (Fail s p) is = is
+plain_is f (Repair s p) is = is
+plain_is f (Lose s p n) is = is
+plain_is f (Again s p n) is = is
+plain_is f (Swap s p n) is = is
+plain_is f (Noise s p n) is = is
+plain_is f (Send from to) is = is
+plain_is f (Restart s) is = is
+
+did : (f : FabricOf) (a b : Event) → IsDrivers f a → drive.Did a ≡ drive.Did b → IsDrivers f b
+did f a b is same = let eq : a ≡ b = cc in subst (IsDrivers f) eq is
+
+tick_did : (f : FabricOf) (b : Bool) (e : Event) → tick_or_wait b ≡ drive.Did e → IsDrivers f e
+tick_did f true e is = did f Tick e tt is
+tick_did f false e is = cc
+
+move_did : (f : FabricOf) (o : Option ℕ) (e : Event) → move_or_tick o f ≡ drive.Did e → IsDrivers f e
+move_did f (Some packet) e is = did f (Move packet) e tt is
+move_did f None e is = tick_did f (is_tick_due f) e is
+
+command_did : (f : FabricOf) (o : Option Event) (e : Event) → due_command f ≡ o → command_or_move o f ≡ drive.Did e → IsDrivers f e
+command_did f None e due is = move_did f (first_packet f.packets) e is
+command_did f (Some event) e due is = by (is_restart event) refl is where
+  by : (b : Bool) → is_restart event ≡ b → cond b (move_or_tick (first_packet f.packets) f) (drive.Did event) ≡ drive.Did e → IsDrivers f e
+  by true restart is_did = move_did f (first_packet f.packets) e is_did
+  by false other is_did = did f event e (plain_is f event (record { command = due_is_command f event due; other = other })) is_did
+
+pub driven : (f : FabricOf) (e : Event) → next_drive f ≡ drive.Did e → IsDrivers f e
+driven f e is = by (ending_of f) is where
+  barred : (b : Bool) → cond b drive.Waits (command_or_move (due_command f) f) ≡ drive.Did e → IsDrivers f e
+  barred true waits = cc
+  barred false goes = command_did f (due_command f) e refl goes
+
+  by : (o : Option Ending) → drive_by o f ≡ drive.Did e → IsDrivers f e
+  by (Some end) ended = cc
+  by None goes = barred (is_barred f) goes
+
+-- and may come
+pub drive_lawful : (f : FabricOf) (e : Event) → AllMayCome f (event_of_drive (next_drive f)) → next_drive f ≡ drive.Did e → is_lawful f e ≡ true
+drive_lawful f e all is =
+    let now : AllMayCome f (event_of_drive (drive.Did e)) = subst (λ (d : Drive). AllMayCome f (event_of_drive d)) is all in
+    All-head (λ (x : Event). is_lawful f x ≡ true) e [] now
+
+-- and belongs to the driver
+pub driver_owns : (f : FabricOf) (e : Event) → IsScript f.script → IsDrivers f e → owner_of e ≡ 0
+driver_owns f Tick kept is = refl
+driver_owns f (Move packet) kept is = refl
+driver_owns f (Fail s p) kept is = refl
+driver_owns f (Repair s p) kept is = refl
+driver_owns f (Lose s p n) kept is = refl
+driver_owns f (Again s p n) kept is = refl
+driver_owns f (Swap s p n) kept is = refl
+driver_owns f (Noise s p n) kept is = refl
+driver_owns f (Send from to) kept is = refl
+driver_owns f (Restart s) kept is = absurd (true≢false is.other)
+driver_owns f (Clock s) kept is = absurd (command_fits f (Clock s) kept is.command)
+driver_owns f (Take s p) kept is = absurd (command_fits f (Take s p) kept is.command)
+driver_owns f (Handle s) kept is = absurd (command_fits f (Handle s) kept is.command)
+driver_owns f (Load s) kept is = absurd (command_fits f (Load s) kept is.command)
+
+-- What a load and the driver append
+pub load_appends : (b : Bool) (table : TableFor) (answer : LoadReply) (s c : ℕ) (h after : List Event) → c ≡ s + 1 → LoadsOrNot b table answer s h after → AppendsAtMostOne owner_of c h after
+load_appends true table answer s c h after caller is = ([], inl refl, is.1 ∙ sym (append-nil h))
+load_appends false table answer s c h after caller is = (Load s ∷ [], inr (Load s, refl, sym caller), is.1)
+
+pub drive_appends : (script : ScriptOf) → IsScript script → (h : List Event) (did : Drive) (c : ℕ) (after : List Event) → c ≡ 0 → Drives script h did after → AppendsAtMostOne owner_of c h after
+drive_appends script kept h (drive.Did e) c after caller is =
+    let f = (world_after script h).fabric in
+    let good : IsScript f.script = subst IsScript (sym (world_script script h)) kept in
+    (e ∷ [], inr (e, refl, driver_owns f e good (driven f e (sym is.drive_is)) ∙ sym caller), is.event)
+drive_appends script kept h drive.Waits c after caller is = ([], inl refl, is.event)
+drive_appends script kept h (drive.Ended end) c after caller is = ([], inl refl, is.event)

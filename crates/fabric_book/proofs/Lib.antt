@@ -1,0 +1,15 @@
+pub mod UnspentLemmas
+pub mod WorldFacts
+pub mod PutLemmas
+pub mod BookLemmas
+pub mod BeginLemmas
+pub mod DriveLemmas
+pub mod StartLemmas
+pub mod NetLemmas
+pub mod OwnLemmas
+pub mod TellLemmas
+pub mod HandLemmas
+pub mod MoveLemmas
+pub mod WaitLemmas
+pub mod RoundLemmas
+pub mod WorkLemmas

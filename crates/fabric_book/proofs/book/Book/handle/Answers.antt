@@ -1,0 +1,26 @@
+-- What was in hand was handled, in three parts.
+
+use Rattle.std.proofs.Common.{◌≡◌, ◌∙◌, ◌+◌, ◌<◌, ap, arith, refl, subst, sym, vec_capacity}
+use Rattle.an_base.specs.declared.event.Event.TheVariants.{Handle}
+use Rattle.fabric_state.specs.Effects.{all_put_out, emptied}
+use Rattle.fabric_state.specs.Fabric.{FabricOf, full_hands}
+use Rattle.fabric_book.proofs.BookLemmas.{handled_kept, handled_lawful, handled_room, has_room, kept_as, three_parts}
+use Rattle.fabric_book.proofs.book.Book.handle.Goals as goal
+
+pub show-requires-clause-room : goal.show-requires-clause-room
+show-requires-clause-room c =
+    let b = c.self.inside in
+    let is : c.put_and_tell.new.fabric ≡ record (emptied c.args.s b.fabric) { wires = all_put_out c.args.s c.args.frames.now (emptied c.args.s b.fabric).wires } = c.put_and_tell.ensures.put ∙ ap (λ (f : FabricOf). record f { wires = all_put_out c.args.s c.args.frames.now f.wires }) c.release.ensures in
+    subst (λ (f : FabricOf). f.events + full_hands f < f.script.limits.events) (sym is) (handled_room b.fabric b.entries.items b.taken.items (vec_capacity b.entries) c.self.invariant c.args.self.now c.self.view_is c.args.s c.requires.within c.args.frames.now c.args.note.now c.args.spent c.requires.done)
+
+pub push_reserved-requires : goal.push_reserved-requires
+push_reserved-requires c =
+    let b = c.self.inside in
+    let few = has_room b.fabric b.entries.items b.taken.items (vec_capacity b.entries) c.self.invariant c.args.self.now c.self.view_is (Handle c.args.s) (handled_lawful b.fabric b.entries.items b.taken.items (vec_capacity b.entries) c.self.invariant c.args.self.now c.self.view_is c.args.s c.requires.within c.args.frames.now c.args.note.now c.args.spent c.requires.done) in
+    omega (arith, few, b.entries.ok.0)
+
+pub invariant_of-self : goal.invariant_of-self
+invariant_of-self c =
+    let b = c.self.inside in
+    kept_as _ _ _ _ _ _ _ _ (handled_kept b.fabric b.entries.items b.taken.items (vec_capacity b.entries) c.self.invariant c.args.self.now c.self.view_is c.args.s c.requires.within c.args.frames.now c.args.note.now c.args.spent c.requires.done)
+    (three_parts b.fabric _ _ _ c.args.s c.args.frames.now c.args.note.now c.args.spent c.release.ensures c.put_and_tell.ensures.put c.show.ensures) c.push_reserved.ensures.items refl c.push_reserved.ensures.capacity

@@ -1,0 +1,34 @@
+-- How a `Book` is stored, and what its parts do. No public clause cites this module.
+
+use Rattle.std.specs.Prelude.{◌≡◌, ◌++◌, ◌≤◌, ℕ, List, map, length, true, false}
+use Rattle.an_base.specs.declared.event.Event.{Event}
+use Rattle.an_base.specs.declared.event.Event.TheVariants.{Tick, Move}
+use Rattle.net_script.specs.Commands.{is_restart}
+use Rattle.net_script.specs.Scripts.{IsScript}
+use Rattle.fabric_state.specs.Fabric.{FabricOf, places}
+use Rattle.fabric_state.specs.Lawful.{is_command}
+use Rattle.fabric_world.specs.World.{world_after}
+use Rattle.fabric_world.specs.Histories.{HistoryOf, IsLawful, last_taken}
+
+-- The script can be, the events were lawful in turn, the fabric is what they make of it, the port last taken at
+-- each place is theirs, and there is room for all events of the script.
+pub record IsKept (fabric : FabricOf) (events : List Event) (taken : List ℕ) (capacity : ℕ) : Type 0 where
+  pub script : IsScript fabric.script
+  pub lawful : IsLawful fabric.script events
+  pub fabric_is : fabric ≡ (world_after fabric.script events).fabric
+  pub counted : fabric.events ≡ length events
+  pub taken_is : taken ≡ map (λ place. last_taken place events) (places fabric)
+  pub room : fabric.script.limits.events ≤ capacity
+
+abbrev pub with_events : List Event → HistoryOf → HistoryOf
+with_events events history = record history { events = history.events ++ events }
+
+-- what the driver makes: a tick, a hop, or a command that is no restart
+pub record IsPlainCommand (fabric : FabricOf) (event : Event) : Type 0 where
+  pub command : is_command fabric event ≡ true
+  pub other : is_restart event ≡ false
+
+abbrev pub IsDrivers : FabricOf → Event → Type 0
+IsDrivers fabric Tick = Unit {0}
+IsDrivers fabric (Move packet) = Unit {0}
+IsDrivers fabric event = IsPlainCommand fabric event

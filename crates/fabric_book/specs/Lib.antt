@@ -1,0 +1,4 @@
+pub mod Kept
+pub mod Nets
+pub mod Told
+pub mod Rounds

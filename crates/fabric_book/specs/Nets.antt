@@ -1,0 +1,100 @@
+-- What contracts see of a network on one thread, and how it is stored.
+
+use Rattle.std.specs.Prelude.{◌≡◌, ◌⊎◌, ◌++◌, ◌∷◌, ◌<◌, ◌≤◌, ℕ, List, [], map, length, slice_index_or, Bool, false}
+use Rattle.std.specs.List.{range_with_len}
+use Rattle.an_base.specs.Values.{LifeId}
+use Rattle.an_base.specs.declared.event.Event.{Event}
+use Rattle.net_graph.specs.Wires.{Wires, had_of, network}
+use Rattle.net_script.specs.Scripts.{IsScript, ScriptOf}
+use Rattle.switch_core.specs.Switch.{StartOf, SwitchOf, started_as}
+use Rattle.switch_core.specs.Bytes.{OutOf, all_spelled}
+use Rattle.switch_core.specs.Kept.{KeptOf, StandsFor}
+use Rattle.fabric_state.specs.declared.hand.Hand.{Hand}
+use Rattle.fabric_state.specs.declared.hand.Hand.TheVariants as hand
+use Rattle.fabric_state.specs.Fabric.{station, held_bytes}
+use Rattle.fabric_world.specs.World.{WorldOf, handles, start_of}
+use Rattle.fabric_world.specs.Histories.{HistoryOf, IsLawful, fabric_of, with_event, world_of}
+use Rattle.fabric_world.specs.Turns.{is_noise}
+
+-- a script and the events that came, and whether memory was wanting, after which nothing else is known
+pub record NetOf : Type 0 where
+  pub script : ScriptOf
+  pub events : List Event
+  pub lost : Bool
+
+abbrev pub history_of : NetOf → HistoryOf
+history_of net = record { script = net.script; events = net.events }
+
+abbrev pub with_step : Event → NetOf → NetOf
+with_step event net = record net { events = net.events ++ event ∷ [] }
+
+abbrev pub with_events : List Event → NetOf → NetOf
+with_events events net = record net { events = net.events ++ events }
+
+-- With what a switch is started in each of its lives: an epoch, the number that it had before, and whether its
+-- tables have all legal routes.
+pub record PowerOf : Type 0 where
+  pub epoch : ℕ
+  pub had : ℕ
+  pub any : Bool
+
+abbrev pub power_of : ScriptOf → ℕ → PowerOf
+power_of script place =
+    record { epoch = script.epoch; had = had_of script.wires place; any = script.any_routes }
+
+abbrev pub all_powers : ScriptOf → List PowerOf
+all_powers script = map (power_of script) (range_with_len 0 (length script.wires.switches))
+
+abbrev pub start_with : PowerOf → LifeId → StartOf
+start_with power life = record { life = life; epoch = power.epoch; had = power.had; any = power.any }
+
+-- a switch was started so, and nothing has come to it yet
+pub record IsStarted (start : StartOf) (switch : KeptOf) : Type 0 where
+  pub start_is : switch.start ≡ start
+  pub stands : StandsFor switch (started_as start)
+  pub works : switch.works ≡ 0
+
+-- the switches of a wiring, each in its first life
+pub record AreStarted (powers : List PowerOf) (wires : Wires) (switches : List KeptOf) : Type 0 where
+  pub count : length switches ≡ length wires.switches
+  pub each : (place : ℕ) → place < length wires.switches → (power : PowerOf) (switch : KeptOf)
+      → IsStarted (start_with (slice_index_or powers place power) ((network wires).life place))
+      (slice_index_or switches place switch)
+
+-- What came of what a switch had in hand: the switch that is kept, and what goes out.
+pub record IsHandled (old : SwitchOf) (hand : Hand) (bytes : List ℕ) (new : KeptOf) (out : OutOf) : Type 0 where
+  pub stands : StandsFor new (handles hand bytes old).switch
+  pub frames : out.frames ≡ all_spelled (handles hand bytes old).frames
+  pub noframe : out.noframe ≡ is_noise hand bytes
+
+-- the buffer of a switch that has a frame in hand has the bytes of that frame
+abbrev pub HasFrame : Hand → List ℕ → List ℕ → Type 0
+HasFrame hand.Empty held bytes = Unit {0}
+HasFrame (hand.Clock now samples) held bytes = Unit {0}
+HasFrame (hand.Frame port) held bytes = bytes ≡ held
+
+-- the switch at a place stands for that of the world, with no more works than there were events
+pub record IsSwitchKept (world : WorldOf) (place : ℕ) (switch : KeptOf) (bytes : List ℕ) : Type 0 where
+  pub stands : StandsFor switch (world.switches place)
+  pub start : switch.start ≡ start_of world.fabric.script place (world.switches place).life.boot
+  pub works : switch.works ≤ world.fabric.events
+  pub frame : HasFrame (station world.fabric place).hand (held_bytes world.fabric place) bytes
+
+-- an event came, or none
+abbrev pub IsSameOrNext : Event → HistoryOf → HistoryOf → Type 0
+IsSameOrNext event old new = (new ≡ old) ⊎ (new ≡ with_event event old)
+
+-- How a `Net` is stored: its script can be, and its events were lawful in turn; with what its switches are
+-- started, and each of them at its place. The last is so until memory was wanting.
+pub record IsNetKept (history : HistoryOf) (lost : Bool) (powers : List PowerOf) (switches : List KeptOf)
+    (buffers : List (List ℕ)) : Type 0 where
+  pub script : IsScript history.script
+  pub lawful : IsLawful history.script history.events
+  pub counted : (fabric_of history).events ≡ length history.events
+  pub powers_are : powers ≡ all_powers history.script
+  pub switch_count : length switches ≡ length history.script.wires.switches
+  pub buffer_count : length buffers ≡ length history.script.wires.switches
+  pub each : lost ≡ false → (place : ℕ) → place < length history.script.wires.switches
+      → (switch : KeptOf) (buffer : List ℕ)
+      → IsSwitchKept (world_of history) place (slice_index_or switches place switch)
+      (slice_index_or buffers place buffer)

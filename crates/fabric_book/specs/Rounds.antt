@@ -1,0 +1,39 @@
+-- A network on one thread, in the order of `IsOneThread`. No public clause cites this module.
+
+use Rattle.std.specs.Prelude.{◌≡◌, ◌+◌, ◌++◌, ◌<◌, ◌≤◌, ℕ, List, [], length, Option, Some, None, false}
+use Rattle.an_base.specs.declared.event.Event.{Event}
+use Rattle.fabric_state.specs.declared.ending.Ending.{Ending}
+use Rattle.fabric_state.specs.declared.work.Drive.TheVariants as drive
+use Rattle.fabric_state.specs.Choices.{next_drive}
+use Rattle.fabric_world.specs.Histories.{fabric_of, last_taken, world_of}
+use Rattle.fabric_world.specs.Solo.{IsOneThread, worker_event}
+use Rattle.fabric_book.specs.Nets.{NetOf, history_of}
+
+-- whose turn it is: that of the worker at a place, or that of the driver
+pub record IsTurnOf (turn : ℕ) (net : NetOf) : Type 0 where
+  pub here : net.lost ≡ false
+  pub order : IsOneThread net.script net.events turn
+  pub room : length net.events ≤ net.script.limits.events
+
+abbrev pub IsTurnOfDriver : NetOf → Type 0
+IsTurnOfDriver net = IsTurnOf (length net.script.wires.switches) net
+
+-- events came, or none
+pub record GoesOn (before after : NetOf) : Type 0 where
+  pub script : after.script ≡ before.script
+  pub more : List Event
+  pub events : after.events ≡ before.events ++ more
+
+-- the worker of a switch has nothing to do
+abbrev pub IsIdleAt : NetOf → ℕ → Type 0
+IsIdleAt net place = worker_event (world_of (history_of net)) place (last_taken place net.events) ≡ []
+
+-- nor has one of the workers before a place, where nothing came since
+abbrev pub AreIdleBefore : ℕ → NetOf → NetOf → Type 0
+AreIdleBefore limit before after =
+    after.events ≡ before.events → (place : ℕ) → place < limit → IsIdleAt after place
+
+-- the driver waits, or an end has come
+abbrev pub HasDriven : Option Ending → NetOf → Type 0
+HasDriven None net = IsTurnOf 0 net × (next_drive (fabric_of (history_of net)) ≡ drive.Waits)
+HasDriven (Some end) net = IsTurnOfDriver net × (next_drive (fabric_of (history_of net)) ≡ drive.Ended end)

@@ -1,0 +1,358 @@
+//! The book of a network.
+
+ghost use Rattle.std.specs.Prelude.{◌≡◌, ◌+◌, ◌++◌, ◌<◌, ◌≤◌, ◌&&◌, ◌==◌, [], length, true, false, All, Some, IfOk, vec_len, vec_capacity};
+ghost use Rattle.std.specs.Option.{option_map};
+ghost use Rattle.an_base.specs.declared.event.Event.TheVariants as events;
+ghost use Rattle.net_script.specs.Commands.{is_restart};
+ghost use Rattle.host_traffic.specs.Packets.{packet_of};
+ghost use Rattle.switch_core.specs.Bytes.{IsFrameOut};
+ghost use Rattle.fabric_state.specs.Choices.{event_of_work};
+ghost use Rattle.fabric_state.specs.Fabric.{count, full_hands, held_bytes, is_full_at};
+ghost use Rattle.fabric_state.specs.Agree.{is_settled};
+ghost use Rattle.fabric_state.specs.Effects.{all_put_becomes, all_put_out, copy_becomes, hop_of, told_of, wires_at_hand};
+ghost use Rattle.fabric_state.specs.Lawful.{is_barred, is_command, is_lawful};
+ghost use Rattle.fabric_state.specs.Starts.{next_life_at};
+ghost use Rattle.fabric_world.specs.Histories.{IsLawful, fabric_of, owner_of, with_event, world_of};
+ghost use Rattle.fabric_world.specs.Sound.{AllMayCome};
+ghost use Rattle.fabric_world.specs.Turns.{AnswersAsk, Drives, Handled, HasBytes, IsDone, IsFit, IsToLoad, LoadsOrNot, TakesWork};
+ghost use Rattle.fabric_world.proofs.FitLemmas.{fit_stays};
+ghost use Rattle.fabric_book.specs.Kept.{IsDrivers, with_events};
+
+use an_base::event::{Event, Journal};
+use an_base::life::Life;
+use an_base::memory::OutOfMemory;
+use an_base::port::Note;
+use fabric_state::fabric::Fabric;
+use fabric_state::told::Told;
+use fabric_state::work::{Drive, Work};
+use fabric_turn::Staged;
+use fabric_world::ask::{Ask, Done, LoadReply, Reply};
+use frame_region::buffer::FrameBuf;
+use host_traffic::hop::Hop;
+use net_script::script::Script;
+use std::alloc::Global;
+use std::marker::Model;
+use switch_core::out::FrameOut;
+use switch_core::switch::TableFor;
+use wire_set::side::Put;
+
+/// The book of a network: its whole history, and the fabric that it makes. It has room from the beginning for
+/// as many events as the script allows.
+#[derive(Drop)]
+pub struct Book {
+    fabric: Fabric,
+    entries: Vec<Event>,
+    taken: Vec<u8>,
+}
+
+impl Model for Book {
+    ghost use Rattle.std.specs.Prelude.{vec_capacity};
+    ghost use Rattle.fabric_world.specs.Histories.{HistoryOf};
+    ghost use Rattle.fabric_world.proofs.FitLemmas.{fit_stays};
+    ghost use Rattle.fabric_book.specs.Kept.{IsKept};
+
+    ghost Value = { HistoryOf };
+
+    ghost view = { λ b. record { script = b.fabric.script; events = b.entries.items } };
+
+    ghost invariant = { λ b. IsKept b.fabric b.entries.items b.taken.items (vec_capacity b.entries) };
+}
+
+// The frames of a switch go out in turn.
+fn put_all(fabric: &mut Fabric, s: u8, frames: &[FrameOut])
+    requires within { s < count fabric.old }
+    requires spelled { All IsFrameOut frames.now }
+    ensures { fabric.new ≡ record fabric.old { wires = all_put_out s frames.now fabric.old.wires } }
+{
+    'frames: for frame in frames {
+        fabric.put(s, frame);
+    }
+}
+
+// And what becomes of each is added to a list that has room for it.
+fn put_and_tell(fabric: &mut Fabric, s: u8, frames: &[FrameOut], puts: &mut Vec<Option<Put>>)
+    requires within { s < count fabric.old }
+    requires spelled { All IsFrameOut frames.now }
+    requires room { vec_len puts.old + length frames.now ≤ vec_capacity puts.old }
+    ensures put { fabric.new ≡ record fabric.old { wires = all_put_out s frames.now fabric.old.wires } }
+    ensures told { puts.new.items ≡ puts.old.items ++ all_put_becomes s frames.now fabric.old.wires }
+{
+    'frames: for frame in frames {
+        puts.push_reserved(fabric.put(s, frame));
+    }
+}
+
+impl Book {
+    /// The book of a network of this script, in which nothing has come yet. All the memory is taken here.
+    pub fn begin(alloc: Global, script: &Script) -> Result<Self, OutOfMemory>
+        ensures { IfOk result (λ book. book ≡ record { script = script.now; events = [] }) }
+    {
+        let fabric = Fabric::begin(alloc, script)?;
+        let count = usize::from(fabric.count());
+        Ok(Book {
+            fabric,
+            entries: Vec::with_capacity(alloc, script.limits().events as usize)?,
+            taken: vec![in alloc; 0u8; count]?,
+        })
+    }
+
+    /// The fabric of the network as it stands.
+    pub fn fabric(&self) -> &Fabric
+        ensures { result.now ≡ fabric_of self.now }
+    {
+        &self.fabric
+    }
+
+    /// The history.
+    pub fn entries(&self) -> &[Event]
+        ensures all { result.now ≡ self.now.events }
+        ensures lawful { IsLawful self.now.script self.now.events }
+        ensures room { length self.now.events + full_hands (fabric_of self.now) ≤ self.now.script.limits.events }
+    {
+        &self.entries
+    }
+
+    /// The history, as a journal.
+    pub fn into_journal(self) -> Journal
+        ensures all { result ≡ self.events }
+        ensures lawful { IsLawful self.script self.events }
+    {
+        Journal::of(self.entries)
+    }
+
+    /// Whether the network is settled and no hand is full.
+    pub fn settled(&self) -> bool
+        ensures { result ≡ (full_hands (fabric_of self.now) == 0 && is_settled (fabric_of self.now)) }
+    {
+        self.fabric.settled()
+    }
+
+    /// The next work of a switch that has nothing in hand: to begin its next life, a clock, a frame, whose
+    /// bytes are in the buffer then, or nothing.
+    pub fn take(&mut self, s: u8, out: &mut FrameBuf) -> Work
+        requires within { s < length self.old.script.wires.switches }
+        requires empty { is_full_at (fabric_of self.old) s ≡ false }
+        ensures script { self.new.script ≡ self.old.script }
+        ensures work { TakesWork self.old.script self.old.events s result out.new self.new.events }
+    {
+        let work = self.fabric.work(s, self.taken[usize::from(s)]);
+        self.begin_work(s, &work, out);
+        work
+    }
+
+    // A switch begins its next work, whose event may come.
+    fn begin_work(&mut self, s: u8, work: &Work, out: &mut FrameBuf)
+        requires { AllMayCome (fabric_of self.old) (event_of_work s work.now) }
+        ensures event { self.new ≡ with_events (event_of_work s work.now) self.old }
+        ensures bytes { HasBytes work.now (fabric_of self.new) s out.new }
+    {
+        match *work {
+            Work::Restart { life: _ } => {
+                self.restart(s);
+            }
+            Work::Clock { now: _, samples: _ } => self.clock(s),
+            Work::Frame { port } => {
+                self.take_at(s, port, out);
+            }
+            Work::Nothing { why: _ } => {}
+        }
+    }
+
+    /// What came of what a switch had in hand: its frames go out, and it shows what it does then.
+    pub fn put(&mut self, s: u8, done: &Done)
+        requires within { s < length self.old.script.wires.switches }
+        requires done { IsDone (world_of self.old) s done.now }
+        ensures { self.new ≡ with_event (events.Handle s) self.old }
+    {
+        self.fabric.release(s);
+        put_all(&mut self.fabric, s, done.frames.as_slice());
+        self.fabric.show(s, &done.note, done.spent);
+        self.entries.push_reserved(Event::Handle { s });
+    }
+
+    /// A switch is to use this table, and shows this then. The table is handed back exactly where a switch is
+    /// spent or there is too little room.
+    pub fn load(&mut self, s: u8, table: TableFor, note: &Note) -> LoadReply
+        requires within { s < length self.old.script.wires.switches }
+        requires load { IsToLoad (world_of self.old) s table note.now }
+        ensures script { self.new.script ≡ self.old.script }
+        ensures reply { LoadsOrNot (is_barred (fabric_of self.old)) table result s self.old.events self.new.events }
+    {
+        if self.fabric.is_barred() {
+            return LoadReply::NotNow(table);
+        }
+        self.load_now(s, table, note);
+        LoadReply::Loaded
+    }
+
+    /// The driver does its next thing.
+    pub fn drive(&mut self) -> Drive
+        ensures script { self.new.script ≡ self.old.script }
+        ensures did { Drives self.old.script self.old.events result self.new.events }
+    {
+        let drive = self.fabric.drive();
+        if let Drive::Did(event) = drive {
+            self.drive_by(event);
+        }
+        drive
+    }
+
+    // The driver makes an event, which may come and is no worker's.
+    fn drive_by(&mut self, event: Event)
+        requires lawful { is_lawful (fabric_of self.old) event ≡ true }
+        requires driver { IsDrivers (fabric_of self.old) event }
+        ensures { self.new ≡ with_event event self.old }
+    {
+        match event {
+            Event::Tick => self.tick(),
+            Event::Move { packet } => {
+                self.hop(packet);
+            }
+            command => {
+                self.command(&command);
+            }
+        }
+    }
+
+    // ---- Each lawful event ------------------------------------------------------------------------------
+
+    // The clock of the network goes on.
+    pub(crate) fn tick(&mut self)
+        requires { is_lawful (fabric_of self.old) events.Tick ≡ true }
+        ensures { self.new ≡ with_event events.Tick self.old }
+    {
+        self.fabric.tick();
+        self.entries.push_reserved(Event::Tick);
+    }
+
+    // A switch takes its clock in hand.
+    pub(crate) fn clock(&mut self, s: u8)
+        requires { is_lawful (fabric_of self.old) (events.Clock s) ≡ true }
+        ensures { self.new ≡ with_event (events.Clock s) self.old }
+    {
+        self.fabric.clock(s);
+        self.entries.push_reserved(Event::Clock { s });
+    }
+
+    // A switch takes a frame in hand from the wire into a port.
+    pub(crate) fn take_at(&mut self, s: u8, port: u8, out: &mut FrameBuf) -> Option<Put>
+        requires { is_lawful (fabric_of self.old) (events.Take s port) ≡ true }
+        ensures taken { self.new ≡ with_event (events.Take s port) self.old }
+        ensures bytes { out.new ≡ held_bytes (fabric_of self.new) s }
+        ensures copied { result ≡ copy_becomes (fabric_of self.old) s port }
+    {
+        let copied = self.fabric.take(s, port, out);
+        self.taken[usize::from(s)] = port;
+        self.entries.push_reserved(Event::Take { s, port });
+        copied
+    }
+
+    // A switch has handled what it had in hand: these frames go out, and it shows this. What becomes of each is
+    // added to a list that has room for it.
+    pub(crate) fn handle(
+        &mut self,
+        s: u8,
+        frames: &[FrameOut],
+        note: &Note,
+        spent: bool,
+        puts: &mut Vec<Option<Put>>,
+    )
+        requires within { s < length self.old.script.wires.switches }
+        requires done { Handled (world_of self.old) s frames.now note.now spent }
+        requires spelled { All IsFrameOut frames.now }
+        requires room { vec_len puts.old + length frames.now ≤ vec_capacity puts.old }
+        ensures handled { self.new ≡ with_event (events.Handle s) self.old }
+        ensures puts { puts.new.items ≡ puts.old.items ++ all_put_becomes s frames.now (wires_at_hand (fabric_of self.old) s) }
+    {
+        self.fabric.release(s);
+        put_and_tell(&mut self.fabric, s, frames, puts);
+        self.fabric.show(s, note, spent);
+        self.entries.push_reserved(Event::Handle { s });
+    }
+
+    // A switch uses this table, and shows this then.
+    pub(crate) fn load_now(&mut self, s: u8, table: TableFor, note: &Note)
+        requires lawful { is_lawful (fabric_of self.old) (events.Load s) ≡ true }
+        requires load { IsToLoad (world_of self.old) s table note.now }
+        ensures { self.new ≡ with_event (events.Load s) self.old }
+    {
+        self.fabric.load(s, table, note);
+        self.entries.push_reserved(Event::Load { s });
+    }
+
+    // A switch begins its next life.
+    pub(crate) fn restart(&mut self, s: u8) -> Life
+        requires { is_lawful (fabric_of self.old) (events.Restart s) ≡ true }
+        ensures restarted { self.new ≡ with_event (events.Restart s) self.old }
+        ensures life { result ≡ next_life_at (fabric_of self.old) s }
+    {
+        let life = self.fabric.restart(s);
+        self.entries.push_reserved(Event::Restart { s });
+        life
+    }
+
+    // The next command is done, which is no restart.
+    pub(crate) fn command(&mut self, command: &Event) -> Told
+        requires lawful { is_lawful (fabric_of self.old) command.now ≡ true }
+        requires command { is_command (fabric_of self.old) command.now ≡ true }
+        requires other { is_restart command.now ≡ false }
+        ensures done { self.new ≡ with_event command.now self.old }
+        ensures told { result ≡ told_of command.now (fabric_of self.old) }
+    {
+        let told = self.fabric.command(command);
+        self.entries.push_reserved(*command);
+        told
+    }
+
+    // A packet makes one hop.
+    pub(crate) fn hop(&mut self, packet: u32) -> Hop
+        requires { is_lawful (fabric_of self.old) (events.Move packet) ≡ true }
+        ensures moved { self.new ≡ with_event (events.Move packet) self.old }
+        ensures hop { Some result ≡ option_map (hop_of (fabric_of self.old)) (packet_of packet (fabric_of self.old).packets) }
+    {
+        let hop = self.fabric.hop(packet);
+        self.entries.push_reserved(Event::Move { packet });
+        hop
+    }
+}
+
+impl Staged for Book {
+    type Ask = Ask;
+
+    type Reply = Reply;
+
+    type Entry = Event;
+
+    type Start = Script;
+
+    ghost start = { λ b. b.script };
+
+    ghost history = { λ b. b.events };
+
+    ghost owner = { owner_of };
+
+    ghost fit = { IsFit };
+
+    ghost answers = { λ script history _ ask reply after. AnswersAsk script history ask reply after };
+
+    fn act(&mut self, _caller: u32, ask: Ask) -> Reply {
+        match ask {
+            Ask::Take { s, mut out } => {
+                let work = self.take(s, &mut out);
+                Reply::Take { work, out }
+            }
+            Ask::Put { s, done } => {
+                self.put(s, &done);
+                Reply::Put { done }
+            }
+            Ask::Load { s, table, note } => Reply::Load {
+                reply: self.load(s, table, &note),
+            },
+            Ask::Drive => Reply::Drive {
+                drive: self.drive(),
+            },
+        }
+    }
+
+    ghost stays_fit = { fit_stays };
+}

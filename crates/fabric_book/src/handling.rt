@@ -1,0 +1,158 @@
+//! What a switch does with what it has in hand, and with a table that is due.
+
+ghost use Rattle.std.specs.Prelude.{◌≡◌, ◌+◌, ◌<◌, ◌^◌, ◌++◌, false, true, ℕ, List, is_some, OnOk, OnErr, IfOk};
+ghost use Rattle.an_base.specs.declared.event.Event.TheVariants as events;
+ghost use Rattle.net_script.specs.Scripts.{IsScript};
+ghost use Rattle.switch_core.specs.Switch.{SwitchOf, finish_of, note_of};
+ghost use Rattle.switch_core.specs.Kept.{IsWorking, StandsFor};
+ghost use Rattle.fabric_state.specs.Fabric.{is_empty};
+ghost use Rattle.fabric_state.specs.Fits.{IsHandPort};
+ghost use Rattle.fabric_state.specs.Lawful.{is_lawful};
+ghost use Rattle.fabric_world.specs.Histories.{fabric_of, with_event, world_of};
+ghost use Rattle.fabric_world.specs.Lines.{finish_lines, join_lines, lines_of, spent_lines};
+ghost use Rattle.fabric_world.specs.World.{handles};
+ghost use Rattle.fabric_book.specs.Nets.{IsHandled, IsSameOrNext, IsSwitchKept};
+ghost use Rattle.fabric_book.specs.Told.{hand_lines};
+
+use crate::book::Book;
+use crate::lines::Lines;
+use crate::telling::{tell_finish, tell_losses, tell_noise, tell_ports};
+use an_base::memory::OutOfMemory;
+use an_base::port::Note;
+use fabric_state::hand::Hand;
+use fabric_world::line::Line;
+use switch_core::out::Out;
+use switch_core::switch::{ClockRefusal, Switch};
+use wire_set::side::Put;
+
+// A switch does with what is in hand what it does.
+fn work(switch: &mut Switch, hand: Hand, bytes: &[u8], out: &mut Out) -> Result<(), OutOfMemory>
+    requires full { is_empty hand ≡ false }
+    requires port { IsHandPort hand }
+    requires works { switch.old.works < 2 ^ 28 }
+    requires working { IsWorking switch.old }
+    ensures start { switch.new.start ≡ switch.old.start }
+    ensures works { switch.new.works ≡ switch.old.works + 1 }
+    ensures handled { (x : SwitchOf) → StandsFor switch.old x
+        → OnOk result (IsHandled x hand bytes.now switch.new out.new) }
+{
+    match hand {
+        Hand::Empty => unreachable!(),
+        Hand::Clock { now, samples } => match switch.clock(now, &samples, out) {
+            Ok(()) => Ok(()),
+            Err(ClockRefusal::EpochsSpent) => Ok(()),
+            Err(ClockRefusal::OutOfMemory) => Err(OutOfMemory),
+        },
+        Hand::Frame { port } => switch.handle(bytes, port, out),
+    }
+}
+
+// The lines of an epoch that a switch joined, of one that it finished, and where no epoch is left for it.
+fn tell_epochs(
+    s: u8,
+    before: u64,
+    had_finished: bool,
+    epoch: u64,
+    switch: &Switch,
+    lines: &mut Lines,
+) -> Result<(), OutOfMemory>
+    ensures { (old new : SwitchOf) → StandsFor switch.now new → before ≡ old.epoch → epoch ≡ new.epoch
+        → had_finished ≡ is_some (finish_of old) → OnOk result (lines.new ≡ lines.old
+        ++ join_lines s old new ++ spent_lines s new ++ finish_lines s old new) }
+{
+    let joined = epoch != before;
+    lines.push_if(joined, Line::Join { s, epoch })?;
+    lines.push_if(switch.is_spent(), Line::Spent { s })?;
+    if joined || !had_finished {
+        return tell_finish(s, epoch, switch, lines);
+    }
+    Ok(())
+}
+
+// A switch handles what it has in hand, before which it showed this; all lines of it are added but those of
+// frames. Answers what it shows now.
+fn handle(
+    switch: &mut Switch,
+    s: u8,
+    hand: Hand,
+    bytes: &[u8],
+    before: &Note,
+    out: &mut Out,
+    lines: &mut Lines,
+) -> Result<Note, OutOfMemory>
+    requires full { is_empty hand ≡ false }
+    requires port { IsHandPort hand }
+    requires works { switch.old.works < 2 ^ 28 }
+    requires working { IsWorking switch.old }
+    ensures start { switch.new.start ≡ switch.old.start }
+    ensures works { switch.new.works ≡ switch.old.works + 1 }
+    ensures handled { (x : SwitchOf) → StandsFor switch.old x
+        → OnOk result (IsHandled x hand bytes.now switch.new out.new) }
+    ensures note { (x : SwitchOf) → StandsFor switch.old x
+        → IfOk result (λ note. note ≡ note_of (handles hand bytes.now x).switch) }
+    ensures told { (x : SwitchOf) → StandsFor switch.old x → before.now ≡ note_of x
+        → OnOk result (lines.new ≡ lines.old ++ hand_lines s hand bytes.now x (handles hand bytes.now x).switch) }
+{
+    let had_finished = switch.finish().is_some();
+    work(switch, hand, bytes, out)?;
+    let note = switch.note();
+    tell_ports(s, before, &note, lines)?;
+    tell_noise(s, hand, out.noframe, lines)?;
+    tell_epochs(s, before.epoch, had_finished, note.epoch, switch, lines)?;
+    Ok(note)
+}
+
+/// The switch at a place handles what it has in hand, and the book takes what came of it; the lines are added.
+pub(crate) fn handle_at(
+    book: &mut Book,
+    switch: &mut Switch,
+    bytes: &[u8],
+    s: u8,
+    out: &mut Out,
+    puts: &mut Vec<Option<Put>>,
+    lines: &mut Lines,
+) -> Result<(), OutOfMemory>
+    requires script { IsScript book.old.script }
+    requires lawful { is_lawful (fabric_of book.old) (events.Handle s) ≡ true }
+    requires kept { IsSwitchKept (world_of book.old) s switch.old bytes.now }
+    ensures came { OnOk result (book.new ≡ with_event (events.Handle s) book.old) }
+    ensures kept { OnOk result (IsSwitchKept (world_of book.new) s switch.new bytes.now) }
+    ensures told { OnOk result (lines.new ≡ lines.old ++ lines_of (world_of book.old) (events.Handle s)) }
+    ensures lost { OnErr result (IsSameOrNext (events.Handle s) book.old book.new) }
+{
+    let station = book.fabric().station(s);
+    let note = handle(switch, s, station.hand(), bytes, station.note(), out, lines)?;
+    let frames = out.frames.as_slice();
+    puts.clear();
+    puts.reserve(frames.len())?;
+    book.handle(s, frames, &note, switch.is_spent(), puts);
+    tell_losses(s, frames, puts, lines)
+}
+
+/// The switch at a place loads the table that is due, and the book takes it; the line is added. Where memory is
+/// wanting the book is as it was.
+pub(crate) fn load_at(
+    book: &mut Book,
+    switch: &mut Switch,
+    s: u8,
+    lines: &mut Lines,
+) -> Result<(), OutOfMemory>
+    requires script { IsScript book.old.script }
+    requires lawful { is_lawful (fabric_of book.old) (events.Load s) ≡ true }
+    requires kept { (buffer : List ℕ) × IsSwitchKept (world_of book.old) s switch.old buffer }
+    ensures came { OnOk result (book.new ≡ with_event (events.Load s) book.old) }
+    ensures kept { (buffer : List ℕ) → IsSwitchKept (world_of book.old) s switch.old buffer
+        → OnOk result (IsSwitchKept (world_of book.new) s switch.new buffer) }
+    ensures told { OnOk result (lines.new ≡ lines.old ++ lines_of (world_of book.old) (events.Load s)) }
+    ensures lost { OnErr result (book.new ≡ book.old) }
+{
+    let table = switch.load()?;
+    let note = switch.note();
+    lines.push(Line::Load {
+        s,
+        epoch: table.epoch,
+        number: table.table.number(),
+    })?;
+    book.load_now(s, table, &note);
+    Ok(())
+}
