@@ -2,7 +2,7 @@ use Rattle.std.proofs.Common.{◌≡◌, sym, subst, ℕ, ◌+◌, ◌-◌, ◌^
 use Rattle.std.proofs.lemmas.List.Sums.{count_by-le-length}
 use Rattle.outside.specs.Told.{Seen}
 use Rattle.autonet.specs.declared.status.Status.{Status}
-use Rattle.autonet.specs.declared.status.Status.TheVariants.{Ok, Usage, ScriptRefused, ReadFault, WriteFault, TablesRefused, OutOfMemory}
+use Rattle.autonet.specs.declared.status.Status.TheVariants.{Ok, Usage, ScriptRefused, ReadFault, WriteFault, TablesRefused, Unsettled, EpochsSpent, JournalRefused, JournalFull, OutOfMemory}
 use Rattle.autonet.specs.Answer.{Streams, Gives, Refuses, IsAnswer, IsCause, IsEnding, IsInput, IsTold, IsToldOrWant, given, cut, stopped, want}
 
 -- what was told is the line of the status, or want of memory
@@ -13,6 +13,10 @@ told_or_want old new Usage answer told = inl told
 told_or_want old new ReadFault answer told = inl told
 told_or_want old new WriteFault answer told = inl told
 told_or_want old new TablesRefused answer told = inl told
+told_or_want old new (Unsettled tick) answer told = inl told
+told_or_want old new (EpochsSpent name) answer told = inl told
+told_or_want old new (JournalRefused line cause) answer told = inl told
+told_or_want old new JournalFull answer told = inl told
 told_or_want old new OutOfMemory answer told = inl told
 
 -- the line of a call that wrote its text takes no memory
@@ -23,6 +27,10 @@ told_end old new Usage answer ends told = told
 told_end old new ReadFault answer ends told = told
 told_end old new WriteFault answer ends told = told
 told_end old new TablesRefused answer ends told = told
+told_end old new (Unsettled tick) answer ends told = told
+told_end old new (EpochsSpent name) answer ends told = told
+told_end old new (JournalRefused line cause) answer ends told = told
+told_end old new JournalFull answer ends told = told
 told_end old new OutOfMemory answer ends told = told
 
 -- neither does that of a write fault

@@ -7,7 +7,7 @@ use Rattle.table_script.proofs.TableLaws.{one_text_with, no_fault_with}
 use Rattle.report.specs.Check.{IsJudged}
 use Rattle.report.proofs.OwnLaw.{own_tables_pass}
 use Rattle.autonet.specs.declared.status.Status.{Status}
-use Rattle.autonet.specs.declared.status.Status.TheVariants.{Ok, Usage, ScriptRefused, ReadFault, WriteFault, TablesRefused, OutOfMemory}
+use Rattle.autonet.specs.declared.status.Status.TheVariants.{Ok, Usage, ScriptRefused, ReadFault, WriteFault, TablesRefused, Unsettled, EpochsSpent, JournalRefused, JournalFull, OutOfMemory}
 use Rattle.autonet.specs.Answer.{Streams, IsAnswer, IsCause, IsInput, IsStop, input_limit, refuses_nothing, given, cut, stopped, unread, refused, want}
 use Rattle.autonet.specs.Expect.{IsExpectedOf}
 use Rattle.autonet.specs.Check.{IsJudgedOf, gives_judged, gives_passing, refuses_tables, status_of}
@@ -35,6 +35,10 @@ refused_fine bytes Usage are fault = fault
 refused_fine bytes ReadFault are fault = fault
 refused_fine bytes WriteFault are fault = fault
 refused_fine bytes TablesRefused are fault = fault
+refused_fine bytes (Unsettled tick) are fault = fault
+refused_fine bytes (EpochsSpent name) are fault = fault
+refused_fine bytes (JournalRefused at why) are fault = fault
+refused_fine bytes JournalFull are fault = fault
 refused_fine bytes OutOfMemory are fault = fault
 
 -- a source that is at its end gave all that it told

@@ -1,64 +1,100 @@
 -- The answer to words is that of the command that they name.
-use Rattle.std.proofs.Common.{◌≡◌, ◌≢◌, ◌∙◌, sym, ap, subst, ℕ, List, [], ◌∷◌, arith, length, get_or}
+use Rattle.std.proofs.Common.{◌≡◌, ◌≢◌, ◌∙◌, sym, ap, subst, ℕ, ◌+◌, ◌*◌, true, false, List, [], ◌∷◌, refl, eqb, eq-eqb, length, get_or}
 use Rattle.std.specs.Prelude.{codes}
 use Rattle.autonet.specs.Answer.{Streams, IsUsageAnswer}
 use Rattle.autonet.specs.Flow.{AreFlowWords}
-use Rattle.autonet.specs.Words.{IsAnswerTo, IsCheckAnswer, IsExpectAnswer, IsFloodAnswer, IsFlowAnswer}
+use Rattle.autonet.specs.Gen.{AreGenWords, IsGenAnswerOn}
+use Rattle.autonet.specs.Words.{IsAnswerTo, IsCheckAnswer, IsExpectAnswer, IsFloodAnswer, IsFlowAnswer, IsReplayAnswer}
 use Rattle.autonet.proofs.RoomLemmas.{one_room}
+use Rattle.autonet.proofs.GenLemmas.{one_seed, one_count}
 
--- one word is not two
-not_one : (words : List (List ℕ)) (a : List ℕ) (room : ℕ) → words ≡ a ∷ [] → AreFlowWords words room → ⊥
-not_one words a room is are =
-    let one : length words ≡ 1 = ap (λ (ws : List (List ℕ)). length ws) is in
-    let two : length words ≡ 2 = ap (λ (ws : List (List ℕ)). length ws) are.words_are in
-    omega arith
+-- how long the first word is, and its first letter: no two commands have the same
+abbrev mark : List (List ℕ) → ℕ
+mark words = 1000 * length (get_or words 0 []) + get_or (get_or words 0 []) 0 0
 
--- a word has one first letter
-first_letter : (words : List (List ℕ)) (a b : List ℕ) → words ≡ a ∷ [] → words ≡ b ∷ [] → get_or a 0 0 ≡ get_or b 0 0
-first_letter words a b one two = ap (λ (ws : List (List ℕ)). get_or (get_or ws 0 []) 0 0) (sym one ∙ two)
+-- so words are those of one command
+apart : (words a b : List (List ℕ)) → words ≡ a → words ≡ b → eqb (mark a) (mark b) ≡ false → ⊥
+apart words a b one two differ =
+    let same : eqb (mark a) (mark b) ≡ true = eq-eqb (mark a) (mark b) (sym (ap mark one) ∙ ap mark two) in
+    absurd (cc)
 
 module _ (words : List (List ℕ)) (old new : Streams) (answer : ℕ) where
   pub answers_expect : words ≡ codes "expect" ∷ [] → IsExpectAnswer old new answer → IsAnswerTo words old new answer
   answers_expect are is = record {
     expect = λ e. is;
-    check = λ e. absurd (let same : 101 ≡ 99 = first_letter words (codes "expect") (codes "check") are e in omega arith);
-    flood = λ e. absurd (let same : 101 ≡ 102 = first_letter words (codes "expect") (codes "flood") are e in omega arith);
-    flow = λ room flow. absurd (not_one words (codes "expect") room are flow);
-    usage = λ a b c d. absurd (a are);
+    check = λ e. absurd (apart words _ _ are e refl);
+    flood = λ e. absurd (apart words _ _ are e refl);
+    flow = λ room e. absurd (apart words _ _ are e.words_are refl);
+    replay = λ e. absurd (apart words _ _ are e refl);
+    gen = λ seed count e. absurd (apart words _ _ are e.words_are refl);
+    usage = λ a b c d e f. absurd (a are);
   }
 
   pub answers_check : words ≡ codes "check" ∷ [] → IsCheckAnswer old new answer → IsAnswerTo words old new answer
   answers_check are is = record {
-    expect = λ e. absurd (let same : 99 ≡ 101 = first_letter words (codes "check") (codes "expect") are e in omega arith);
+    expect = λ e. absurd (apart words _ _ are e refl);
     check = λ e. is;
-    flood = λ e. absurd (let same : 99 ≡ 102 = first_letter words (codes "check") (codes "flood") are e in omega arith);
-    flow = λ room flow. absurd (not_one words (codes "check") room are flow);
-    usage = λ a b c d. absurd (b are);
+    flood = λ e. absurd (apart words _ _ are e refl);
+    flow = λ room e. absurd (apart words _ _ are e.words_are refl);
+    replay = λ e. absurd (apart words _ _ are e refl);
+    gen = λ seed count e. absurd (apart words _ _ are e.words_are refl);
+    usage = λ a b c d e f. absurd (b are);
   }
 
   pub answers_flood : words ≡ codes "flood" ∷ [] → IsFloodAnswer old new answer → IsAnswerTo words old new answer
   answers_flood are is = record {
-    expect = λ e. absurd (let same : 102 ≡ 101 = first_letter words (codes "flood") (codes "expect") are e in omega arith);
-    check = λ e. absurd (let same : 102 ≡ 99 = first_letter words (codes "flood") (codes "check") are e in omega arith);
+    expect = λ e. absurd (apart words _ _ are e refl);
+    check = λ e. absurd (apart words _ _ are e refl);
     flood = λ e. is;
-    flow = λ room flow. absurd (not_one words (codes "flood") room are flow);
-    usage = λ a b c d. absurd (c are);
+    flow = λ room e. absurd (apart words _ _ are e.words_are refl);
+    replay = λ e. absurd (apart words _ _ are e refl);
+    gen = λ seed count e. absurd (apart words _ _ are e.words_are refl);
+    usage = λ a b c d e f. absurd (c are);
+  }
+
+  pub answers_replay : words ≡ codes "replay" ∷ [] → IsReplayAnswer old new answer → IsAnswerTo words old new answer
+  answers_replay are is = record {
+    expect = λ e. absurd (apart words _ _ are e refl);
+    check = λ e. absurd (apart words _ _ are e refl);
+    flood = λ e. absurd (apart words _ _ are e refl);
+    flow = λ room e. absurd (apart words _ _ are e.words_are refl);
+    replay = λ e. is;
+    gen = λ seed count e. absurd (apart words _ _ are e.words_are refl);
+    usage = λ a b c d e f. absurd (d are);
   }
 
   pub answers_flow : (room : ℕ) → AreFlowWords words room → IsFlowAnswer room old new answer → IsAnswerTo words old new answer
   answers_flow room are is = record {
-    expect = λ e. absurd (not_one words (codes "expect") room e are);
-    check = λ e. absurd (not_one words (codes "check") room e are);
-    flood = λ e. absurd (not_one words (codes "flood") room e are);
-    flow = λ other flow. subst (λ (b : ℕ). IsFlowAnswer b old new answer) (one_room words room other are flow) is;
-    usage = λ a b c d. absurd (d room are);
+    expect = λ e. absurd (apart words _ _ are.words_are e refl);
+    check = λ e. absurd (apart words _ _ are.words_are e refl);
+    flood = λ e. absurd (apart words _ _ are.words_are e refl);
+    flow = λ other e. subst (λ (b : ℕ). IsFlowAnswer b old new answer) (one_room words room other are e) is;
+    replay = λ e. absurd (apart words _ _ are.words_are e refl);
+    gen = λ seed count e. absurd (apart words _ _ are.words_are e.words_are refl);
+    usage = λ a b c d e f. absurd (e room are);
   }
 
-  pub answers_usage : words ≢ codes "expect" ∷ [] → words ≢ codes "check" ∷ [] → words ≢ codes "flood" ∷ [] → ((room : ℕ) → ¬ AreFlowWords words room) → IsUsageAnswer old new answer → IsAnswerTo words old new answer
-  answers_usage a b c d is = record {
-    expect = λ e. absurd (a e);
-    check = λ e. absurd (b e);
-    flood = λ e. absurd (c e);
-    flow = λ room flow. absurd (d room flow);
-    usage = λ a b c d. is;
+  pub answers_gen : (seed count : ℕ) → AreGenWords words seed count → new.source ≡ old.source → IsGenAnswerOn seed count old.out new.out old.err new.err answer → IsAnswerTo words old new answer
+  answers_gen seed count are kept is = record {
+    expect = λ e. absurd (apart words _ _ are.words_are e refl);
+    check = λ e. absurd (apart words _ _ are.words_are e refl);
+    flood = λ e. absurd (apart words _ _ are.words_are e refl);
+    flow = λ room e. absurd (apart words _ _ are.words_are e.words_are refl);
+    replay = λ e. absurd (apart words _ _ are.words_are e refl);
+    gen = λ s n e. record {
+      source = kept;
+      on = subst (λ (m : ℕ). IsGenAnswerOn s m old.out new.out old.err new.err answer) (one_count words seed s count n are e) (subst (λ (t : ℕ). IsGenAnswerOn t count old.out new.out old.err new.err answer) (one_seed words seed s count n are e) is);
+    };
+    usage = λ a b c d e f. absurd (f seed count are);
+  }
+
+  pub answers_usage : words ≢ codes "expect" ∷ [] → words ≢ codes "check" ∷ [] → words ≢ codes "flood" ∷ [] → words ≢ codes "replay" ∷ [] → ((room : ℕ) → ¬ AreFlowWords words room) → ((seed count : ℕ) → ¬ AreGenWords words seed count) → IsUsageAnswer old new answer → IsAnswerTo words old new answer
+  answers_usage a b c d e f is = record {
+    expect = λ are. absurd (a are);
+    check = λ are. absurd (b are);
+    flood = λ are. absurd (c are);
+    flow = λ room are. absurd (e room are);
+    replay = λ are. absurd (d are);
+    gen = λ seed count are. absurd (f seed count are);
+    usage = λ _ _ _ _ _ _. is;
   }

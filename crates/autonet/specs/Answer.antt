@@ -7,7 +7,7 @@ use Rattle.net_script.specs.declared.cause.ScriptCause.TheVariants.{TooMany}
 use Rattle.net_script.specs.Steps.{ReadRefusal}
 use Rattle.text_lines.specs.declared.stop.Refusal.TheVariants as refusal
 use Rattle.autonet.specs.declared.status.Status.{Status}
-use Rattle.autonet.specs.declared.status.Status.TheVariants.{Ok, Usage, ScriptRefused, ReadFault, WriteFault, TablesRefused, OutOfMemory}
+use Rattle.autonet.specs.declared.status.Status.TheVariants.{Ok, Usage, ScriptRefused, ReadFault, WriteFault, TablesRefused, Unsettled, EpochsSpent, JournalFull, OutOfMemory}
 use Rattle.autonet.specs.Status.{code_of, line_of}
 
 -- the source and the two sinks of a call at one moment
@@ -62,6 +62,9 @@ pub data IsStop (limit : ℕ) (refuses : Refuses) (old new : Seen) (status : Sta
 abbrev pub IsEnding : Status → Type 0
 IsEnding Ok = Unit {0}
 IsEnding TablesRefused = Unit {0}
+IsEnding (Unsettled tick) = Unit {0}
+IsEnding (EpochsSpent name) = Unit {0}
+IsEnding JournalFull = Unit {0}
 IsEnding status = ⊥
 
 -- the text for the input was written

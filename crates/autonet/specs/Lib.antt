@@ -4,4 +4,7 @@ pub mod Expect
 pub mod Check
 pub mod Flood
 pub mod Flow
+pub mod Reported
+pub mod Replay
+pub mod Gen
 pub mod Words

@@ -77,13 +77,10 @@ mod tests {
                 let mut source = MemorySource::new(bytes, Vec::new(rt.alloc()), cut);
                 match (read_input(rt.alloc(), &mut source, 4), line) {
                     (Ok(read), None) => assert_eq!(rt; read.as_slice(), input),
-                    (Err(status), Some(line)) => assert_eq!(rt;
-                        status,
-                        Status::ScriptRefused {
-                            line,
-                            cause: ScriptCause::TooMany
-                        }
-                    ),
+                    (Err(Status::ScriptRefused { line: at, cause }), Some(line)) => {
+                        assert_eq!(rt; at, line);
+                        assert_eq!(rt; cause, ScriptCause::TooMany);
+                    }
                     (_, _) => assert!(rt; false),
                 }
             }

@@ -10,8 +10,11 @@ mod command;
 mod expect;
 mod flood;
 mod flow;
+mod generate;
 mod input;
 mod law;
+mod replaying;
+mod reported;
 mod status;
 mod top;
 

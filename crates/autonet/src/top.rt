@@ -7,6 +7,8 @@ use crate::check::autonet_check;
 use crate::expect::autonet_expect;
 use crate::flood::autonet_flood;
 use crate::flow::autonet_flow;
+use crate::generate::{autonet_gen, gen_words};
+use crate::replaying::autonet_replay;
 use crate::status::{Status, finish};
 use an_base::text::Word;
 use outside::sink::Sink;
@@ -52,7 +54,7 @@ fn room_of(words: &[Word]) -> Option<u16>
 
 /// Answers the words after the program's name. The answer is the number of a status, whose line
 /// goes to err. Words that are no command leave the source and out alone.
-#[tactic(auto, using(crate::proofs::TopLemmas::answers_expect, crate::proofs::TopLemmas::answers_check, crate::proofs::TopLemmas::answers_flood, crate::proofs::TopLemmas::answers_flow, crate::proofs::TopLemmas::answers_usage))]
+#[tactic(auto, using(crate::proofs::TopLemmas::answers_expect, crate::proofs::TopLemmas::answers_check, crate::proofs::TopLemmas::answers_flood, crate::proofs::TopLemmas::answers_replay, crate::proofs::TopLemmas::answers_flow, crate::proofs::TopLemmas::answers_gen, crate::proofs::TopLemmas::answers_usage))]
 pub fn autonet<R: Threads + Wait + Sync, S: Source, O: Sink, E: Sink>(
     _rt: &R,
     alloc: Global,
@@ -74,8 +76,14 @@ pub fn autonet<R: Threads + Wait + Sync, S: Source, O: Sink, E: Sink>(
     if is_word(words, b"flood") {
         return autonet_flood(alloc, source, out, err);
     }
+    if is_word(words, b"replay") {
+        return autonet_replay(alloc, source, out, err);
+    }
     if let Some(room) = room_of(words) {
         return autonet_flow(alloc, room, source, out, err);
+    }
+    if let Some((seed, count)) = gen_words(words) {
+        return autonet_gen(alloc, seed, count, out, err);
     }
     finish(alloc, err, Status::Usage)
 }
@@ -101,6 +109,12 @@ mod tests {
 
     const SENT_FLOWED: &[u8] = b"local 2 B\nmove 1 A out 1\narrive 1 B\n\
         end moves 1 arrived 1 local 1 unjoined 0\n";
+
+    const ALONE: &[u8] =
+        b"autonet 1\nlimit events 100\nlimit blocks 1\nswitch A 000000000001\nend\n";
+
+    const ALONE_REPORTED: &[u8] = b"report 1\n2 A join 1\n2 A finish 1 root A members 1\n\
+        3 A load 1 number 1\nrow A 0\nend settled tick 0 events 3\n";
 
     const USAGE: &[u8] =
         b"usage: autonet expect, run, replay, check, flow B, flood or gen SEED N\n";
@@ -204,44 +218,81 @@ mod tests {
         Ok(())
     }
 
+    // Parts of an input, as one.
+    fn joined(alloc: Global, parts: &[&[u8]]) -> Result<Vec<u8>, Fail> {
+        let mut input = Vec::new(alloc);
+        for part in parts {
+            input.extend_from_slice(part)?;
+        }
+        Ok(input)
+    }
+
     #[test]
-    fn tables_pass_or_the_first_fault_is_named(rt: HostRuntime) -> Result<(), Fail> {
-        for (parts, code, out, err) in [
+    fn tables_pass_or_their_cycle_is_named(rt: HostRuntime) -> Result<(), Fail> {
+        for (exits, code, out, err) in [
+            (b"-".as_slice(), 0, RANKS, b"".as_slice()),
             (
-                [RING_BEFORE, b"-".as_slice(), RING_BEHIND],
-                0,
-                RANKS,
-                b"".as_slice(),
-            ),
-            (
-                [RING_BEFORE, b"2".as_slice(), RING_BEHIND],
+                b"2".as_slice(),
                 8,
                 b"refused cycle A:1 B:2 D:2 C:1\n".as_slice(),
                 REFUSED,
             ),
-            (
-                [TWO, TWO_BEFORE, b"row B 1 1:-\nend\n".as_slice()],
-                8,
-                b"refused pair B to A at B entry 0\n".as_slice(),
-                REFUSED,
-            ),
-            (
-                [
-                    TWO,
-                    TWO_BEFORE,
-                    b"row B 0 1:1\nrow B 1 1:1\nend\n".as_slice(),
-                ],
-                8,
-                b"refused exit B entry 1 to 1 by 1\n".as_slice(),
-                REFUSED,
-            ),
         ] {
-            let mut input = Vec::new(rt.alloc());
-            for part in parts {
-                input.extend_from_slice(part)?;
-            }
+            let input = joined(rt.alloc(), &[RING_BEFORE, exits, RING_BEHIND])?;
             let mut streams = Streams::new(rt.alloc(), &input, 100)?;
             assert_eq!(rt; answer(&rt, rt.alloc(), &[b"check"], &mut streams)?, code);
+            assert_eq!(rt; streams.out.bytes(), out);
+            assert_eq!(rt; streams.err.bytes(), err);
+        }
+        Ok(())
+    }
+
+    #[test]
+    fn a_pair_that_is_not_joined_or_a_wrong_exit_is_named(rt: HostRuntime) -> Result<(), Fail> {
+        for (rows, out) in [
+            (
+                b"row B 1 1:-\nend\n".as_slice(),
+                b"refused pair B to A at B entry 0\n".as_slice(),
+            ),
+            (
+                b"row B 0 1:1\nrow B 1 1:1\nend\n".as_slice(),
+                b"refused exit B entry 1 to 1 by 1\n".as_slice(),
+            ),
+        ] {
+            let input = joined(rt.alloc(), &[TWO, TWO_BEFORE, rows])?;
+            let mut streams = Streams::new(rt.alloc(), &input, 100)?;
+            assert_eq!(rt; answer(&rt, rt.alloc(), &[b"check"], &mut streams)?, 8);
+            assert_eq!(rt; streams.out.bytes(), out);
+            assert_eq!(rt; streams.err.bytes(), REFUSED);
+        }
+        Ok(())
+    }
+
+    #[test]
+    fn a_journal_is_reported_up_to_its_end(rt: HostRuntime) -> Result<(), Fail> {
+        for (journal, code, out, err) in [
+            (
+                b"journal 1\nclock A\nhandle A\nload A\nend\n".as_slice(),
+                0,
+                ALONE_REPORTED,
+                b"".as_slice(),
+            ),
+            (
+                b"journal 1\nclock A\nhandle A\nend\n".as_slice(),
+                7,
+                b"".as_slice(),
+                b"autonet: journal line 4: unfinished\n".as_slice(),
+            ),
+            (
+                b"journal 1\nclock B\nend\n".as_slice(),
+                7,
+                b"".as_slice(),
+                b"autonet: journal line 2: no such name\n".as_slice(),
+            ),
+        ] {
+            let input = joined(rt.alloc(), &[ALONE, journal])?;
+            let mut streams = Streams::new(rt.alloc(), &input, 100)?;
+            assert_eq!(rt; answer(&rt, rt.alloc(), &[b"replay"], &mut streams)?, code);
             assert_eq!(rt; streams.out.bytes(), out);
             assert_eq!(rt; streams.err.bytes(), err);
         }
@@ -256,6 +307,8 @@ mod tests {
             [b"expect".as_slice(), b"now".as_slice()].as_slice(),
             [b"flow".as_slice()].as_slice(),
             [b"flow".as_slice(), b"17".as_slice()].as_slice(),
+            [b"gen".as_slice(), b"01".as_slice(), b"1".as_slice()].as_slice(),
+            [b"gen".as_slice(), b"1".as_slice(), b"101".as_slice()].as_slice(),
             [b"Expect".as_slice()].as_slice(),
             [b"".as_slice()].as_slice(),
         ] {

@@ -7,7 +7,6 @@ use Rattle.std.proofs.lemmas.List.Quantifiers.{position-Some}
 use Rattle.an_base.specs.Rows.{RowOf}
 use Rattle.an_base.specs.Numbers.{AreNumbers}
 use Rattle.dep_check.specs.declared.channel.Channel.{Channel}
-use Rattle.dep_check.specs.declared.exits.PortSet.{PortSet}
 use Rattle.dep_check.specs.declared.steps.Steps.{Steps}
 use Rattle.dep_check.specs.Channels.{place_in, HasExit, LeadsTo}
 use Rattle.dep_check.specs.Cycles.{Walk}
@@ -50,13 +49,13 @@ exit_below_to rows s to p (k, x, low, is, h) =
     record { index = k; below = low; counts = ap (λ (r : RowOf). r.to) here ∙ h.2; at = ap (λ (r : RowOf). r.at) here ∙ h.0; entry = ap (λ (r : RowOf). r.entry) here ∙ h.1; has = subst (λ (r : RowOf). Contains r.exits p) (sym here) h.3 }
 
 -- a channel leads to another one by the rows where it does by the tables
-depends_leads : (wires : List (Option Channel)) (rows : List RowOf) (exits : List PortSet) (a b : Channel) (e : ℕ) → WiresAreWithin wires → AreExitsBelow rows None (length rows) exits → Depends wires exits a e b → LeadsTo (wire_at wires) rows a b
+depends_leads : (wires : List (Option Channel)) (rows : List RowOf) (exits : List ℕ) (a b : Channel) (e : ℕ) → WiresAreWithin wires → AreExitsBelow rows None (length rows) exits → Depends wires exits a e b → LeadsTo (wire_at wires) rows a b
 depends_leads wires rows exits a b e within are d =
     let at : Channel = record { at = b.at; port = d.entry } in
     let exit = below_exit rows at e ((are.each at e (within a at d.arrives) d.low).0 d.has) in
     record { entry = d.entry; arrives = d.arrives; to = exit.0; exit = subst (λ (p : ℕ). HasExit rows b.at d.entry exit.0 p) (sym d.port) exit.1; link = (d.far, d.link) }
 
-leads_depends : (wires : List (Option Channel)) (rows : List RowOf) (exits : List PortSet) (a b : Channel) → WiresAreWithin wires → AreExitsBelow rows None (length rows) exits → LeadsTo (wire_at wires) rows a b → Depends wires exits a b.port b
+leads_depends : (wires : List (Option Channel)) (rows : List RowOf) (exits : List ℕ) (a b : Channel) → WiresAreWithin wires → AreExitsBelow rows None (length rows) exits → LeadsTo (wire_at wires) rows a b → Depends wires exits a b.port b
 leads_depends wires rows exits a b within are l =
     let at : Channel = record { at = b.at; port = l.entry } in
     let low = (wire_spot wires b l.link.0 l.link.1).port in
@@ -73,10 +72,10 @@ leads_step wires rows steps within are a b l =
     (b.port, subst (λ (to : Option ℕ). IsStepOf steps.wires.items steps.exits.items to a b.port b) (sym are.to) (subst (λ (ws : List (Option Channel)). Depends ws steps.exits.items a b.port b) (sym are.wires_are) d))
 
 -- what came in goes on by the rows where it does by the tables
-goes_on : (wires : List (Option Channel)) (rows : List RowOf) (exits : List PortSet) (to : ℕ) (a b : Channel) (e : ℕ) → AreExitsBelow rows (Some to) (length rows) exits → IsSpot a → GoesBy wires exits to a e b → GoesOn (wire_at wires) rows to a b
+goes_on : (wires : List (Option Channel)) (rows : List RowOf) (exits : List ℕ) (to : ℕ) (a b : Channel) (e : ℕ) → AreExitsBelow rows (Some to) (length rows) exits → IsSpot a → GoesBy wires exits to a e b → GoesOn (wire_at wires) rows to a b
 goes_on wires rows exits to a b e are spot g = record { before = g.before; exit = e; has = below_exit_to rows to a e ((are.each a e spot g.low).0 g.has); link = g.link }
 
-goes_by : (wires : List (Option Channel)) (rows : List RowOf) (exits : List PortSet) (to : ℕ) (a b : Channel) → AreExitsBelow rows (Some to) (length rows) exits → IsSpot a → (g : GoesOn (wire_at wires) rows to a b) → GoesBy wires exits to a g.exit b
+goes_by : (wires : List (Option Channel)) (rows : List RowOf) (exits : List ℕ) (to : ℕ) (a b : Channel) → AreExitsBelow rows (Some to) (length rows) exits → IsSpot a → (g : GoesOn (wire_at wires) rows to a b) → GoesBy wires exits to a g.exit b
 goes_by wires rows exits to a b are spot g =
     let low = (wire_spot wires (record { at = a.at; port = g.exit }) b g.link).port in
     record { low = low; before = g.before; has = (are.each a g.exit spot low).1 (exit_below_to rows a to g.exit g.has); link = g.link }

@@ -1,14 +1,14 @@
-use Rattle.std.proofs.Common.{◌≡◌, ◌∙◌, sym, ap, refl, ℕ, ◌<◌, List, [], ◌∷◌, Option, Some, None, arith, inl, inr}
+use Rattle.std.proofs.Common.{◌≡◌, ◌∙◌, sym, ap, subst, refl, ℕ, List, [], ◌∷◌, Option, Some, None, arith, inl, inr}
 use Rattle.std.specs.Prelude.{IsSome, MatchOption}
+use Rattle.std.proofs.Math.Path.{fun_ext}
 use Rattle.std.proofs.lemmas.Option.{same_Some}
 use Rattle.an_base.specs.Rows.{RowOf}
 use Rattle.dep_check.specs.declared.channel.Channel.{Channel}
-use Rattle.dep_check.specs.declared.exits.PortSet.{PortSet}
 use Rattle.dep_check.specs.declared.steps.Steps.{Steps}
 use Rattle.dep_check.specs.Channels.{IsChannel, LeadsTo}
 use Rattle.dep_check.specs.Cycles.{Path, HasNoCycle, IsLeastCycle, AreRanks}
-use Rattle.dep_check.specs.Tables.{IsSpot, wire_at, WiresAreWithin, level_at, rank_at}
-use Rattle.dep_check.specs.Search.{IsStepOf, Step, AreSteps, IsLinked, AreRanked}
+use Rattle.dep_check.specs.Tables.{IsSpot, wire_at, WiresAreWithin, AreWires, level_at, rank_at}
+use Rattle.dep_check.specs.Search.{Step, AreSteps, IsLinked, AreRanked}
 use Rattle.dep_check.proofs.SpotLemmas.{option_cases, spot_true, spot_cases}
 use Rattle.dep_check.proofs.LevelLemmas.{step_spot}
 use Rattle.dep_check.proofs.RankLemmas.{late_cycle}
@@ -95,3 +95,14 @@ module _ (wires : List (Option Channel)) (rows : List RowOf) (steps : Steps) (le
         ])
       ];
     }
+
+-- the same of the far sides that the wires are
+module _ (far : Channel → Option Channel) (wires : List (Option Channel)) (rows : List RowOf) (steps : Steps) (levels : List (Option ℕ)) (wired : AreWires far wires) (are : AreSteps wires rows None steps) (ranked : AreRanked steps levels) where
+  pub least_at : (cs : List Channel) → IsLeastCycle (Step steps) cs → IsLeastCycle (LeadsTo far rows) cs
+  least_at cs least = subst (λ (f : Channel → Option Channel). IsLeastCycle (LeadsTo f rows) cs) (fun_ext wired.each) (least_leads wires rows steps levels wired.links.within are ranked cs least)
+
+  pub no_cycle_at : ((s : Channel) → IsSpot s → IsLinked steps s → level_at levels s ≡ None → ⊥) → HasNoCycle (LeadsTo far rows)
+  no_cycle_at all = subst (λ (f : Channel → Option Channel). HasNoCycle (LeadsTo f rows)) (fun_ext wired.each) (no_cycle wires rows steps levels wired.links.within are ranked all)
+
+  pub ranks_at : ((s : Channel) → IsSpot s → IsLinked steps s → level_at levels s ≡ None → ⊥) → AreRanks (IsChannel far) (LeadsTo far rows) (rank_at levels)
+  ranks_at all = subst (λ (f : Channel → Option Channel). AreRanks (IsChannel f) (LeadsTo f rows) (rank_at levels)) (fun_ext wired.each) (are_ranks wires rows steps levels wired.links.within are ranked all)

@@ -7,11 +7,10 @@ use Rattle.std.proofs.lemmas.Bool.{cases_eq, cases_lt}
 use Rattle.std.proofs.lemmas.Bool.Decides.{nat_tests}
 use Rattle.std.proofs.lemmas.Option.{same_Some}
 use Rattle.dep_check.specs.declared.channel.Channel.{Channel}
-use Rattle.dep_check.specs.declared.exits.PortSet.{PortSet}
 use Rattle.dep_check.specs.declared.steps.Steps.{Steps}
 use Rattle.dep_check.specs.Cycles.{channel_cmp, Walk, Path, IsCycle, IsLeastFrom, IsLeastCycle, IsLeastCycleFrom}
 use Rattle.dep_check.specs.Tables.{IsSpot, place_of, level_at, wire_at}
-use Rattle.dep_check.specs.Search.{IsStepOf, IsStep, Step, IsLinked, HasNoRank, AreRanked, AreNearest, IsNextAt, HasNextAt, IsLeastBehind, LeastBehind, Descends}
+use Rattle.dep_check.specs.Search.{IsStepOf, IsStep, Step, IsLinked, AreRanked, AreNearest, IsNextAt, HasNextAt, IsLeastBehind, LeastBehind, Descends}
 use Rattle.dep_check.proofs.SpotLemmas.{option_cases, spot_cases}
 use Rattle.dep_check.proofs.StepLemmas.{step_low}
 use Rattle.dep_check.proofs.LevelLemmas.{step_spot}
@@ -50,7 +49,7 @@ le_then Equal rest le same = same refl
 le_then Greater rest le same = absurd (cc)
 
 -- the steps of a channel by later exits lead to later channels
-order_of : (wires : List (Option Channel)) (exits : List PortSet) (to : Option ℕ) (s b c : Channel) (e f : ℕ) → to ≡ None → IsStepOf wires exits to s e b → IsStepOf wires exits to s f c → e ≤ f → IsTrue (is_le (channel_cmp b c))
+order_of : (wires : List (Option Channel)) (exits : List ℕ) (to : Option ℕ) (s b c : Channel) (e f : ℕ) → to ≡ None → IsStepOf wires exits to s e b → IsStepOf wires exits to s f c → e ≤ f → IsTrue (is_le (channel_cmp b c))
 order_of wires exits None s b c e f none first second low =
     let same = same_Some (record { at = b.at; port = first.entry }) (record { at = c.at; port = second.entry }) (sym first.arrives ∙ second.arrives) in
     let at : b.at ≡ c.at = ap (λ (x : Channel). x.at) same in
@@ -60,7 +59,7 @@ order_of wires exits None s b c e f none first second low =
 order_of wires exits (Some to) s b c e f none first second low = absurd (cc)
 
 -- a channel that leads somewhere is a spot
-from_spot_of : (wires : List (Option Channel)) (exits : List PortSet) (to : Option ℕ) (s : Channel) (e : ℕ) (b : Channel) → to ≡ None → IsStepOf wires exits to s e b → IsSpot s
+from_spot_of : (wires : List (Option Channel)) (exits : List ℕ) (to : Option ℕ) (s : Channel) (e : ℕ) (b : Channel) → to ≡ None → IsStepOf wires exits to s e b → IsSpot s
 from_spot_of wires exits None s e b none is = elim (spot_cases s) [
   | inl spot ↦ spot
   | inr other ↦ absurd (let gone : wire_at wires s ≡ None = rw other refl in let there = is.arrives in cc)
@@ -86,7 +85,7 @@ next_found steps levels s b e n none is level before = record {
 }
 
 -- a channel that leads somewhere has a link
-from_linked_of : (wires : List (Option Channel)) (exits : List PortSet) (to : Option ℕ) (s : Channel) (e : ℕ) (b : Channel) → to ≡ None → IsStepOf wires exits to s e b → (far : Channel) × (wire_at wires s ≡ Some far)
+from_linked_of : (wires : List (Option Channel)) (exits : List ℕ) (to : Option ℕ) (s : Channel) (e : ℕ) (b : Channel) → to ≡ None → IsStepOf wires exits to s e b → (far : Channel) × (wire_at wires s ≡ Some far)
 from_linked_of wires exits None s e b none is = (record { at = b.at; port = is.entry }, is.arrives)
 from_linked_of wires exits (Some to) s e b none is = absurd (cc)
 
@@ -106,23 +105,6 @@ path_down steps levels ranked a (c ∷ cs) z n spot level (step, path) =
 pub first_step : (steps : Steps) (a : Channel) (cs : List Channel) (z : Channel) → Path (Step steps) a cs z → (b : Channel) × Step steps a b
 first_step steps a [] z step = (z, step)
 first_step steps a (c ∷ cs) z (step, path) = (c, step)
-
--- what is on a cycle has a link and no rank
-pub cycle_rankless : (steps : Steps) (ranks : List (Option ℕ)) → steps.to ≡ None → AreRanked steps ranks → (c : Channel) (cs : List Channel) → IsCycle (Step steps) c cs → HasNoRank steps ranks c
-cycle_rankless steps ranks channels ranked c cs cycle =
-    let first = first_step steps c cs c cycle in
-    record {
-      link = from_linked steps c first.0 channels first.1;
-      none = elim (option_cases (level_at ranks c)) [
-        | inl none ↦ none
-        | inr rank ↦ (
-            let spot = from_spot steps c first.0 channels first.1 in
-            let down = path_down steps ranks ranked c cs c rank.0 spot rank.1 cycle in
-            let same : rank.0 ≡ down.0 = same_Some rank.0 down.0 (sym rank.1 ∙ down.1) in
-            let less = down.2 in
-            absurd (omega arith))
-      ];
-    }
 
 -- the least level, with one exit more
 pub behind_same : (steps : Steps) (levels : List (Option ℕ)) (s : Channel) (e : ℕ) (best : Option ℕ) → ((b : Channel) (m : ℕ) → IsStep steps s e b → level_at levels b ≡ Some m → ⊥) → LeastBehind steps levels s e best → LeastBehind steps levels s (e + 1) best

@@ -4,10 +4,9 @@ use Rattle.std.specs.Prelude.{is_some}
 use Rattle.std.proofs.lemmas.Option.{same_Some}
 use Rattle.an_base.proofs.ListLemmas.{some_is}
 use Rattle.dep_check.specs.declared.channel.Channel.{Channel}
-use Rattle.dep_check.specs.declared.exits.PortSet.{PortSet}
 use Rattle.dep_check.specs.declared.steps.Steps.{Steps}
+use Rattle.dep_check.specs.declared.level.Rule.{Rule}
 use Rattle.dep_check.specs.declared.level.Rule.TheVariants.{Nearest}
-use Rattle.dep_check.specs.Cycles.{Walk}
 use Rattle.dep_check.specs.Tables.{IsSpot, place_of, level_at, WiresAreWithin}
 use Rattle.dep_check.specs.Search.{IsStepOf, Step, IsRaised, AreRaised, Reaches, AreNearest, AreNearestBelow}
 use Rattle.dep_check.specs.Rounds.{AreGoals}
@@ -15,16 +14,12 @@ use Rattle.an_base.proofs.PigeonLemmas.{pigeons}
 use Rattle.dep_check.proofs.SpotLemmas.{option_cases, place_low, one_spot}
 
 -- what a step leads to is a spot
-pub step_spot_of : (wires : List (Option Channel)) (exits : List PortSet) (to : Option ℕ) (s : Channel) (e : ℕ) (b : Channel) → WiresAreWithin wires → IsStepOf wires exits to s e b → IsSpot b
+pub step_spot_of : (wires : List (Option Channel)) (exits : List ℕ) (to : Option ℕ) (s : Channel) (e : ℕ) (b : Channel) → WiresAreWithin wires → IsStepOf wires exits to s e b → IsSpot b
 step_spot_of wires exits None s e b within is = record { at = (within s (record { at = b.at; port = is.entry }) is.arrives).at; port = (let p = is.port in let l = is.low in omega arith) }
 step_spot_of wires exits (Some to) s e b within is = within (record { at = s.at; port = e }) b is.link
 
 pub step_spot : (steps : Steps) (s b : Channel) → Step steps s b → IsSpot b
 step_spot steps s b (e, is) = step_spot_of steps.wires.items steps.exits.items steps.to s e b steps.links.within is
-
-pub walk_spot : (steps : Steps) (n : ℕ) (s g : Channel) → IsSpot s → Walk (Step steps) n s g → IsSpot g
-walk_spot steps zero s g spot same = subst (λ (x : Channel). IsSpot x) same spot
-walk_spot steps (suc n) s g spot (c, step, walk) = walk_spot steps n c g (step_spot steps s c step) walk
 
 pub none_is : (o : Option ℕ) → is_some o ≡ false → o ≡ None
 none_is None e = refl
@@ -102,16 +97,16 @@ nearest_first steps Goal goals are = record {
     go s zero spot e (g, same, goal) = absurd (are.none s spot e (subst (λ (x : Channel). Goal x) (sym same) goal))
     go s (suc m) spot e reach = omega arith
 
-module _ (steps : Steps) (Goal : Channel → Type 0) (r : ℕ) (old new : List (Option ℕ)) (so_far : AreNearestBelow steps Goal r old) (raised : AreRaised Nearest steps old r 1651 new) where
-  at : (s : Channel) → IsSpot s → IsRaised Nearest steps old r s (level_at new s)
-  at s spot = raised.each s spot (place_low s spot)
+-- what has no level after a round had none before it
+pub had_none : (rule : Rule) (steps : Steps) (r : ℕ) (old new : List (Option ℕ)) → AreRaised rule steps old r 1651 new → (s : Channel) → IsSpot s → level_at new s ≡ None → level_at old s ≡ None
+had_none rule steps r old new raised s spot e = elim (option_cases (level_at old s)) [
+  | inl none ↦ none
+  | inr some ↦ absurd (let k = (raised.each s spot (place_low s spot)).kept some.0 some.1 in cc)
+]
 
-  -- what has no level had none
-  had_none : (s : Channel) → IsSpot s → level_at new s ≡ None → level_at old s ≡ None
-  had_none s spot e = elim (option_cases (level_at old s)) [
-    | inl none ↦ none
-    | inr some ↦ absurd (let k = (at s spot).kept some.0 some.1 in cc)
-  ]
+module _ (aim : Channel) (steps : Steps) (Goal : Channel → Type 0) (r : ℕ) (old new : List (Option ℕ)) (so_far : AreNearestBelow steps Goal r old) (raised : AreRaised (Nearest aim) steps old r 1651 new) where
+  at : (s : Channel) → IsSpot s → IsRaised (Nearest aim) steps old r s (level_at new s)
+  at s spot = raised.each s spot (place_low s spot)
 
   -- what gets a level reaches a goal by as many steps as the round
   pub more_reached : (s : Channel) (n : ℕ) → IsSpot s → level_at new s ≡ Some n → Reaches steps Goal n s × (n < r + 1)
@@ -143,9 +138,9 @@ module _ (steps : Steps) (Goal : Channel → Type 0) (r : ℕ) (old new : List (
   ]
 
   more_none : (s : Channel) (m : ℕ) → IsSpot s → level_at new s ≡ None → Reaches steps Goal m s → r + 1 ≤ m
-  more_none s zero spot e reach = absurd (let low = so_far.none s zero spot (had_none s spot e) reach in let some = so_far.positive in omega arith)
+  more_none s zero spot e reach = absurd (let low = so_far.none s zero spot (had_none (Nearest aim) steps r old new raised s spot e) reach in let some = so_far.positive in omega arith)
   more_none s (suc m) spot e (g, (c, step, walk), goal) =
-      let old_none = had_none s spot e in
+      let old_none = had_none (Nearest aim) steps r old new raised s spot e in
       let c_spot = step_spot steps s c step in
       elim (option_cases (level_at old c)) [
         | inl none ↦ (let low = so_far.none c m c_spot none (g, walk, goal) in omega arith)
@@ -164,14 +159,14 @@ module _ (steps : Steps) (Goal : Channel → Type 0) (r : ℕ) (old new : List (
 
   -- and the last
   done_none : ((s : Channel) → IsSpot s → level_at new s ≡ Some r → ⊥) → (m : ℕ) (s : Channel) → IsSpot s → level_at new s ≡ None → Reaches steps Goal m s → ⊥
-  done_none still zero s spot e reach = absurd (let low = so_far.none s zero spot (had_none s spot e) reach in let some = so_far.positive in omega arith)
+  done_none still zero s spot e reach = absurd (let low = so_far.none s zero spot (had_none (Nearest aim) steps r old new raised s spot e) reach in let some = so_far.positive in omega arith)
   done_none still (suc m) s spot e (g, (c, step, walk), goal) =
       let c_spot = step_spot steps s c step in
       elim (option_cases (level_at new c)) [
         | inl none ↦ done_none still m c c_spot none (g, walk, goal)
         | inr some ↦ elim (option_cases (level_at old c)) [
           | inl none ↦ still c c_spot (some.1 ∙ ap (λ (n : ℕ). Some n) ((at c c_spot).raised some.0 none some.1).0)
-          | inr before ↦ (at s spot).left (had_none s spot e) e (step.0, c, step.1, ap is_some before.1)
+          | inr before ↦ (at s spot).left (had_none (Nearest aim) steps r old new raised s spot e) e (step.0, c, step.1, ap is_some before.1)
         ]
       ]
 

@@ -1,12 +1,16 @@
 pub mod SpotLemmas
 pub mod StepLemmas
 pub mod PushLemmas
+pub mod PortLemmas
 pub mod ExitLemmas
 pub mod LevelLemmas
 pub mod RankLemmas
 pub mod RoundLemmas
+pub mod RuleLemmas
 pub mod WalkLemmas
 pub mod TargetLemmas
+pub mod DeepLemmas
+pub mod TierLemmas
 pub mod CycleLemmas
 pub mod BridgeLemmas
 pub mod GapLemmas

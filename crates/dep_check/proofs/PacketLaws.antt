@@ -1,13 +1,12 @@
-use Rattle.std.proofs.Common.{◌≡◌, ◌∙◌, sym, ap, subst, refl, ℕ, zero, suc, ◌+◌, ◌<◌, ◌≤◌, List, [], ◌∷◌, Option, Some, None, arith, length, inl, inr, ◌⊎◌}
+use Rattle.std.proofs.Common.{◌≡◌, ◌∙◌, sym, ap, subst, refl, ℕ, zero, suc, ◌<◌, ◌≤◌, List, [], ◌∷◌, Option, Some, arith, inl, inr, ◌⊎◌}
 use Rattle.std.specs.Prelude.{Contains}
 use Rattle.std.proofs.lemmas.Bool.{cases_eq}
 use Rattle.std.proofs.lemmas.Option.{same_Some}
-use Rattle.an_base.specs.Values.{EntryOf}
 use Rattle.an_base.specs.Rows.{RowOf}
 use Rattle.dep_check.specs.declared.channel.Channel.{Channel}
-use Rattle.dep_check.specs.Channels.{far_at, IsChannel, HasExit, LeadsTo}
+use Rattle.dep_check.specs.Channels.{IsChannel, HasExit, LeadsTo}
 use Rattle.dep_check.specs.Cycles.{Walk, AreRanks}
-use Rattle.dep_check.specs.Packets.{GoesOn, IsGap, MeetsGap, AllAreJoined}
+use Rattle.dep_check.specs.Packets.{GoesOn, IsGap, AllAreJoined}
 use Rattle.dep_check.specs.Laws.{GoesBetween}
 use Rattle.dep_check.proofs.SpotLemmas.{option_cases}
 use Rattle.dep_check.proofs.WalkLemmas.{walk_last}

@@ -9,7 +9,7 @@ use Rattle.dep_check.specs.Tables.{IsSpot, place_of, level_at}
 use Rattle.dep_check.specs.Search.{Step, IsStepOf, IsLinked, IsRaised, AreRaised, IsRanked, AreRanked, AreRankedBelow}
 use Rattle.an_base.proofs.PigeonLemmas.{pigeons}
 use Rattle.dep_check.proofs.SpotLemmas.{option_cases, place_low, one_spot}
-use Rattle.dep_check.proofs.LevelLemmas.{step_spot, none_is, few_levels}
+use Rattle.dep_check.proofs.LevelLemmas.{step_spot, none_is, few_levels, had_none}
 
 -- no ranks at first
 pub rank_first : (steps : Steps) (levels : List (Option ℕ)) → ((s : Channel) → level_at levels s ≡ None) → AreRankedBelow steps 0 levels
@@ -22,12 +22,6 @@ rank_first steps levels none = record {
 module _ (steps : Steps) (r : ℕ) (old new : List (Option ℕ)) (so_far : AreRankedBelow steps r old) (raised : AreRaised Rank steps old r 1651 new) where
   at : (s : Channel) → IsSpot s → IsRaised Rank steps old r s (level_at new s)
   at s spot = raised.each s spot (place_low s spot)
-
-  had_none : (s : Channel) → IsSpot s → level_at new s ≡ None → level_at old s ≡ None
-  had_none s spot e = elim (option_cases (level_at old s)) [
-    | inl none ↦ none
-    | inr some ↦ absurd (let k = (at s spot).kept some.0 some.1 in cc)
-  ]
 
   -- what has a rank keeps it
   kept : (s : Channel) (n : ℕ) → IsSpot s → IsRanked steps old s n → IsRanked steps new s n
@@ -77,7 +71,7 @@ module _ (steps : Steps) (r : ℕ) (old new : List (Option ℕ)) (so_far : AreRa
   -- what gets none leads to what had none
   more_late : (s : Channel) → IsSpot s → IsLinked steps s → level_at new s ≡ None → (b : Channel) × Step steps s b × ((n : ℕ) → level_at new b ≡ Some n → n ≡ r)
   more_late s spot linked e =
-      let next = (at s spot).left (had_none s spot e) e linked in
+      let next = (at s spot).left (had_none Rank steps r old new raised s spot e) e linked in
       let step : Step steps s next.1 = (next.0, next.2) in
       let b_spot = step_spot steps s next.1 step in
       (next.1, step, λ n has. ((at next.1 b_spot).raised n (none_is (level_at old next.1) next.3) has).0)

@@ -9,7 +9,7 @@ use Rattle.dep_check.specs.declared.steps.Steps.{Steps}
 use Rattle.dep_check.specs.declared.level.Rule.{Rule}
 use Rattle.dep_check.specs.declared.level.Rule.TheVariants.{Nearest, Rank}
 use Rattle.dep_check.specs.Tables.{IsSpot, place_of, level_at}
-use Rattle.dep_check.specs.Search.{Step, IsLinked, IsHeld, AreRaised, Reaches, AreNearestBelow, AreRankedBelow}
+use Rattle.dep_check.specs.Search.{Step, IsHeld, AreRaised, Reaches, AreNearestBelow, AreRankedBelow}
 use Rattle.dep_check.specs.Rounds.{GetsLevel, AddsDue, LeadsToOne, AreDue, IsRaisedTo}
 use Rattle.dep_check.proofs.SpotLemmas.{option_cases, one_spot, place_low}
 use Rattle.dep_check.proofs.LevelLemmas.{step_spot}
@@ -115,9 +115,9 @@ module _ (rule : Rule) (steps : Steps) (levels : List (Option ℕ)) where
   }
 
 -- Where the spots of the last level were looked at, all that get a level next are found: such a spot leads to one of them.
-pub due_nearest : (steps : Steps) (Goal : Channel → Type 0) (r : ℕ) (levels : List (Option ℕ)) (last due : List Channel) → AreNearestBelow steps Goal r levels → ((s : Channel) (n : ℕ) → IsSpot s → level_at levels s ≡ Some n → n + 1 ≡ r → Contains last s) → AddsDue Nearest steps levels (LeadsToOne steps last) [] due → AreDue Nearest steps levels due
-due_nearest steps Goal r levels last due so_far full adds = record {
-  each = due_each Nearest steps levels (LeadsToOne steps last) due adds;
+pub due_nearest : (goal : Channel) (steps : Steps) (Goal : Channel → Type 0) (r : ℕ) (levels : List (Option ℕ)) (last due : List Channel) → AreNearestBelow steps Goal r levels → ((s : Channel) (n : ℕ) → IsSpot s → level_at levels s ≡ Some n → n + 1 ≡ r → Contains last s) → AddsDue (Nearest goal) steps levels (LeadsToOne steps last) [] due → AreDue (Nearest goal) steps levels due
+due_nearest goal steps Goal r levels last due so_far full adds = record {
+  each = due_each (Nearest goal) steps levels (LeadsToOne steps last) due adds;
   whole = λ s spot none. elim (contains_cases due s) [
     | inl has ↦ inl has
     | inr not_in ↦ inr (λ next.

@@ -1,9 +1,8 @@
-use Rattle.std.proofs.Common.{◌≡◌, ◌∙◌, ap, refl, ℕ, ◌<◌, List, Option, Some, None, Bool, true, false, arith, length, get_or, inl, inr, ◌⊎◌, ◌&&◌}
-use Rattle.std.specs.Prelude.{nat_lt, Contains, ◌/◌, ◌%◌}
+use Rattle.std.proofs.Common.{◌≡◌, refl, ℕ, ◌<◌, Option, Some, None, Bool, true, false, arith, inl, inr, ◌⊎◌, ◌&&◌}
+use Rattle.std.specs.Prelude.{nat_lt}
 use Rattle.std.proofs.lemmas.Bool.Decides.{nat_tests}
-use Rattle.std.proofs.lemmas.List.{get_or_default}
 use Rattle.dep_check.specs.declared.channel.Channel.{Channel}
-use Rattle.dep_check.specs.Tables.{IsSpot, is_spot, place_of, level_at}
+use Rattle.dep_check.specs.Tables.{IsSpot, is_spot, place_of}
 
 -- an option is none or some
 pub option_cases : {A : Type 0} (o : Option A) → (o ≡ None) ⊎ ((x : A) × (o ≡ Some x))
@@ -46,26 +45,3 @@ spot_cases s = go (is_spot s) refl
     go : (b : Bool) → is_spot s ≡ b → IsSpot s ⊎ (is_spot s ≡ false)
     go true e = inl (spot_from s e)
     go false e = inr e
-
--- the spot at a place
-pub at_place : ℕ → Channel
-at_place k = record { at = k / 13; port = k % 13 }
-
-pub at_place_spot : (k : ℕ) → k < 1651 → IsSpot (at_place k)
-unfolding at_place
-at_place_spot k low = record { at = omega arith; port = omega arith }
-
-pub at_place_is : (k : ℕ) → place_of (at_place k) ≡ k
-unfolding at_place
-at_place_is k = omega arith
-
--- a level that a table contains is that of a spot
-pub level_there : (levels : List (Option ℕ)) (r : ℕ) → length levels ≡ 1651 → Contains levels (Some r) → (s : Channel) × IsSpot s × (level_at levels s ≡ Some r)
-level_there levels r count (k, low, is) =
-    let fits : k < 1651 = omega arith in
-    (at_place k, at_place_spot k fits, ap (λ (i : ℕ). get_or levels i None) (at_place_is k) ∙ get_or_default levels k None (Some r) low ∙ is)
-
-pub level_contained : (levels : List (Option ℕ)) (r : ℕ) (s : Channel) → length levels ≡ 1651 → IsSpot s → level_at levels s ≡ Some r → Contains levels (Some r)
-level_contained levels r s count spot e =
-    let low = place_low s spot in
-    (place_of s, omega arith, get_or_default levels (place_of s) (Some r) None (omega arith) ∙ e)

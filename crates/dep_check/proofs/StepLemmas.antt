@@ -2,7 +2,6 @@ use Rattle.std.proofs.Common.{◌≡◌, ◌∙◌, sym, ap, subst, refl, ℕ, �
 use Rattle.std.specs.Prelude.{IfSome}
 use Rattle.std.proofs.lemmas.Option.{same_Some}
 use Rattle.dep_check.specs.declared.channel.Channel.{Channel}
-use Rattle.dep_check.specs.declared.exits.PortSet.{PortSet}
 use Rattle.dep_check.specs.declared.steps.Steps.{Steps}
 use Rattle.dep_check.specs.Tables.{IsSpot, wire_at, has_at}
 use Rattle.dep_check.specs.Search.{ComesIn, Depends, IsStepOf, Step}
@@ -13,7 +12,7 @@ if_spot None all = tt
 if_spot (Some b) all = all b refl
 
 -- the exit of a step is a port
-pub step_low : (wires : List (Option Channel)) (exits : List PortSet) (to : Option ℕ) (s : Channel) (e : ℕ) (b : Channel) → IsStepOf wires exits to s e b → e < 13
+pub step_low : (wires : List (Option Channel)) (exits : List ℕ) (to : Option ℕ) (s : Channel) (e : ℕ) (b : Channel) → IsStepOf wires exits to s e b → e < 13
 step_low wires exits None s e b is = is.low
 step_low wires exits (Some to) s e b is = is.low
 
@@ -21,7 +20,7 @@ step_low wires exits (Some to) s e b is = is.low
 abbrev pub exit_of : Channel → ℕ → Channel
 exit_of far e = record { at = far.at; port = e }
 
-pub channel_found : (wires : List (Option Channel)) (exits : List PortSet) (s far link : Channel) (e : ℕ) → e < 13 → wire_at wires s ≡ Some far → has_at exits far e ≡ true → wire_at wires (exit_of far e) ≡ Some link → (b : Channel) → (Some (exit_of far e) ≡ Some b → Depends wires exits s e b) × (Depends wires exits s e b → Some (exit_of far e) ≡ Some b)
+pub channel_found : (wires : List (Option Channel)) (exits : List ℕ) (s far link : Channel) (e : ℕ) → e < 13 → wire_at wires s ≡ Some far → has_at exits far e ≡ true → wire_at wires (exit_of far e) ≡ Some link → (b : Channel) → (Some (exit_of far e) ≡ Some b → Depends wires exits s e b) × (Depends wires exits s e b → Some (exit_of far e) ≡ Some b)
 channel_found wires exits s far link e low is has there b = (
   λ same. subst (λ (x : Channel). Depends wires exits s e x) (same_Some (exit_of far e) b same) (record { low = low; entry = far.port; arrives = is; port = refl; has = has; far = link; link = there }),
   λ d.
@@ -30,9 +29,6 @@ channel_found wires exits s far link e low is has there b = (
 )
 
 -- a channel leads to another by what comes in at an entry, where the entry's far side is the channel
-pub came_in : (steps : Steps) (a b : Channel) (entry : ℕ) → IsSpot b → ComesIn steps a b entry → IsStepOf steps.wires.items steps.exits.items None a b.port b
-came_in steps a b entry spot comes = record { low = spot.port; entry = entry; arrives = comes.arrives; port = refl; has = comes.has; far = comes.link.0; link = comes.link.1 }
-
 pub comes_in : (steps : Steps) (a b : Channel) (e : ℕ) → (step : IsStepOf steps.wires.items steps.exits.items None a e b) → ComesIn steps a b step.entry
 comes_in steps a b e step = record {
   arrives = step.arrives;

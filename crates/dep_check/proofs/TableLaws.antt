@@ -1,6 +1,5 @@
-use Rattle.std.proofs.Common.{◌≡◌, ◌≢◌, ◌∙◌, sym, ap, subst, refl, ℕ, zero, suc, ◌<◌, ◌≤◌, List, [], ◌∷◌, Option, Some, None, Bool, true, false, arith, length, inl, inr, ◌==◌}
+use Rattle.std.proofs.Common.{◌≡◌, ◌≢◌, ◌∙◌, sym, ap, subst, refl, ℕ, zero, suc, ◌<◌, ◌≤◌, List, [], ◌∷◌, Some, Bool, true, false, arith, length, inl, inr, ◌==◌}
 use Rattle.std.specs.Prelude.{slice_index}
-use Rattle.std.specs.Option.{option_and_then, option_map}
 use Rattle.std.proofs.lemmas.Bool.Decides.{nat_tests}
 use Rattle.std.proofs.lemmas.List.{get_or_default}
 use Rattle.std.proofs.lemmas.List.Elements.{All-contains}
@@ -20,12 +19,11 @@ use Rattle.table_build.proofs.TreeRoutes.{joined}
 use Rattle.table_build.proofs.ShortestLaws.{has_shortest}
 use Rattle.table_build.proofs.CycleLaws.{no_cycle}
 use Rattle.dep_check.specs.declared.channel.Channel.{Channel}
-use Rattle.dep_check.specs.Channels.{place_in, by_number, far_at, HasExit, LeadsTo}
+use Rattle.dep_check.specs.Channels.{place_in, far_at, HasExit, LeadsTo}
 use Rattle.dep_check.specs.Cycles.{Walk, Path, HasNoCycle}
 use Rattle.dep_check.specs.Packets.{GoesOn, IsGap, AllAreJoined}
 use Rattle.dep_check.specs.Illegal.{LeadsUp, AllAreLegal}
 use Rattle.dep_check.specs.Laws.{AreTables}
-use Rattle.dep_check.proofs.SpotLemmas.{option_cases}
 use Rattle.dep_check.proofs.BridgeLemmas.{place_found}
 use Rattle.dep_check.proofs.WireLemmas.{far_by, by_far}
 

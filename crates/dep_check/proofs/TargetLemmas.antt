@@ -1,11 +1,10 @@
-use Rattle.std.proofs.Common.{◌≡◌, ◌≢◌, ◌∙◌, sym, ap, subst, refl, ℕ, ◌+◌, ◌<◌, ◌≤◌, List, Option, Some, arith, length, length-set, set, get_or, get_or-set_same, get_or-set_other, inl, inr}
+use Rattle.std.proofs.Common.{◌≡◌, ◌∙◌, sym, ap, subst, ℕ, ◌+◌, ◌<◌, List, Some, arith, length, length-set, set, get_or, get_or-set_same, get_or-set_other, inl, inr}
 use Rattle.std.specs.Prelude.{replicate}
 use Rattle.std.proofs.lemmas.List.{length-replicate, get_or-replicate, get_or_default}
 use Rattle.std.proofs.lemmas.Bool.{cases_eq, cases_lt}
 use Rattle.an_base.specs.Rows.{RowOf}
 use Rattle.dep_check.specs.declared.channel.Channel.{Channel}
-use Rattle.dep_check.specs.declared.exits.PortSet.{PortSet}
-use Rattle.dep_check.specs.Tables.{IsSpot, row_at, Counts, HasBelow, AreExitsBelow}
+use Rattle.dep_check.specs.Tables.{row_at, HasBelow, AreExitsBelow}
 use Rattle.dep_check.specs.Targets.{IsNextTo, AreByTargetFrom}
 
 -- no row from a place on
@@ -62,7 +61,7 @@ by_target_more rows place r first next low is fits so_far = record {
 }
 
 -- rows with other targets add no exits
-pub exits_skip : (rows : List RowOf) (to from place : ℕ) (table : List PortSet) → IsNextTo rows to from place → AreExitsBelow rows (Some to) from table → AreExitsBelow rows (Some to) place table
+pub exits_skip : (rows : List RowOf) (to from place : ℕ) (table : List ℕ) → IsNextTo rows to from place → AreExitsBelow rows (Some to) from table → AreExitsBelow rows (Some to) place table
 exits_skip rows to from place table next so_far = record {
   count = so_far.count;
   ports = λ s p spot has. so_far.ports s p spot (down s p has);

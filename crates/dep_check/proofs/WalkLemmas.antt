@@ -1,6 +1,6 @@
-use Rattle.std.proofs.Common.{◌≡◌, ◌∙◌, sym, ap, subst, refl, ℕ, zero, suc, ◌+◌, ◌<◌, ◌≤◌, List, [], ◌∷◌, ◌++◌, Bool, true, false, arith, length, length-append, length-set, set, get_or, get_or-set_same, get_or-set_other, inl, inr, ◌⊎◌}
-use Rattle.std.specs.Prelude.{Contains, if◌then◌else◌}
-use Rattle.std.proofs.lemmas.Bool.{cases_eq, cases_Bool}
+use Rattle.std.proofs.Common.{◌≡◌, ◌∙◌, sym, ap, subst, refl, ℕ, zero, suc, ◌+◌, ◌<◌, List, [], ◌∷◌, ◌++◌, Bool, true, false, arith, length, length-append, length-set, set, get_or, get_or-set_same, get_or-set_other, inl, inr, ◌⊎◌}
+use Rattle.std.specs.Prelude.{Contains}
+use Rattle.std.proofs.lemmas.Bool.{cases_eq}
 use Rattle.std.proofs.lemmas.List.{get_or_default}
 use Rattle.std.proofs.lemmas.List.Elements.{Contains-append_left, Contains-push, Contains-push_cases}
 use Rattle.dep_check.specs.declared.channel.Channel.{Channel}
@@ -8,13 +8,13 @@ use Rattle.dep_check.specs.declared.steps.Steps.{Steps}
 use Rattle.dep_check.specs.Cycles.{Walk}
 use Rattle.dep_check.specs.Tables.{IsSpot, place_of}
 use Rattle.dep_check.specs.Search.{IsStuck, Step}
-use Rattle.dep_check.specs.Walks.{seen_at, unseen, Sees, Leads, LeadsToEnd, IsLookedAt, IsWalking, IsWalked, IsClear}
+use Rattle.dep_check.specs.Walks.{seen_at, unseen, Sees, Leads, IsLookedAt, IsWalking, IsWalked, IsClear}
 use Rattle.dep_check.proofs.SpotLemmas.{one_spot, place_low}
 use Rattle.dep_check.proofs.LevelLemmas.{step_spot}
 use Rattle.dep_check.proofs.RoundLemmas.{none_in}
 
 -- one spot more is seen
-unseen_less : (seen : List Bool) (k : ℕ) → k < length seen → get_or seen k false ≡ false → unseen (set seen k true) + 1 ≡ unseen seen
+pub unseen_less : (seen : List Bool) (k : ℕ) → k < length seen → get_or seen k false ≡ false → unseen (set seen k true) + 1 ≡ unseen seen
 unseen_less [] k low e = absurd (omega arith)
 unseen_less (b ∷ seen) zero low e = rw e (omega arith)
 unseen_less (b ∷ seen) (suc k) low e = let rest = unseen_less seen k (omega arith) e in omega arith

@@ -5,11 +5,13 @@ pub mod Packets
 pub mod Illegal
 pub mod Answer
 pub mod Laws
--- what private functions cite
 pub mod Tables
+-- what private functions cite
 pub mod Search
 pub mod Rounds
 pub mod Walks
 pub mod Targets
 pub mod Pairs
 pub mod Worst
+pub mod Deep
+pub mod Tiers

@@ -4,8 +4,9 @@ use Rattle.std.specs.Prelude.{◌≡◌, ◌⊎◌, ℕ, List, length, Option, S
 use Rattle.dep_check.specs.declared.channel.Channel.{Channel}
 use Rattle.dep_check.specs.declared.steps.Steps.{Steps}
 use Rattle.dep_check.specs.declared.level.Rule.{Rule}
+use Rattle.dep_check.specs.declared.level.Rule.TheVariants.{Nearest, Rank}
 use Rattle.dep_check.specs.Tables.{IsSpot, level_at}
-use Rattle.dep_check.specs.Search.{Step, IsDue, IsHeld}
+use Rattle.dep_check.specs.Search.{Step, IsDue, IsHeld, AreNearest, AreNearestBelow, AreRanked, AreRankedBelow}
 
 -- the level 0 at each goal, and no other level
 pub record AreGoals (Goal : Channel → Type 0) (levels : List (Option ℕ)) : Type 0 where
@@ -50,3 +51,13 @@ pub record IsRaisedTo (level : ℕ) (had : List (Option ℕ)) (due : List Channe
   pub whole :
       (s : Channel) → IsSpot s → level_at had s ≡ None → level_at levels s ≡ Some level → Contains raised s
   pub each : (s : Channel) → Contains raised s → IsSpot s × (level_at levels s ≡ Some level)
+
+-- the levels below a round, by a rule
+abbrev pub AreLevelsBelow : Rule → Steps → ℕ → List (Option ℕ) → Type 0
+AreLevelsBelow (Nearest goal) steps round levels = AreNearestBelow steps (λ s. s ≡ goal) round levels
+AreLevelsBelow Rank steps round levels = AreRankedBelow steps round levels
+
+-- and all of them
+abbrev pub AreLevels : Rule → Steps → List (Option ℕ) → Type 0
+AreLevels (Nearest goal) steps levels = AreNearest steps (λ s. s ≡ goal) levels
+AreLevels Rank steps levels = AreRanked steps levels

@@ -4,7 +4,6 @@ use Rattle.std.specs.Prelude.{Bool, true, false, IsTrue, is_some}
 use Rattle.std.specs.Ordering.{is_le}
 use Rattle.an_base.specs.Rows.{RowOf}
 use Rattle.dep_check.specs.declared.channel.Channel.{Channel}
-use Rattle.dep_check.specs.declared.exits.PortSet.{PortSet}
 use Rattle.dep_check.specs.declared.steps.Steps.{Steps}
 use Rattle.dep_check.specs.declared.level.Rule.{Rule}
 use Rattle.dep_check.specs.declared.level.Rule.TheVariants.{Nearest, Rank}
@@ -12,7 +11,7 @@ use Rattle.dep_check.specs.Cycles.{Walk, channel_cmp}
 use Rattle.dep_check.specs.Tables.{IsSpot, place_of, wire_at, has_at, AreExitsBelow, level_at}
 
 -- by an exit of the far side of a channel to the channel of that exit
-pub record Depends (wires : List (Option Channel)) (exits : List PortSet) (s : Channel) (e : ℕ) (b : Channel)
+pub record Depends (wires : List (Option Channel)) (exits : List ℕ) (s : Channel) (e : ℕ) (b : Channel)
     : Type 0 where
   pub low : e < 13
   pub entry : ℕ
@@ -23,14 +22,14 @@ pub record Depends (wires : List (Option Channel)) (exits : List PortSet) (s : C
   pub link : wire_at wires b ≡ Some far
 
 -- before the target, by an exit for what came in at a spot to where it comes in next
-pub record GoesBy (wires : List (Option Channel)) (exits : List PortSet) (to : ℕ) (s : Channel) (e : ℕ)
+pub record GoesBy (wires : List (Option Channel)) (exits : List ℕ) (to : ℕ) (s : Channel) (e : ℕ)
     (b : Channel) : Type 0 where
   pub low : e < 13
   pub before : s.at ≢ to
   pub has : has_at exits s e ≡ true
   pub link : wire_at wires (record { at = s.at; port = e }) ≡ Some b
 
-abbrev pub IsStepOf : List (Option Channel) → List PortSet → Option ℕ → Channel → ℕ → Channel → Type 0
+abbrev pub IsStepOf : List (Option Channel) → List ℕ → Option ℕ → Channel → ℕ → Channel → Type 0
 IsStepOf wires exits None s e b = Depends wires exits s e b
 IsStepOf wires exits (Some to) s e b = GoesBy wires exits to s e b
 
@@ -49,14 +48,14 @@ pub record AreSteps (wires : List (Option Channel)) (rows : List RowOf) (number 
   pub to : steps.to ≡ number
 
 -- before the target, no exit, or one without a link
-pub record IsEnd (wires : List (Option Channel)) (exits : List PortSet) (to : ℕ) (s : Channel) : Type 0 where
+pub record IsEnd (wires : List (Option Channel)) (exits : List ℕ) (to : ℕ) (s : Channel) : Type 0 where
   pub before : s.at ≢ to
   pub gap :
       ((e : ℕ) → e < 13 → has_at exits s e ≡ true → ⊥)
       ⊎ ((e : ℕ) × (e < 13) × (has_at exits s e ≡ true)
       × (wire_at wires (record { at = s.at; port = e }) ≡ None))
 
-abbrev pub IsEndOf : List (Option Channel) → List PortSet → Option ℕ → Channel → Type 0
+abbrev pub IsEndOf : List (Option Channel) → List ℕ → Option ℕ → Channel → Type 0
 IsEndOf wires exits None s = ⊥
 IsEndOf wires exits (Some to) s = IsEnd wires exits to s
 
@@ -79,19 +78,14 @@ pub record ComesIn (steps : Steps) (a b : Channel) (entry : ℕ) : Type 0 where
   pub has : has_at steps.exits.items (record { at = b.at; port = entry }) b.port ≡ true
   pub link : IsLinked steps b
 
--- a channel without a rank
-pub record HasNoRank (steps : Steps) (ranks : List (Option ℕ)) (s : Channel) : Type 0 where
-  pub link : IsLinked steps s
-  pub none : level_at ranks s ≡ None
-
 -- A spot without a level gets one: where some step leads to a level, or, a channel, where all do.
 abbrev pub IsDue : Rule → Steps → List (Option ℕ) → Channel → Type 0
-IsDue Nearest steps levels s = HasNext steps levels s true
+IsDue (Nearest goal) steps levels s = HasNext steps levels s true
 IsDue Rank steps levels s = IsLinked steps s × (HasNext steps levels s false → ⊥)
 
 -- and gets none
 abbrev pub IsHeld : Rule → Steps → List (Option ℕ) → Channel → Type 0
-IsHeld Nearest steps levels s = HasNext steps levels s true → ⊥
+IsHeld (Nearest goal) steps levels s = HasNext steps levels s true → ⊥
 IsHeld Rank steps levels s = IsLinked steps s → HasNext steps levels s false
 
 -- the level of a spot after a round

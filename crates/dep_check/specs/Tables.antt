@@ -1,9 +1,10 @@
--- Tables over all spots: far sides, exits and levels. Of it public contracts cite `rank_at` alone.
-use Rattle.std.specs.Prelude.{◌≡◌, ◌*◌, ◌+◌, ◌<◌, ◌↔◌, ℕ, List, [], length, Option, Some, None, Bool, true}
-use Rattle.std.specs.Prelude.{false, Contains, slice_index_or, nat_lt, ◌&&◌, if◌then◌else◌}
+-- Tables over all spots: far sides, exits and levels. Of it public contracts cite spots and their places, far sides and
+-- ranks.
+use Rattle.std.specs.Prelude.{◌≡◌, ◌==◌, ◌*◌, ◌+◌, ◌<◌, ◌↔◌, ℕ, List, [], length, Option, Some, None, Bool}
+use Rattle.std.specs.Prelude.{true, Contains, slice_index_or, nat_lt, ◌&&◌, if◌then◌else◌}
+use Rattle.std.specs.Int.{bit_at}
 use Rattle.an_base.specs.Rows.{RowOf}
 use Rattle.dep_check.specs.declared.channel.Channel.{Channel}
-use Rattle.dep_check.specs.declared.exits.PortSet.{PortSet}
 
 -- a switch, by its number, and one of its ports, or 0 for the switch itself
 pub record IsSpot (s : Channel) : Type 0 where
@@ -52,15 +53,15 @@ pub record AreWiresBelow (far : Channel → Option Channel) (end : ℕ) (wires :
       (s b : Channel) → IsSpot s → place_of s < end → slice_index_or wires (place_of s) None ≡ Some b
       → IsSpot b
 
--- whether a set has a port
-abbrev pub has_port : PortSet → ℕ → Bool
-has_port set p = slice_index_or set.ports p false
+-- whether a set has a port: bit p of it says that of port p
+unfoldable pub has_port : ℕ → ℕ → Bool
+has_port set p = bit_at set p == 1
 
-abbrev pub set_at : List PortSet → Channel → PortSet
-set_at table s = slice_index_or table (place_of s) (record { ports = [] })
+abbrev pub set_at : List ℕ → Channel → ℕ
+set_at table s = slice_index_or table (place_of s) 0
 
 -- whether a table has an exit for what came in at a spot
-abbrev pub has_at : List PortSet → Channel → ℕ → Bool
+abbrev pub has_at : List ℕ → Channel → ℕ → Bool
 has_at table s p = has_port (set_at table s) p
 
 -- the row at a place
@@ -82,7 +83,7 @@ pub record HasBelow (rows : List RowOf) (to : Option ℕ) (end : ℕ) (s : Chann
   pub has : Contains (row_at rows index).exits p
 
 -- the table has the exits of the first rows
-pub record AreExitsBelow (rows : List RowOf) (to : Option ℕ) (end : ℕ) (table : List PortSet) : Type 0 where
+pub record AreExitsBelow (rows : List RowOf) (to : Option ℕ) (end : ℕ) (table : List ℕ) : Type 0 where
   pub count : length table ≡ 1651
   pub ports : (s : Channel) (p : ℕ) → IsSpot s → HasBelow rows to end s p → p < 13
   pub each :

@@ -91,7 +91,7 @@ pub fn check(
     let steps = Steps::of(alloc, &wires, rows)?;
     let levels = ranks_of(alloc, &steps)?;
     if !are_all_ranked(&steps, &levels) {
-        let channels = least_cycle(alloc, &steps, &levels)?.unwrap();
+        let channels = least_cycle(alloc, &steps)?.unwrap();
         return Err(CheckRefusal::Cycle { channels });
     }
     if let Some(gap) = least_gap(alloc, &wires, numbers, rows)? {

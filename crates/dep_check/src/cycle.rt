@@ -1,13 +1,13 @@
-ghost use Rattle.std.specs.Prelude.{◌≡◌, ◌<◌, ◌+◌, ◌↔◌, IfOk, IsTrue, MatchOption, IfSome, Some, None, ◌∷◌};
+ghost use Rattle.std.specs.Prelude.{◌≡◌, ◌<◌, ◌+◌, IfOk, MatchOption, IfSome, Some, None, ◌∷◌};
 ghost use Rattle.dep_check.specs.Cycles.{HasNoCycle, IsLeastCycle, IsLeastCycleFrom};
 ghost use Rattle.dep_check.specs.Tables.{IsSpot};
-ghost use Rattle.dep_check.specs.Search.{AreNearest, AreRanked, HasNextAt, HasNoRank, IsNextAt, LeastBehind};
-ghost use Rattle.dep_check.specs.Search.{Step};
+ghost use Rattle.dep_check.specs.Search.{AreNearest, HasNextAt, IsNextAt, LeastBehind, Step};
 
 use crate::channel::{Channel, Channels};
 use crate::level::{level_of, nearest_to};
 use crate::spot::{SPOTS, spot_at};
 use crate::steps::Steps;
+use crate::tier::{has_peer, tiers_of};
 use an_base::memory::OutOfMemory;
 use std::alloc::Global;
 
@@ -92,29 +92,17 @@ fn cycle_from(
     Ok(Channels::new(channels))
 }
 
-// Whether a spot may be on a cycle: it is a channel without a rank.
-fn may_be_on_cycle(steps: &Steps, ranks: &[Option<u16>], spot: Channel) -> bool
-    requires { IsSpot spot }
-    ensures { IsTrue result ↔ HasNoRank steps.now ranks.now spot }
-{
-    steps.far(spot).is_some() && level_of(ranks, spot).is_none()
-}
-
-/// The least cycle, where there is one. For each channel without a rank up to its least one it looks
-/// at each step a few times.
-pub fn least_cycle(
-    alloc: Global,
-    steps: &Steps,
-    ranks: &[Option<u16>],
-) -> Result<Option<Channels>, OutOfMemory>
-    requires channels { steps.now.to ≡ None }
-    requires ranks { AreRanked steps.now ranks.now }
+/// The least cycle, where there is one. It looks at each step a few times, but for each channel that
+/// leads to its own tier up to the least one on a cycle, which as the tiers are made is that one alone.
+pub fn least_cycle(alloc: Global, steps: &Steps) -> Result<Option<Channels>, OutOfMemory>
+    requires { steps.now.to ≡ None }
     ensures { IfOk result (λ found. MatchOption found (HasNoCycle (Step steps.now))
         (IsLeastCycle (Step steps.now))) }
 {
+    let tiers = tiers_of(alloc, steps)?;
     'spots: for place in 0..SPOTS {
         let start = spot_at(place);
-        if may_be_on_cycle(steps, ranks, start) {
+        if has_peer(steps, &tiers, start) {
             let levels = nearest_to(alloc, steps, start)?;
             if let Some(length) = least_behind(steps, &levels, start) {
                 return Ok(Some(cycle_from(alloc, steps, &levels, start, length)?));

@@ -2,6 +2,7 @@ ghost use Rattle.std.specs.Prelude.{◌≡◌, ◌<◌, ◌↔◌, ◌+◌, ℕ,
 ghost use Rattle.std.specs.Prelude.{Some, None, length};
 ghost use Rattle.an_base.specs.Rows.{RowOf};
 ghost use Rattle.an_base.specs.Values.{EntryOf};
+ghost use Rattle.dep_check.specs.Channels.{place_in};
 ghost use Rattle.dep_check.specs.Illegal.{AllAreLegal, IsBad, IsLeastIllegal, LeadsUp};
 ghost use Rattle.dep_check.specs.Tables.{row_at};
 ghost use Rattle.dep_check.specs.Worst.{FirstBad, IsNotAfter, LeastBelow};
@@ -26,31 +27,31 @@ pub struct RowExit {
 }
 
 // Whether a port of the switch at a place has a link whose far end is its up end.
-fn leads_up(graph: &Graph, x: u8, port: u8) -> bool
-    ensures { IsTrue result ↔ LeadsUp graph.now x port }
+fn leads_up(graph: &Graph, place: u8, port: u8) -> bool
+    ensures { IsTrue result ↔ LeadsUp graph.now place port }
 {
-    match graph.far_place(x, port) {
-        Some((y, _)) => is_up_end(graph, y, x),
+    match graph.far_place(place, port) {
+        Some((far, _)) => is_up_end(graph, far, place),
         None => false,
     }
 }
 
-// Whether an exit for what came in at an entry of the switch that has a number is illegal.
-fn is_illegal(graph: &Graph, numbers: &Numbers, at: u8, entry: u8, exit: u8) -> bool
-    requires { length numbers.now ≡ length graph.now }
-    ensures { MatchBool result (IsBad graph.now numbers.now at entry exit)
-        (IsBad graph.now numbers.now at entry exit → ⊥) }
+// Whether an exit for what came in at an entry of the switch at a place, if there is one, is illegal.
+fn is_illegal(graph: &Graph, place: Option<u8>, entry: u8, exit: u8) -> bool
+    ensures { (numbers : List ℕ) (at : ℕ) → length numbers ≡ length graph.now → place ≡ place_in numbers at
+        → MatchBool result (IsBad graph.now numbers at entry exit)
+        (IsBad graph.now numbers at entry exit → ⊥) }
 {
-    let Some(x) = place_in(numbers, at) else {
+    let Some(place) = place else {
         return true;
     };
-    if graph.far_place(x, exit).is_none() {
+    if graph.far_place(place, exit).is_none() {
         return true;
     }
-    if !leads_up(graph, x, entry) {
+    if !leads_up(graph, place, entry) {
         return false;
     }
-    leads_up(graph, x, exit)
+    leads_up(graph, place, exit)
 }
 
 // Whether an exit is not after another.
@@ -84,8 +85,9 @@ fn first_illegal(graph: &Graph, numbers: &Numbers, row: &Row) -> Option<RowExit>
     requires { length numbers.now ≡ length graph.now }
     ensures { FirstBad graph.now numbers.now row.now result }
 {
+    let place = place_in(numbers, row.at);
     'exits: for exit in row.exits.as_slice() {
-        if is_illegal(graph, numbers, row.at, row.entry, *exit) {
+        if is_illegal(graph, place, row.entry, *exit) {
             return Some(RowExit {
                 at: row.at,
                 entry: row.entry,

@@ -3,7 +3,8 @@ ghost use Rattle.std.specs.Prelude.{Contains, IfOk, OnOk, MatchBool};
 ghost use Rattle.dep_check.specs.declared.channel.Channel.{Channel};
 ghost use Rattle.dep_check.specs.Tables.{IsSpot, level_at};
 ghost use Rattle.dep_check.specs.Search.{AreNearest, AreRanked, ComesIn, HasNext, IsDue, IsHeld, Step};
-ghost use Rattle.dep_check.specs.Rounds.{AddsDue, AreDue, AreGoals, IsRaisedTo, LeadsToOne};
+ghost use Rattle.dep_check.specs.Rounds.{AddsDue, AreDue, AreGoals, AreLevels, AreLevelsBelow, IsRaisedTo};
+ghost use Rattle.dep_check.specs.Rounds.{LeadsToOne};
 
 use crate::channel::Channel;
 use crate::spot::{SPOTS, place_of, spot_at};
@@ -14,8 +15,11 @@ use std::alloc::Global;
 /// When a spot without a level gets one.
 #[derive(Clone, Copy, Debug)]
 pub enum Rule {
-    /// When some step leads to one that has a level.
-    Nearest,
+    /// When some step leads to one that has a level. The goal has the level 0.
+    Nearest {
+        /// The goal.
+        goal: Channel,
+    },
     /// When it is a channel and all its steps do.
     Rank,
 }
@@ -50,7 +54,7 @@ fn is_due(rule: Rule, steps: &Steps, levels: &[Option<u16>], spot: Channel) -> b
         (IsHeld rule steps.now levels.now spot) }
 {
     match rule {
-        Rule::Nearest => has_next(steps, levels, spot, true),
+        Rule::Nearest { .. } => has_next(steps, levels, spot, true),
         Rule::Rank => {
             if steps.far(spot).is_none() {
                 return false;
@@ -210,22 +214,42 @@ fn no_levels(alloc: Global) -> Result<Vec<Option<u16>>, OutOfMemory>
     Ok(levels)
 }
 
+// Gives levels to the spots that are due, to those that are due next, and so on until none is.
+fn all_levels(
+    alloc: Global,
+    rule: Rule,
+    steps: &Steps,
+    levels: Vec<Option<u16>>,
+    due: Vec<Channel>,
+    first: u16,
+) -> Result<Vec<Option<u16>>, OutOfMemory>
+    requires channels { steps.now.to ≡ None }
+    requires count { length levels.items ≡ 1651 }
+    requires below { AreLevelsBelow rule steps.now first levels.items }
+    requires due { AreDue rule steps.now levels.items due.items }
+    ensures { IfOk result (λ levels. AreLevels rule steps.now levels.items) }
+{
+    let mut levels = levels;
+    let mut due = due;
+    'rounds: for round in first..SPOTS + 1 {
+        let raised = raise(alloc, &mut levels, &due, round)?;
+        if raised.as_slice().is_empty() {
+            return Ok(levels);
+        }
+        due = due_before(alloc, rule, steps, &levels, &raised)?;
+    }
+    unreachable!()
+}
+
 /// The ranks of channels: 0 where one leads nowhere, else one more than the greatest that it leads
 /// to; none for those that lead for ever to others without one. It looks at each step a few times.
 pub fn ranks_of(alloc: Global, steps: &Steps) -> Result<Vec<Option<u16>>, OutOfMemory>
     requires { steps.now.to ≡ None }
     ensures { IfOk result (λ levels. AreRanked steps.now levels.items) }
 {
-    let mut levels = no_levels(alloc)?;
-    let mut due = all_due(alloc, Rule::Rank, steps, &levels)?;
-    'rounds: for round in 0..SPOTS + 1 {
-        let raised = raise(alloc, &mut levels, &due, round)?;
-        if raised.as_slice().is_empty() {
-            return Ok(levels);
-        }
-        due = due_before(alloc, Rule::Rank, steps, &levels, &raised)?;
-    }
-    unreachable!()
+    let levels = no_levels(alloc)?;
+    let due = all_due(alloc, Rule::Rank, steps, &levels)?;
+    all_levels(alloc, Rule::Rank, steps, levels, due, 0)
 }
 
 // The level 0 at one spot, and no other level.
@@ -248,14 +272,8 @@ pub fn nearest_to(
     requires goal { IsSpot goal }
     ensures { IfOk result (λ levels. AreNearest steps.now (λ s. s ≡ goal) levels.items) }
 {
-    let mut levels = goal_level(alloc, goal)?;
-    let mut due = due_before(alloc, Rule::Nearest, steps, &levels, &[goal])?;
-    'rounds: for round in 1..SPOTS + 1 {
-        let raised = raise(alloc, &mut levels, &due, round)?;
-        if raised.as_slice().is_empty() {
-            return Ok(levels);
-        }
-        due = due_before(alloc, Rule::Nearest, steps, &levels, &raised)?;
-    }
-    unreachable!()
+    let rule = Rule::Nearest { goal };
+    let levels = goal_level(alloc, goal)?;
+    let due = due_before(alloc, rule, steps, &levels, &[goal])?;
+    all_levels(alloc, rule, steps, levels, due, 1)
 }

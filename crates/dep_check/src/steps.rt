@@ -4,7 +4,7 @@ ghost use Rattle.dep_check.specs.Tables.{AreLinks, IsSpot, wire_at};
 ghost use Rattle.dep_check.specs.Targets.{AreByTarget};
 
 use crate::channel::Channel;
-use crate::exits::{PortSet, all_exits, exits_to, has_exit};
+use crate::exits::{all_exits, exits_to, has_exit};
 use crate::spot::place_of;
 use crate::targets::RowsByTarget;
 use an_base::memory::OutOfMemory;
@@ -17,8 +17,8 @@ use std::alloc::Global;
 pub struct Steps {
     /// The far side of each spot.
     pub wires: Vec<Option<Channel>>,
-    /// The exits of the rows, for what came in at each spot.
-    pub exits: Vec<PortSet>,
+    /// The exits of the rows, for what came in at each spot, as sets of ports.
+    pub exits: Vec<u16>,
     /// The number to which packets go, None for channels.
     pub to: Option<u8>,
     ghost links: { AreLinks wires.items },

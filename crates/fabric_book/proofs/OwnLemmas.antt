@@ -24,7 +24,7 @@ use Rattle.fabric_book.specs.Nets.{HasFrame, IsStarted, IsSwitchKept, power_of, 
 use Rattle.fabric_book.proofs.WorldFacts.{world_script, fits_after, place_sound, event_counts, handled_life}
 use Rattle.fabric_book.proofs.BookLemmas.{world_more}
 
-at_same : (s : ℕ) (x : SwitchOf) (switches : ℕ → SwitchOf) → at_port s x switches s ≡ x
+pub at_same : (s : ℕ) (x : SwitchOf) (switches : ℕ → SwitchOf) → at_port s x switches s ≡ x
 at_same s x switches = rw (eq-eqb s s refl) refl
 
 -- there is a station at the place
@@ -32,7 +32,7 @@ pub place_below : (script : ScriptOf) → IsScript script → (h : List Event) (
 place_below script kept h s below =
     subst (λ (n : ℕ). s < n) (sym ((fits_after script kept h).size ∙ ap (λ (x : ScriptOf). length x.wires.switches) (world_script script h))) below
 
-set_here : (script : ScriptOf) → IsScript script → (h : List Event) (s : ℕ) → s < length script.wires.switches → (x : StationOf)
+pub set_here : (script : ScriptOf) → IsScript script → (h : List Event) (s : ℕ) → s < length script.wires.switches → (x : StationOf)
     → slice_index_or (slice_set (world_after script h).fabric.stations s x) s vacant ≡ x
 set_here script kept h s below x = get_or-set_same (world_after script h).fabric.stations s x vacant (place_below script kept h s below)
 

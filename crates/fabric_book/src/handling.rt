@@ -25,8 +25,8 @@ use switch_core::out::Out;
 use switch_core::switch::{ClockRefusal, Switch};
 use wire_set::side::Put;
 
-// A switch does with what is in hand what it does.
-fn work(switch: &mut Switch, hand: Hand, bytes: &[u8], out: &mut Out) -> Result<(), OutOfMemory>
+/// A switch does with what it has in hand what it does.
+pub fn work(switch: &mut Switch, hand: Hand, bytes: &[u8], out: &mut Out) -> Result<(), OutOfMemory>
     requires full { is_empty hand ≡ false }
     requires port { IsHandPort hand }
     requires works { switch.old.works < 2 ^ 28 }

@@ -9,7 +9,7 @@
 #![tactic(auto)]
 
 pub mod book;
-mod handling;
+pub mod handling;
 pub mod lines;
 pub mod net;
 pub mod power;

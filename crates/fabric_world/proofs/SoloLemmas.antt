@@ -168,7 +168,7 @@ turn_lawful script kept _ _ (drives h e before made) =
 turn_lawful script kept _ _ (waits h before made) = turn_lawful script kept h (length script.wires.switches) before
 
 -- the end that the driver is told is the one that has come
-told_end : (f : FabricOf) (o : Option Ending) (end : Ending) → drive_by o f ≡ drive.Ended end → o ≡ Some end
+pub told_end : (f : FabricOf) (o : Option Ending) (end : Ending) → drive_by o f ≡ drive.Ended end → o ≡ Some end
 unfolding end_in
 told_end f (Some x) end is = ap (λ d. Some (end_in x d)) is
 told_end f None end is = absurd (differs (is_barred f) (due_command f) is) where

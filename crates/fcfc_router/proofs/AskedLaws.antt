@@ -1,11 +1,11 @@
 -- Who is granted asked for it.
-use Rattle.std.proofs.Common.{◌≡◌, ◌≢◌, ◌∙◌, sym, ap, subst, refl, ℕ, zero, suc, ◌+◌, ◌<◌, ◌≤◌, List, [], ◌∷◌, ◌++◌, Option, Some, None, arith, length, get_or, append_assoc}
+use Rattle.std.proofs.Common.{◌≡◌, ◌≢◌, ◌∙◌, sym, ap, subst, refl, ℕ, zero, suc, ◌+◌, ◌<◌, ◌≤◌, List, [], ◌∷◌, ◌++◌, Some, None, arith, length, get_or, append_assoc}
 use Rattle.std.specs.Prelude.{All, Contains}
 use Rattle.std.proofs.lemmas.List.{append-nil, get_or-append-add, get_or_append_left, length-append}
 use Rattle.std.proofs.lemmas.List.Elements.{All-append, All-contains, All-push, All-weaker, Contains-append_right}
 use Rattle.fcfc_router.specs.declared.router.Grant.{Grant}
-use Rattle.fcfc_router.specs.Router.{Gets, Grants, IsGranted, RequestOf}
-use Rattle.fcfc_router.specs.Calls.{Call, Leads, WaitsSince, granted, is_granted, waits}
+use Rattle.fcfc_router.specs.Router.{Gets, Grants, RequestOf}
+use Rattle.fcfc_router.specs.Calls.{Call, Leads, WaitsSince, granted, waits}
 use Rattle.fcfc_router.specs.Calls.Call.{Ask, Grants as GrantCall}
 use Rattle.fcfc_router.proofs.CountLaws.{granted_waits, once, test_is, test_not, waits-append}
 use Rattle.fcfc_router.proofs.OrderLaws.{split}

@@ -7,7 +7,7 @@ use Rattle.std.proofs.lemmas.List.{drop_more, get_or_append_left, get_or_default
 use Rattle.std.proofs.lemmas.List.Elements.{All-cons, filter-append}
 use Rattle.fcfc_router.specs.declared.router.Slot.{Slot}
 use Rattle.fcfc_router.specs.Router.{CanGo, Grants, IsLowest, NoneCanGo, RequestOf}
-use Rattle.fcfc_router.specs.Shown.{HasSets, IsIndex, is_taken, ports_of, request_of, set_at, shown}
+use Rattle.fcfc_router.specs.Shown.{HasSets, IsIndex, is_taken, request_of, set_at, shown}
 use Rattle.fcfc_router.specs.Tree.{HasNone, IsFirst}
 use Rattle.fcfc_router.proofs.BitLemmas.{blocked, gets_lowest, none_has_none}
 
@@ -83,54 +83,36 @@ grants_oldest free place port slots tree slot sets first is fits lowest =
     earlier k below = subst (λ (s : ℕ). bit_and s free ≡ 0) (
         sets k (let w = first.within in omega arith) ∙ ap (λ (s : Slot). s.ports) (sym (get_or-take place slots k (record { packet = 0; ports = 0 }) below))) (first.before k below)
 
+-- an index of other places, in which one set is written
+index_written : (most capacity more place value : ℕ) (slots others : List Slot) (tree : List ℕ) → IsIndex most capacity slots tree → length others ≤ length tree → capacity ≤ more → HasSets others (set tree place value) → IsIndex most more others (set tree place value)
+index_written most capacity more place value slots others tree index used enough sets =
+    let count = length-set tree place value in
+    let room = index.room in
+    let kept = index.kept in
+    record { room = omega arith; used = omega arith; kept = omega arith; sets = sets }
+
 -- the index after a grant
 pub index_granted : (most capacity place packet : ℕ) (slots : List Slot) (tree : List ℕ) → IsIndex most capacity slots tree → place < length slots → IsIndex most capacity (set slots place (record { packet = packet; ports = 0 })) (set tree place 0)
 index_granted most capacity place packet slots tree index low =
     let n = length-set slots place (record { packet = packet; ports = 0 }) in
     let m = length-set tree place 0 in
-    let a = index.room in
-    let b = index.used in
-    let d = index.kept in
-    record {
-      room = omega arith;
-      used = omega arith;
-      kept = omega arith;
-      sets = λ k below. elim (cases_eq k place) [
-        | inl same ↦ subst (λ (j : ℕ). get_or (set tree place 0) j 0 ≡ set_at (set slots place (record { packet = packet; ports = 0 })) j) (sym same) (
-            get_or-set_same tree place 0 0 (omega arith) ∙ sym (ap (λ (s : Slot). s.ports) (get_or-set_same slots place (record { packet = packet; ports = 0 }) (record { packet = 0; ports = 0 }) low)))
-        | inr other ↦ (get_or-set_other tree place k 0 0 other ∙ index.sets k (omega arith) ∙ sym (ap (λ (s : Slot). s.ports) (get_or-set_other slots place k (record { packet = packet; ports = 0 }) (record { packet = 0; ports = 0 }) other)))
-      ];
-    }
+    let used = index.used in
+    index_written most capacity capacity place 0 slots (set slots place (record { packet = packet; ports = 0 })) tree index (omega arith) (omega arith) (λ k below. elim (cases_eq k place) [
+      | inl same ↦ subst (λ (j : ℕ). get_or (set tree place 0) j 0 ≡ set_at (set slots place (record { packet = packet; ports = 0 })) j) (sym same) (
+          get_or-set_same tree place 0 0 (omega arith) ∙ sym (ap (λ (s : Slot). s.ports) (get_or-set_same slots place (record { packet = packet; ports = 0 }) (record { packet = 0; ports = 0 }) low)))
+      | inr other ↦ (get_or-set_other tree place k 0 0 other ∙ index.sets k (omega arith) ∙ sym (ap (λ (s : Slot). s.ports) (get_or-set_other slots place k (record { packet = packet; ports = 0 }) (record { packet = 0; ports = 0 }) other)))
+    ])
 
--- a request comes last
-pub shown_asked : (slots : List Slot) (packet set : ℕ) (ports : List ℕ) → ports_of set ≡ ports → 1 ≤ length ports → shown (slots ++ (record { packet = packet; ports = set } ∷ [])) ≡ shown slots ++ (record { packet = packet; ports = ports } ∷ [])
-shown_asked slots packet set ports is some =
-    shown-append slots (record { packet = packet; ports = set } ∷ [])
-    ∙ ap (λ (xs : List RequestOf). shown slots ++ xs) (
-    shown_first (record { packet = packet; ports = set }) [] (λ none. absurd (
-    let empty : ports ≡ [] = sym is ∙ ap ports_of none in
-    let n = ap (λ (xs : List ℕ). length xs) empty in
-    omega arith))
-    ∙ ap (λ (xs : List ℕ). record { packet = packet; ports = xs } ∷ []) is)
-
--- the index after it
+-- the index after a request
 pub index_asked : (most capacity more packet value : ℕ) (slots : List Slot) (tree : List ℕ) → IsIndex most capacity slots tree → length slots < length tree → capacity ≤ more → IsIndex most more (slots ++ (record { packet = packet; ports = value } ∷ [])) (set tree (length slots) value)
 index_asked most capacity more packet value slots tree index low enough =
     let n = length_push slots (record { packet = packet; ports = value }) in
     let m = length-set tree (length slots) value in
-    let a = index.room in
-    let b = index.used in
-    let d = index.kept in
-    record {
-      room = omega arith;
-      used = omega arith;
-      kept = omega arith;
-      sets = λ k below. elim (cases_eq k (length slots)) [
-        | inl same ↦ subst (λ (j : ℕ). get_or (set tree (length slots) value) j 0 ≡ set_at (slots ++ (record { packet = packet; ports = value } ∷ [])) j) (sym same) (
-            get_or-set_same tree (length slots) value 0 low ∙ sym (ap (λ (s : Slot). s.ports) (get_or_push slots (record { packet = packet; ports = value }) (record { packet = 0; ports = 0 }) (length slots) refl)))
-        | inr other ↦ (get_or-set_other tree (length slots) k value 0 other ∙ index.sets k (omega arith) ∙ elim (cases_lt k (length slots)) [
-          | inl before ↦ sym (ap (λ (s : Slot). s.ports) (get_or_append_left slots (record { packet = packet; ports = value } ∷ []) (record { packet = 0; ports = 0 }) k before))
-          | inr after ↦ (ap (λ (s : Slot). s.ports) (get_or_past slots k (record { packet = 0; ports = 0 }) after) ∙ sym (ap (λ (s : Slot). s.ports) (get_or_past (slots ++ (record { packet = packet; ports = value } ∷ [])) k (record { packet = 0; ports = 0 }) (omega arith))))
-        ])
-      ];
-    }
+    index_written most capacity more (length slots) value slots (slots ++ (record { packet = packet; ports = value } ∷ [])) tree index (omega arith) enough (λ k below. elim (cases_eq k (length slots)) [
+      | inl same ↦ subst (λ (j : ℕ). get_or (set tree (length slots) value) j 0 ≡ set_at (slots ++ (record { packet = packet; ports = value } ∷ [])) j) (sym same) (
+          get_or-set_same tree (length slots) value 0 low ∙ sym (ap (λ (s : Slot). s.ports) (get_or_push slots (record { packet = packet; ports = value }) (record { packet = 0; ports = 0 }) (length slots) refl)))
+      | inr other ↦ (get_or-set_other tree (length slots) k value 0 other ∙ index.sets k (omega arith) ∙ elim (cases_lt k (length slots)) [
+        | inl before ↦ sym (ap (λ (s : Slot). s.ports) (get_or_append_left slots (record { packet = packet; ports = value } ∷ []) (record { packet = 0; ports = 0 }) k before))
+        | inr after ↦ (ap (λ (s : Slot). s.ports) (get_or_past slots k (record { packet = 0; ports = 0 }) after) ∙ sym (ap (λ (s : Slot). s.ports) (get_or_past (slots ++ (record { packet = packet; ports = value } ∷ [])) k (record { packet = 0; ports = 0 }) (omega arith))))
+      ])
+    ])

@@ -5,7 +5,7 @@ use Rattle.std.specs.Int.{bit_at}
 use Rattle.std.specs.Int.RustNames.{bit_or}
 use Rattle.std.proofs.Math.Nat.{pow-suc, le-mul_of_pos_right}
 use Rattle.std.proofs.lemmas.Bool.{cases_eq, cases_lt}
-use Rattle.std.proofs.lemmas.List.{get_or-set_same, get_or-set_other, get_or-drop, length-set, length-drop, get_or_default, ext_get_or}
+use Rattle.std.proofs.lemmas.List.{get_or-set_same, get_or-set_other, get_or-drop, get_or_read, length-set, length-drop, get_or_default, ext_get_or}
 use Rattle.std.proofs.lemmas.Nat.{pow_pos}
 use Rattle.std.proofs.lemmas.Nat.Bits.{bit_at_and, bit_at_or, bit_at-zero, same_from_bits}
 use Rattle.fcfc_router.specs.Tree.{HasNone, IsAbove, IsFirst, IsHalf, IsTree, IsTreeBut, IsUnion}
@@ -14,21 +14,17 @@ pub no_bits : (n : ℕ) → ((i : ℕ) → bit_at n i ≡ 0) → n ≡ 0
 no_bits n none = same_from_bits n 0 (λ i. none i ∙ sym (bit_at-zero i))
 
 -- a union has none of the ports exactly where neither set has
-pub first_has_none : (a b ports : ℕ) → bit_and (bit_or a b) ports ≡ 0 → bit_and a ports ≡ 0
-first_has_none a b ports none = no_bits (bit_and a ports) (λ i.
-    let all : bit_at (bit_and (bit_or a b) ports) i ≡ 0 = ap (λ (n : ℕ). bit_at n i) none ∙ bit_at-zero i in
-    let e = bit_at_and (bit_or a b) ports i in
-    let f = bit_at_or a b i in
-    let g = bit_at_and a ports i in
-    omega arith)
-
-pub second_has_none : (a b ports : ℕ) → bit_and (bit_or a b) ports ≡ 0 → bit_and b ports ≡ 0
-second_has_none a b ports none = no_bits (bit_and b ports) (λ i.
-    let all : bit_at (bit_and (bit_or a b) ports) i ≡ 0 = ap (λ (n : ℕ). bit_at n i) none ∙ bit_at-zero i in
-    let e = bit_at_and (bit_or a b) ports i in
-    let f = bit_at_or a b i in
-    let g = bit_at_and b ports i in
-    omega arith)
+pub neither_has : (a b ports : ℕ) → bit_and (bit_or a b) ports ≡ 0 → (bit_and a ports ≡ 0) × (bit_and b ports ≡ 0)
+neither_has a b ports none = (no_bits (bit_and a ports) (λ i. (bits i).0), no_bits (bit_and b ports) (λ i. (bits i).1))
+  where
+    bits : (i : ℕ) → (bit_at (bit_and a ports) i ≡ 0) × (bit_at (bit_and b ports) i ≡ 0)
+    bits i =
+        let all : bit_at (bit_and (bit_or a b) ports) i ≡ 0 = ap (λ (n : ℕ). bit_at n i) none ∙ bit_at-zero i in
+        let both = bit_at_and (bit_or a b) ports i in
+        let either = bit_at_or a b i in
+        let first = bit_at_and a ports i in
+        let second = bit_at_and b ports i in
+        (omega arith, omega arith)
 
 pub both_have_none : (a b ports : ℕ) → bit_and a ports ≡ 0 → bit_and b ports ≡ 0 → bit_and (bit_or a b) ports ≡ 0
 both_have_none a b ports first second = no_bits (bit_and (bit_or a b) ports) (λ i.
@@ -73,8 +69,8 @@ none_below places ports unions tree (suc k) node below above low high none =
     let inner : node < places = omega arith in
     let both = subst (λ (n : ℕ). bit_and n ports ≡ 0) (tree.each node low inner) none in
     elim (cases_lt below ((2 * node + 1) * 2 ^ k)) [
-      | inl left ↦ none_below places ports unions tree k (2 * node) below (above_left k node below above left) (omega arith) high (first_has_none (get_or unions (2 * node) 0) (get_or unions (2 * node + 1) 0) ports both)
-      | inr right ↦ none_below places ports unions tree k (2 * node + 1) below (above_right k node below above right) (omega arith) high (second_has_none (get_or unions (2 * node) 0) (get_or unions (2 * node + 1) 0) ports both)
+      | inl left ↦ none_below places ports unions tree k (2 * node) below (above_left k node below above left) (omega arith) high (neither_has (get_or unions (2 * node) 0) (get_or unions (2 * node + 1) 0) ports both).0
+      | inr right ↦ none_below places ports unions tree k (2 * node + 1) below (above_right k node below above right) (omega arith) high (neither_has (get_or unions (2 * node) 0) (get_or unions (2 * node + 1) 0) ports both).1
     ]
   where
     at_least : (n w : ℕ) → 1 ≤ w → n ≤ n * w
@@ -177,6 +173,13 @@ put_is places q place value old new is before after within same = ext_get_or 0 (
       | inr other ↦ (get_or-set_other old (places + place) (places + i) value 0 (omega arith) ∙ sym (get_or-drop places old i 0) ∙ sym (get_or-set_other (drop places old) place i value 0 other))
     ]
 
+-- what is read of the node at the top
+pub top_is : (places k top : ℕ) (unions : List ℕ) → IsTree places unions → places ≡ 2 ^ k → top ≡ get_or unions 1 top → top ≡ get_or unions 1 0
+top_is places k top unions tree power is =
+    let some = pow_pos k in
+    let count = tree.count in
+    get_or_read unions 1 top (omega arith) is 0
+
 -- the walk down to the first place
 pub record IsOnWay (places ports : ℕ) (unions : List ℕ) (node : ℕ) : Type 0 where
   pub low : 1 ≤ node
@@ -208,35 +211,33 @@ goes_down places ports node half unions tree way inner is_half = step way.levels
 
     step : (levels : ℕ) → places ≤ node * 2 ^ levels → (node + 1) * 2 ^ levels ≤ 2 * places → ((leaf : ℕ) → places ≤ leaf → leaf < node * 2 ^ levels → bit_and (get_or unions leaf 0) ports ≡ 0) → IsHalf unions ports node half → IsOnWay places ports unions half
     step zero start end before h = absurd (omega arith)
-    step (suc k) start end before (inl (e, has)) = subst (λ (n : ℕ). IsOnWay places ports unions n) (sym e) (
+    step (suc k) start end before h =
         let a = ap (λ (w : ℕ). node * w) (pow-suc 2 k) ∙ doubled node (2 ^ k) in
         let b = ap (λ (w : ℕ). (node + 1) * w) (pow-suc 2 k) ∙ next_doubled node (2 ^ k) in
         let low = way.low in
-        record {
-          low = omega arith;
-          high = omega arith;
-          has = has;
-          levels = k;
-          start = omega arith;
-          end = omega arith;
-          before = λ leaf high less. before leaf high (omega arith);
-        })
-    step (suc k) start end before (inr (e, none)) = subst (λ (n : ℕ). IsOnWay places ports unions n) (sym e) (
-        let a = ap (λ (w : ℕ). node * w) (pow-suc 2 k) ∙ doubled node (2 ^ k) in
-        let b = ap (λ (w : ℕ). (node + 1) * w) (pow-suc 2 k) ∙ next_doubled node (2 ^ k) in
-        let low = way.low in
-        record {
-          low = omega arith;
-          high = omega arith;
-          has = λ both. way.has (subst (λ (n : ℕ). bit_and n ports ≡ 0) (sym union) (both_have_none (get_or unions (2 * node) 0) (get_or unions (2 * node + 1) 0) ports none both));
-          levels = k;
-          start = omega arith;
-          end = omega arith;
-          before = λ leaf high less. elim (cases_lt leaf ((2 * node) * 2 ^ k)) [
-            | inl left ↦ before leaf high (omega arith)
-            | inr right ↦ none_below places ports unions tree k (2 * node) leaf (record { first = right; last = less }) (omega arith) (omega arith) none
-          ];
-        })
+        elim h [
+          | inl (e, has) ↦ subst (λ (n : ℕ). IsOnWay places ports unions n) (sym e) (record {
+            low = omega arith;
+            high = omega arith;
+            has = has;
+            levels = k;
+            start = omega arith;
+            end = omega arith;
+            before = λ leaf high less. before leaf high (omega arith);
+          })
+          | inr (e, none) ↦ subst (λ (n : ℕ). IsOnWay places ports unions n) (sym e) (record {
+            low = omega arith;
+            high = omega arith;
+            has = λ both. way.has (subst (λ (n : ℕ). bit_and n ports ≡ 0) (sym union) (both_have_none (get_or unions (2 * node) 0) (get_or unions (2 * node + 1) 0) ports none both));
+            levels = k;
+            start = omega arith;
+            end = omega arith;
+            before = λ leaf high less. elim (cases_lt leaf ((2 * node) * 2 ^ k)) [
+              | inl left ↦ before leaf high (omega arith)
+              | inr right ↦ none_below places ports unions tree k (2 * node) leaf (record { first = right; last = less }) (omega arith) (omega arith) none
+            ];
+          })
+        ]
 
 pub ends_at_first : (places ports node : ℕ) (unions : List ℕ) → IsTree places unions → IsOnWay places ports unions node → places ≤ node → IsFirst ports (drop places unions) (node - places)
 ends_at_first places ports node unions tree way leaf =

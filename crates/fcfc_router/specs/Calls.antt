@@ -1,5 +1,6 @@
 -- The calls of a router in order, and what they say of each packet.
-use Rattle.std.specs.Prelude.{◌≡◌, ◌≢◌, ◌==◌, ◌+◌, ◌<◌, ◌≤◌, ℕ, List, [], ◌∷◌, ◌++◌, Option, Some, None, All, length, if◌then◌else◌}
+use Rattle.std.specs.Prelude.{◌≡◌, ◌≢◌, ◌==◌, ◌+◌, ◌<◌, ◌≤◌, ℕ, List, [], ◌∷◌, ◌++◌, Option, Some, None, All}
+use Rattle.std.specs.Prelude.{length, if◌then◌else◌}
 use Rattle.an_base.specs.Rows.{ArePorts, ExitsRise}
 use Rattle.fcfc_router.specs.declared.router.Grant.{Grant}
 use Rattle.fcfc_router.specs.Router.{RequestOf, IsGranted}

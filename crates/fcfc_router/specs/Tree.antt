@@ -1,5 +1,6 @@
 -- The sets of ports at places, and the unions above them.
-use Rattle.std.specs.Prelude.{◌≡◌, ◌≢◌, ◌⊎◌, ◌+◌, ◌*◌, ◌<◌, ◌≤◌, ◌^◌, ℕ, List, All, bit_and, length, slice_index}
+use Rattle.std.specs.Prelude.{◌≡◌, ◌≢◌, ◌⊎◌, ◌+◌, ◌*◌, ◌<◌, ◌≤◌, ◌^◌, ℕ, List, All, bit_and, length}
+use Rattle.std.specs.Prelude.{slice_index}
 use Rattle.std.specs.Int.RustNames.{bit_or}
 
 -- none of the sets has one of these ports

@@ -7,7 +7,8 @@ ghost use Rattle.fcfc_router.specs.Calls.Call.{Ask, Grants};
 /// Nobody is passed over: where one asked, has not been granted since, and a packet that asked after it
 /// is granted, no port that the first one named is free at that call.
 pub fn nobody_is_passed_over()
-    ensures { (most free : ℕ) (before between : List Call) (request : RequestOf) (grant : Grant) (end : List RequestOf)
+    ensures { (most free : ℕ) (before between : List Call) (request : RequestOf) (grant : Grant)
+        (end : List RequestOf)
         → Leads most [] (before ++ (Ask request ∷ (between ++ (Grants free (Some grant) ∷ [])))) end
         → granted request.packet between ≡ 0 → grant.packet ≢ request.packet → 1 ≤ asked grant.packet between
         → CanGo free request → ⊥ }
@@ -30,5 +31,6 @@ pub fn granted_what_it_asked_for()
 /// A grant is fixed by the free ports and by who waits.
 pub fn one_grant()
     ensures { (free : ℕ) (old new other : List RequestOf) (answer instead : Option Grant)
-        → IsGranted free old new answer → IsGranted free old other instead → (answer ≡ instead) × (new ≡ other) }
+        → IsGranted free old new answer → IsGranted free old other instead
+        → (answer ≡ instead) × (new ≡ other) }
 {}

@@ -126,15 +126,20 @@ impl Router {
     /// It takes no memory.
     pub fn ask(&mut self, packet: u32, ports: &[u8])
         requires { MayAsk self.old.most self.old.waiting (record { packet = packet; ports = ports.now }) }
-        ensures { self.new ≡ record self.old { waiting = self.old.waiting ++ (record { packet = packet; ports = ports.now } ∷ []) } }
+        ensures { self.new ≡ record self.old {
+          waiting = self.old.waiting ++ (record { packet = packet; ports = ports.now } ∷ []);
+        } }
     {
         self.ask_set(packet, set_of(ports));
     }
 
     /// The same for a set of ports: bit `p` says that port `p` is in it.
     pub fn ask_set(&mut self, packet: u32, ports: u16)
-        requires { MayAsk self.old.most self.old.waiting (record { packet = packet; ports = ports_of ports }) }
-        ensures { self.new ≡ record self.old { waiting = self.old.waiting ++ (record { packet = packet; ports = ports_of ports } ∷ []) } }
+        requires { MayAsk self.old.most self.old.waiting
+            (record { packet = packet; ports = ports_of ports }) }
+        ensures { self.new ≡ record self.old {
+          waiting = self.old.waiting ++ (record { packet = packet; ports = ports_of ports } ∷ []);
+        } }
     {
         make_room(&mut self.slots, &mut self.tree);
         let place = self.slots.len();

@@ -31,9 +31,6 @@ module _ {X : Type 0} (P : X → Type 0) (older younger : List X) (x : X) (all :
 pub same_flow : (old new : Board) → IsSame old new → flow_of new ≡ flow_of old
 same_flow old new same = let a = same.packets in let b = same.entries in let c = same.queues in let d = same.routers in cc
 
-pub is_same : (board : Board) → IsSame board board
-is_same board = record { packets = refl; entries = refl; queues = refl; routers = refl }
-
 -- a router is written
 pub kept_router : (tables : Tables) (p : Vec Packet Global) (e : Vec ℕ Global) (q : Vec QueueOf Global) (r : Vec RouterOf Global) (at place : ℕ) (new : RouterOf) → IsKept tables (made p e q r) → at < 127 → place ≡ at → new.most ≡ tables.limit → All (IsAsked tables.exits.sets.items (made p e q r) at) new.waiting → IsKept tables (made p e q (with_item r place new))
 kept_router tables p e q r at place new kept low place_is most all = record {

@@ -1,10 +1,10 @@
 -- The exits of a layout are those of its rows, and what is on its way has one with a link.
-use Rattle.std.proofs.Common.{◌≡◌, ◌≢◌, ◌∙◌, sym, subst, refl, ℕ, zero, suc, ◌+◌, ◌<◌, ◌≤◌, List, [], ◌∷◌, Some, Bool, true, false, arith, length, get_or, inl, inr, ◌==◌}
-use Rattle.std.specs.Prelude.{Contains, filter, ◌&&◌, ◌⊎◌}
+use Rattle.std.proofs.Common.{◌≡◌, ◌≢◌, ◌∙◌, ap, subst, refl, ℕ, zero, ◌<◌, List, [], ◌∷◌, Some, Bool, true, false, arith, length, inl, inr, ◌==◌}
+use Rattle.std.specs.Prelude.{Contains, slice_get, ◌&&◌, ◌⊎◌}
 use Rattle.std.specs.List.{list_any, range_with_len}
-use Rattle.std.proofs.lemmas.Bool.{cases_Bool, cases_eq, eq-eqb, eqb-true}
-use Rattle.std.proofs.lemmas.Bool.Decides.{nat_tests}
+use Rattle.std.proofs.lemmas.Bool.{eq-eqb, eqb-true}
 use Rattle.std.proofs.lemmas.List.{get_or_default}
+use Rattle.std.proofs.lemmas.Option.{same_Some}
 use Rattle.std.proofs.lemmas.List.Folds.{Any-from_list_any, list_any-from_Any}
 use Rattle.an_base.specs.Rows.{RowOf}
 use Rattle.dep_check.specs.declared.channel.Channel.{Channel}
@@ -18,6 +18,11 @@ use Rattle.flow_channels.specs.Sound.{IsOnWay}
 pub list_cases : {A : Type 0} (xs : List A) → (xs ≡ []) ⊎ ((x : A) × (rest : List A) × (xs ≡ x ∷ rest))
 list_cases [] = inl refl
 list_cases (x ∷ xs) = inr (x, xs, refl)
+
+-- a list whose first element is told
+pub first_in : {A : Type 0} (xs : List A) (x : A) → slice_get xs 0 ≡ Some x → (others : List A) × (xs ≡ x ∷ others)
+first_in [] x e = absurd (cc)
+first_in {A} (y ∷ xs) x e = (xs, ap (λ (z : A). z ∷ xs) (same_Some y x e))
 
 both : (a b : Bool) → (a && b) ≡ true → (a ≡ true) × (b ≡ true)
 both true b e = (refl, e)

@@ -1,14 +1,12 @@
 -- The sets of exits, made row by row.
-use Rattle.std.proofs.Common.{◌≡◌, ◌∙◌, sym, ap, subst, refl, ℕ, ◌+◌, ◌*◌, ◌%◌, ◌^◌, ◌<◌, List, [], ◌∷◌, ◌++◌, arith, length, get_or, take, inl, inr, Bool, ◌==◌}
-use Rattle.std.specs.Prelude.{All, Contains, filter, replicate, ◌⊎◌, ◌↔◌}
+use Rattle.std.proofs.Common.{◌≡◌, ◌∙◌, sym, subst, refl, ℕ, ◌+◌, ◌<◌, List, [], ◌∷◌, ◌++◌, arith, length, get_or, take, inl, inr, Bool, ◌==◌}
+use Rattle.std.specs.Prelude.{All, filter, ◌⊎◌}
 use Rattle.std.specs.List.{list_any, range_with_len}
 use Rattle.std.proofs.lemmas.List.FromFn.{get_or-range_with_len, length-range_with_len}
-use Rattle.std.specs.Int.{bit_at, w16}
-use Rattle.std.specs.Int.RustNames.{bit_or}
+use Rattle.std.specs.Int.{bit_at}
 use Rattle.std.proofs.lemmas.Bool.{cases_eq, eq-eqb, eqb-true}
-use Rattle.std.proofs.lemmas.List.{get_or-replicate, get_or_append_left, get_or_push, length_push, take_more}
-use Rattle.std.proofs.lemmas.List.Elements.{All-filter, Contains-append_left, Contains-push, Contains-push_cases}
-use Rattle.std.proofs.lemmas.Nat.Bits.{bit_at-zero, bit_at_set_same, bit_at_set_other}
+use Rattle.std.proofs.lemmas.List.{get_or_append_left, get_or_push, length_push, take_more}
+use Rattle.std.proofs.lemmas.List.Elements.{All-filter}
 use Rattle.an_base.specs.Rows.{RowOf}
 use Rattle.an_base.specs.Rows.{ArePorts}
 use Rattle.an_base.specs.Values.{EntryOf}
@@ -19,59 +17,9 @@ use Rattle.flow_channels.proofs.AskLaws.{range_rises}
 use Rattle.flow_channels.proofs.ExitLemmas.{exit_has, has_named}
 use Rattle.dep_check.specs.declared.channel.Channel.{Channel}
 use Rattle.dep_check.specs.Channels.{HasExit}
-use Rattle.dep_check.specs.Tables.{IsSpot, place_of}
-use Rattle.dep_check.proofs.SpotLemmas.{place_low}
+use Rattle.dep_check.specs.Tables.{IsSpot}
 use Rattle.flow_channels.specs.Board.{exit_set}
 use Rattle.flow_channels.specs.Exits.{AreAdded, AreSets, RowHas}
-
--- a set has the ports of another, and some more
-pub record HasBoth (first : ℕ) (ports : List ℕ) (set : ℕ) : Type 0 where
-  pub only : (port : ℕ) → bit_at set port ≡ 1 → (bit_at first port ≡ 1) ⊎ Contains ports port
-  pub old : (port : ℕ) → bit_at first port ≡ 1 → bit_at set port ≡ 1
-  pub added : (port : ℕ) → Contains ports port → bit_at set port ≡ 1
-
-pub has_first : (first : ℕ) (ports : List ℕ) → HasBoth first (take 0 ports) first
-has_first first ports = record {
-  only = λ port is. inl is;
-  old = λ port is. is;
-  added = λ port has. absurd (let low = has.1 in omega arith);
-}
-
-pub has_one_more : (first : ℕ) (ports : List ℕ) (i set : ℕ) → i < length ports → get_or ports i 0 < 16 → HasBoth first (take i ports) set → HasBoth first (take (i + 1) ports) (bit_or set (1 * 2 ^ get_or ports i 0 % 2 ^ 16))
-has_one_more first ports i set low small both = rw (take_more ports i 0 low) (record {
-  only = λ port is. elim (cases_eq port (get_or ports i 0)) [
-    | inl same ↦ inr (subst (λ (p : ℕ). Contains (take i ports ++ (get_or ports i 0 ∷ [])) p) (sym same) (Contains-push (take i ports) (get_or ports i 0)))
-    | inr other ↦ elim (both.only port (sym (bit_at_set_other w16 set (get_or ports i 0) small port other) ∙ is)) [
-      | inl before ↦ inl before
-      | inr named ↦ inr (Contains-append_left (take i ports) (get_or ports i 0 ∷ []) port named)
-    ]
-  ];
-  old = λ port is. still port (both.old port is);
-  added = λ port has. elim (Contains-push_cases (take i ports) (get_or ports i 0) port has) [
-    | inl before ↦ still port (both.added port before)
-    | inr same ↦ subst (λ (p : ℕ). bit_at (bit_or set (1 * 2 ^ get_or ports i 0 % 2 ^ 16)) p ≡ 1) same (bit_at_set_same w16 set (get_or ports i 0) small)
-  ];
-})
-  where
-    still : (port : ℕ) → bit_at set port ≡ 1 → bit_at (bit_or set (1 * 2 ^ get_or ports i 0 % 2 ^ 16)) port ≡ 1
-    still port is = elim (cases_eq port (get_or ports i 0)) [
-      | inl same ↦ subst (λ (p : ℕ). bit_at (bit_or set (1 * 2 ^ get_or ports i 0 % 2 ^ 16)) p ≡ 1) (sym same) (bit_at_set_same w16 set (get_or ports i 0) small)
-      | inr other ↦ (bit_at_set_other w16 set (get_or ports i 0) small port other ∙ is)
-    ]
-
-pub has_as_told : (first : ℕ) (ports : List ℕ) (set : ℕ) → HasBoth first ports set → (port : ℕ) → ((bit_at set port ≡ 1) ↔ ((bit_at first port ≡ 1) ⊎ Contains ports port))
-has_as_told first ports set both port = (both.only port, λ either. elim either [ inl old ↦ both.old port old | inr added ↦ both.added port added ])
-
--- no rows have no exits
-pub no_sets : (rows : List RowOf) (sets : List ℕ) → sets ≡ replicate 209677 0 → AreSets (take 0 rows) sets
-no_sets rows sets is came to port spot low = (
-  λ bit. absurd (
-      let place = place_low came spot in
-      let read : exit_set sets came to ≡ 0 = ap (λ (xs : List ℕ). exit_set xs came to) is ∙ get_or-replicate 209677 (place_of came * 127 + to) 0 0 (omega arith) in
-      let z : bit_at (exit_set sets came to) port ≡ 0 = ap (λ (n : ℕ). bit_at n port) read ∙ bit_at-zero port in
-      omega arith),
-  λ has. absurd (let below = has.2 in omega arith),
-)
 
 -- one more row
 pub more_sets : (rows : List RowOf) (i : ℕ) (row : RowOf) (old new : List ℕ) → i < length rows → row ≡ get_or rows i row → AreSets (take i rows) old → AreAdded row old new → AreSets (take (i + 1) rows) new

@@ -274,4 +274,4 @@ module _ (tables : Tables) (board : Board) (kept : IsKept tables board) (layout 
     pub departure_left : (new : FlowOf) → new ≡ gone_by tables middle departure → left_of new ≡ left_of (flow_of board)
     departure_left new new_is =
         ap left_of (new_is ∙ gone_is)
-        ∙ go_left layout over.ranks over.wired over.ranked known (flow_of board) departure.at (length gone.grant.older) departure.exit over.sound can_go
+        ∙ go_left layout over.wired known (flow_of board) departure.at (length gone.grant.older) departure.exit over.sound can_go

@@ -157,7 +157,7 @@ module _ (layout : LayoutOf) (ranks : List (Option ℕ)) (wired : IsWired layout
                   let before = ranked.channels c (spot at w.entry, back) in
                   let weight_c = weight_is layout ranks wired ranked known c before.0 is_c before.1 in
                   let leads : LeadsTo layout.far layout.rows c d = record { entry = w.entry; arrives = back; to = w.packet.to; exit = exit_has layout (spot at w.entry) w.packet.to port can.named; link = (e, far) } in
-                  let less = leads_less layout ranks wired ranked known c d (spot at w.entry) e w.packet.to back leads far in
+                  let less = leads_less layout ranks wired ranked known c d (spot at w.entry) e back leads far in
                   elim (cases_lt n before.0) [
                     | inl more ↦ absurd (
                         let first = brought layout wired known flow at w c by waits in

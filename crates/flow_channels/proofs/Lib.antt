@@ -5,6 +5,7 @@ pub mod StateLemmas
 pub mod SoundLaws
 pub mod WiredLaws
 pub mod RunLaws
+pub mod WeightLaws
 pub mod EndLaws
 pub mod HopLaws
 pub mod CallLaws

@@ -1,6 +1,6 @@
 -- Over rows that pass, some packet can move.
 use Rattle.std.proofs.Common.{◌≡◌, ◌≢◌, ◌∙◌, sym, subst, refl, ℕ, zero, suc, ◌<◌, ◌≤◌, List, [], ◌∷◌, Option, Some, None, arith, length, get_or, inl, inr}
-use Rattle.std.specs.Prelude.{Contains, All, ◌⊎◌}
+use Rattle.std.specs.Prelude.{Contains, All, ◌⊎◌, ◌/◌, ◌%◌}
 use Rattle.std.proofs.lemmas.Bool.{cases_eq}
 use Rattle.std.proofs.lemmas.Option.{same_Some}
 use Rattle.dep_check.specs.declared.channel.Channel.{Channel}
@@ -8,7 +8,7 @@ use Rattle.dep_check.specs.Channels.{IsChannel, LeadsTo}
 use Rattle.dep_check.specs.Cycles.{AreRanks}
 use Rattle.dep_check.specs.Packets.{AllAreJoined}
 use Rattle.dep_check.specs.Tables.{IsSpot, place_of, rank_at}
-use Rattle.dep_check.proofs.SpotLemmas.{option_cases, at_place, at_place_spot, at_place_is}
+use Rattle.dep_check.proofs.SpotLemmas.{option_cases}
 use Rattle.flow_channels.specs.Layout.{LayoutOf, spot, IsWired}
 use Rattle.flow_channels.specs.Flows.{FlowOf, PacketOf, WaitOf, first_of, queue_at, waiting_at, left_of, in_queues, all_starting}
 use Rattle.flow_channels.specs.Moves.{Move, FirstCanMove, IsPossible}
@@ -16,6 +16,18 @@ use Rattle.flow_channels.specs.Moves.Move.{Arrives, Goes}
 use Rattle.flow_channels.specs.Sound.{IsSound, ComesBy, FirstWaits, WaitsThere}
 use Rattle.flow_channels.proofs.ExitLemmas.{list_cases, exit_has, has_way_on}
 use Rattle.flow_channels.proofs.CountLemmas.{some_queue, no_queue, some_start, some_switch, found}
+
+-- the spot at a place
+at_place : ℕ → Channel
+at_place k = record { at = k / 13; port = k % 13 }
+
+at_place_spot : (k : ℕ) → k < 1651 → IsSpot (at_place k)
+unfolding at_place
+at_place_spot k low = record { at = omega arith; port = omega arith }
+
+at_place_is : (k : ℕ) → place_of (at_place k) ≡ k
+unfolding at_place
+at_place_is k = omega arith
 
 module _ (layout : LayoutOf) (ranks : List (Option ℕ)) (known : List ℕ) (flow : FlowOf) (wired : IsWired layout) (joined : AllAreJoined layout.far layout.numbers layout.rows) (ranked : AreRanks (IsChannel layout.far) (LeadsTo layout.far layout.rows) (rank_at ranks)) (sound : IsSound layout known flow) where
   -- a channel with a rank is one

@@ -21,7 +21,7 @@ use Rattle.flow_channels.specs.Moves.Move.{Arrives, Goes}
 use Rattle.flow_channels.specs.Runs.{Act, Comes, entered}
 use Rattle.flow_channels.specs.Runs.Act.{Enter, Turn}
 use Rattle.flow_channels.specs.Sound.{IsSound, IsOnWay, IsFirst, IsBroughtBy, WaitsThere, FirstWaits, ComesBy, IsIn, IsInOne, AreApart, WaitApart}
-use Rattle.flow_channels.proofs.ExitLemmas.{list_cases, exit_has}
+use Rattle.flow_channels.proofs.ExitLemmas.{list_cases, exit_has, first_in}
 use Rattle.flow_channels.proofs.StateLemmas.{spot_cases, queue_here, queue_there, waiting_here, queue_each, waiting_each, all_remove, contains_remove, apart_remove}
 
 module _ (layout : LayoutOf) (wired : IsWired layout) (known : List ℕ) where
@@ -528,7 +528,7 @@ module _ (layout : LayoutOf) (wired : IsWired layout) (known : List ℕ) where
   ]
 
   -- a move leaves all sound
-  go_sound : (flow : FlowOf) (at i port : ℕ) → IsSound layout known flow → CanGo layout flow at i port → IsSound layout known (goes layout at i port (slice_get (waiting_at flow at) i) flow)
+  pub go_sound : (flow : FlowOf) (at i port : ℕ) → IsSound layout known flow → CanGo layout flow at i port → IsSound layout known (goes layout at i port (slice_get (waiting_at flow at) i) flow)
   go_sound flow at i port sound can =
       let w = can.wait in
       let g = got (waiting_at flow at) i w can.there in
@@ -551,7 +551,7 @@ module _ (layout : LayoutOf) (wired : IsWired layout) (known : List ℕ) where
       let done = come_sound d end w.packet (leaves_by layout (layout.far (spot at w.entry)) (with_waiting at (remove (waiting_at flow at) i) flow)) can.room.1 left.sound left.gone (wait_known flow at w sound waits one) on (omega arith) in
       subst (λ (o : Option WaitOf). IsSound layout known (goes layout at i port o flow)) (sym can.there) done
 
-  arrive_sound : (flow : FlowOf) (c : Channel) → IsSound layout known flow → CanArrive layout flow c → IsSound layout known (leaves layout c flow)
+  pub arrive_sound : (flow : FlowOf) (c : Channel) → IsSound layout known flow → CanArrive layout flow c → IsSound layout known (leaves layout c flow)
   arrive_sound flow c sound (packet, entry, first, far) =
       let end = spot packet.to entry in
       let own : IsFirst flow c packet = first_in (queue_at flow c) packet first in
@@ -567,10 +567,6 @@ module _ (layout : LayoutOf) (wired : IsWired layout) (known : List ℕ) where
             waits.0 (ap (λ (x : Channel). x.at) end_is ∙ ap (λ (p : PacketOf). p.to) (sym is)));
       } in
       asks_sound c end sound.place (with_queue c (drop 1 (queue_at flow c)) flow) far (dropped c end sound.place flow far but)
-    where
-      first_in : (ps : List PacketOf) (p : PacketOf) → slice_get ps 0 ≡ Some p → (others : List PacketOf) × (ps ≡ p ∷ others)
-      first_in [] p e = absurd (cc)
-      first_in (q ∷ ps) p e = (ps, ap (λ (x : PacketOf). x ∷ ps) (same_Some q p e))
 
   move_sound : (flow : FlowOf) (move : Move) → IsSound layout known flow → IsPossible layout flow move → IsSound layout known (after layout move flow)
   move_sound flow (Arrives c) sound can = arrive_sound flow c sound can

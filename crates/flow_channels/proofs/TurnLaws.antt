@@ -99,4 +99,4 @@ pub arrival_left : (tables : Tables) (board : Board) (arrival : Arrival) (new : 
 arrival_left tables board arrival new running first is =
     let over = running.over in
     ap (λ (f : FlowOf). left_of f + 1) (is ∙ leaves_same (ways tables) running.layout arrival.channel (flow_of board) (over.tables_are.far arrival.channel))
-    ∙ arrive_left running.layout over.ranks over.wired over.ranked (map (λ (packet : Packet). packet.packet) board.packets.items) (flow_of board) arrival.channel over.sound (arrives tables board running.layout over arrival first)
+    ∙ arrive_left running.layout over.wired (map (λ (packet : Packet). packet.packet) board.packets.items) (flow_of board) arrival.channel over.sound (arrives tables board running.layout over arrival first)

@@ -22,7 +22,7 @@ use Rattle.flow_channels.specs.Sound.{IsIn, IsInOne, IsSound}
 use Rattle.flow_channels.specs.Turns.{IsSame}
 use Rattle.flow_channels.specs.View.{FlowView, HasLeft, HasTurned, IsOver, IsRunning, IsStill, view_of}
 use Rattle.flow_channels.proofs.DepartLemmas.{same_flow}
-use Rattle.flow_channels.proofs.EndLaws.{starting_push, starting_set}
+use Rattle.flow_channels.proofs.WeightLaws.{starting_push, starting_set}
 use Rattle.flow_channels.proofs.MoveLaws.{some_move}
 use Rattle.flow_channels.proofs.RunLaws.{no_moves}
 use Rattle.flow_channels.proofs.SoundLaws.{enter_sound, start_sound, turn_sound}
@@ -81,15 +81,6 @@ same_view tables old new same =
     let flow = sym (same_flow old new same) in
     let known = ap (map number) (sym same.packets) in
     ap (λ (ks : List ℕ). viewed tables ks (flow_of old)) known ∙ ap (λ (f : FlowOf). viewed tables (map number new.packets.items) f) flow
-
-pub running_same : (tables : Tables) (old new : Board) → IsRunning tables old → IsSame old new → IsKept tables new → IsRunning tables new
-running_same tables old new running same kept = record {
-  kept = kept;
-  least = running.least;
-  limit = running.limit;
-  layout = running.layout;
-  over = subst (λ (v : FlowView). IsOver running.layout v) (same_view tables old new same) running.over;
-}
 
 pub left_after : (tables : Tables) (start old new : Board) (left : ℕ) (result : Option Went) → old ≡ start → HasLeft tables start left → MatchOption result (IsStill tables old) (HasTurned tables old new) → IfNone result (IsSame old new) → (IsNone result → IsRunning tables new) → IfSome result (λ _. left_of (flow_of new) ≡ left_of (flow_of old)) → HasLeft tables new left
 left_after tables start old new left None is has still same running lefts = record {

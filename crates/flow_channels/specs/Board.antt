@@ -1,7 +1,7 @@
 -- Where packets are and may go, as the program keeps it.
-use Rattle.std.specs.Prelude.{◌≡◌, ◌+◌, ◌*◌, ◌<◌, ◌≤◌, ℕ, List, [], Option, All, length, map, min, slice_index, slice_index_or, vec_capacity}
+use Rattle.std.specs.Prelude.{◌≡◌, ◌+◌, ◌*◌, ◌<◌, ◌≤◌, ℕ, List, [], Option, All, length, map, min}
+use Rattle.std.specs.Prelude.{slice_index, slice_index_or, vec_capacity}
 use Rattle.dep_check.specs.declared.channel.Channel.{Channel}
-use Rattle.dep_check.specs.Packets.{AllAreJoined}
 use Rattle.dep_check.specs.Tables.{IsSpot, place_of, wire_at, WiresAreWithin}
 use Rattle.fcfc_router.specs.Router.{RequestOf}
 use Rattle.fcfc_router.specs.Shown.{ports_of, RouterOf}
@@ -9,8 +9,8 @@ use Rattle.flow_channels.specs.declared.board.Board.{Board}
 use Rattle.flow_channels.specs.declared.board.Departure.{Departure}
 use Rattle.flow_channels.specs.declared.board.Packet.{Packet}
 use Rattle.flow_channels.specs.declared.tables.Tables.{Tables}
-use Rattle.flow_channels.specs.Layout.{LayoutOf, IsWired, exits_of, spot}
-use Rattle.flow_channels.specs.Flows.{FlowOf, PacketOf, WaitOf, comes_into, leaves_by}
+use Rattle.flow_channels.specs.Layout.{LayoutOf, IsWired, JoinsAll, exits_of, spot}
+use Rattle.flow_channels.specs.Flows.{FlowOf, PacketOf, WaitOf, asks, comes_into, leaves_by}
 use Rattle.flow_channels.specs.Queue.{QueueOf}
 use Rattle.flow_channels.specs.Sound.{IsSound}
 
@@ -55,13 +55,26 @@ flow_of board = record {
 abbrev pub ways : Tables → LayoutOf
 ways tables = record { far = wire_at tables.wires.items; numbers = []; rows = []; most = tables.room }
 
+-- the flow in which a packet asks at a switch, for what came in at an entry
+abbrev pub asked_by : Board → ℕ → ℕ → ℕ → FlowOf
+asked_by board at slot entry =
+    asks at (record { packet = packet_at board.packets.items slot; entry = entry }) (flow_of board)
+
+-- the one in which a packet comes last in a channel
+abbrev pub come_by : Tables → Board → Channel → ℕ → FlowOf
+come_by tables board channel slot =
+    comes_into (ways tables) channel (packet_at board.packets.items slot) (flow_of board)
+
+-- and the one in which what came in at a spot has left the channel that brought it, if one did
+abbrev pub freed_by : Tables → Board → Channel → FlowOf
+freed_by tables board came = leaves_by (ways tables) ((ways tables).far came) (flow_of board)
+
 -- one that was let go has left the channel that brought it, and has come into that of its port
 abbrev pub departed_from : Board → Departure → Channel
 departed_from board departure = spot departure.at (slice_index board.entries.items departure.slot)
 
 abbrev pub left_by : Tables → Board → Departure → FlowOf
-left_by tables board departure =
-    leaves_by (ways tables) ((ways tables).far (departed_from board departure)) (flow_of board)
+left_by tables board departure = freed_by tables board (departed_from board departure)
 
 abbrev pub gone_by : Tables → Board → Departure → FlowOf
 gone_by tables board departure =
@@ -99,6 +112,6 @@ pub record IsSoundOver (tables : Tables) (flow : FlowOf) : Type 0 where
   pub known : List ℕ
   pub tables_are : AreTablesOf layout tables.wires.items tables.exits.sets.items tables.room
   pub wired : IsWired layout
-  pub joined : AllAreJoined layout.far layout.numbers layout.rows
+  pub joined : JoinsAll layout
   pub few : length known ≤ tables.limit
   pub sound : IsSound layout known flow

@@ -4,8 +4,10 @@ use Rattle.std.specs.List.{list_any, range_with_len}
 use Rattle.an_base.specs.Values.{EntryOf}
 use Rattle.an_base.specs.Rows.{RowOf}
 use Rattle.dep_check.specs.declared.channel.Channel.{Channel}
-use Rattle.dep_check.specs.Channels.{far_at}
-use Rattle.dep_check.specs.Tables.{IsSpot}
+use Rattle.dep_check.specs.Channels.{far_at, IsChannel, LeadsTo}
+use Rattle.dep_check.specs.Cycles.{AreRanks}
+use Rattle.dep_check.specs.Packets.{AllAreJoined}
+use Rattle.dep_check.specs.Tables.{IsSpot, rank_at}
 
 -- the far side of each port, by the number of its switch; the numbers of the switches; the rows; and how
 -- many packets a channel holds
@@ -42,3 +44,11 @@ pub record IsWired (layout : LayoutOf) : Type 0 where
   pub start : (at : ℕ) → layout.far (spot at 0) ≡ None
   pub low : (at : ℕ) → Contains layout.numbers at → at < 127
   pub room : 1 ≤ layout.most
+
+-- the rows join all of its switches
+abbrev pub JoinsAll : LayoutOf → Type 0
+JoinsAll layout = AllAreJoined layout.far layout.numbers layout.rows
+
+-- and these are the ranks of its channels
+abbrev pub HasRanks : LayoutOf → List (Option ℕ) → Type 0
+HasRanks layout ranks = AreRanks (IsChannel layout.far) (LeadsTo layout.far layout.rows) (rank_at ranks)

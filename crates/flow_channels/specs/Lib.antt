@@ -1,10 +1,12 @@
+-- what public contracts cite
 pub mod Layout
 pub mod Flows
 pub mod Moves
 pub mod Runs
 pub mod Sound
+pub mod View
+-- what private functions cite
 pub mod Queue
 pub mod Board
 pub mod Exits
 pub mod Turns
-pub mod View

@@ -1,5 +1,6 @@
 -- Flows that come about: packets enter, and turns are made.
-use Rattle.std.specs.Prelude.{◌≡◌, ◌≢◌, ◌==◌, ◌<◌, ◌+◌, ◌*◌, max, ℕ, suc, List, [], ◌∷◌, Option, Contains, length, unwrap_or, if◌then◌else◌}
+use Rattle.std.specs.Prelude.{◌≡◌, ◌≢◌, ◌==◌, ◌<◌, ◌+◌, ◌*◌, max, ℕ, suc, List, [], ◌∷◌, Option, Contains}
+use Rattle.std.specs.Prelude.{length, unwrap_or, if◌then◌else◌}
 use Rattle.flow_channels.specs.declared.went.Went.{Went}
 use Rattle.flow_channels.specs.declared.went.Went.TheVariants.{Arrived, Out}
 use Rattle.flow_channels.specs.Layout.{LayoutOf}

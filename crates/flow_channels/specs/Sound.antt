@@ -1,5 +1,6 @@
 -- What holds of every flow that comes about.
-use Rattle.std.specs.Prelude.{◌≡◌, ◌≢◌, ◌≤◌, ◌⊎◌, ℕ, List, [], ◌∷◌, Option, Some, None, All, AllPairs, Contains, length}
+use Rattle.std.specs.Prelude.{◌≡◌, ◌≢◌, ◌≤◌, ◌⊎◌, ℕ, List, [], ◌∷◌, Option, Some, None, All, AllPairs}
+use Rattle.std.specs.Prelude.{Contains, length}
 use Rattle.dep_check.specs.declared.channel.Channel.{Channel}
 use Rattle.dep_check.specs.Cycles.{Walk}
 use Rattle.dep_check.specs.Packets.{GoesOn}

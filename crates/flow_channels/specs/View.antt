@@ -1,16 +1,12 @@
 -- A flow as callers see it.
 use Rattle.std.specs.Prelude.{◌≡◌, ◌≤◌, ℕ, List, [], Option, Some, None, length, map}
 use Rattle.dep_check.specs.declared.channel.Channel.{Channel}
-use Rattle.dep_check.specs.Channels.{IsChannel, LeadsTo}
-use Rattle.dep_check.specs.Cycles.{AreRanks}
-use Rattle.dep_check.specs.Packets.{AllAreJoined}
-use Rattle.dep_check.specs.Tables.{rank_at}
 use Rattle.flow_channels.specs.declared.board.Board.{Board}
 use Rattle.flow_channels.specs.declared.tables.Tables.{Tables}
 use Rattle.flow_channels.specs.declared.went.Went.{Went}
 use Rattle.flow_channels.specs.Board.{AreTablesOf, flow_of, IsKept}
 use Rattle.flow_channels.specs.Flows.{FlowOf, empty_flow, left_of}
-use Rattle.flow_channels.specs.Layout.{IsWired, LayoutOf}
+use Rattle.flow_channels.specs.Layout.{HasRanks, IsWired, JoinsAll, LayoutOf}
 use Rattle.flow_channels.specs.Moves.{IsPossible, IsTurn, Move}
 use Rattle.flow_channels.specs.Runs.{MayEnter}
 use Rattle.flow_channels.specs.Sound.{IsSound}
@@ -39,9 +35,9 @@ view_of tables board = record {
 pub record IsOver (layout : LayoutOf) (view : FlowView) : Type 0 where
   pub tables_are : AreTablesOf layout view.wires view.sets view.room
   pub wired : IsWired layout
-  pub joined : AllAreJoined layout.far layout.numbers layout.rows
+  pub joined : JoinsAll layout
   pub ranks : List (Option ℕ)
-  pub ranked : AreRanks (IsChannel layout.far) (LeadsTo layout.far layout.rows) (rank_at ranks)
+  pub ranked : HasRanks layout ranks
   pub sound : IsSound layout view.known view.flow
 
 -- no packet entered yet

@@ -1,19 +1,20 @@
-ghost use Rattle.std.specs.Prelude.{◌≡◌, ◌<◌, ◌≤◌, ◌+◌, ◌++◌, ◌∷◌, [], ℕ, length, drop, min, remove, replicate, slice_get, slice_index, slice_index_or, All, IfOk, IsTrue, IsNone, MatchOption, ◌↔◌};
-ghost use Rattle.dep_check.specs.declared.channel.Channel.{Channel};
+ghost use Rattle.std.specs.Prelude.{◌≡◌, ◌<◌, ◌≤◌, ◌++◌, ◌∷◌, [], length, replicate, slice_get, slice_index};
+ghost use Rattle.std.specs.Prelude.{slice_index_or, IfOk, IsTrue, IsNone, MatchOption, ◌↔◌};
 ghost use Rattle.dep_check.specs.Tables.{IsSpot, place_of, WiresAreWithin};
-ghost use Rattle.flow_channels.specs.Board.{flow_of, gone_by, IsKept, IsSoundOver, left_by, packet_at, ways};
-ghost use Rattle.flow_channels.specs.Flows.{asks, comes_into, empty_flow, enters, first_asks, leaves, leaves_by, queue_at, with_queue};
-ghost use Rattle.flow_channels.specs.Layout.{spot};
+ghost use Rattle.flow_channels.specs.Board.{asked_by, come_by, flow_of, freed_by, gone_by, IsKept};
+ghost use Rattle.flow_channels.specs.Board.{IsSoundOver, left_by, ways};
+ghost use Rattle.flow_channels.specs.Flows.{empty_flow, enters, first_asks, leaves};
 ghost use Rattle.flow_channels.specs.Moves.{CanArrive, HasRoom};
 ghost use Rattle.flow_channels.specs.Queue.{QueueOf};
-ghost use Rattle.flow_channels.specs.Turns.{AreFree, HasDeparted, IsAtTarget, IsFirstArrival, IsSame, NoneArrives, NoneGoes};
+ghost use Rattle.flow_channels.specs.Turns.{AreFree, HasDeparted, IsAtTarget, IsFirstArrival, IsSame};
+ghost use Rattle.flow_channels.specs.Turns.{NoneArrives, NoneGoes};
 
 use crate::exits::NUMBERS;
-use crate::places::{SPOTS, place_of, spot_at};
 use crate::queue::Queue;
 use crate::tables::Tables;
 use an_base::memory::OutOfMemory;
 use dep_check::channel::Channel;
+use dep_check::spot::{SPOTS, place_of, spot_at};
 use fcfc_router::router::{Grant, Router};
 use std::alloc::Global;
 
@@ -64,7 +65,8 @@ impl Board {
     fn first(&self, channel: Channel) -> Option<u32>
         requires spot { IsSpot channel }
         requires queues { length self.now.queues.items ≡ 1651 }
-        ensures { (none : QueueOf) → result ≡ slice_get (slice_index_or self.now.queues.items (place_of channel) none).slots 0 }
+        ensures { (none : QueueOf)
+            → result ≡ slice_get (slice_index_or self.now.queues.items (place_of channel) none).slots 0 }
     {
         self.queues[place_of(channel)].first()
     }
@@ -75,9 +77,9 @@ impl Board {
         requires at { at < 127 }
         requires entry { entry < 13 }
         requires slot { slot < length self.old.packets.items }
-        requires sound { IsSoundOver tables.now (asks at (record { packet = packet_at self.old.packets.items slot; entry = entry }) (flow_of self.old)) }
+        requires sound { IsSoundOver tables.now (asked_by self.old at slot entry) }
         ensures kept { IsKept tables.now self.new }
-        ensures flow { flow_of self.new ≡ asks at (record { packet = packet_at self.old.packets.items slot; entry = entry }) (flow_of self.old) }
+        ensures flow { flow_of self.new ≡ asked_by self.old at slot entry }
         ensures packets { self.new.packets.items ≡ self.old.packets.items }
     {
         let came = Channel { at, port: entry };
@@ -124,9 +126,9 @@ impl Board {
         requires kept { IsKept tables.now self.old }
         requires spot { IsSpot channel }
         requires slot { slot < length self.old.packets.items }
-        requires sound { IsSoundOver tables.now (comes_into (ways tables.now) channel (packet_at self.old.packets.items slot) (flow_of self.old)) }
+        requires sound { IsSoundOver tables.now (come_by tables.now self.old channel slot) }
         ensures kept { IsKept tables.now self.new }
-        ensures flow { flow_of self.new ≡ comes_into (ways tables.now) channel (packet_at self.old.packets.items slot) (flow_of self.old) }
+        ensures flow { flow_of self.new ≡ come_by tables.now self.old channel slot }
         ensures packets { self.new.packets.items ≡ self.old.packets.items }
     {
         let count = self.queues[place_of(channel)].len();
@@ -140,9 +142,9 @@ impl Board {
     fn leave_by(&mut self, tables: &Tables, came: Channel)
         requires kept { IsKept tables.now self.old }
         requires spot { IsSpot came }
-        requires sound { IsSoundOver tables.now (leaves_by (ways tables.now) ((ways tables.now).far came) (flow_of self.old)) }
+        requires sound { IsSoundOver tables.now (freed_by tables.now self.old came) }
         ensures kept { IsKept tables.now self.new }
-        ensures flow { flow_of self.new ≡ leaves_by (ways tables.now) ((ways tables.now).far came) (flow_of self.old) }
+        ensures flow { flow_of self.new ≡ freed_by tables.now self.old came }
         ensures packets { self.new.packets.items ≡ self.old.packets.items }
     {
         if let Some(channel) = tables.far(came) {
@@ -179,7 +181,8 @@ impl Board {
     fn arrived_in(&self, tables: &Tables, channel: Channel) -> Option<Packet>
         requires kept { IsKept tables.now self.now }
         requires spot { IsSpot channel }
-        ensures { MatchOption result (CanArrive (ways tables.now) (flow_of self.now) channel → ⊥) (IsAtTarget tables.now self.now channel) }
+        ensures { MatchOption result (CanArrive (ways tables.now) (flow_of self.now) channel → ⊥)
+            (IsAtTarget tables.now self.now channel) }
     {
         let end = tables.far(channel)?;
         let slot = self.first(channel)?;
@@ -193,7 +196,8 @@ impl Board {
     /// The first channel whose first packet is at its target, and that packet.
     pub fn arrival(&self, tables: &Tables) -> Option<Arrival>
         requires { IsKept tables.now self.now }
-        ensures { MatchOption result (NoneArrives tables.now self.now 1651) (IsFirstArrival tables.now self.now) }
+        ensures { MatchOption result (NoneArrives tables.now self.now 1651)
+            (IsFirstArrival tables.now self.now) }
     {
         'spots: for place in 0..SPOTS {
             let channel = spot_at(place);
@@ -231,7 +235,8 @@ impl Board {
     /// Lets go the packet that asked first of those that can go, at the first switch where one can.
     pub fn departure(&mut self, tables: &Tables) -> Option<Departure>
         requires { IsKept tables.now self.old }
-        ensures departed { MatchOption result (NoneGoes tables.now self.old 127) (HasDeparted tables.now self.old self.new) }
+        ensures departed { MatchOption result (NoneGoes tables.now self.old 127)
+            (HasDeparted tables.now self.old self.new) }
         ensures same { IsNone result → IsSame self.old self.new }
         ensures kept { IsKept tables.now self.new }
     {

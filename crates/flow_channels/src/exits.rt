@@ -1,14 +1,14 @@
-ghost use Rattle.std.specs.Prelude.{◌≡◌, ◌+◌, ◌*◌, ◌<◌, ◌≤◌, ◌⊎◌, ◌↔◌, ℕ, Contains, All, length, IfOk};
-ghost use Rattle.std.specs.Int.{bit_at};
+ghost use Rattle.std.specs.Prelude.{◌≡◌, ◌+◌, ◌*◌, ◌<◌, All, length, IfOk};
 ghost use Rattle.an_base.specs.Rows.{ArePorts};
 ghost use Rattle.dep_check.specs.Tables.{IsSpot, place_of};
 ghost use Rattle.flow_channels.specs.Board.{exit_set};
 ghost use Rattle.flow_channels.specs.Exits.{AreAdded, AreSets};
 
-use crate::places::{SPOTS, place_of};
 use an_base::memory::OutOfMemory;
 use an_base::row::Row;
 use dep_check::channel::Channel;
+use dep_check::ports::with;
+use dep_check::spot::{SPOTS, place_of};
 use std::alloc::Global;
 
 /// How many places a table by number has: for the numbers 0 to 126.
@@ -27,19 +27,8 @@ fn exit_place(came: Channel, to: u8) -> usize
 /// For what came in at each spot and goes to each number, the set of the exits by which it may go on.
 #[derive(Debug, Drop)]
 pub struct ExitTable {
+    /// The sets, by spot and then by number.
     pub sets: Vec<u16>,
-}
-
-// The set with these ports too.
-fn with(set: u16, ports: &[u8]) -> u16
-    requires { ArePorts ports.now }
-    ensures { (port : ℕ) → ((bit_at result port ≡ 1) ↔ ((bit_at set port ≡ 1) ⊎ Contains ports.now port)) }
-{
-    let mut set = set;
-    'ports: for port in ports {
-        set |= 1u16 << *port;
-    }
-    set
 }
 
 // Adds the exits of a row.

@@ -1,11 +1,13 @@
-ghost use Rattle.std.specs.Prelude.{◌≡◌, ◌+◌, ◌≤◌, ◌↔◌, [], ◌∷◌, ◌++◌, length, IfOk, IfSome, IfNone, IsNone, MatchOption};
+ghost use Rattle.std.specs.Prelude.{◌≡◌, ◌+◌, ◌≤◌, ◌↔◌, [], ◌∷◌, ◌++◌, length, IfOk, IfSome, IfNone, IsNone};
+ghost use Rattle.std.specs.Prelude.{MatchOption};
 ghost use Rattle.dep_check.specs.Answer.{Passes};
 ghost use Rattle.flow_channels.specs.Board.{flow_of};
 ghost use Rattle.flow_channels.specs.Flows.{enters, left_of};
 ghost use Rattle.flow_channels.specs.Layout.{layout_of, LayoutOf};
 ghost use Rattle.flow_channels.specs.Runs.{MayEnter};
 ghost use Rattle.flow_channels.specs.Turns.{IsSame, NoneArrives};
-ghost use Rattle.flow_channels.specs.View.{HasTurned, IsFresh, IsOver, IsRunning, IsStill, MayEnterNow, TurnsTo};
+ghost use Rattle.flow_channels.specs.View.{HasTurned, IsFresh, IsOver, IsRunning, IsStill, MayEnterNow};
+ghost use Rattle.flow_channels.specs.View.{TurnsTo};
 
 use crate::board::{Arrival, Board, Packet};
 use crate::tables::Tables;
@@ -39,7 +41,8 @@ impl Model for Flow {
 // The first packet of the least channel whose first packet is at its target arrives.
 fn arrive(tables: &Tables, board: &mut Board) -> Option<Went>
     requires { IsRunning tables.now board.old }
-    ensures turned { MatchOption result (NoneArrives tables.now board.old 1651) (HasTurned tables.now board.old board.new) }
+    ensures turned { MatchOption result (NoneArrives tables.now board.old 1651)
+        (HasTurned tables.now board.old board.new) }
     ensures same { IfNone result (board.new ≡ board.old) }
     ensures left { IfSome result (λ _. left_of (flow_of board.new) + 1 ≡ left_of (flow_of board.old)) }
 {
@@ -57,7 +60,8 @@ fn arrive(tables: &Tables, board: &mut Board) -> Option<Went>
 fn depart(tables: &Tables, board: &mut Board) -> Option<Went>
     requires running { IsRunning tables.now board.old }
     requires none { NoneArrives tables.now board.old 1651 }
-    ensures turned { MatchOption result (IsStill tables.now board.old) (HasTurned tables.now board.old board.new) }
+    ensures turned { MatchOption result (IsStill tables.now board.old)
+        (HasTurned tables.now board.old board.new) }
     ensures same { IfNone result (IsSame board.old board.new) }
     ensures running { IsNone result → IsRunning tables.now board.new }
     ensures left { IfSome result (λ _. left_of (flow_of board.new) ≡ left_of (flow_of board.old)) }
@@ -110,8 +114,12 @@ impl Flow {
     /// memory.
     pub fn enter(&mut self, packet: u32, from: u8, to: u8)
         requires { MayEnterNow self.old packet from to }
-        ensures flow { self.new ≡ record self.old { known = self.old.known ++ (packet ∷ []); flow = enters packet from to self.old.flow } }
-        ensures over { (layout : LayoutOf) → IsOver layout self.old → MayEnter layout self.old.limit self.old.known packet from to → IsOver layout self.new }
+        ensures flow { self.new ≡ record self.old {
+          known = self.old.known ++ (packet ∷ []);
+          flow = enters packet from to self.old.flow;
+        } }
+        ensures over { (layout : LayoutOf) → IsOver layout self.old
+            → MayEnter layout self.old.limit self.old.known packet from to → IsOver layout self.new }
     {
         self.board.enter(&self.tables, Packet { packet, to }, from);
         self.left += 1;
@@ -121,7 +129,8 @@ impl Flow {
     /// target arrives; else the packet that is let go at the least number goes out. None exactly where no
     /// packet is left, and then nothing changes. It takes no memory.
     pub fn turn(&mut self) -> Option<Went>
-        ensures turned { (layout : LayoutOf) → IsOver layout self.old → TurnsTo layout self.old self.new result }
+        ensures turned { (layout : LayoutOf) → IsOver layout self.old
+            → TurnsTo layout self.old self.new result }
         ensures over { (layout : LayoutOf) → IsOver layout self.old → IsOver layout self.new }
         ensures none { IsNone result ↔ (left_of self.old.flow ≡ 0) }
     {

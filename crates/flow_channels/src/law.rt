@@ -5,38 +5,39 @@ ghost use Rattle.an_base.specs.Numbers.{AreNumbers};
 ghost use Rattle.topo_graph.specs.Topology.{IsGraph};
 ghost use Rattle.dep_check.specs.declared.channel.Channel.{Channel};
 ghost use Rattle.dep_check.specs.Answer.{Passes};
-ghost use Rattle.dep_check.specs.Channels.{IsChannel, LeadsTo};
-ghost use Rattle.dep_check.specs.Cycles.{AreRanks};
-ghost use Rattle.dep_check.specs.Packets.{AllAreJoined};
 ghost use Rattle.dep_check.specs.Tables.{IsSpot, rank_at};
 ghost use Rattle.flow_channels.specs.declared.went.Went.{Went};
-ghost use Rattle.flow_channels.specs.Layout.{IsWired, layout_of, LayoutOf};
+ghost use Rattle.flow_channels.specs.Layout.{HasRanks, IsWired, JoinsAll, layout_of, LayoutOf};
 ghost use Rattle.flow_channels.specs.Flows.{FlowOf, left_of, queue_at, waiting_at};
 ghost use Rattle.flow_channels.specs.Moves.{FirstCanMove, IsPossible, IsTurn, Move};
-ghost use Rattle.flow_channels.specs.Runs.{Act, Comes, entered, greatest, hops_in, hops_of, moves_left, Turns};
+ghost use Rattle.flow_channels.specs.Runs.{Act, Comes, entered, greatest, hops_in, hops_of, moves_left};
+ghost use Rattle.flow_channels.specs.Runs.{Turns};
 ghost use Rattle.flow_channels.specs.Sound.{IsSound};
 
 /// Over rows that pass, whatever comes about is sound: each packet is on a way that the rows lead, the
 /// first one of each channel asks where it is brought, and no channel has more than it holds.
 pub fn what_comes_about_is_sound()
-    ensures { (es : List EntryOf) (numbers : List ℕ) (rows : List RowOf) (ranks : List (Option ℕ)) (most limit : ℕ)
-        (acts : List Act) (flow : FlowOf) → IsGraph es → AreNumbers numbers → length numbers ≡ length es
-        → Passes es numbers rows ranks → 1 ≤ most → Comes (layout_of es numbers rows most) limit acts flow
-        → IsWired (layout_of es numbers rows most) × IsSound (layout_of es numbers rows most) (entered acts) flow }
+    ensures { (entries : List EntryOf) (numbers : List ℕ) (rows : List RowOf) (ranks : List (Option ℕ))
+        (most limit : ℕ) (acts : List Act) (flow : FlowOf)
+        → IsGraph entries → AreNumbers numbers → length numbers ≡ length entries
+        → Passes entries numbers rows ranks → 1 ≤ most
+        → Comes (layout_of entries numbers rows most) limit acts flow
+        → IsWired (layout_of entries numbers rows most)
+        × IsSound (layout_of entries numbers rows most) (entered acts) flow }
 {}
 
 /// While a packet is on its way, some packet can move; of the channels that have packets, the first one
 /// of each that has the least rank.
 pub fn some_packet_can_move()
-    ensures least { (layout : LayoutOf) (ranks : List (Option ℕ)) (known : List ℕ) (flow : FlowOf) (channel : Channel) (rank : ℕ)
-        → IsWired layout → AllAreJoined layout.far layout.numbers layout.rows
-        → AreRanks (IsChannel layout.far) (LeadsTo layout.far layout.rows) (rank_at ranks) → IsSound layout known flow
+    ensures least { (layout : LayoutOf) (ranks : List (Option ℕ)) (known : List ℕ) (flow : FlowOf)
+        (channel : Channel) (rank : ℕ)
+        → IsWired layout → JoinsAll layout → HasRanks layout ranks → IsSound layout known flow
         → queue_at flow channel ≢ [] → rank_at ranks channel ≡ Some rank
-        → ((other : Channel) (above : ℕ) → queue_at flow other ≢ [] → rank_at ranks other ≡ Some above → rank ≤ above)
+        → ((other : Channel) (above : ℕ)
+        → queue_at flow other ≢ [] → rank_at ranks other ≡ Some above → rank ≤ above)
         → FirstCanMove layout flow channel }
     ensures possible { (layout : LayoutOf) (ranks : List (Option ℕ)) (known : List ℕ) (flow : FlowOf)
-        → IsWired layout → AllAreJoined layout.far layout.numbers layout.rows
-        → AreRanks (IsChannel layout.far) (LeadsTo layout.far layout.rows) (rank_at ranks) → IsSound layout known flow
+        → IsWired layout → JoinsAll layout → HasRanks layout ranks → IsSound layout known flow
         → left_of flow ≢ 0 → (move : Move) × IsPossible layout flow move }
 {}
 
@@ -51,21 +52,25 @@ pub fn one_run()
 
 /// Turns end: each takes one from the moves that may be left.
 pub fn turns_end()
-    ensures { (layout : LayoutOf) (ranks : List (Option ℕ)) (known : List ℕ) (old new : FlowOf) (went : List Went)
-        → IsWired layout → AreRanks (IsChannel layout.far) (LeadsTo layout.far layout.rows) (rank_at ranks)
-        → IsSound layout known old → Turns layout old went new → length went + moves_left ranks new ≤ moves_left ranks old }
+    ensures { (layout : LayoutOf) (ranks : List (Option ℕ)) (known : List ℕ) (old new : FlowOf)
+        (went : List Went)
+        → IsWired layout → HasRanks layout ranks → IsSound layout known old → Turns layout old went new
+        → length went + moves_left ranks new ≤ moves_left ranks old }
 {}
 
 /// No packet goes out more often than one above the greatest rank: over all that enters and all turns,
 /// where the rows pass; and in the turns from any sound flow.
 pub fn hops_are_few()
-    ensures all { (es : List EntryOf) (numbers : List ℕ) (rows : List RowOf) (ranks : List (Option ℕ)) (most limit : ℕ)
-        (acts : List Act) (flow : FlowOf) (packet : ℕ) → IsGraph es → AreNumbers numbers → length numbers ≡ length es
-        → Passes es numbers rows ranks → 1 ≤ most → Comes (layout_of es numbers rows most) limit acts flow
+    ensures all { (entries : List EntryOf) (numbers : List ℕ) (rows : List RowOf) (ranks : List (Option ℕ))
+        (most limit : ℕ) (acts : List Act) (flow : FlowOf) (packet : ℕ)
+        → IsGraph entries → AreNumbers numbers → length numbers ≡ length entries
+        → Passes entries numbers rows ranks → 1 ≤ most
+        → Comes (layout_of entries numbers rows most) limit acts flow
         → hops_in packet acts ≤ greatest ranks + 1 }
-    ensures turns { (layout : LayoutOf) (ranks : List (Option ℕ)) (known : List ℕ) (old new : FlowOf) (went : List Went) (packet : ℕ)
-        → IsWired layout → AreRanks (IsChannel layout.far) (LeadsTo layout.far layout.rows) (rank_at ranks)
-        → IsSound layout known old → Turns layout old went new → hops_of packet went ≤ greatest ranks + 1 }
+    ensures turns { (layout : LayoutOf) (ranks : List (Option ℕ)) (known : List ℕ) (old new : FlowOf)
+        (went : List Went) (packet : ℕ)
+        → IsWired layout → HasRanks layout ranks → IsSound layout known old → Turns layout old went new
+        → hops_of packet went ≤ greatest ranks + 1 }
 {}
 
 /// No more packets are in a channel, or wait at a switch, than entered. So that many places suffice.

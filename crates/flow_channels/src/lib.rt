@@ -9,8 +9,6 @@ mod board;
 mod exits;
 pub mod flow;
 pub mod law;
-mod places;
 mod queue;
 mod tables;
 pub mod went;
-mod wires;

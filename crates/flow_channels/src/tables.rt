@@ -5,12 +5,12 @@ ghost use Rattle.flow_channels.specs.Board.{AreTablesOf};
 ghost use Rattle.flow_channels.specs.Layout.{layout_of};
 
 use crate::exits::ExitTable;
-use crate::places::place_of;
-use crate::wires::wires_of;
 use an_base::memory::OutOfMemory;
 use an_base::numbers::Numbers;
 use an_base::row::Row;
 use dep_check::channel::Channel;
+use dep_check::spot::place_of;
+use dep_check::wires::wires_of;
 use std::alloc::Global;
 use topo_graph::graph::Graph;
 
@@ -38,7 +38,9 @@ impl Tables {
         limit: u32,
     ) -> Result<Self, OutOfMemory>
         requires { length numbers.now ≡ length graph.now }
-        ensures tables { IfOk result (λ tables. AreTablesOf (layout_of graph.now numbers.now rows.now room) tables.wires.items tables.exits.sets.items tables.room) }
+        ensures tables { IfOk result (λ tables.
+            AreTablesOf (layout_of graph.now numbers.now rows.now room)
+            tables.wires.items tables.exits.sets.items tables.room) }
         ensures within { IfOk result (λ tables. WiresAreWithin tables.wires.items) }
         ensures sets { IfOk result (λ tables. length tables.exits.sets.items ≡ 1651 * 127) }
         ensures limit { IfOk result (λ tables. tables.limit ≡ limit) }

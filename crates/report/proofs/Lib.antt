@@ -18,3 +18,5 @@ pub mod FlowSends
 pub mod FlowTurns
 pub mod FlowTexts
 pub mod FlowLaws
+pub mod ToldTexts
+pub mod ReporterLemmas

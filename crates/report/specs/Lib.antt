@@ -8,3 +8,4 @@ pub mod FlowRuns
 pub mod Check
 pub mod Decimals
 pub mod Pieces
+pub mod Events

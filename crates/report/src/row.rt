@@ -69,7 +69,7 @@ fn push_rows(
 }
 
 // Appends the line of an entry of a switch.
-fn push_row_line(
+pub(crate) fn push_row_line(
     alloc: Global,
     text: &mut Vec<u8>,
     script: &Script,

@@ -1,12 +1,12 @@
 use Rattle.std.proofs.Common.{◌≡◌, subst, Option, None}
 use Rattle.std.proofs.Math.Path.{fun_ext}
 use Rattle.dep_check.specs.declared.channel.Channel.{Channel}
-use Rattle.dep_check.specs.Channels.{IsChannel, LeadsTo}
-use Rattle.dep_check.specs.Cycles.{HasNoCycle, IsLeastCycle, AreRanks}
+use Rattle.dep_check.specs.Channels.{far_at}
+use Rattle.dep_check.specs.Cycles.{IsLeastCycle}
 use Rattle.dep_check.specs.Packets.{AllAreJoined, IsLeastGap}
-use Rattle.dep_check.specs.Tables.{IsSpot, wire_at, level_at, rank_at}
+use Rattle.dep_check.specs.Tables.{IsSpot, wire_at, level_at}
 use Rattle.dep_check.specs.Search.{AreSteps, IsLinked, Step}
-use Rattle.dep_check.proofs.CheckLemmas.{some_cycle, least_leads, no_cycle, are_ranks}
+use Rattle.dep_check.proofs.CheckLemmas.{some_cycle, least_at, no_cycle_at, ranks_at}
 use Rattle.dep_check.proofs.check.check.Goals as goal
 
 pub unwrap-channels-requires : goal.unwrap-channels-requires
@@ -20,26 +20,18 @@ unwrap-channels-requires c =
 
 pub returns-then-not-are_all_ranked-clause-refused : goal.returns-then-not-are_all_ranked-clause-refused
 returns-then-not-are_all_ranked-clause-refused c =
-    let wires = c.in_ok-wires.wires.items in
-    let rows = c.args.rows.now in
-    let steps = c.in_ok-steps.steps in
     let channels = c.unwrap-channels.result in
-    let are : AreSteps wires rows None steps = rw c.deref.ensures.value at c.in_ok-steps.ensures in
-    let least : IsLeastCycle (Step steps) channels = rw c.unwrap-channels.ensures at c.in_ok-least_cycle.ensures in
-    subst (λ (far : Channel → Option Channel). IsLeastCycle (LeadsTo far rows) channels) (fun_ext c.in_ok-wires.ensures.each) (least_leads wires rows steps c.in_ok-levels.levels.items c.in_ok-wires.ensures.links.within are c.in_ok-levels.ensures channels least)
+    let least : IsLeastCycle (Step c.in_ok-steps.steps) channels = rw c.unwrap-channels.ensures at c.in_ok-least_cycle.ensures in
+    least_at (far_at c.args.graph.now c.args.numbers.now) c.in_ok-wires.wires.items c.args.rows.now c.in_ok-steps.steps c.in_ok-levels.levels.items c.in_ok-wires.ensures (rw c.deref.ensures.value at c.in_ok-steps.ensures) c.in_ok-levels.ensures channels least
 
 pub returns-in-Some-clause-refused : goal.returns-in-Some-clause-refused
 returns-in-Some-clause-refused c =
     let wires = c.in_ok-wires.wires.items in
     let rows = c.args.rows.now in
     let numbers = c.args.numbers.now in
-    let steps = c.in_ok-steps.steps in
-    let levels = c.in_ok-levels.levels.items in
     let gap = c.in-Some.gap in
-    let are : AreSteps wires rows None steps = rw c.deref.ensures.value at c.in_ok-steps.ensures in
-    let all : (s : Channel) → IsSpot s → IsLinked steps s → level_at levels s ≡ None → ⊥ = rw (c.deref-2.ensures.value, c.if-not-are_all_ranked.false) at c.are_all_ranked.ensures in
     let least : IsLeastGap (wire_at wires) numbers rows gap.from gap.to gap.at gap.entry = rw (c.deref-3.ensures.value, c.in-Some.is) at c.in_ok-gap.ensures in (
-      subst (λ (far : Channel → Option Channel). HasNoCycle (LeadsTo far rows)) (fun_ext c.in_ok-wires.ensures.each) (no_cycle wires rows steps levels c.in_ok-wires.ensures.links.within are c.in_ok-levels.ensures all),
+      no_cycle_at (far_at c.args.graph.now numbers) wires rows c.in_ok-steps.steps c.in_ok-levels.levels.items c.in_ok-wires.ensures (rw c.deref.ensures.value at c.in_ok-steps.ensures) c.in_ok-levels.ensures (rw (c.deref-2.ensures.value, c.if-not-are_all_ranked.false) at c.are_all_ranked.ensures),
       subst (λ (far : Channel → Option Channel). IsLeastGap far numbers rows gap.from gap.to gap.at gap.entry) (fun_ext c.in_ok-wires.ensures.each) least,
     )
 
@@ -48,18 +40,15 @@ returns-in-Some-least_illegal-clause-refused c =
     let wires = c.in_ok-wires.wires.items in
     let rows = c.args.rows.now in
     let numbers = c.args.numbers.now in
-    let steps = c.in_ok-steps.steps in
-    let levels = c.in_ok-levels.levels.items in
-    let are : AreSteps wires rows None steps = rw c.deref.ensures.value at c.in_ok-steps.ensures in
-    let all : (s : Channel) → IsSpot s → IsLinked steps s → level_at levels s ≡ None → ⊥ = rw (c.deref-2.ensures.value, c.if-not-are_all_ranked.false) at c.are_all_ranked.ensures in
     let joined : AllAreJoined (wire_at wires) numbers rows = rw (c.deref-3.ensures.value, c.in_default.is) at c.in_ok-gap.ensures in (
-      subst (λ (far : Channel → Option Channel). HasNoCycle (LeadsTo far rows)) (fun_ext c.in_ok-wires.ensures.each) (no_cycle wires rows steps levels c.in_ok-wires.ensures.links.within are c.in_ok-levels.ensures all),
+      no_cycle_at (far_at c.args.graph.now numbers) wires rows c.in_ok-steps.steps c.in_ok-levels.levels.items c.in_ok-wires.ensures (rw c.deref.ensures.value at c.in_ok-steps.ensures) c.in_ok-levels.ensures (rw (c.deref-2.ensures.value, c.if-not-are_all_ranked.false) at c.are_all_ranked.ensures),
       subst (λ (far : Channel → Option Channel). AllAreJoined far numbers rows) (fun_ext c.in_ok-wires.ensures.each) joined,
       rw c.in-Some-least_illegal.is at c.least_illegal.ensures,
     )
 
 pub returns-clause-passes : goal.returns-clause-passes
 returns-clause-passes c =
+    let far = far_at c.args.graph.now c.args.numbers.now in
     let wires = c.in_ok-wires.wires.items in
     let rows = c.args.rows.now in
     let numbers = c.args.numbers.now in
@@ -69,8 +58,8 @@ returns-clause-passes c =
     let all : (s : Channel) → IsSpot s → IsLinked steps s → level_at levels s ≡ None → ⊥ = rw (c.deref-2.ensures.value, c.if-not-are_all_ranked.false) at c.are_all_ranked.ensures in
     let joined : AllAreJoined (wire_at wires) numbers rows = rw (c.deref-3.ensures.value, c.in_default.is) at c.in_ok-gap.ensures in
     record {
-      no_cycle = subst (λ (far : Channel → Option Channel). HasNoCycle (LeadsTo far rows)) (fun_ext c.in_ok-wires.ensures.each) (no_cycle wires rows steps levels c.in_ok-wires.ensures.links.within are c.in_ok-levels.ensures all);
+      no_cycle = no_cycle_at far wires rows steps levels c.in_ok-wires.ensures are c.in_ok-levels.ensures all;
       joined = subst (λ (far : Channel → Option Channel). AllAreJoined far numbers rows) (fun_ext c.in_ok-wires.ensures.each) joined;
       legal = rw c.in_default-least_illegal.is at c.least_illegal.ensures;
-      ranked = subst (λ (far : Channel → Option Channel). AreRanks (IsChannel far) (LeadsTo far rows) (rank_at levels)) (fun_ext c.in_ok-wires.ensures.each) (are_ranks wires rows steps levels c.in_ok-wires.ensures.links.within are c.in_ok-levels.ensures all);
+      ranked = ranks_at far wires rows steps levels c.in_ok-wires.ensures are c.in_ok-levels.ensures all;
     }

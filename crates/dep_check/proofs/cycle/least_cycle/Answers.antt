@@ -5,9 +5,10 @@ use Rattle.dep_check.specs.Cycles.{IsCycle}
 use Rattle.dep_check.specs.Tables.{place_of}
 use Rattle.dep_check.specs.Search.{Step, LeastBehind}
 use Rattle.dep_check.proofs.SpotLemmas.{one_spot, place_low}
-use Rattle.dep_check.proofs.CycleLemmas.{cycle_at, cycle_rankless, none_behind, path_from_spot}
+use Rattle.dep_check.proofs.CycleLemmas.{cycle_at, none_behind, path_from_spot}
+use Rattle.dep_check.proofs.TierLemmas.{cycle_peer}
 use Rattle.dep_check.proofs.cycle.least_cycle.Goals as goal
-use Rattle.dep_check.proofs.cycle.least_cycle.Goals.{then-may_be_on_cycle+in_ok-levels+in_default, else-may_be_on_cycle}
+use Rattle.dep_check.proofs.cycle.least_cycle.Goals.{then-has_peer+in_ok-levels+in_default, else-has_peer}
 
 pub cycle_from-requires-clause-nearest : goal.cycle_from-requires-clause-nearest
 cycle_from-requires-clause-nearest c = rw c.deref-in-Some.ensures.value c.in_ok-levels.ensures
@@ -15,7 +16,7 @@ cycle_from-requires-clause-nearest c = rw c.deref-in-Some.ensures.value c.in_ok-
 pub returns-in-Some : goal.returns-in-Some
 returns-in-Some c =
     let at = c.spot_at-start.ensures.place in
-    cycle_at c.args.steps.now c.spot_at-start.result c.in_ok-cycle_from.field-0 c.requires.channels c.spot_at-start.ensures.spot (λ d ds spot low cycle. c.spots.invariant d ds spot (omega arith) cycle) c.in_ok-cycle_from.ensures
+    cycle_at c.args.steps.now c.spot_at-start.result c.in_ok-cycle_from.field-0 c.requires c.spot_at-start.ensures.spot (λ d ds spot low cycle. c.spots.invariant d ds spot (omega arith) cycle) c.in_ok-cycle_from.ensures
 
 pub spots-preserved : goal.spots-preserved
 spots-preserved c = λ d ds spot low cycle.
@@ -27,19 +28,19 @@ spots-preserved c = λ d ds spot low cycle.
       | inl last ↦ (
           let here = one_spot d start spot c.spot_at-start.ensures.spot (last ∙ sym at) in
           let round : IsCycle (Step steps) start ds = subst (λ (x : Channel). IsCycle (Step steps) x ds) here cycle in
-          elim c.if-may_be_on_cycle.branch [
-            | then-may_be_on_cycle+in_ok-levels+in_default w ↦ (
-                let none : LeastBehind steps w.in_ok-levels.levels.items start 13 None = rw (w.deref.ensures.value, w.in_default.is) at w.least_behind.ensures in
+          elim c.if-has_peer.branch [
+            | then-has_peer+in_ok-levels+in_default w ↦ (
+                let none : LeastBehind steps w.in_ok-levels.levels.items start 13 None = rw (w.deref-then-has_peer.ensures.value, w.in_default.is) at w.least_behind.ensures in
                 none_behind steps w.in_ok-levels.levels.items start w.in_ok-levels.ensures none ds round)
-            | else-may_be_on_cycle w ↦ absurd (
-                let may = c.may_be_on_cycle.ensures.1 (cycle_rankless steps c.args.ranks.now c.requires.channels c.requires.ranks start ds round) in
-                let never = w.if-may_be_on_cycle.false in
+            | else-has_peer w ↦ absurd (
+                let may = c.has_peer.ensures.1 (rw c.deref.ensures.value (cycle_peer steps c.in_ok-tiers.tiers.items c.in_ok-tiers.ensures start ds round)) in
+                let never = w.if-has_peer.false in
                 cc)
           ])
     ]
 
 pub returns : goal.returns
 returns c = λ d ds cycle.
-    let spot = path_from_spot c.args.steps.now d ds d c.requires.channels cycle in
+    let spot = path_from_spot c.args.steps.now d ds d c.requires cycle in
     let low = place_low d spot in
     c.spots.invariant d ds spot (omega arith) cycle

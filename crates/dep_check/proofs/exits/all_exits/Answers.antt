@@ -1,5 +1,4 @@
 use Rattle.std.proofs.Common.{◌≡◌, subst, refl, ℕ, length, None, arith}
-use Rattle.an_base.specs.Rows.{RowOf}
 use Rattle.dep_check.specs.Tables.{AreExitsBelow}
 use Rattle.dep_check.proofs.ExitLemmas.{row_is}
 use Rattle.dep_check.proofs.exits.all_exits.Goals as goal

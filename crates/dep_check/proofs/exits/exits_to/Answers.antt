@@ -1,6 +1,6 @@
-use Rattle.std.proofs.Common.{◌≡◌, ◌∙◌, sym, ap, subst, refl, ℕ, ◌+◌, ◌<◌, length, slice_index, Some, arith}
+use Rattle.std.proofs.Common.{◌≡◌, ◌∙◌, sym, ap, subst, ℕ, ◌+◌, length, slice_index, Some, arith}
 use Rattle.an_base.specs.Rows.{RowOf}
-use Rattle.dep_check.specs.Tables.{AreExitsBelow, row_at}
+use Rattle.dep_check.specs.Tables.{AreExitsBelow}
 use Rattle.dep_check.specs.Targets.{IsNextTo}
 use Rattle.dep_check.proofs.ExitLemmas.{row_is}
 use Rattle.dep_check.proofs.TargetLemmas.{exits_skip, next_here, next_read}

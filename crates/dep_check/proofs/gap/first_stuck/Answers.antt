@@ -1,4 +1,4 @@
-use Rattle.std.proofs.Common.{◌≡◌, ◌<◌, ℕ, subst, arith, inl, inr}
+use Rattle.std.proofs.Common.{ℕ, subst, arith, inl, inr}
 use Rattle.std.proofs.lemmas.Bool.{cases_eq, cases_lt}
 use Rattle.dep_check.specs.Pairs.{IsStuckFrom, StaysClear}
 use Rattle.dep_check.proofs.gap.first_stuck.Goals as goal

@@ -2,7 +2,7 @@ use Rattle.std.proofs.Common.{inl, inr}
 use Rattle.dep_check.specs.Channels.{place_in}
 use Rattle.dep_check.proofs.SpotLemmas.{option_cases}
 use Rattle.dep_check.proofs.BridgeLemmas.{place_contained, contained_place}
-use Rattle.dep_check.proofs.GapLemmas.{not_none, yes_none, walk_tells, start_spot}
+use Rattle.dep_check.proofs.GapLemmas.{not_none, yes_none, walk_tells}
 use Rattle.dep_check.proofs.gap.is_stuck_from.Goals as goal
 
 pub returns-then-is_none : goal.returns-then-is_none

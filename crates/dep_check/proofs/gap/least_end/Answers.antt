@@ -1,9 +1,8 @@
-use Rattle.std.proofs.Common.{◌≡◌, ◌∙◌, sym, ap, subst, ℕ, true, false, arith, inl, inr}
+use Rattle.std.proofs.Common.{◌≡◌, ◌∙◌, sym, ap, subst, true, false, arith, inl, inr}
 use Rattle.std.proofs.lemmas.Bool.{cases_eq, cases_lt}
 use Rattle.dep_check.specs.declared.channel.Channel.{Channel}
 use Rattle.dep_check.specs.Tables.{place_of}
 use Rattle.dep_check.specs.Search.{IsStuck}
-use Rattle.dep_check.specs.Pairs.{GetsStuck}
 use Rattle.dep_check.specs.Walks.{seen_at}
 use Rattle.dep_check.proofs.SpotLemmas.{one_spot, place_low}
 use Rattle.dep_check.proofs.CycleLemmas.{place_order}

@@ -15,7 +15,7 @@ returns-then-is_illegal c =
     let exits = c.as_slice-exit-items.result.now in
     let k = c.exits.exit-index in
     let before : (n : ℕ) → n < k → IsBad es numbers r.at r.entry (get_or exits n 0) → ⊥ = subst (λ (x : RowOf). (n : ℕ) → n < k → IsBad es numbers x.at x.entry (get_or exits n 0) → ⊥) (sym c.row.view_is) c.exits.invariant in
-    let bad : IsBad es numbers r.at r.entry (get_or exits k 0) = rw c.if-is_illegal.true at c.is_illegal.ensures in
+    let bad : IsBad es numbers r.at r.entry (get_or exits k 0) = rw c.if-is_illegal.true at (c.is_illegal.ensures numbers i.at c.requires c.place_in-place.ensures.place) in
     subst (λ (x : RowOf). FirstBad es numbers x (Some (record { at = i.at; entry = i.entry; to = i.to; exit = get_or exits k 0 }))) c.row.view_is (first_bad es numbers r exits k c.as_slice-exit-items.ensures.all c.as_slice-exit-items.ensures.rising c.exits-test.true before bad)
 
 pub exits-preserved : goal.exits-preserved
@@ -25,7 +25,7 @@ exits-preserved c = λ k low bad. elim (cases_eq k c.exits.exit-index) [
       let numbers = c.args.numbers.now in
       let i = c.row.inside in
       let exits = c.as_slice-exit-items.result.now in
-      let good : IsBad es numbers i.at i.entry (get_or exits c.exits.exit-index 0) → ⊥ = rw c.if-is_illegal.false at c.is_illegal.ensures in
+      let good : IsBad es numbers i.at i.entry (get_or exits c.exits.exit-index 0) → ⊥ = rw c.if-is_illegal.false at (c.is_illegal.ensures numbers i.at c.requires c.place_in-place.ensures.place) in
       good (subst (λ (n : ℕ). IsBad es numbers i.at i.entry (get_or exits n 0)) last (subst (λ (x : RowOf). IsBad es numbers x.at x.entry (get_or exits k 0)) (sym c.row.view_is) bad)))
   | inr before ↦ c.exits.invariant k (omega arith) bad
 ]

@@ -1,4 +1,4 @@
-use Rattle.std.proofs.Common.{◌≡◌, ◌<◌, ◌⊎◌, ◌++◌, sym, subst, List, [], ◌∷◌, length, arith, take, take_all, slice_index_or, inl, inr}
+use Rattle.std.proofs.Common.{◌≡◌, ◌⊎◌, ◌++◌, sym, subst, List, [], ◌∷◌, take, take_all, slice_index_or, inl, inr}
 use Rattle.std.proofs.lemmas.List.Elements.{Contains-get_or, Contains-push_cases}
 use Rattle.dep_check.specs.declared.channel.Channel.{Channel}
 use Rattle.dep_check.specs.declared.steps.Steps.{Steps}

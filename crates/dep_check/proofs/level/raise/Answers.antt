@@ -1,4 +1,4 @@
-use Rattle.std.proofs.Common.{◌≡◌, subst, List, length, arith, take, take_all}
+use Rattle.std.proofs.Common.{◌≡◌, subst, List, take, take_all}
 use Rattle.std.proofs.lemmas.List.Elements.{Contains-get_or}
 use Rattle.dep_check.specs.declared.channel.Channel.{Channel}
 use Rattle.dep_check.specs.Rounds.{IsRaisedTo}

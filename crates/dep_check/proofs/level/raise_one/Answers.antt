@@ -1,5 +1,4 @@
-use Rattle.std.proofs.Common.{◌∙◌, subst, sym, ap, List, Option, ℕ, arith}
-use Rattle.dep_check.specs.declared.channel.Channel.{Channel}
+use Rattle.std.proofs.Common.{arith}
 use Rattle.dep_check.proofs.LevelLemmas.{none_told, some_told, level_read}
 use Rattle.dep_check.proofs.RoundLemmas.{raise_same, raise_new}
 use Rattle.dep_check.proofs.level.raise_one.Goals as goal

@@ -1,8 +1,6 @@
-use Rattle.std.proofs.Common.{◌≡◌, ◌∙◌, sym, ap, subst, refl, ℕ, ◌++◌, ◌∷◌, [], List, length, take, true, false, arith, inl, inr}
-use Rattle.std.specs.Prelude.{Contains}
+use Rattle.std.proofs.Common.{◌≡◌, ◌∙◌, ap, refl, ◌++◌, ◌∷◌, [], List, length, true, false, arith, inl, inr}
 use Rattle.std.proofs.lemmas.List.Elements.{Contains-push}
 use Rattle.dep_check.specs.declared.channel.Channel.{Channel}
-use Rattle.dep_check.specs.Walks.{IsWalking, Sees}
 use Rattle.dep_check.proofs.WalkLemmas.{walk_first, walk_more, walk_done, push_more}
 use Rattle.dep_check.proofs.walk.walk.Goals as goal
 use Rattle.dep_check.proofs.walk.walk.Goals.{then-is_stuck, else-is_stuck}

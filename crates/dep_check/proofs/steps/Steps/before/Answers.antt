@@ -1,8 +1,7 @@
-use Rattle.std.proofs.Common.{◌≡◌, ◌∙◌, sym, refl, Some, None, Option, true, arith}
-use Rattle.std.specs.Prelude.{IfSome}
+use Rattle.std.proofs.Common.{◌≡◌, ◌∙◌, sym, refl, true, arith}
 use Rattle.std.proofs.lemmas.Grind.{common_steps}
 use Rattle.dep_check.specs.declared.channel.Channel.{Channel}
-use Rattle.dep_check.specs.Tables.{IsSpot, has_at, wire_at}
+use Rattle.dep_check.specs.Tables.{has_at}
 use Rattle.dep_check.proofs.StepLemmas.{before_found, if_spot}
 use Rattle.dep_check.proofs.steps.Steps.before.Goals as goal
 

@@ -1,7 +1,4 @@
-use Rattle.std.proofs.Common.{◌≡◌, sym, Some, None, Option, ℕ, subst, refl}
-use Rattle.std.specs.Prelude.{IfSome}
-use Rattle.dep_check.specs.declared.channel.Channel.{Channel}
-use Rattle.dep_check.specs.Tables.{IsSpot}
+use Rattle.std.proofs.Common.{◌≡◌, sym, Some, None, Option, ℕ, subst}
 use Rattle.dep_check.specs.Search.{IsStepOf}
 use Rattle.dep_check.proofs.StepLemmas.{if_spot}
 use Rattle.dep_check.proofs.LevelLemmas.{step_spot_of}

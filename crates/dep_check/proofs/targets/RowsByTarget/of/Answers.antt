@@ -1,6 +1,5 @@
-use Rattle.std.proofs.Common.{◌≡◌, ◌∙◌, sym, ap, subst, refl, ℕ, ◌+◌, ◌-◌, ◌<◌, List, length, arith}
+use Rattle.std.proofs.Common.{◌≡◌, ◌∙◌, sym, subst, ℕ, ◌+◌, ◌-◌, ◌<◌, length, arith}
 use Rattle.an_base.specs.Rows.{RowOf}
-use Rattle.dep_check.specs.Tables.{row_at}
 use Rattle.dep_check.specs.Targets.{AreByTargetFrom}
 use Rattle.dep_check.proofs.ExitLemmas.{row_is}
 use Rattle.dep_check.proofs.TargetLemmas.{by_target_none, by_target_more}

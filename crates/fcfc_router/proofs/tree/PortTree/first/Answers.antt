@@ -1,33 +1,23 @@
 use Rattle.std.proofs.Common.{◌≡◌, sym, subst, arith, ℕ, ◌-◌, List, inl, inr}
 use Rattle.std.specs.Prelude.{bit_and}
-use Rattle.std.proofs.lemmas.List.{get_or_read}
-use Rattle.std.proofs.lemmas.Nat.{pow_pos}
 use Rattle.fcfc_router.specs.Tree.{HasNone, IsFirst, IsHalf}
-use Rattle.fcfc_router.proofs.TreeLemmas.{ends_at_first, goes_down, none_has, starts_at_top}
+use Rattle.fcfc_router.proofs.TreeLemmas.{ends_at_first, goes_down, none_has, starts_at_top, top_is}
 use Rattle.fcfc_router.proofs.tree.PortTree.first.Goals as goal
 
 pub returns-then-index-ports-eq0 : goal.returns-then-index-ports-eq0
 returns-then-index-ports-eq0 c =
     let i = c.self.inside in
-    let tree = c.self.invariant.2 in
     let power = c.self.invariant.0 in
-    let positive = pow_pos power.0 in
-    let e = power.1 in
-    let n = tree.count in
-    let read = get_or_read i.unions.items 1 c.index.result.now (omega arith) c.index.ensures 0 in
+    let top = top_is i.places power.0 c.index.result.now i.unions.items c.self.invariant.2 power.1 c.index.ensures in
     subst (λ (xs : List ℕ). HasNone c.args.ports xs) c.self.view_is (
-    none_has i.places c.args.ports power.0 i.unions.items tree power.1 (subst (λ (n : ℕ). bit_and n c.args.ports ≡ 0) read c.if-index-ports-eq0.true))
+    none_has i.places c.args.ports power.0 i.unions.items c.self.invariant.2 power.1 (subst (λ (n : ℕ). bit_and n c.args.ports ≡ 0) top c.if-index-ports-eq0.true))
 
 pub levels-init : goal.levels-init
 levels-init c =
     let i = c.self.inside in
-    let tree = c.self.invariant.2 in
     let power = c.self.invariant.0 in
-    let positive = pow_pos power.0 in
-    let e = power.1 in
-    let n = tree.count in
-    let read = get_or_read i.unions.items 1 c.index.result.now (omega arith) c.index.ensures 0 in
-    starts_at_top i.places c.args.ports power.0 i.unions.items power.1 (λ none. c.if-index-ports-eq0.false (subst (λ (n : ℕ). bit_and n c.args.ports ≡ 0) (sym read) none))
+    let top = top_is i.places power.0 c.index.result.now i.unions.items c.self.invariant.2 power.1 c.index.ensures in
+    starts_at_top i.places c.args.ports power.0 i.unions.items power.1 (λ none. c.if-index-ports-eq0.false (subst (λ (n : ℕ). bit_and n c.args.ports ≡ 0) (sym top) none))
 
 pub levels-smaller : goal.levels-smaller
 levels-smaller c =

@@ -1,0 +1,79 @@
+-- The command `replay`: the report of a journal that stands behind its script.
+
+use Rattle.std.specs.Prelude.{◌⊎◌, ℕ, List}
+use Rattle.an_base.specs.declared.event.Event.{Event}
+use Rattle.net_script.specs.Scripts.{ScriptOf}
+use Rattle.net_script.specs.Texts.{IsText, IsFault}
+use Rattle.journal.specs.declared.cause.JournalCause.{JournalCause}
+use Rattle.journal.specs.Texts.{IsJournal, IsFault as IsJournalFault}
+use Rattle.journal.specs.Steps.{JournalRefusal}
+use Rattle.text_lines.specs.declared.stop.Refusal.TheVariants as refusal
+use Rattle.replay.specs.Division.{IsDivision}
+use Rattle.replay.specs.Replays.{IsIllegal}
+use Rattle.replay.specs.declared.refusal.ReplayRefusal.{ReplayRefusal}
+use Rattle.replay.specs.declared.refusal.ReplayRefusal.TheVariants as illegal
+use Rattle.autonet.specs.declared.status.Status.{Status}
+use Rattle.autonet.specs.declared.status.Status.TheVariants.{JournalRefused, OutOfMemory}
+use Rattle.autonet.specs.Answer.{Gives, IfRefused, Refuses}
+use Rattle.autonet.specs.Reported.{IsReported}
+
+-- the bytes are the text of a script, and behind it these
+pub record IsScriptWith (bytes : List ℕ) (script : ScriptOf) (behind : List ℕ) : Type 0 where
+  pub first : List ℕ
+  pub division : IsDivision bytes first behind
+  pub is_text : IsText first script
+
+-- the bytes begin with the text of a legal journal, and this is its report, with the status of its end
+pub record IsReplay (script : ScriptOf) (bytes : List ℕ) (status : Status) (text : List ℕ) : Type 0 where
+  pub journal : List Event
+  pub is_journal : IsJournal script bytes journal
+  pub reported : IsReported script journal status text
+
+-- the bytes do not begin with the text of a journal, or the journal is not legal
+pub data IsNoReplay (script : ScriptOf) (bytes : List ℕ) (line : ℕ) (why : JournalCause) : Type 0 where
+  no_journal : IsJournalFault script bytes line why → IsNoReplay script bytes line why
+  not_legal : (journal : List Event) → IsJournal script bytes journal → IsIllegal script journal line why
+      → IsNoReplay script bytes line why
+
+-- behind a script stands a legal journal, and this is its report
+pub record IsReplayedOf (status : Status) (text bytes : List ℕ) : Type 0 where
+  pub script : ScriptOf
+  pub behind : List ℕ
+  pub input : IsScriptWith bytes script behind
+  pub replay : IsReplay script behind status text
+
+-- it gives the report, with the status of the journal's end
+abbrev pub gives_replayed : Gives
+gives_replayed bytes status text = IsReplayedOf status text bytes
+
+-- the first part of the bytes is no script
+pub record IsNoScript (bytes : List ℕ) (status : Status) : Type 0 where
+  pub first : List ℕ
+  pub behind : List ℕ
+  pub division : IsDivision bytes first behind
+  pub fault : IfRefused status (IsFault first)
+
+-- behind a script stands no legal journal
+pub record IsUnreplayed (bytes : List ℕ) (line : ℕ) (why : JournalCause) : Type 0 where
+  pub script : ScriptOf
+  pub behind : List ℕ
+  pub input : IsScriptWith bytes script behind
+  pub refused : IsNoReplay script behind line why
+
+-- the line and the cause of a refused journal
+abbrev pub IfJournalRefused : Status → (ℕ → JournalCause → Type 0) → Type 0
+IfJournalRefused (JournalRefused line why) Holds = Holds line why
+IfJournalRefused status Holds = ⊥
+
+-- it refuses what has no script, and a script without a legal journal behind it
+abbrev pub refuses_journal : Refuses
+refuses_journal bytes status = IsNoScript bytes status ⊎ IfJournalRefused status (IsUnreplayed bytes)
+
+-- the status of a text that is no journal, and of a journal that is not legal
+abbrev pub journal_refused_as : JournalRefusal → Status
+journal_refused_as (refusal.Fault line why) = JournalRefused line why
+journal_refused_as refusal.OutOfMemory = OutOfMemory
+
+abbrev pub replay_refused_as : ReplayRefusal → Status
+replay_refused_as (illegal.Illegal line why) = JournalRefused line why
+replay_refused_as illegal.OutOfMemory = OutOfMemory

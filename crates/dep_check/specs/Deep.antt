@@ -1,0 +1,23 @@
+-- Walks in depth. Only private functions cite this.
+use Rattle.std.specs.Prelude.{◌≡◌, ◌+◌, ◌*◌, ◌≤◌, ℕ, List, length, Bool, All}
+use Rattle.dep_check.specs.declared.channel.Channel.{Channel}
+use Rattle.dep_check.specs.declared.deep.Visit.{Visit}
+use Rattle.dep_check.specs.Tables.{IsSpot}
+use Rattle.dep_check.specs.Walks.{unseen}
+
+-- each visit is of a spot
+abbrev pub AreVisits : List Visit → Type 0
+AreVisits path = All (λ visit. IsSpot visit.spot) path
+
+-- at most so many visits of spots more
+pub record IsLonger (most : ℕ) (old new : List Visit) : Type 0 where
+  pub visits : AreVisits new
+  pub few : length new ≤ length old + most
+
+-- a visit was made: what there is still to do is no more than before it was taken from the path, less one
+pub record HasVisited (old : List Bool) (before : List Visit) (seen : List Bool) (path : List Visit)
+    (left : List Channel) : Type 0 where
+  pub count : length seen ≡ 1651
+  pub visits : AreVisits path
+  pub spots : All IsSpot left
+  pub less : 15 * unseen seen + length path ≤ 15 * unseen old + length before

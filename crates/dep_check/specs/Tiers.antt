@@ -1,0 +1,23 @@
+-- Tiers of spots, which no step lowers. Only private functions cite this.
+use Rattle.std.specs.Prelude.{◌≡◌, ◌≤◌, ℕ, List, slice_index_or}
+use Rattle.dep_check.specs.declared.channel.Channel.{Channel}
+use Rattle.dep_check.specs.declared.steps.Steps.{Steps}
+use Rattle.dep_check.specs.Tables.{place_of}
+use Rattle.dep_check.specs.Search.{IsStep}
+
+-- the tier that a table has for a spot
+abbrev pub tier_at : List ℕ → Channel → ℕ
+tier_at tiers s = slice_index_or tiers (place_of s) 0
+
+-- no step from a spot leads to a lower tier
+abbrev pub RisesFrom : Steps → List ℕ → Channel → Type 0
+RisesFrom steps tiers s = (e : ℕ) (b : Channel) → IsStep steps s e b → tier_at tiers s ≤ tier_at tiers b
+
+-- no step leads to a lower tier
+abbrev pub AreTiers : Steps → List ℕ → Type 0
+AreTiers steps tiers = (s : Channel) → RisesFrom steps tiers s
+
+-- some step from a spot leads to its own tier
+abbrev pub HasPeer : Steps → List ℕ → Channel → Type 0
+HasPeer steps tiers s =
+    (e : ℕ) × (b : Channel) × IsStep steps s e b × (tier_at tiers b ≡ tier_at tiers s)

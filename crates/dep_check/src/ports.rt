@@ -1,0 +1,26 @@
+ghost use Rattle.std.specs.Prelude.{◌≡◌, ◌<◌, ◌⊎◌, ◌↔◌, ℕ, Contains};
+ghost use Rattle.std.specs.Int.{bit_at};
+ghost use Rattle.an_base.specs.Rows.{ArePorts};
+ghost use Rattle.dep_check.specs.Tables.{has_port};
+
+/// The set with these ports too: bit `p` of a set says that it has port `p`.
+pub fn with(set: u16, ports: &[u8]) -> u16
+    requires { ArePorts ports.now }
+    ensures { (port : ℕ)
+        → ((bit_at result port ≡ 1) ↔ ((bit_at set port ≡ 1) ⊎ Contains ports.now port)) }
+{
+    let mut set = set;
+    'ports: for port in ports {
+        set |= 1u16 << *port;
+    }
+    set
+}
+
+/// Whether a set has a port, 0 to 12.
+#[tactic(auto, unfolding(crate::specs::Tables::has_port))]
+pub fn has(set: u16, port: u8) -> bool
+    requires { port < 13 }
+    ensures { result ≡ has_port set port }
+{
+    set >> port & 1 == 1
+}

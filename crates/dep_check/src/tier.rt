@@ -1,0 +1,109 @@
+ghost use Rattle.std.specs.Prelude.{◌≡◌, ◌≤◌, ◌↔◌, length, All, IfOk, IsTrue, None};
+ghost use Rattle.dep_check.specs.Tables.{IsSpot};
+ghost use Rattle.dep_check.specs.Tiers.{AreTiers, HasPeer, RisesFrom, tier_at};
+
+use crate::channel::Channel;
+use crate::deep::{leave_all, walk_deep};
+use crate::spot::{SPOTS, place_of, spot_at};
+use crate::steps::Steps;
+use crate::walk::{is_seen, none_seen};
+use an_base::memory::OutOfMemory;
+use std::alloc::Global;
+
+// The tier of a spot.
+fn tier_of(tiers: &[usize], spot: Channel) -> usize
+    requires { IsSpot spot }
+    ensures { result ≡ tier_at tiers.now spot }
+{
+    tiers.get(place_of(spot)).copied().unwrap_or(0)
+}
+
+// Gives a tier to these spots.
+fn give_tier(tiers: &mut Vec<usize>, spots: &[Channel], tier: usize)
+    requires count { length tiers.old.items ≡ 1651 }
+    requires spots { All IsSpot spots.now }
+    ensures { length tiers.new.items ≡ 1651 }
+{
+    'spots: for spot in spots {
+        tiers[place_of(*spot)] = tier;
+    }
+}
+
+// Tiers for spots in the order in which walks in depth leave them: from the last to the first, each with
+// all that lead to it and have none gets the next one.
+fn tiers_by(alloc: Global, steps: &Steps, left: &[Channel]) -> Result<Vec<usize>, OutOfMemory>
+    requires channels { steps.now.to ≡ None }
+    requires left { All IsSpot left.now }
+    ensures { IfOk result (λ tiers. length tiers.items ≡ 1651) }
+{
+    let mut seen = none_seen(alloc)?;
+    let mut tiers = vec![in alloc; 0usize; usize::from(SPOTS)]?;
+    let mut place = left.len();
+    'places: while place > 0 {
+        place -= 1;
+        let spot = left[place];
+        if !is_seen(&seen, spot) {
+            let mut part = Vec::new(alloc);
+            walk_deep(alloc, steps, true, &mut seen, &mut part, spot)?;
+            give_tier(&mut tiers, &part, left.len() - place);
+        }
+    }
+    Ok(tiers)
+}
+
+// Whether no step from a spot leads to a lower tier.
+fn rises_from(steps: &Steps, tiers: &[usize], spot: Channel) -> bool
+    requires { IsSpot spot }
+    ensures { IsTrue result ↔ RisesFrom steps.now tiers.now spot }
+{
+    'exits: for exit in 0..13u8 {
+        if let Some(next) = steps.next(spot, exit) {
+            if tier_of(tiers, next) < tier_of(tiers, spot) {
+                return false;
+            }
+        }
+    }
+    true
+}
+
+// Whether no step leads to a lower tier.
+fn are_tiers(steps: &Steps, tiers: &[usize]) -> bool
+    requires { steps.now.to ≡ None }
+    ensures { IsTrue result ↔ AreTiers steps.now tiers.now }
+{
+    'spots: for place in 0..SPOTS {
+        if !rises_from(steps, tiers, spot_at(place)) {
+            return false;
+        }
+    }
+    true
+}
+
+/// A tier for each spot, so that no step leads to a lower one. Channels that lead to one another have one
+/// tier, and no others have; were it not so, all would have one. It looks at each step a few times.
+pub fn tiers_of(alloc: Global, steps: &Steps) -> Result<Vec<usize>, OutOfMemory>
+    requires { steps.now.to ≡ None }
+    ensures { IfOk result (λ tiers. AreTiers steps.now tiers.items) }
+{
+    let left = leave_all(alloc, steps)?;
+    let tiers = tiers_by(alloc, steps, &left)?;
+    if are_tiers(steps, &tiers) {
+        return Ok(tiers);
+    }
+    Ok(Vec::new(alloc))
+}
+
+/// Whether some step from a spot leads to its own tier.
+pub fn has_peer(steps: &Steps, tiers: &[usize], spot: Channel) -> bool
+    requires { IsSpot spot }
+    ensures { IsTrue result ↔ HasPeer steps.now tiers.now spot }
+{
+    'exits: for exit in 0..13u8 {
+        if let Some(next) = steps.next(spot, exit) {
+            if tier_of(tiers, next) == tier_of(tiers, spot) {
+                return true;
+            }
+        }
+    }
+    false
+}

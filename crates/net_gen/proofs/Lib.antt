@@ -1,0 +1,5 @@
+pub mod NameLemmas
+pub mod LinkLemmas
+pub mod MadeLemmas
+pub mod ToldLemmas
+pub mod RunLemmas

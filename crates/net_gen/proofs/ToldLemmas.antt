@@ -1,0 +1,160 @@
+-- What the lines of a history tell of packets.
+
+use Rattle.std.proofs.Common.{◌≡◌, refl, ℕ, ◌≤◌, List, [], ◌∷◌, ◌++◌, length, Option, Some, None, Bool, true, false, not, ◌==◌, cond, is_some, arith}
+use Rattle.std.specs.Prelude.{◌&&◌, count_by, flat_map}
+use Rattle.std.specs.Option.{option_map_or}
+use Rattle.std.proofs.lemmas.List.Sums.{count_by-le-length, sum_by-append}
+use Rattle.an_base.specs.Ports.{NoteOf}
+use Rattle.an_base.specs.Values.{EndId, LifeId, TopoOf}
+use Rattle.an_base.specs.declared.event.Event.{Event}
+use Rattle.an_base.specs.declared.event.Event.TheVariants.{Tick, Clock, Take, Handle, Load, Fail, Repair, Lose, Again, Swap, Noise, Send, Move, Restart}
+use Rattle.an_base.specs.declared.port.PortState.{PortState}
+use Rattle.port_monitor.specs.Histories.{externals}
+use Rattle.frame_codec.specs.Reading.{frame_of}
+use Rattle.wire_set.specs.WireState.{WiresOf, place as port_place, side_at, is_link, wire_out, what_becomes, taken_frame, held_from, what_copy_becomes}
+use Rattle.wire_set.specs.declared.side.Loss.{Loss}
+use Rattle.wire_set.specs.declared.side.Put.{Put}
+use Rattle.wire_set.specs.declared.side.Put.TheVariants as put
+use Rattle.table_build.specs.Tables.{TableOf}
+use Rattle.switch_core.specs.Switch.{SwitchOf, finish_of, note_of}
+use Rattle.switch_core.specs.Steps.{Step}
+use Rattle.switch_core.specs.Bytes.{BytesOut, all_spelled}
+use Rattle.host_traffic.specs.declared.hop.DropCause.TheVariants as cause
+use Rattle.host_traffic.specs.Packets.{PacketOf, packet_of}
+use Rattle.fabric_state.specs.declared.hand.Hand.{Hand}
+use Rattle.fabric_state.specs.declared.hand.Hand.TheVariants as hand
+use Rattle.fabric_state.specs.PortStates.{state_code}
+use Rattle.fabric_state.specs.Fabric.{FabricOf, station, held_bytes, host_at, host_on, table_at, side_of_port, switch_behind}
+use Rattle.fabric_state.specs.Effects.{released, put_out, noise}
+use Rattle.fabric_world.specs.declared.line.Line.{Line}
+use Rattle.fabric_world.specs.declared.line.Line.TheVariants as line
+use Rattle.fabric_world.specs.Lines.{shown_in, port_line, no_frame_lines, has_joined, join_lines, spent_lines, finish_line, finish_lines, loss_line, lost_line, lost_lines, handle_lines, copy_line, load_lines, sent_line, unsent_line, send_line, move_lines, lines_of}
+use Rattle.fabric_world.specs.World.{WorldOf, handled}
+
+-- a test that no line of frames, ports and epochs passes
+pub record IsOfPackets (p : Line → Bool) : Type 0 where
+  pub port : (s q : ℕ) (state : PortState) (peer : Option EndId) → p (line.Port s q state peer) ≡ false
+  pub no_frame : (s q : ℕ) → p (line.NoFrame s q) ≡ false
+  pub join : (s epoch : ℕ) → p (line.Join s epoch) ≡ false
+  pub spent : (s : ℕ) → p (line.Spent s) ≡ false
+  pub finish : (s epoch : ℕ) (root : LifeId) (members : ℕ) → p (line.Finish s epoch root members) ≡ false
+  pub lost : (s q : ℕ) (why : Loss) → p (line.Lost s q why) ≡ false
+
+-- HANDLING TELLS OF NO PACKET
+
+module _ (p : Line → Bool) (of : IsOfPackets p) where
+  abbrev None_pass : List Line → Type 0
+  None_pass xs = count_by p xs ≡ 0
+
+  one : (x : Line) → p x ≡ false → None_pass (x ∷ [])
+  one x fails = rw fails refl
+
+  both : (xs ys : List Line) → None_pass xs → None_pass ys → None_pass (xs ++ ys)
+  both xs ys a b = let sum = sum_by-append (λ x. cond (p x) 1 0) xs ys in omega (arith, sum, a, b)
+
+  either : (b : Bool) (xs ys : List Line) → None_pass xs → None_pass ys → None_pass (cond b xs ys)
+  either true xs ys a c = a
+  either false xs ys a c = c
+
+  losses : (s q : ℕ) (what : Put) → None_pass (loss_line s q what)
+  losses s q put.Kept = refl
+  losses s q (put.Lost why) = one (line.Lost s q why) (of.lost s q why)
+
+  ports : (s : ℕ) (before after : NoteOf) (qs : List ℕ) → None_pass (flat_map (port_line s before after) qs)
+  ports s before after [] = refl
+  ports s before after (q ∷ qs) =
+      both (port_line s before after q) (flat_map (port_line s before after) qs)
+      (either (state_code (shown_in before q).state == state_code (shown_in after q).state) [] (line.Port s q (shown_in after q).state (shown_in after q).peer ∷ []) refl (one (line.Port s q (shown_in after q).state (shown_in after q).peer) (of.port s q (shown_in after q).state (shown_in after q).peer)))
+      (ports s before after qs)
+
+  frames : (s : ℕ) (h : Hand) (bytes : List ℕ) → None_pass (no_frame_lines s h bytes)
+  frames s hand.Empty bytes = refl
+  frames s (hand.Clock now samples) bytes = refl
+  frames s (hand.Frame q) bytes = either (is_some (frame_of bytes)) [] (line.NoFrame s q ∷ []) refl (one (line.NoFrame s q) (of.no_frame s q))
+
+  finished : (s epoch : ℕ) (o : Option TopoOf) → None_pass (finish_line s epoch o)
+  finished s epoch None = refl
+  finished s epoch (Some topo) = one _ (of.finish s epoch _ _)
+
+  all_lost : (s : ℕ) (outs : List BytesOut) (w : WiresOf) → None_pass (lost_lines s outs w)
+  all_lost s [] w = refl
+  all_lost s (out ∷ more) w =
+      let what = what_becomes (port_place s out.port) (wire_out w s out.port) out.bytes w in
+      both (lost_line s out w) (lost_lines s more (put_out s out w))
+      (either (is_link (side_at w (port_place s out.port)).far) (loss_line s out.port what) [] (losses s out.port what) refl)
+      (all_lost s more (put_out s out w))
+
+  handling : (s : ℕ) (st : Step) (w : WorldOf) → None_pass (handle_lines s st w)
+  handling s st w =
+      let u = w.switches s in
+      let v = st.switch in
+      let h = (station w.fabric s).hand in
+      let a : List Line = flat_map (port_line s (note_of u) (note_of v)) externals in
+      let b : List Line = no_frame_lines s h (held_bytes w.fabric s) in
+      let c : List Line = join_lines s u v in
+      let d : List Line = spent_lines s v in
+      let e : List Line = finish_lines s u v in
+      let f : List Line = lost_lines s (all_spelled st.frames) (released h s w.fabric.wires) in
+      both (a ++ b ++ c ++ d ++ e) f
+      (both (a ++ b ++ c ++ d) e
+      (both (a ++ b ++ c) d
+      (both (a ++ b) c
+      (both a b (ports s (note_of u) (note_of v) externals) (frames s h (held_bytes w.fabric s)))
+      (either (has_joined u v) (line.Join s v.epoch ∷ []) [] (one (line.Join s v.epoch) (of.join s v.epoch)) refl))
+      (either v.spent (line.Spent s ∷ []) [] (one (line.Spent s) (of.spent s)) refl))
+      (either (not (has_joined u v) && is_some (finish_of u)) [] (finish_line s v.epoch (finish_of v)) refl (finished s v.epoch (finish_of v))))
+      (all_lost s (all_spelled st.frames) (released h s w.fabric.wires))
+
+-- OTHER EVENTS HAVE ONE LINE AT MOST
+
+loss_short : (s q : ℕ) (what : Put) → length (loss_line s q what) ≤ 1
+loss_short s q put.Kept = omega arith
+loss_short s q (put.Lost why) = omega arith
+
+copy_short : (far : Option (ℕ × ℕ)) (what : Option Put) → length (copy_line far what) ≤ 1
+copy_short None what = omega arith
+copy_short (Some far) None = omega arith
+copy_short (Some far) (Some what) = loss_short far.0 far.1 what
+
+load_short : (o : Option TopoOf) (s : ℕ) (u : SwitchOf) → length (load_lines o s u) ≤ 1
+load_short None s u = omega arith
+load_short (Some topo) s u = omega arith
+
+send_short : (a b : ℕ) (f : FabricOf) → length (send_line a b f) ≤ 1
+send_short a b f = by (not (is_some (host_at f (host_on f a).s (host_on f a).port))) (table_at f (host_on f b).s) where
+  by : (c : Bool) (o : Option TableOf) → length (cond c (unsent_line a b cause.NoPort f) (option_map_or (sent_line a b f) o (unsent_line a b cause.NoTable f))) ≤ 1
+  by true o = omega arith
+  by false None = omega arith
+  by false (Some t) = omega arith
+
+move_short : (o : Option PacketOf) (f : FabricOf) → length (move_lines o f) ≤ 1
+move_short None f = omega arith
+move_short (Some packet) f = omega arith
+
+-- so an event tells at most once what passes such a test
+pub at_most_once : (p : Line → Bool) → IsOfPackets p → (w : WorldOf) (e : Event) → count_by p (lines_of w e) ≤ 1
+unfolding lines_of
+at_most_once p of w Tick = omega arith
+at_most_once p of w (Clock s) = omega arith
+at_most_once p of w (Take s q) =
+    let wire = port_place s q in
+    let far = (switch_behind (side_of_port w.fabric s q).far) in
+    let what = what_copy_becomes wire (taken_frame wire w.fabric.wires) (held_from wire (port_place s 0) w.fabric.wires) in
+    omega (arith, count_by-le-length p (copy_line far what), copy_short far what)
+at_most_once p of w (Handle s) = let none = handling p of s (handled s w) w in omega (arith, none)
+at_most_once p of w (Load s) =
+    let o = finish_of (w.switches s) in
+    omega (arith, count_by-le-length p (load_lines o s (w.switches s)), load_short o s (w.switches s))
+at_most_once p of w (Fail s q) = count_by-le-length p (lines_of w (Fail s q))
+at_most_once p of w (Repair s q) = count_by-le-length p (lines_of w (Repair s q))
+at_most_once p of w (Lose s q n) = omega arith
+at_most_once p of w (Again s q n) = omega arith
+at_most_once p of w (Swap s q n) = omega arith
+at_most_once p of w (Noise s q n) =
+    let what = what_becomes (port_place s q) (wire_out w.fabric.wires s q) (noise n) w.fabric.wires in
+    omega (arith, count_by-le-length p (loss_line s q what), loss_short s q what)
+at_most_once p of w (Send a b) = omega (arith, count_by-le-length p (send_line a b w.fabric), send_short a b w.fabric)
+at_most_once p of w (Move n) =
+    let o = packet_of n w.fabric.packets in
+    omega (arith, count_by-le-length p (move_lines o w.fabric), move_short o w.fabric)
+at_most_once p of w (Restart s) = count_by-le-length p (lines_of w (Restart s))

@@ -1,0 +1,4 @@
+pub mod Drawn
+pub mod Generated
+pub mod Made
+pub mod Summary

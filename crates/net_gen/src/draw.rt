@@ -1,0 +1,47 @@
+//! Numbers drawn from a seed.
+
+ghost use Rattle.std.specs.Prelude.{◌≡◌, ◌<◌};
+ghost use Rattle.net_gen.specs.Drawn.{drawn, next_seed};
+
+use std::marker::Model;
+
+/// Numbers drawn in turn from a seed, which contracts see as the seed of the next one.
+#[derive(Clone, Copy, Debug, PartialEq, Eq)]
+pub struct Draw {
+    seed: u64,
+}
+
+impl Model for Draw {
+    ghost use Rattle.std.specs.Prelude.{ℕ, ◌<◌, ◌^◌};
+
+    ghost Value = { ℕ };
+
+    ghost view = { λ d. d.seed };
+
+    ghost invariant = { λ d. d.seed < 2 ^ 64 };
+
+    ghost inverse = { λ n. record { seed = n } };
+}
+
+impl Draw {
+    /// The numbers drawn from this seed.
+    pub fn new(seed: u64) -> Self
+        ensures { result ≡ seed }
+    {
+        Draw { seed }
+    }
+
+    /// The next number below a bound.
+    pub fn below(&mut self, bound: u8) -> u8
+        requires { 0 < bound }
+        ensures drawn { result ≡ drawn (next_seed self.old) bound }
+        ensures below { result < bound }
+        ensures seed { self.new ≡ next_seed self.old }
+    {
+        self.seed = self
+            .seed
+            .wrapping_mul(6_364_136_223_846_793_005)
+            .wrapping_add(1_442_695_040_888_963_407);
+        ((self.seed >> 33) % u64::from(bound)) as u8
+    }
+}

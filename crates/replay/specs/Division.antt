@@ -1,0 +1,33 @@
+-- An input with a script and a journal: where the one ends and the other begins.
+
+use Rattle.std.specs.Prelude.{◌≡◌, ◌==◌, ◌&&◌, ℕ, Bool, List, [], ◌∷◌, ◌++◌, length, nat_lt, slice_index_or, codes, bytes_eq, if◌then◌else◌}
+use Rattle.text_lines.specs.Lines.{lines_of, words_of}
+
+-- whether a line has words
+abbrev pub has_words : List ℕ → Bool
+has_words line = nat_lt 0 (length (words_of line))
+
+-- whether the one word of a line is `end`
+abbrev pub is_end_line : List ℕ → Bool
+is_end_line line =
+    (length (words_of line) == 1) && bytes_eq (slice_index_or (words_of line) 0 []) (codes "end")
+
+-- the lines from the first with words on
+abbrev pub from_words : List (List ℕ) → List (List ℕ)
+from_words [] = []
+from_words (line ∷ lines) = if has_words line then line ∷ lines else from_words lines
+
+-- the lines behind the first that is `end` and those without words that follow it directly
+abbrev pub behind_end : List (List ℕ) → List (List ℕ)
+behind_end [] = []
+behind_end (line ∷ lines) = if is_end_line line then from_words lines else behind_end lines
+
+-- bytes end with these
+abbrev pub IsBack : List ℕ → List ℕ → Type 0
+IsBack bytes back = (front : List ℕ) × (bytes ≡ front ++ back)
+
+-- The bytes are those of a script, with the lines without words behind its `end`, and then those of a
+-- journal. Where no line is `end`, there are none of a journal.
+pub record IsDivision (bytes script journal : List ℕ) : Type 0 where
+  pub parts : bytes ≡ script ++ journal
+  pub behind : lines_of journal ≡ behind_end (lines_of bytes)

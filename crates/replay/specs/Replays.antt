@@ -1,0 +1,50 @@
+-- What a journal came to when it was replayed.
+
+use Rattle.std.specs.Prelude.{◌≡◌, ◌+◌, ℕ, List, length, None, false, ⊤}
+use Rattle.an_base.specs.declared.event.Event.{Event}
+use Rattle.net_script.specs.Scripts.{ScriptOf}
+use Rattle.journal.specs.declared.cause.JournalCause.{JournalCause}
+use Rattle.journal.specs.declared.cause.JournalCause.TheVariants as cause
+use Rattle.fabric_state.specs.Lawful.{is_lawful}
+use Rattle.fabric_world.specs.Histories.{HistoryOf, IsFirstFault, IsLawful, end_of, fabric_of}
+use Rattle.fabric_book.specs.Nets.{NetOf}
+use Rattle.replay.specs.declared.refusal.ReplayRefusal.{ReplayRefusal}
+use Rattle.replay.specs.declared.refusal.ReplayRefusal.TheVariants as refusal
+
+-- a network of a script has made these events, each of which was lawful, and memory was not wanting
+pub record HasMade (script : ScriptOf) (events : List Event) (net : NetOf) : Type 0 where
+  pub net_is : net ≡ record { script = script; events = events; lost = false }
+  pub lawful : IsLawful script events
+
+-- The line of the event behind so many, in the text of a journal, whose first line is `journal 1`; or of the
+-- `end` behind them all.
+abbrev pub line_behind : List Event → ℕ
+line_behind events = length events + 2
+
+-- of the line and the cause of a refusal, unless memory was wanting
+abbrev pub IfIllegal : ReplayRefusal → (ℕ → JournalCause → Type 0) → Type 0
+IfIllegal (refusal.Illegal line why) Holds = Holds line why
+IfIllegal refusal.OutOfMemory Holds = ⊤
+
+-- the next event is not lawful
+pub record IsUnlawfulNext (history : HistoryOf) (event : Event) (line : ℕ) (why : JournalCause) : Type 0 where
+  pub fault : is_lawful (fabric_of history) event ≡ false
+  pub stands : line ≡ line_behind history.events
+  pub cause_is : why ≡ cause.NotLawful
+
+-- a history has come to no end
+pub record HasNoEnd (history : HistoryOf) (line : ℕ) (why : JournalCause) : Type 0 where
+  pub none : end_of history.script history.events ≡ None
+  pub stands : line ≡ line_behind history.events
+  pub cause_is : why ≡ cause.Unfinished
+
+-- Why a journal is refused: an event is not lawful, the first of these, and stands in this line; or all are
+-- lawful, they come to no end, and this is the last line.
+pub data IsIllegal (script : ScriptOf) (journal : List Event) (line : ℕ) (why : JournalCause) : Type 0 where
+  unlawful : (before after : List Event) (event : Event) → IsFirstFault script journal before event after
+      → line ≡ line_behind before → why ≡ cause.NotLawful → IsIllegal script journal line why
+  unended : IsLawful script journal → end_of script journal ≡ None
+      → line ≡ line_behind journal → why ≡ cause.Unfinished → IsIllegal script journal line why
+
+abbrev pub IsRefusal : ScriptOf → List Event → ReplayRefusal → Type 0
+IsRefusal script journal refused = IfIllegal refused (IsIllegal script journal)

@@ -1,0 +1,118 @@
+//! An input with a script and a journal.
+
+ghost use Rattle.std.specs.Prelude.{◌≡◌, ◌<◌, ◌∷◌, [], ℕ, List, length, IfNone, IfOk, IfSome};
+ghost use Rattle.text_lines.specs.Lines.{lines_of};
+ghost use Rattle.replay.specs.Division.{IsBack, IsDivision, behind_end, from_words, has_words, is_end_line};
+
+use an_base::memory::OutOfMemory;
+use std::alloc::Global;
+use text_lines::line::{first_line, first_of, words};
+
+// Whether a line has words.
+fn has_words(alloc: Global, line: &[u8]) -> Result<bool, OutOfMemory>
+    ensures { IfOk result (λ answer. answer ≡ has_words line.now) }
+{
+    let words = words(alloc, line)?;
+    Ok(!words.is_empty())
+}
+
+// Whether the one word of a line is `end`.
+fn is_end_line(alloc: Global, line: &[u8]) -> Result<bool, OutOfMemory>
+    ensures { IfOk result (λ answer. answer ≡ is_end_line line.now) }
+{
+    let words = words(alloc, line)?;
+    Ok(words.len() == 1 && words[0] == b"end".as_slice())
+}
+
+// What stands behind the first line feed, or nothing where there is none.
+fn behind_first(bytes: &[u8]) -> &[u8]
+    ensures lines { 0 < length bytes.now
+        → (line : List ℕ) × (lines_of bytes.now ≡ line ∷ lines_of result.now) }
+    ensures back { IsBack bytes.now result.now }
+    ensures less { 0 < length bytes.now → length result.now < length bytes.now }
+{
+    match first_of(bytes, b'\n') {
+        Some(end) => &bytes[end + 1..],
+        None => &bytes[bytes.len()..],
+    }
+}
+
+// The first line, without what ends it, and what stands behind it. There is none where there are no bytes.
+fn next_line(bytes: &[u8]) -> Option<(&[u8], &[u8])>
+    ensures some { IfSome result (λ r. lines_of bytes.now ≡ r.0.now ∷ lines_of r.1.now) }
+    ensures back { IfSome result (λ r. IsBack bytes.now r.1.now) }
+    ensures less { IfSome result (λ r. length r.1.now < length bytes.now) }
+    ensures none { IfNone result (lines_of bytes.now ≡ []) }
+{
+    match first_line(bytes) {
+        Some((line, _)) => Some((line, behind_first(bytes))),
+        None => None,
+    }
+}
+
+// The bytes from the first line with words on.
+fn from_words(alloc: Global, bytes: &[u8]) -> Result<&[u8], OutOfMemory>
+    ensures lines { IfOk result (λ rest. lines_of rest.now ≡ from_words (lines_of bytes.now)) }
+    ensures back { IfOk result (λ rest. IsBack bytes.now rest.now) }
+{
+    let mut rest = bytes;
+    'lines: while let Some((line, behind)) = next_line(rest) {
+        if has_words(alloc, line)? {
+            return Ok(rest);
+        }
+        rest = behind;
+    }
+    Ok(rest)
+}
+
+// What stands behind the first line that is `end` and the lines without words that follow it.
+fn behind_end(alloc: Global, bytes: &[u8]) -> Result<&[u8], OutOfMemory>
+    ensures lines { IfOk result (λ rest. lines_of rest.now ≡ behind_end (lines_of bytes.now)) }
+    ensures back { IfOk result (λ rest. IsBack bytes.now rest.now) }
+{
+    let mut rest = bytes;
+    'lines: while let Some((line, behind)) = next_line(rest) {
+        rest = behind;
+        if is_end_line(alloc, line)? {
+            return from_words(alloc, rest);
+        }
+    }
+    Ok(rest)
+}
+
+/// The part of an input that is to be a script, and behind it that of a journal. Where no line is `end`, all
+/// is the script.
+pub fn divide(alloc: Global, bytes: &[u8]) -> Result<(&[u8], &[u8]), OutOfMemory>
+    ensures { IfOk result (λ parts. IsDivision bytes.now parts.0.now parts.1.now) }
+{
+    let journal = behind_end(alloc, bytes)?;
+    Ok((&bytes[..bytes.len() - journal.len()], journal))
+}
+
+#[cfg(test)]
+mod tests {
+    use super::*;
+    use std::test::Fail;
+
+    #[test]
+    fn the_journal_begins_behind_the_lines_without_words(rt: HostRuntime) -> Result<(), Fail> {
+        for (script, journal) in [
+            (
+                b"a\n end # b\n\n# settled\n".as_slice(),
+                b"journal 1\nend\n".as_slice(),
+            ),
+            (b"a\r\nend\r\n".as_slice(), b"end\nend".as_slice()),
+            (b"a\nend of\nb".as_slice(), b"".as_slice()),
+            (b"a\nend".as_slice(), b"".as_slice()),
+            (b"a\nend\n \n\t".as_slice(), b"".as_slice()),
+            (b"".as_slice(), b"".as_slice()),
+        ] {
+            let mut input = script.to_vec(rt.alloc())?;
+            input.extend_from_slice(journal)?;
+            let (first, second) = divide(rt.alloc(), &input)?;
+            assert_eq!(rt; first, script);
+            assert_eq!(rt; second, journal);
+        }
+        Ok(())
+    }
+}

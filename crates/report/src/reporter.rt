@@ -1,0 +1,290 @@
+//! The report of a journal.
+
+ghost use Rattle.std.specs.Prelude.{◌≡◌, ◌∷◌, ◌++◌, [], codes, IfErr, IfOk, OnErr, OnOk, Err};
+ghost use Rattle.fabric_world.specs.Clauses.{HoldsThroughout};
+ghost use Rattle.fabric_world.specs.Histories.{IsLegal, fabric_of, world_of};
+ghost use Rattle.fabric_world.specs.World.{world_after};
+ghost use Rattle.fabric_book.specs.Nets.{history_of};
+ghost use Rattle.outside.specs.Told.{Failed, Gains, GainsFront, IsNoLess};
+ghost use Rattle.replay.specs.Replays.{HasMade, HasNoEnd, IfIllegal, IsRefusal, IsUnlawfulNext};
+ghost use Rattle.replay.specs.declared.refusal.ReplayRefusal.TheVariants as refusal;
+ghost use Rattle.report.specs.Events.{HasLegalEnd, IsReport, event_text, line_of_end, report_text};
+ghost use Rattle.report.specs.Names.{life_text};
+ghost use Rattle.report.specs.declared.reporter.ReportStop.TheVariants as stop;
+
+use crate::decimals::Decimals;
+use crate::piece::life_word;
+use crate::telling::Telling;
+use an_base::event::{Event, Journal};
+use an_base::life::Life;
+use an_base::memory::OutOfMemory;
+use an_base::text::Word;
+use fabric_book::lines::Lines;
+use fabric_book::net::Net;
+use fabric_state::ending::Ending;
+use net_script::script::Script;
+use outside::all::{WriteFault, write_all};
+use outside::sink::Sink;
+use replay::refusal::ReplayRefusal;
+use replay::world::{end_of, step};
+use std::alloc::Global;
+
+/// Why a report was not written.
+#[derive(Clone, Copy, Debug, PartialEq, Eq)]
+pub enum ReportStop {
+    /// The sink failed. It has a front of the report.
+    WriteFault,
+    /// No memory was found. The sink has a front of the report.
+    OutOfMemory,
+}
+
+impl From<OutOfMemory> for ReportStop {
+    ghost from_gives = { λ _ result. result ≡ stop.OutOfMemory };
+
+    fn from(_value: OutOfMemory) -> Self {
+        ReportStop::OutOfMemory
+    }
+}
+
+impl From<WriteFault> for ReportStop {
+    ghost from_gives = { λ _ result. result ≡ stop.WriteFault };
+
+    fn from(_value: WriteFault) -> Self {
+        ReportStop::WriteFault
+    }
+}
+
+/// A report, and what the journal came to.
+#[derive(Debug, Drop)]
+pub struct Report {
+    /// The text.
+    pub text: Vec<u8>,
+    /// The end.
+    pub end: Ending,
+    /// The tick at the end.
+    pub tick: u32,
+}
+
+// How much of a report is kept before it is written.
+const PIECE: usize = 1 << 15;
+
+// A journal that is being replayed, with that part of its report which is kept.
+#[derive(Drop)]
+struct Reporter<'a> {
+    alloc: Global,
+    script: &'a Script,
+    decimals: Decimals,
+    net: Net,
+    lines: Lines,
+    text: Vec<u8>,
+}
+
+impl<'a> Reporter<'a> {
+    // At the beginning: the first line.
+    fn begin(alloc: Global, script: &'a Script) -> Result<Self, OutOfMemory>
+        ensures made { IfOk result (λ reporter. HasMade script.now [] reporter.net) }
+        ensures script { IfOk result (λ reporter. reporter.script.now ≡ script.now) }
+        ensures text { IfOk result (λ reporter. reporter.text.items ≡ codes "report 1\n") }
+    {
+        Ok(Reporter {
+            alloc,
+            script,
+            decimals: Decimals::new(alloc)?,
+            net: Net::begin(alloc, script)?,
+            lines: Lines::new(alloc),
+            text: Vec::from_slice(alloc, b"report 1\n")?,
+        })
+    }
+
+    // The next event, with its lines.
+    fn step(&mut self, event: &Event) -> Result<(), ReplayRefusal>
+        requires { HasMade self.old.script.now self.old.net.events self.old.net }
+        ensures made { OnOk result (HasMade self.old.script.now
+            (self.old.net.events ++ event.now ∷ []) self.new.net) }
+        ensures script { self.new.script.now ≡ self.old.script.now }
+        ensures text { OnOk result (self.new.text.items ≡ self.old.text.items
+            ++ event_text self.old.script.now (world_of (history_of self.old.net)) event.now) }
+        ensures refused { IfErr result (λ why.
+            IfIllegal why (IsUnlawfulNext (history_of self.old.net) event.now)) }
+    {
+        step(&mut self.net, event, &mut self.lines)?;
+        let telling = Telling {
+            alloc: self.alloc,
+            script: self.script,
+            decimals: &self.decimals,
+            fabric: self.net.fabric(),
+        };
+        telling.push_lines(&mut self.text, self.lines.as_slice())?;
+        Ok(())
+    }
+
+    // The end, with the last line.
+    fn finish(&mut self) -> Result<Ending, ReplayRefusal>
+        requires { HasMade self.old.script.now self.old.net.events self.old.net }
+        ensures legal { IfOk result (IsLegal self.old.script.now self.old.net.events) }
+        ensures claims { OnOk result (HoldsThroughout self.old.script.now self.old.net.events) }
+        ensures net { OnOk result (self.new.net ≡ self.old.net) }
+        ensures text { IfOk result (λ end. self.new.text.items ≡ self.old.text.items
+            ++ line_of_end self.old.script.now (fabric_of (history_of self.old.net)) end) }
+        ensures refused { IfErr result (λ why. IfIllegal why (HasNoEnd (history_of self.old.net))) }
+    {
+        let end = end_of(&self.net)?;
+        let telling = Telling {
+            alloc: self.alloc,
+            script: self.script,
+            decimals: &self.decimals,
+            fabric: self.net.fabric(),
+        };
+        telling.push_end_line(&mut self.text, &end)?;
+        Ok(end)
+    }
+
+    // Writes what is kept.
+    fn write<K: Sink>(&mut self, sink: &mut K) -> Result<(), WriteFault>
+        ensures script { self.new.script.now ≡ self.old.script.now }
+        ensures net { self.new.net ≡ self.old.net }
+        ensures emptied { OnOk result (self.new.text.items ≡ []) }
+        ensures all { OnOk result (Gains (K.seen sink.old) (K.seen sink.new) self.old.text.items) }
+        ensures front { GainsFront (K.seen sink.old) (K.seen sink.new) self.old.text.items }
+        ensures fault { OnErr result (Failed (K.seen sink.old) (K.seen sink.new)) }
+        ensures kept { IsNoLess (K.seen sink.old) (K.seen sink.new) }
+    {
+        write_all(sink, &self.text)?;
+        self.text.clear();
+        Ok(())
+    }
+}
+
+// Why a report stops at a legal journal, which is refused for want of memory alone.
+fn stop_of(why: ReplayRefusal) -> ReportStop
+    requires { why ≡ refusal.OutOfMemory }
+    ensures { result ≡ stop.OutOfMemory }
+{
+    match why {
+        ReplayRefusal::Illegal { .. } => unreachable!(),
+        ReplayRefusal::OutOfMemory => ReportStop::OutOfMemory,
+    }
+}
+
+/// Writes the report of a legal journal, piece by piece. All that is claimed of a history holds of it.
+pub fn write<K: Sink>(
+    alloc: Global,
+    script: &Script,
+    journal: &Journal,
+    sink: &mut K,
+) -> Result<(), ReportStop>
+    requires legal { HasLegalEnd script.now journal.now }
+    ensures claims { OnOk result (HoldsThroughout script.now journal.now) }
+    ensures all { OnOk result (Gains (K.seen sink.old) (K.seen sink.new)
+        (report_text script.now journal.now)) }
+    ensures front { GainsFront (K.seen sink.old) (K.seen sink.new) (report_text script.now journal.now) }
+    ensures fault { result ≡ Err stop.WriteFault → Failed (K.seen sink.old) (K.seen sink.new) }
+{
+    let mut reporter = Reporter::begin(alloc, script)?;
+    let events = journal.as_slice();
+    'events: for event in events {
+        if let Err(why) = reporter.step(event) {
+            return Err(stop_of(why));
+        }
+        if reporter.text.len() >= PIECE {
+            reporter.write(sink)?;
+        }
+    }
+    if let Err(why) = reporter.finish() {
+        return Err(stop_of(why));
+    }
+    reporter.write(sink)?;
+    Ok(())
+}
+
+/// The report of a journal, if it is legal.
+pub fn reported(alloc: Global, script: &Script, journal: &Journal) -> Result<Report, ReplayRefusal>
+    ensures report { IfOk result (λ report. IsReport script.now journal.now report.end report.text.items) }
+    ensures tick { IfOk result (λ report. report.tick ≡ (world_after script.now journal.now).fabric.tick) }
+    ensures refused { IfErr result (IsRefusal script.now journal.now) }
+{
+    let mut reporter = Reporter::begin(alloc, script)?;
+    let events = journal.as_slice();
+    'events: for event in events {
+        reporter.step(event)?;
+    }
+    let end = reporter.finish()?;
+    Ok(Report {
+        end,
+        tick: reporter.net.now(),
+        text: reporter.text,
+    })
+}
+
+/// The name of a life, as it is printed.
+pub fn life_name(alloc: Global, script: &Script, life: Life) -> Result<Word, OutOfMemory>
+    ensures { IfOk result (λ name. name ≡ life_text script.now life) }
+{
+    Ok(Word::new(life_word(alloc, script, life)?))
+}
+
+#[cfg(test)]
+mod tests {
+    use super::*;
+    use journal::cause::JournalCause;
+    use net_script::reader::read;
+    use outside::memory::MemorySink;
+    use std::test::Fail;
+
+    const ALONE: &[u8] =
+        b"autonet 1\nlimit events 100\nlimit blocks 1\nswitch A 000000000001\nend\n";
+
+    const REPORT: &[u8] = b"report 1\n2 A join 1\n2 A finish 1 root A members 1\n\
+        3 A load 1 number 1\nrow A 0\nend settled tick 0 events 3\n";
+
+    // The events of a switch alone, and its script.
+    fn alone(alloc: Global, count: usize) -> Result<(Script, Journal), Fail> {
+        let Ok(script) = read(alloc, ALONE) else {
+            return Err("no script".into());
+        };
+        let events = [
+            Event::Clock { s: 0 },
+            Event::Handle { s: 0 },
+            Event::Load { s: 0 },
+            Event::Tick,
+        ];
+        let mut journal = Journal::new(alloc);
+        for event in events.get(..count).unwrap_or(&events) {
+            journal.push(*event)?;
+        }
+        Ok((script, journal))
+    }
+
+    #[test]
+    fn a_switch_alone_finishes_and_loads(rt: HostRuntime) -> Result<(), Fail> {
+        let (script, journal) = alone(rt.alloc(), 3)?;
+        let Ok(report) = reported(rt.alloc(), &script, &journal) else {
+            return Err("no report".into());
+        };
+        assert_eq!(rt; report.text.as_slice(), REPORT);
+        assert_eq!(rt; report.tick, 0);
+        for room in [REPORT.len(), 30] {
+            let mut sink = MemorySink::new(rt.alloc(), room, Vec::new(rt.alloc()))?;
+            let is_whole = write(rt.alloc(), &script, &journal, &mut sink).is_ok();
+            assert_eq!(rt; is_whole, room == REPORT.len());
+            assert_eq!(rt; sink.bytes(), REPORT.get(..room).unwrap_or(REPORT));
+        }
+        Ok(())
+    }
+
+    #[test]
+    fn a_journal_is_refused_at_its_first_fault(rt: HostRuntime) -> Result<(), Fail> {
+        for (count, line, cause) in [
+            (0, 2, JournalCause::Unfinished),
+            (2, 4, JournalCause::Unfinished),
+            (4, 5, JournalCause::NotLawful),
+        ] {
+            let (script, journal) = alone(rt.alloc(), count)?;
+            match reported(rt.alloc(), &script, &journal) {
+                Ok(_report) => assert!(rt; false),
+                Err(refusal) => assert_eq!(rt; refusal, ReplayRefusal::Illegal { line, cause }),
+            }
+        }
+        Ok(())
+    }
+}

@@ -1,0 +1,610 @@
+//! The lines of an event.
+
+ghost use Rattle.std.specs.Prelude.{◌≡◌, ◌==◌, ◌++◌, ◌∷◌, [], codes, OnOk, Some};
+ghost use Rattle.std.specs.List.{list_any};
+ghost use Rattle.std.specs.Fmt.{decimal};
+ghost use Rattle.report.specs.Names.{life_text};
+ghost use Rattle.report.specs.Events.{all_told, deliver_words, drop_word, ending_words, has_line, host_text};
+ghost use Rattle.report.specs.Events.{life_shown, line_of_end, loss_words, peer_words, place_words, rows_in_use};
+ghost use Rattle.report.specs.Events.{rows_text, spaced, state_word, switch_text, told_text, told_words, used_text};
+ghost use Rattle.wire_set.specs.declared.side.Loss.TheVariants as loss;
+ghost use Rattle.fabric_state.specs.declared.ending.Ending.TheVariants as ending;
+ghost use Rattle.fabric_world.specs.declared.line.Line.TheVariants as told;
+
+use crate::decimals::Decimals;
+use crate::piece::push_life;
+use crate::row::push_row_line;
+use an_base::life::{End, Life};
+use an_base::memory::OutOfMemory;
+use an_base::port::PortState;
+use an_base::row::Row;
+use fabric_state::ending::Ending;
+use fabric_state::fabric::Fabric;
+use fabric_world::line::Line;
+use host_traffic::hop::DropCause;
+use itoa::Buffer;
+use net_script::script::Script;
+use std::alloc::Global;
+use table_build::table::Table;
+use wire_set::side::Loss;
+
+// Appends a word behind a space.
+fn push_word(text: &mut Vec<u8>, word: &[u8]) -> Result<(), OutOfMemory>
+    ensures { OnOk result (text.new.items ≡ text.old.items ++ spaced (word.now ∷ [])) }
+{
+    text.push(b' ')?;
+    text.extend_from_slice(word)?;
+    Ok(())
+}
+
+// Appends a number.
+fn push_digits(text: &mut Vec<u8>, number: u64) -> Result<(), OutOfMemory>
+    ensures { OnOk result (text.new.items ≡ text.old.items ++ decimal number) }
+{
+    let mut buffer = Buffer::new();
+    text.extend_from_slice(buffer.format(number).as_bytes())?;
+    Ok(())
+}
+
+// Appends a number behind a space.
+fn push_number(text: &mut Vec<u8>, number: u64) -> Result<(), OutOfMemory>
+    ensures { OnOk result (text.new.items ≡ text.old.items ++ spaced (decimal number ∷ [])) }
+{
+    text.push(b' ')?;
+    push_digits(text, number)
+}
+
+// The word for the state of a port.
+fn state_word(state: PortState) -> &'static str
+    ensures { result.now ≡ state_word state }
+{
+    match state {
+        PortState::Dead => "s.dead",
+        PortState::Checking => "s.checking",
+        PortState::Host => "s.host",
+        PortState::Who => "s.switch.who",
+        PortState::Loop => "s.switch.loop",
+        PortState::Good => "s.switch.good",
+    }
+}
+
+// The word for why a packet was dropped.
+fn drop_word(cause: DropCause) -> &'static str
+    ensures { result.now ≡ drop_word cause }
+{
+    match cause {
+        DropCause::NoPort => "no-port",
+        DropCause::NoTable => "no-table",
+        DropCause::NoHost => "no-host",
+        DropCause::WrongHost => "wrong-host",
+        DropCause::NoExit => "no-exit",
+        DropCause::LinkDown => "link-down",
+    }
+}
+
+// Appends that there was no room for a frame: the blocks that it needs, and those that were free.
+fn push_room(text: &mut Vec<u8>, need: u32, free: u32) -> Result<(), OutOfMemory>
+    ensures { OnOk result (text.new.items ≡ text.old.items ++ spaced (loss_words (loss.NoRoom need free))) }
+{
+    push_word(text, b"room")?;
+    push_word(text, b"need")?;
+    push_number(text, u64::from(need))?;
+    push_word(text, b"free")?;
+    push_number(text, u64::from(free))
+}
+
+// Appends the words for why a frame was lost.
+fn push_loss(text: &mut Vec<u8>, cause: Loss) -> Result<(), OutOfMemory>
+    ensures { OnOk result (text.new.items ≡ text.old.items ++ spaced (loss_words cause)) }
+{
+    match cause {
+        Loss::Down => push_word(text, b"down"),
+        Loss::Told => push_word(text, b"told"),
+        Loss::NoRoom { need, free } => push_room(text, need, free),
+    }
+}
+
+// Appends the words for why a packet was dropped.
+fn push_drop(text: &mut Vec<u8>, cause: DropCause) -> Result<(), OutOfMemory>
+    ensures { OnOk result (text.new.items ≡ text.old.items ++ spaced (codes "drop" ∷ drop_word cause ∷ [])) }
+{
+    push_word(text, b"drop")?;
+    push_word(text, drop_word(cause).as_bytes())
+}
+
+// Whether an entry has rows.
+fn has_rows(rows: &[Row], entry: u8) -> bool
+    ensures { result ≡ list_any (λ row. row.entry == entry) rows.now }
+{
+    rows.iter().any(|row| row.entry == entry)
+}
+
+// Whether the rows of an entry have a line: those of entry 0, and of each other entry that has some.
+fn has_line(rows: &[Row], entry: u8) -> bool
+    ensures { result ≡ has_line rows.now entry }
+{
+    entry == 0 || has_rows(rows, entry)
+}
+
+/// What the lines of an event are told with: the script, and the fabric behind the event.
+#[derive(Clone, Copy, Drop)]
+pub(crate) struct Telling<'a> {
+    pub(crate) alloc: Global,
+    pub(crate) script: &'a Script,
+    pub(crate) decimals: &'a Decimals,
+    pub(crate) fabric: &'a Fabric,
+}
+
+impl Telling<'_> {
+    // Appends a life behind a space.
+    fn push_life(&self, text: &mut Vec<u8>, life: Life) -> Result<(), OutOfMemory>
+        ensures { OnOk result (text.new.items
+            ≡ text.old.items ++ spaced (life_text self.now.script.now life ∷ [])) }
+    {
+        text.push(b' ')?;
+        push_life(self.alloc, text, self.script, life)?;
+        Ok(())
+    }
+
+    // The present life of a switch.
+    fn life_shown(&self, s: u8) -> Option<Life>
+        ensures { result ≡ life_shown self.now.fabric.now s }
+    {
+        if s >= self.fabric.count() {
+            return None;
+        }
+        Some(self.fabric.station(s).note().life)
+    }
+
+    // Appends a switch behind a space.
+    fn push_switch(&self, text: &mut Vec<u8>, s: u8) -> Result<(), OutOfMemory>
+        ensures { OnOk result (text.new.items
+            ≡ text.old.items ++ spaced (switch_text self.now.script.now self.now.fabric.now s ∷ [])) }
+    {
+        match self.life_shown(s) {
+            None => push_word(text, b""),
+            Some(life) => self.push_life(text, life),
+        }
+    }
+
+    // Appends a switch, a word and a number, each behind a space.
+    fn push_at(
+        &self,
+        text: &mut Vec<u8>,
+        s: u8,
+        word: &[u8],
+        number: u64,
+    ) -> Result<(), OutOfMemory>
+        ensures { OnOk result (text.new.items ≡ text.old.items
+            ++ spaced (switch_text self.now.script.now self.now.fabric.now s
+            ∷ word.now ∷ decimal number ∷ [])) }
+    {
+        self.push_switch(text, s)?;
+        push_word(text, word)?;
+        push_number(text, number)
+    }
+
+    // Appends a word, a switch and a port, each behind a space.
+    fn push_end(&self, text: &mut Vec<u8>, word: &[u8], s: u8, port: u8) -> Result<(), OutOfMemory>
+        ensures { OnOk result (text.new.items ≡ text.old.items
+            ++ spaced (word.now
+            ∷ switch_text self.now.script.now self.now.fabric.now s ∷ decimal port ∷ [])) }
+    {
+        push_word(text, word)?;
+        self.push_switch(text, s)?;
+        push_number(text, u64::from(port))
+    }
+
+    // Appends a host behind a space.
+    fn push_host(&self, text: &mut Vec<u8>, host: u16) -> Result<(), OutOfMemory>
+        ensures { OnOk result (text.new.items
+            ≡ text.old.items ++ spaced (host_text self.now.script.now host ∷ [])) }
+    {
+        let names = self.script.names_of_hosts();
+        if usize::from(host) >= names.len() {
+            return push_word(text, b"");
+        }
+        push_word(text, names.get(usize::from(host)))
+    }
+
+    // Appends the other end of a link: its life and port.
+    fn push_far(&self, text: &mut Vec<u8>, end: End) -> Result<(), OutOfMemory>
+        ensures { OnOk result (text.new.items ≡ text.old.items
+            ++ spaced (life_text self.now.script.now end.life ∷ decimal end.port ∷ [])) }
+    {
+        self.push_life(text, end.life)?;
+        push_number(text, u64::from(end.port))
+    }
+
+    // Appends the other end of a good port.
+    fn push_peer(
+        &self,
+        text: &mut Vec<u8>,
+        state: PortState,
+        peer: Option<End>,
+    ) -> Result<(), OutOfMemory>
+        ensures { OnOk result (text.new.items
+            ≡ text.old.items ++ spaced (peer_words self.now.script.now state peer)) }
+    {
+        match (state, peer) {
+            (PortState::Good, Some(end)) => self.push_far(text, end),
+            _ => Ok(()),
+        }
+    }
+
+    // Appends a packet, who sent it, and to whom.
+    fn push_packet(
+        &self,
+        text: &mut Vec<u8>,
+        packet: u32,
+        host: u16,
+        to: u16,
+    ) -> Result<(), OutOfMemory>
+        ensures { OnOk result (text.new.items ≡ text.old.items
+            ++ spaced (codes "packet" ∷ decimal packet ∷ host_text self.now.script.now host
+            ∷ codes "to" ∷ host_text self.now.script.now to ∷ [])) }
+    {
+        push_word(text, b"packet")?;
+        push_number(text, u64::from(packet))?;
+        self.push_host(text, host)?;
+        push_word(text, b"to")?;
+        self.push_host(text, to)
+    }
+
+    // Appends a packet, and where it was.
+    fn push_move(&self, text: &mut Vec<u8>, packet: u32, s: u8) -> Result<(), OutOfMemory>
+        ensures { OnOk result (text.new.items ≡ text.old.items
+            ++ spaced (codes "move" ∷ decimal packet
+            ∷ switch_text self.now.script.now self.now.fabric.now s ∷ [])) }
+    {
+        push_word(text, b"move")?;
+        push_number(text, u64::from(packet))?;
+        self.push_switch(text, s)
+    }
+
+    // Appends that a packet was delivered to a host.
+    fn push_delivered(&self, text: &mut Vec<u8>, host: u16) -> Result<(), OutOfMemory>
+        ensures { OnOk result (text.new.items
+            ≡ text.old.items ++ spaced (deliver_words self.now.script.now (Some host))) }
+    {
+        push_word(text, b"deliver")?;
+        self.push_host(text, host)
+    }
+
+    // Appends the host to which a packet was delivered, if it was.
+    fn push_delivery(&self, text: &mut Vec<u8>, host: Option<u16>) -> Result<(), OutOfMemory>
+        ensures { OnOk result (text.new.items
+            ≡ text.old.items ++ spaced (deliver_words self.now.script.now host)) }
+    {
+        match host {
+            None => Ok(()),
+            Some(host) => self.push_delivered(text, host),
+        }
+    }
+
+    // Appends by which epoch, entry and exit a packet moved, and to which host it was delivered, if it was.
+    fn push_hop(
+        &self,
+        text: &mut Vec<u8>,
+        epoch: u64,
+        entry: u8,
+        exit: u8,
+        host: Option<u16>,
+    ) -> Result<(), OutOfMemory>
+        ensures { OnOk result (text.new.items ≡ text.old.items
+            ++ spaced (codes "epoch" ∷ decimal epoch ∷ codes "from" ∷ decimal entry
+            ∷ codes "out" ∷ decimal exit ∷ deliver_words self.now.script.now host)) }
+    {
+        push_word(text, b"epoch")?;
+        push_number(text, epoch)?;
+        push_word(text, b"from")?;
+        push_number(text, u64::from(entry))?;
+        push_word(text, b"out")?;
+        push_number(text, u64::from(exit))?;
+        self.push_delivery(text, host)
+    }
+
+    // Appends what is told of a port that changed its state.
+    fn push_port(
+        &self,
+        text: &mut Vec<u8>,
+        s: u8,
+        port: u8,
+        state: PortState,
+        peer: Option<End>,
+    ) -> Result<(), OutOfMemory>
+        ensures { OnOk result (text.new.items ≡ text.old.items
+            ++ spaced (told_words self.now.script.now self.now.fabric.now (told.Port s port state peer))) }
+    {
+        self.push_at(text, s, b"port", u64::from(port))?;
+        push_word(text, state_word(state).as_bytes())?;
+        self.push_peer(text, state, peer)
+    }
+
+    // Appends what is told of a switch whose epochs are spent.
+    fn push_spent(&self, text: &mut Vec<u8>, s: u8) -> Result<(), OutOfMemory>
+        ensures { OnOk result (text.new.items ≡ text.old.items
+            ++ spaced (told_words self.now.script.now self.now.fabric.now (told.Spent s))) }
+    {
+        self.push_switch(text, s)?;
+        push_word(text, b"spent")
+    }
+
+    // Appends what is told of a switch that finished an epoch.
+    fn push_finish(
+        &self,
+        text: &mut Vec<u8>,
+        s: u8,
+        epoch: u64,
+        root: Life,
+        members: u8,
+    ) -> Result<(), OutOfMemory>
+        ensures { OnOk result (text.new.items ≡ text.old.items
+            ++ spaced (told_words self.now.script.now self.now.fabric.now
+            (told.Finish s epoch root members))) }
+    {
+        self.push_at(text, s, b"finish", epoch)?;
+        push_word(text, b"root")?;
+        self.push_life(text, root)?;
+        push_word(text, b"members")?;
+        push_number(text, u64::from(members))
+    }
+
+    // Appends what is told of a frame that was lost.
+    fn push_lost(&self, text: &mut Vec<u8>, s: u8, port: u8, why: Loss) -> Result<(), OutOfMemory>
+        ensures { OnOk result (text.new.items ≡ text.old.items
+            ++ spaced (told_words self.now.script.now self.now.fabric.now (told.Lost s port why))) }
+    {
+        self.push_end(text, b"lost", s, port)?;
+        push_loss(text, why)
+    }
+
+    // Appends what is told of a table that was loaded, but its rows.
+    fn push_load(
+        &self,
+        text: &mut Vec<u8>,
+        s: u8,
+        epoch: u64,
+        number: u8,
+    ) -> Result<(), OutOfMemory>
+        ensures { OnOk result (text.new.items ≡ text.old.items
+            ++ spaced (told_words self.now.script.now self.now.fabric.now (told.Load s epoch number))) }
+    {
+        self.push_at(text, s, b"load", epoch)?;
+        push_word(text, b"number")?;
+        push_number(text, u64::from(number))
+    }
+
+    // Appends what is told of a link that went down.
+    fn push_cut(&self, text: &mut Vec<u8>, s: u8, port: u8, dropped: u32) -> Result<(), OutOfMemory>
+        ensures { OnOk result (text.new.items ≡ text.old.items
+            ++ spaced (told_words self.now.script.now self.now.fabric.now (told.Cut s port dropped))) }
+    {
+        self.push_end(text, b"fail", s, port)?;
+        push_word(text, b"dropped")?;
+        push_number(text, u64::from(dropped))
+    }
+
+    // Appends what is told of a switch that began its next life.
+    fn push_restarted(&self, text: &mut Vec<u8>, s: u8) -> Result<(), OutOfMemory>
+        ensures { OnOk result (text.new.items ≡ text.old.items
+            ++ spaced (told_words self.now.script.now self.now.fabric.now (told.Restarted s))) }
+    {
+        push_word(text, b"restart")?;
+        self.push_switch(text, s)
+    }
+
+    // Appends what is told of a packet that was sent.
+    fn push_sent(
+        &self,
+        text: &mut Vec<u8>,
+        packet: u32,
+        host: u16,
+        to: u16,
+        address: u16,
+    ) -> Result<(), OutOfMemory>
+        ensures { OnOk result (text.new.items ≡ text.old.items
+            ++ spaced (told_words self.now.script.now self.now.fabric.now
+            (told.Packet packet host to address))) }
+    {
+        self.push_packet(text, packet, host, to)?;
+        push_word(text, b"address")?;
+        push_number(text, u64::from(address))
+    }
+
+    // Appends what is told of a packet that was not sent.
+    fn push_unsent(
+        &self,
+        text: &mut Vec<u8>,
+        packet: u32,
+        host: u16,
+        to: u16,
+        why: DropCause,
+    ) -> Result<(), OutOfMemory>
+        ensures { OnOk result (text.new.items ≡ text.old.items
+            ++ spaced (told_words self.now.script.now self.now.fabric.now (told.Unsent packet host to why))) }
+    {
+        self.push_packet(text, packet, host, to)?;
+        push_drop(text, why)
+    }
+
+    // Appends what is told of a packet that was dropped on its way.
+    fn push_fell(
+        &self,
+        text: &mut Vec<u8>,
+        packet: u32,
+        s: u8,
+        why: DropCause,
+    ) -> Result<(), OutOfMemory>
+        ensures { OnOk result (text.new.items ≡ text.old.items
+            ++ spaced (told_words self.now.script.now self.now.fabric.now (told.Fell packet s why))) }
+    {
+        self.push_move(text, packet, s)?;
+        push_drop(text, why)
+    }
+
+    // Appends the words of what is told.
+    fn push_told(&self, text: &mut Vec<u8>, line: &Line) -> Result<(), OutOfMemory>
+        ensures { OnOk result (text.new.items ≡ text.old.items
+            ++ spaced (told_words self.now.script.now self.now.fabric.now line.now)) }
+    {
+        match *line {
+            Line::Port {
+                s,
+                port,
+                state,
+                peer,
+            } => self.push_port(text, s, port, state, peer),
+            Line::NoFrame { s, port } => self.push_at(text, s, b"noframe", u64::from(port)),
+            Line::Join { s, epoch } => self.push_at(text, s, b"join", epoch),
+            Line::Spent { s } => self.push_spent(text, s),
+            Line::Finish {
+                s,
+                epoch,
+                root,
+                members,
+            } => self.push_finish(text, s, epoch, root, members),
+            Line::Lost { s, port, cause } => self.push_lost(text, s, port, cause),
+            Line::Load { s, epoch, number } => self.push_load(text, s, epoch, number),
+            Line::Cut { s, port, dropped } => self.push_cut(text, s, port, dropped),
+            Line::Mended { s, port } => self.push_end(text, b"repair", s, port),
+            Line::Restarted { s } => self.push_restarted(text, s),
+            Line::Packet {
+                packet,
+                host,
+                to,
+                address,
+            } => self.push_sent(text, packet, host, to, address),
+            Line::Unsent {
+                packet,
+                host,
+                to,
+                cause,
+            } => self.push_unsent(text, packet, host, to, cause),
+            Line::Moved {
+                packet,
+                s,
+                epoch,
+                entry,
+                exit,
+                host,
+            } => {
+                self.push_move(text, packet, s)?;
+                self.push_hop(text, epoch, entry, exit, host)
+            }
+            Line::Fell { packet, s, cause } => self.push_fell(text, packet, s, cause),
+        }
+    }
+
+    // Appends the rows of a table of a life.
+    fn push_table(&self, text: &mut Vec<u8>, life: Life, rows: &[Row]) -> Result<(), OutOfMemory>
+        ensures { OnOk result (text.new.items
+            ≡ text.old.items ++ rows_in_use self.now.script.now life rows.now) }
+    {
+        'entries: for entry in 0..13u8 {
+            if has_line(rows, entry) {
+                push_row_line(
+                    self.alloc,
+                    text,
+                    self.script,
+                    self.decimals,
+                    life,
+                    rows,
+                    entry,
+                )?;
+            }
+        }
+        Ok(())
+    }
+
+    // Appends the rows of the table that a switch has in use.
+    fn push_used(&self, text: &mut Vec<u8>, s: u8) -> Result<(), OutOfMemory>
+        ensures { OnOk result (text.new.items ≡ text.old.items
+            ++ used_text self.now.script.now self.now.fabric.now s) }
+    {
+        let Some(life) = self.life_shown(s) else {
+            return Ok(());
+        };
+        match self.fabric.table(s) {
+            None => Ok(()),
+            Some(table) => self.push_table(text, life, table.as_slice()),
+        }
+    }
+
+    // Appends the rows that stand behind a line.
+    fn push_rows(&self, text: &mut Vec<u8>, line: &Line) -> Result<(), OutOfMemory>
+        ensures { OnOk result (text.new.items ≡ text.old.items
+            ++ rows_text self.now.script.now self.now.fabric.now line.now) }
+    {
+        match *line {
+            Line::Load { s, .. } => self.push_used(text, s),
+            _ => Ok(()),
+        }
+    }
+
+    // Appends a line, with the rows behind it.
+    fn push_line(&self, text: &mut Vec<u8>, line: &Line) -> Result<(), OutOfMemory>
+        ensures { OnOk result (text.new.items ≡ text.old.items
+            ++ told_text self.now.script.now self.now.fabric.now line.now) }
+    {
+        push_digits(text, u64::from(self.fabric.events()))?;
+        self.push_told(text, line)?;
+        text.push(b'\n')?;
+        self.push_rows(text, line)
+    }
+
+    /// Appends the lines of an event.
+    pub(crate) fn push_lines(&self, text: &mut Vec<u8>, lines: &[Line]) -> Result<(), OutOfMemory>
+        ensures { OnOk result (text.new.items ≡ text.old.items
+            ++ all_told self.now.script.now self.now.fabric.now lines.now) }
+    {
+        'lines: for line in lines {
+            self.push_line(text, line)?;
+        }
+        Ok(())
+    }
+
+    // Appends that the epochs of a life are spent.
+    fn push_no_epoch(&self, text: &mut Vec<u8>, life: Life) -> Result<(), OutOfMemory>
+        ensures { OnOk result (text.new.items
+            ≡ text.old.items ++ spaced (ending_words self.now.script.now (ending.Spent life))) }
+    {
+        push_word(text, b"spent")?;
+        self.push_life(text, life)
+    }
+
+    // Appends the words for an end.
+    fn push_ending(&self, text: &mut Vec<u8>, end: &Ending) -> Result<(), OutOfMemory>
+        ensures { OnOk result (text.new.items
+            ≡ text.old.items ++ spaced (ending_words self.now.script.now end.now)) }
+    {
+        match *end {
+            Ending::Settled => push_word(text, b"settled"),
+            Ending::Unsettled => push_word(text, b"unsettled"),
+            Ending::Full => push_word(text, b"full"),
+            Ending::Spent(life) => self.push_no_epoch(text, life),
+        }
+    }
+
+    // Appends the tick, and the number of events.
+    fn push_place(&self, text: &mut Vec<u8>) -> Result<(), OutOfMemory>
+        ensures { OnOk result (text.new.items ≡ text.old.items ++ spaced (place_words self.now.fabric.now)) }
+    {
+        push_word(text, b"tick")?;
+        push_number(text, u64::from(self.fabric.now()))?;
+        push_word(text, b"events")?;
+        push_number(text, u64::from(self.fabric.events()))
+    }
+
+    /// Appends the last line.
+    pub(crate) fn push_end_line(&self, text: &mut Vec<u8>, end: &Ending) -> Result<(), OutOfMemory>
+        ensures { OnOk result (text.new.items ≡ text.old.items
+            ++ line_of_end self.now.script.now self.now.fabric.now end.now) }
+    {
+        text.extend_from_slice(b"end")?;
+        self.push_ending(text, end)?;
+        self.push_place(text)?;
+        text.push(b'\n')?;
+        Ok(())
+    }
+}
