@@ -1,8 +1,10 @@
 pub mod AnswerLemmas
 pub mod PartLemmas
 pub mod WordLemmas
+pub mod AllToldLemmas
 pub mod OwnLemmas
 pub mod RoomLemmas
 pub mod GenLemmas
 pub mod ReplayLemmas
 pub mod TopLemmas
+pub mod RunLemmas

@@ -7,4 +7,5 @@ pub mod Flow
 pub mod Reported
 pub mod Replay
 pub mod Gen
+pub mod Run
 pub mod Words

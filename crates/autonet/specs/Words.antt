@@ -8,6 +8,7 @@ use Rattle.autonet.specs.Flood.{gives_flooded}
 use Rattle.autonet.specs.Flow.{AreFlowWords, gives_flow}
 use Rattle.autonet.specs.Gen.{AreGenWords, IsGenAnswer}
 use Rattle.autonet.specs.Replay.{gives_replayed, refuses_journal}
+use Rattle.autonet.specs.Run.{gives_run}
 
 -- the answer to `expect`
 abbrev pub IsExpectAnswer : Streams → Streams → ℕ → Type 0
@@ -29,14 +30,20 @@ IsFlowAnswer room old new answer = IsAnswer input_limit (gives_flow room) refuse
 abbrev pub IsReplayAnswer : Streams → Streams → ℕ → Type 0
 IsReplayAnswer old new answer = IsAnswer input_limit gives_replayed refuses_journal old new answer
 
+-- the answer to `run`
+abbrev pub IsRunAnswer : Streams → Streams → ℕ → Type 0
+IsRunAnswer old new answer = IsAnswer input_limit gives_run refuses_script old new answer
+
 -- the answer to words: that of the command that they name, and the usage line where they name none
 pub record IsAnswerTo (words : List (List ℕ)) (old new : Streams) (answer : ℕ) : Type 0 where
   pub expect : words ≡ codes "expect" ∷ [] → IsExpectAnswer old new answer
   pub check : words ≡ codes "check" ∷ [] → IsCheckAnswer old new answer
   pub flood : words ≡ codes "flood" ∷ [] → IsFloodAnswer old new answer
   pub flow : (room : ℕ) → AreFlowWords words room → IsFlowAnswer room old new answer
+  pub run : words ≡ codes "run" ∷ [] → IsRunAnswer old new answer
   pub replay : words ≡ codes "replay" ∷ [] → IsReplayAnswer old new answer
   pub gen : (seed count : ℕ) → AreGenWords words seed count → IsGenAnswer seed count old new answer
   pub usage : words ≢ codes "expect" ∷ [] → words ≢ codes "check" ∷ [] → words ≢ codes "flood" ∷ []
-      → words ≢ codes "replay" ∷ [] → ((room : ℕ) → ¬ AreFlowWords words room)
+      → words ≢ codes "run" ∷ [] → words ≢ codes "replay" ∷ []
+      → ((room : ℕ) → ¬ AreFlowWords words room)
       → ((seed count : ℕ) → ¬ AreGenWords words seed count) → IsUsageAnswer old new answer

@@ -10,11 +10,14 @@ mod command;
 mod expect;
 mod flood;
 mod flow;
+#[cfg(test)]
+mod gates;
 mod generate;
 mod input;
 mod law;
 mod replaying;
 mod reported;
+mod run;
 mod status;
 mod top;
 
@@ -27,6 +30,7 @@ use std::env;
 use std::io::ErrorKind;
 use std::process::ExitCode;
 use std::rt::Env;
+use switch_threads::Open;
 
 // The words after the program's name. Where they are no text they are taken for no words.
 fn words<R: Env + AllocGlobal>(rt: &R) -> Result<Vec<Word>, OutOfMemory> {
@@ -48,7 +52,15 @@ fn main(rt: HostRuntime) -> ExitCode {
     let mut out = StdSink::new(rt.stdout());
     let mut err = StdSink::new(rt.stderr());
     let code = match words(&rt) {
-        Ok(words) => top::autonet(&rt, rt.alloc(), &words, &mut source, &mut out, &mut err),
+        Ok(words) => top::autonet(
+            &rt,
+            rt.alloc(),
+            &words,
+            &Open,
+            &mut source,
+            &mut out,
+            &mut err,
+        ),
         Err(OutOfMemory) => finish(rt.alloc(), &mut err, Status::OutOfMemory),
     };
     ExitCode::from(code)

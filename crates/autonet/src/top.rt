@@ -9,6 +9,7 @@ use crate::flood::autonet_flood;
 use crate::flow::autonet_flow;
 use crate::generate::{autonet_gen, gen_words};
 use crate::replaying::autonet_replay;
+use crate::run::autonet_run;
 use crate::status::{Status, finish};
 use an_base::text::Word;
 use outside::sink::Sink;
@@ -16,6 +17,7 @@ use outside::source::Source;
 use std::alloc::Global;
 use std::sync::Wait;
 use std::thread::Threads;
+use switch_threads::Gate;
 use text_lines::word::number_between;
 
 // Whether the words are one word, of these bytes.
@@ -53,12 +55,14 @@ fn room_of(words: &[Word]) -> Option<u16>
 }
 
 /// Answers the words after the program's name. The answer is the number of a status, whose line
-/// goes to err. Words that are no command leave the source and out alone.
-#[tactic(auto, using(crate::proofs::TopLemmas::answers_expect, crate::proofs::TopLemmas::answers_check, crate::proofs::TopLemmas::answers_flood, crate::proofs::TopLemmas::answers_replay, crate::proofs::TopLemmas::answers_flow, crate::proofs::TopLemmas::answers_gen, crate::proofs::TopLemmas::answers_usage))]
-pub fn autonet<R: Threads + Wait + Sync, S: Source, O: Sink, E: Sink>(
-    _rt: &R,
+/// goes to err. Words that are no command leave the source and out alone. Only `run` starts threads, and
+/// only it calls the gate.
+#[tactic(auto, using(crate::proofs::TopLemmas::answers_expect, crate::proofs::TopLemmas::answers_check, crate::proofs::TopLemmas::answers_flood, crate::proofs::TopLemmas::answers_run, crate::proofs::TopLemmas::answers_replay, crate::proofs::TopLemmas::answers_flow, crate::proofs::TopLemmas::answers_gen, crate::proofs::TopLemmas::answers_usage))]
+pub fn autonet<R: Threads + Wait + Sync, S: Source, O: Sink, E: Sink, G: Gate>(
+    rt: &R,
     alloc: Global,
     words: &[Word],
+    gate: &G,
     source: &mut S,
     out: &mut O,
     err: &mut E,
@@ -75,6 +79,9 @@ pub fn autonet<R: Threads + Wait + Sync, S: Source, O: Sink, E: Sink>(
     }
     if is_word(words, b"flood") {
         return autonet_flood(alloc, source, out, err);
+    }
+    if is_word(words, b"run") {
+        return autonet_run(rt, gate, alloc, source, out, err);
     }
     if is_word(words, b"replay") {
         return autonet_replay(alloc, source, out, err);
@@ -94,6 +101,7 @@ mod tests {
     use outside::all::read_all;
     use outside::memory::{MemorySink, MemorySource};
     use std::test::Fail;
+    use switch_threads::Open;
 
     const TWO: &[u8] =
         b"autonet 1\nswitch A 000000000001\nswitch B 000000000002\nlink A 1 B 1\nend\n";
@@ -173,6 +181,7 @@ mod tests {
             rt,
             alloc,
             &list,
+            &Open,
             &mut streams.source,
             &mut streams.out,
             &mut streams.err,
@@ -303,7 +312,7 @@ mod tests {
     fn other_words_leave_the_source_and_out_alone(rt: HostRuntime) -> Result<(), Fail> {
         for words in [
             [].as_slice(),
-            [b"run".as_slice()].as_slice(),
+            [b"run".as_slice(), b"now".as_slice()].as_slice(),
             [b"expect".as_slice(), b"now".as_slice()].as_slice(),
             [b"flow".as_slice()].as_slice(),
             [b"flow".as_slice(), b"17".as_slice()].as_slice(),
@@ -379,7 +388,7 @@ mod tests {
         for room in [0, 5] {
             let mut streams = Streams::new(rt.alloc(), TWO, 100)?;
             streams.err = MemorySink::new(rt.alloc(), room, Vec::new(rt.alloc()))?;
-            assert_eq!(rt; answer(&rt, rt.alloc(), &[b"run"], &mut streams)?, 5);
+            assert_eq!(rt; answer(&rt, rt.alloc(), &[b"walk"], &mut streams)?, 5);
             assert_eq!(rt; streams.err.bytes(), USAGE.get(..room).unwrap_or(USAGE));
         }
         Ok(())

@@ -11,6 +11,9 @@ use Rattle.dep_check.proofs.WalkLemmas.{push_more, unseen_less}
 pub longer_none : (path : List Visit) → AreVisits path → IsLonger 0 path path
 longer_none path are = record { visits = are; few = omega arith }
 
+pub longer_same : (path : List Visit) → AreVisits path → IsLonger 1 path path
+longer_same path are = record { visits = are; few = omega arith }
+
 pub longer_more : (most : ℕ) (old mid new : List Visit) → IsLonger most old mid → IsLonger 1 mid new → IsLonger (most + 1) old new
 longer_more most old mid new first last = let a = first.few in let b = last.few in record { visits = last.visits; few = omega arith }
 

@@ -23,6 +23,10 @@ not_none o p b x e s t h = absurd (let f : is_some o ≡ true = rw (e, h) refl i
 pub yes_none : {A : Type 0} (o p : Option A) (b : Bool) → o ≡ p → is_some o ≡ not b → b ≡ false → p ≡ None → ⊥
 yes_none o p b e s f h = absurd (let t : is_some o ≡ false = rw (e, h) refl in let n : not b ≡ true = rw f refl in cc)
 
+pub none_yes : {A : Type 0} (o p : Option A) (b : Bool) → o ≡ p → is_some o ≡ not b → b ≡ true → p ≡ None
+none_yes None p b e s t = sym e
+none_yes (Some x) p b e s t = absurd (let n : not b ≡ false = rw t refl in cc)
+
 -- the switch at which packets start
 abbrev pub start_of : ℕ → Channel
 start_of from = record { at = from; port = 0 }

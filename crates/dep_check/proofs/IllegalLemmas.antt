@@ -1,5 +1,6 @@
-use Rattle.std.proofs.Common.{◌≡◌, ◌∙◌, sym, ap, subst, refl, ℕ, ◌+◌, ◌<◌, ◌≤◌, List, [], Option, Some, None, true, arith, length, get_or, Less, Equal, Greater, inl, inr}
-use Rattle.std.specs.Prelude.{Contains, MatchOption}
+use Rattle.std.proofs.Common.{◌≡◌, ◌∙◌, sym, ap, subst, refl, ℕ, ◌+◌, ◌<◌, ◌≤◌, ◌↔◌, List, [], ◌∷◌, ◌++◌, Option, Some, None, Bool, true, false, arith, length, get_or, Less, Equal, Greater, inl, inr}
+use Rattle.std.specs.Prelude.{Contains, IsTrue, MatchOption}
+use Rattle.std.specs.Option.{option_and_then, option_map}
 use Rattle.std.specs.declared.cmp.Ordering.{Ordering}
 use Rattle.std.specs.Ordering.{nat_cmp, ordering_then, ordering_reverse, is_le}
 use Rattle.std.specs.Cmp.{IsTotalOrder, then_total, on_total, nat_cmp_total}
@@ -7,13 +8,85 @@ use Rattle.std.specs.BTreeMap.Comparable.{le_lt_trans}
 use Rattle.std.proofs.lemmas.Bool.{cases_eq, cases_lt}
 use Rattle.std.proofs.lemmas.Bool.Decides.{nat_tests}
 use Rattle.std.proofs.lemmas.List.{get_or_default}
+use Rattle.std.proofs.lemmas.Option.{same_Some}
+use Rattle.topo_graph.specs.Topology.{far_of}
 use Rattle.an_base.specs.Values.{EntryOf}
 use Rattle.an_base.specs.Rows.{RowOf, ExitsRise}
+use Rattle.dep_check.specs.declared.channel.Channel.{Channel}
 use Rattle.dep_check.specs.declared.illegal.RowExit.{RowExit}
+use Rattle.dep_check.specs.Channels.{by_number, far_at, place_in}
 use Rattle.dep_check.specs.Packets.{four_cmp}
-use Rattle.dep_check.specs.Illegal.{IsBad, IsIllegal, AllAreLegal, IsLeastIllegal}
-use Rattle.dep_check.specs.Tables.{row_at}
-use Rattle.dep_check.specs.Worst.{IsBadOf, FirstBad, IsNotAfter, LeastBelow}
+use Rattle.dep_check.specs.Illegal.{IsBad, IsIllegal, AllAreLegal, IsLeastIllegal, LeadsUp}
+use Rattle.dep_check.specs.Tables.{IsSpot, is_spot, place_of, row_at, wire_at}
+use Rattle.dep_check.specs.Worst.{AreSides, AreUpBelow, IsBadExit, IsBadOf, FirstBad, IsNotAfter, LeadsUpAt, LeastBelow, up_at}
+use Rattle.dep_check.proofs.SpotLemmas.{option_cases, place_low, spot_cases, spot_true}
+use Rattle.dep_check.proofs.BridgeLemmas.{wire_spot}
+use Rattle.dep_check.proofs.PushLemmas.{push_count, pushed}
+
+-- a port of the switch that has a number leads up
+pub up_some : (es : List EntryOf) (numbers : List ℕ) (s : Channel) (place : ℕ) (b : Bool) → place_in numbers s.at ≡ Some place → (IsTrue b ↔ LeadsUp es place s.port) → (IsTrue b ↔ LeadsUpAt es numbers s)
+up_some es numbers s place b is told = (
+  λ t. (place, is, told.0 t),
+  λ up. told.1 (subst (λ (x : ℕ). LeadsUp es x s.port) (same_Some up.0 place (sym up.1 ∙ is)) up.2),
+)
+
+pub up_none : (es : List EntryOf) (numbers : List ℕ) (s : Channel) → place_in numbers s.at ≡ None → LeadsUpAt es numbers s → ⊥
+up_none es numbers s none up = absurd (let gone : None ≡ Some up.0 = sym none ∙ up.1 in cc)
+
+-- the table of what leads up, with one spot more
+pub up_more : (es : List EntryOf) (numbers : List ℕ) (end : ℕ) (up : List Bool) (spot : Channel) (v : Bool) → AreUpBelow es numbers end up → IsSpot spot → place_of spot ≡ end → (IsTrue v ↔ LeadsUpAt es numbers spot) → AreUpBelow es numbers (end + 1) (up ++ v ∷ [])
+up_more es numbers end up spot v so_far is at told = record {
+  count = push_count up v end so_far.count;
+  each = λ s s_spot low. elim (pushed up v false s spot end so_far.count s_spot is at low) [
+    | inl before ↦ (let was = so_far.each s s_spot before.0 in (λ t. was.0 (sym before.1 ∙ t), λ leads. before.1 ∙ was.1 leads))
+    | inr last ↦ (
+      λ t. subst (λ (x : Channel). LeadsUpAt es numbers x) (sym last.0) (told.0 (sym last.1 ∙ t)),
+      λ leads. last.1 ∙ told.1 (subst (λ (x : Channel). LeadsUpAt es numbers x) last.0 leads),
+    )
+  ];
+}
+
+-- what leads up has a link
+up_linked : (es : List EntryOf) (numbers : List ℕ) (s : Channel) → LeadsUpAt es numbers s → (far : Channel) × (far_at es numbers s ≡ Some far)
+up_linked es numbers s (place, is, (far, port, link, up)) =
+    let there : far_at es numbers s ≡ option_map (by_number numbers) (far_of es place s.port) = ap (λ (o : Option ℕ). option_and_then (λ x. option_map (by_number numbers) (far_of es x s.port)) o) is in
+    (by_number numbers (far, port), there ∙ ap (option_map (by_number numbers)) link)
+
+pub all_sides : (es : List EntryOf) (numbers : List ℕ) (wires : List (Option Channel)) (up : List Bool) → ((s : Channel) → wire_at wires s ≡ far_at es numbers s) → AreUpBelow es numbers 1651 up → AreSides es numbers wires up
+all_sides es numbers wires up far below = record {
+  far = far;
+  leads_up = λ s. elim (spot_cases s) [
+    | inl spot ↦ rw (spot_true s spot) (below.each s spot (place_low s spot))
+    | inr other ↦ (
+      λ t. absurd (let no : up_at up s ≡ false = rw other refl in cc),
+      λ leads. absurd (let there = up_linked es numbers s leads in let spot = wire_spot wires s there.0 (far s ∙ there.1) in let t = spot_true s spot in cc),
+    )
+  ];
+}
+
+-- an exit is illegal just where the tables say so
+pub bad_told : (es : List EntryOf) (numbers : List ℕ) (wires : List (Option Channel)) (up : List Bool) (at entry exit : ℕ) (came_down : Bool) → AreSides es numbers wires up → came_down ≡ up_at up (record { at = at; port = entry }) → (IsBadExit wires up at came_down exit ↔ IsBad es numbers at entry exit)
+bad_told es numbers wires up at entry exit came_down sides came = (
+  λ bad. elim bad [
+    | inl loose ↦ inl (sym (sides.far (record { at = at; port = exit })) ∙ loose)
+    | inr turns ↦ (
+        let came_up = (sides.leads_up (record { at = at; port = entry })).0 (sym came ∙ turns.0) in
+        let goes_up = (sides.leads_up (record { at = at; port = exit })).0 turns.1 in
+        inr (record {
+          place = came_up.0;
+          is = came_up.1;
+          came_down = came_up.2;
+          goes_up = subst (λ (x : ℕ). LeadsUp es x exit) (same_Some goes_up.0 came_up.0 (sym goes_up.1 ∙ came_up.1)) goes_up.2;
+        }))
+  ],
+  λ bad. elim bad [
+    | inl loose ↦ inl (sides.far (record { at = at; port = exit }) ∙ loose)
+    | inr turns ↦ inr (
+      came ∙ (sides.leads_up (record { at = at; port = entry })).1 (turns.place, turns.is, turns.came_down),
+      (sides.leads_up (record { at = at; port = exit })).1 (turns.place, turns.is, turns.goes_up),
+    )
+  ],
+)
 
 -- the order of four numbers
 pub four_total : IsTotalOrder four_cmp

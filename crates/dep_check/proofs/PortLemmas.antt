@@ -1,12 +1,14 @@
 -- Sets of ports, as bits of a number.
-use Rattle.std.proofs.Common.{◌≡◌, ◌∙◌, sym, subst, ℕ, ◌+◌, ◌*◌, ◌%◌, ◌^◌, ◌<◌, List, [], ◌∷◌, ◌++◌, true, arith, length, get_or, take, inl, inr, ◌⊎◌, ◌↔◌, ap, false, ◌==◌}
+use Rattle.std.proofs.Common.{◌≡◌, ◌≢◌, ◌∙◌, sym, subst, ℕ, ◌+◌, ◌*◌, ◌%◌, ◌^◌, ◌<◌, List, [], ◌∷◌, ◌++◌, true, arith, length, get_or, take, inl, inr, ◌⊎◌, ◌↔◌, ap, false, ◌==◌}
 use Rattle.std.specs.Prelude.{Contains}
-use Rattle.std.specs.Int.{bit_at, w16}
-use Rattle.std.specs.Int.RustNames.{bit_or}
-use Rattle.std.proofs.lemmas.Bool.{cases_eq, eq-eqb, eqb-true}
+use Rattle.std.specs.Int.{bit_at, bit_not, w16, trailing_zeros}
+use Rattle.std.specs.Int.RustNames.{bit_and, bit_or}
+use Rattle.std.proofs.lemmas.Bool.{cases_eq, cases_lt, eq-eqb, eqb-true}
 use Rattle.std.proofs.lemmas.List.{take_more}
 use Rattle.std.proofs.lemmas.List.Elements.{Contains-append_left, Contains-push, Contains-push_cases}
-use Rattle.std.proofs.lemmas.Nat.Bits.{bit_at-zero, bit_at_set_same, bit_at_set_other}
+use Rattle.std.proofs.lemmas.Nat.{and_le_l}
+use Rattle.std.proofs.lemmas.Nat.Bits.{bit_at-zero, bit_at-lt, bit_at_above, bit_at_and, bit_at_ones, bit_at_ones_above, bit_at_set_same, bit_at_set_other, bit_at_clear_same, bit_at_clear_other, bit_at-trailing_zeros}
+use Rattle.dep_check.specs.Ports.{HasOnlyPorts, IsWithout}
 use Rattle.dep_check.specs.Tables.{has_port}
 
 -- a set has the ports of another, and some more
@@ -65,3 +67,72 @@ told_with new had ports told p = (
     | inr added ↦ inr added
   ])),
 )
+
+-- the ports of a set, and none of its other bits
+pub only_low : (set : ℕ) → HasOnlyPorts (bit_and set 8191)
+only_low set p is = elim (cases_lt p 13) [
+  | inl low ↦ low
+  | inr high ↦ absurd (let e = bit_at_and set 8191 p in let z : bit_at 8191 p ≡ 0 = bit_at_ones_above 13 p high in omega arith)
+]
+
+pub only_same : (set p : ℕ) → p < 13 → has_port (bit_and set 8191) p ≡ has_port set p
+unfolding has_port
+only_same set p low =
+    let e = bit_at_and set 8191 p in
+    let one : bit_at 8191 p ≡ 1 = bit_at_ones 13 p low in
+    let most = bit_at-lt set p in
+    let same : bit_at (bit_and set 8191) p ≡ bit_at set p = omega arith in
+    ap (λ (bit : ℕ). bit == 1) same
+
+-- the lowest port
+pub lowest_is : (set : ℕ) → set ≢ 0 → set < 2 ^ 16 → (bit_at set (trailing_zeros w16 set) ≡ 1) × (trailing_zeros w16 set < 16)
+lowest_is set some fits = let h = bit_at-trailing_zeros w16 set (omega arith) fits in (h.1, h.0)
+
+-- a set without one port
+abbrev pub cleared : ℕ → ℕ → ℕ
+cleared set port = bit_and set (bit_not w16 (1 * 2 ^ port % 2 ^ 16))
+
+pub cleared_is : (set port : ℕ) → set < 2 ^ 16 → port < 16 → IsWithout set port (cleared set port)
+cleared_is set port fits low p = elim (cases_eq p port) [
+  | inl same ↦ (
+    λ is. absurd (let z = bit_at_clear_same w16 set port low in let e : bit_at (cleared set port) p ≡ bit_at (cleared set port) port = ap (bit_at (cleared set port)) same in omega arith),
+    λ both. absurd (both.1 same),
+  )
+  | inr other ↦ elim (cases_lt p 16) [
+    | inl p_low ↦ (let e = bit_at_clear_other w16 set port low p p_low other in (λ is. (sym e ∙ is, other), λ both. e ∙ both.0))
+    | inr high ↦ (
+        let z = bit_at_above set 16 p fits high in
+        let le = and_le_l set (bit_not w16 (1 * 2 ^ port % 2 ^ 16)) in
+        let small : cleared set port < 2 ^ 16 = omega arith in
+        let y = bit_at_above (cleared set port) 16 p small high in
+        (λ is. absurd (omega arith), λ both. absurd (let b = both.0 in omega arith)))
+  ]
+]
+
+pub cleared_less : (set port : ℕ) → port < 16 → bit_at set port ≡ 1 → cleared set port < set
+cleared_less set port low has =
+    let le = and_le_l set (bit_not w16 (1 * 2 ^ port % 2 ^ 16)) in
+    elim (cases_eq (cleared set port) set) [
+      | inl same ↦ absurd (let z = bit_at_clear_same w16 set port low in let e : bit_at (cleared set port) port ≡ bit_at set port = ap (λ (n : ℕ). bit_at n port) same in omega arith)
+      | inr other ↦ omega arith
+    ]
+
+-- no bit of the empty set
+pub no_bit : (set p : ℕ) → set ≡ 0 → bit_at set p ≡ 1 → ⊥
+no_bit set p none is = absurd (let z = bit_at-zero p in let e : bit_at set p ≡ bit_at 0 p = ap (λ (n : ℕ). bit_at n p) none in omega arith)
+
+-- the bit of a port that a set has
+pub bit_of : (set p : ℕ) → has_port set p ≡ true → bit_at set p ≡ 1
+unfolding has_port
+bit_of set p has = eqb-true (bit_at set p) 1 has
+
+pub port_of : (set p : ℕ) → bit_at set p ≡ 1 → has_port set p ≡ true
+unfolding has_port
+port_of set p is = eq-eqb (bit_at set p) 1 is
+
+-- what holds of no port that is not left holds of none, with one port less left
+pub past_more : (P : ℕ → Type 0) (old k new : ℕ) → IsWithout old k new → ((e : ℕ) → (bit_at old e ≡ 1 → ⊥) → P e → ⊥) → (P k → ⊥) → (e : ℕ) → (bit_at new e ≡ 1 → ⊥) → P e → ⊥
+past_more P old k new without so_far here e gone is = elim (cases_eq e k) [
+  | inl same ↦ here (subst P same is)
+  | inr other ↦ so_far e (λ has. gone ((without e).1 (has, other))) is
+]

@@ -12,7 +12,7 @@ pushed xs v d s spot end count s_spot spot_spot at low = elim (cases_eq (place_o
   | inr before ↦ inl (omega arith, get_or_append_left xs (v ∷ []) d (place_of s) (omega arith))
 ]
 
-push_count : {A : Type 0} (xs : List A) (v : A) (end : ℕ) → length xs ≡ end → length (xs ++ v ∷ []) ≡ end + 1
+pub push_count : {A : Type 0} (xs : List A) (v : A) (end : ℕ) → length xs ≡ end → length (xs ++ v ∷ []) ≡ end + 1
 push_count xs v end count = omega (arith, length-append xs (v ∷ []))
 
 -- the wires, with one spot more

@@ -1,5 +1,5 @@
 use Rattle.std.proofs.Common.{◌≡◌, ◌∙◌, sym, ap, subst, refl, ℕ, zero, suc, ◌+◌, ◌<◌, List, [], ◌∷◌, ◌++◌, Bool, true, false, arith, length, length-append, length-set, set, get_or, get_or-set_same, get_or-set_other, inl, inr, ◌⊎◌}
-use Rattle.std.specs.Prelude.{Contains}
+use Rattle.std.specs.Prelude.{Contains, replicate}
 use Rattle.std.proofs.lemmas.Bool.{cases_eq}
 use Rattle.std.proofs.lemmas.List.{get_or_default}
 use Rattle.std.proofs.lemmas.List.Elements.{Contains-append_left, Contains-push, Contains-push_cases}
@@ -12,6 +12,15 @@ use Rattle.dep_check.specs.Walks.{seen_at, unseen, Sees, Leads, IsLookedAt, IsWa
 use Rattle.dep_check.proofs.SpotLemmas.{one_spot, place_low}
 use Rattle.dep_check.proofs.LevelLemmas.{step_spot}
 use Rattle.dep_check.proofs.RoundLemmas.{none_in}
+
+-- nothing is seen at first
+none_of : (n k : ℕ) → get_or (replicate n false) k false ≡ false
+none_of zero k = refl
+none_of (suc n) zero = refl
+none_of (suc n) (suc k) = none_of n k
+
+pub none_at : (seen : List Bool) (n : ℕ) (s : Channel) → seen ≡ replicate n false → seen_at seen s ≡ false
+none_at seen n s is = ap (λ (bs : List Bool). seen_at bs s) is ∙ none_of n (place_of s)
 
 -- one spot more is seen
 pub unseen_less : (seen : List Bool) (k : ℕ) → k < length seen → get_or seen k false ≡ false → unseen (set seen k true) + 1 ≡ unseen seen

@@ -12,6 +12,7 @@ pub mod Rounds
 pub mod Walks
 pub mod Targets
 pub mod Pairs
+pub mod Ports
 pub mod Worst
 pub mod Deep
 pub mod Tiers

@@ -1,6 +1,7 @@
 -- Steps over spots, levels and ranks. Only private functions cite this.
 use Rattle.std.specs.Prelude.{◌≡◌, ◌≢◌, ◌+◌, ◌<◌, ◌≤◌, ◌⊎◌, ℕ, suc, List, [], ◌∷◌, length, Option, Some, None}
 use Rattle.std.specs.Prelude.{Bool, true, false, IsTrue, is_some}
+use Rattle.std.specs.Int.{bit_at}
 use Rattle.std.specs.Ordering.{is_le}
 use Rattle.an_base.specs.Rows.{RowOf}
 use Rattle.dep_check.specs.declared.channel.Channel.{Channel}
@@ -47,6 +48,16 @@ pub record AreSteps (wires : List (Option Channel)) (rows : List RowOf) (number 
   pub exits : AreExitsBelow rows number (length rows) steps.exits.items
   pub to : steps.to ≡ number
 
+-- one of some ports of a switch has no link
+abbrev pub HasLoose : List (Option Channel) → ℕ → ℕ → Type 0
+HasLoose wires at ports =
+    (p : ℕ) × (bit_at ports p ≡ 1) × (wire_at wires (record { at = at; port = p }) ≡ None)
+
+-- the steps are between these far sides, whatever their exits are
+pub record AreBetween (wires : List (Option Channel)) (steps : Steps) : Type 0 where
+  pub wires_are : steps.wires.items ≡ wires
+  pub count : length steps.exits.items ≡ 1651
+
 -- before the target, no exit, or one without a link
 pub record IsEnd (wires : List (Option Channel)) (exits : List ℕ) (to : ℕ) (s : Channel) : Type 0 where
   pub before : s.at ≢ to
@@ -62,6 +73,10 @@ IsEndOf wires exits (Some to) s = IsEnd wires exits to s
 -- packets get stuck at a spot
 abbrev pub IsStuck : Steps → Channel → Type 0
 IsStuck steps s = IsEndOf steps.wires.items steps.exits.items steps.to s
+
+-- the step by an exit leads to a spot that has a level, or to one that has none
+abbrev pub HasNextBy : Steps → List (Option ℕ) → Channel → Bool → ℕ → Type 0
+HasNextBy steps levels s has e = (b : Channel) × IsStep steps s e b × (is_some (level_at levels b) ≡ has)
 
 -- some step from a spot leads to one that has a level, or to one that has none
 abbrev pub HasNext : Steps → List (Option ℕ) → Channel → Bool → Type 0

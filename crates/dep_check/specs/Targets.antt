@@ -1,25 +1,33 @@
--- Rows by their targets. Only private functions cite this.
-use Rattle.std.specs.Prelude.{◌≡◌, ◌≢◌, ◌+◌, ◌<◌, ◌≤◌, ℕ, List, length, slice_index}
+-- The exits of rows by their targets. Only private functions cite this.
+use Rattle.std.specs.Prelude.{◌≡◌, ◌≢◌, ◌<◌, ◌↔◌, ℕ, List, [], length, Contains, Some, slice_index_or, map, Vec}
+use Rattle.std.specs.declared.alloc.Global.{Global}
 use Rattle.an_base.specs.Rows.{RowOf}
-use Rattle.dep_check.specs.declared.targets.RowsByTarget.{RowsByTarget}
-use Rattle.dep_check.specs.Tables.{row_at}
+use Rattle.dep_check.specs.declared.targets.ByTarget.{ByTarget}
+use Rattle.dep_check.specs.Tables.{AreExitsBelow}
 
--- the place of the first row with a target, from a place on, or the number of rows where there is none
-pub record IsNextTo (rows : List RowOf) (to from place : ℕ) : Type 0 where
-  pub least : from ≤ place
-  pub most : place ≤ length rows
-  pub none : (k : ℕ) → from ≤ k → k < place → (row_at rows k).to ≢ to
-  pub is : place < length rows → (row_at rows place).to ≡ to
+-- the table of a number, over all spots: the exits of the first rows towards it, if the topology has it
+pub record IsTableBelow (rows : List RowOf) (numbers : List ℕ) (end number : ℕ) (table : List ℕ) : Type 0 where
+  pub exits : Contains numbers number → AreExitsBelow rows (Some number) end table
+  pub none : (Contains numbers number → ⊥) → length table ≡ 0
 
--- for each target its first row from a place on, and for each row from there the next one with the same
--- target
-pub record AreByTargetFrom (rows : List RowOf) (from : ℕ) (firsts nexts : List ℕ) : Type 0 where
-  pub targets : length firsts ≡ 256
-  pub count : length nexts ≡ length rows
-  pub first : (to : ℕ) → to < 256 → IsNextTo rows to from (slice_index firsts to)
-  pub next :
-      (k : ℕ) → from ≤ k → k < length rows → IsNextTo rows (row_at rows k).to (k + 1) (slice_index nexts k)
+abbrev pub table_of : List (Vec ℕ Global) → ℕ → List ℕ
+table_of tables number = slice_index_or (map (λ (table : Vec ℕ Global). table.items) tables) number []
+
+-- the tables of all numbers
+pub record AreTablesBelow (rows : List RowOf) (numbers : List ℕ) (end : ℕ) (tables : List (Vec ℕ Global))
+    : Type 0 where
+  pub count : length tables ≡ 127
+  pub each : (number : ℕ) → number < 127 → IsTableBelow rows numbers end number (table_of tables number)
 
 -- the same of all rows
-abbrev pub AreByTarget : List RowOf → RowsByTarget → Type 0
-AreByTarget rows by_target = AreByTargetFrom rows 0 by_target.first by_target.next.items
+abbrev pub AreByTarget : List RowOf → List ℕ → ByTarget → Type 0
+AreByTarget rows numbers by_target = AreTablesBelow rows numbers (length rows) by_target.tables.items
+
+-- a number has a table that is not empty
+abbrev pub HasTable : ByTarget → ℕ → Type 0
+HasTable by_target number = length (table_of by_target.tables.items number) ≢ 0
+
+-- just the numbers of the topology have
+pub record AreFor (numbers : List ℕ) (by_target : ByTarget) : Type 0 where
+  pub count : length by_target.tables.items ≡ 127
+  pub each : (number : ℕ) → number < 127 → (HasTable by_target number ↔ Contains numbers number)

@@ -1,5 +1,5 @@
 -- Tiers of spots, which no step lowers. Only private functions cite this.
-use Rattle.std.specs.Prelude.{◌≡◌, ◌≤◌, ℕ, List, slice_index_or}
+use Rattle.std.specs.Prelude.{◌≡◌, ◌≤◌, ◌<◌, ℕ, List, slice_index_or}
 use Rattle.dep_check.specs.declared.channel.Channel.{Channel}
 use Rattle.dep_check.specs.declared.steps.Steps.{Steps}
 use Rattle.dep_check.specs.Tables.{place_of}
@@ -13,9 +13,17 @@ tier_at tiers s = slice_index_or tiers (place_of s) 0
 abbrev pub RisesFrom : Steps → List ℕ → Channel → Type 0
 RisesFrom steps tiers s = (e : ℕ) (b : Channel) → IsStep steps s e b → tier_at tiers s ≤ tier_at tiers b
 
+-- the step by an exit does
+abbrev pub SinksBy : Steps → List ℕ → Channel → ℕ → Type 0
+SinksBy steps tiers s e = (b : Channel) × IsStep steps s e b × (tier_at tiers b < tier_at tiers s)
+
 -- no step leads to a lower tier
 abbrev pub AreTiers : Steps → List ℕ → Type 0
 AreTiers steps tiers = (s : Channel) → RisesFrom steps tiers s
+
+-- the step by an exit leads to a spot's own tier
+abbrev pub HasPeerBy : Steps → List ℕ → Channel → ℕ → Type 0
+HasPeerBy steps tiers s e = (b : Channel) × IsStep steps s e b × (tier_at tiers b ≡ tier_at tiers s)
 
 -- some step from a spot leads to its own tier
 abbrev pub HasPeer : Steps → List ℕ → Channel → Type 0

@@ -1,11 +1,41 @@
 -- The illegal exits of the first rows. Only private functions cite this.
-use Rattle.std.specs.Prelude.{◌≡◌, ◌<◌, ◌≤◌, ℕ, List, Option, Some, None, Contains}
+use Rattle.std.specs.Prelude.{◌≡◌, ◌<◌, ◌≤◌, ◌⊎◌, ◌↔◌, ℕ, List, length, Option, Some, None, Contains, Bool, true}
+use Rattle.std.specs.Prelude.{false, slice_index_or, if◌then◌else◌}
 use Rattle.an_base.specs.Values.{EntryOf}
 use Rattle.an_base.specs.Rows.{RowOf}
 use Rattle.dep_check.specs.declared.illegal.RowExit.{RowExit}
+use Rattle.dep_check.specs.declared.channel.Channel.{Channel}
+use Rattle.dep_check.specs.Channels.{far_at, place_in}
 use Rattle.dep_check.specs.Packets.{IsUpTo}
-use Rattle.dep_check.specs.Illegal.{IsBad}
-use Rattle.dep_check.specs.Tables.{row_at}
+use Rattle.dep_check.specs.Illegal.{IsBad, LeadsUp}
+use Rattle.dep_check.specs.Tables.{IsSpot, is_spot, place_of, row_at, wire_at}
+
+-- a port of the switch that has a number has a link whose far end is its up end
+abbrev pub LeadsUpAt : List EntryOf → List ℕ → Channel → Type 0
+LeadsUpAt es numbers s = (place : ℕ) × (place_in numbers s.at ≡ Some place) × LeadsUp es place s.port
+
+-- whether a table says so of a spot, false of what is none
+abbrev pub up_at : List Bool → Channel → Bool
+up_at up s = if is_spot s then slice_index_or up (place_of s) false else false
+
+-- a table says so of the first spots
+pub record AreUpBelow (es : List EntryOf) (numbers : List ℕ) (end : ℕ) (up : List Bool) : Type 0 where
+  pub count : length up ≡ end
+  pub each :
+      (s : Channel) → IsSpot s → place_of s < end
+      → ((slice_index_or up (place_of s) false ≡ true) ↔ LeadsUpAt es numbers s)
+
+-- the tables say of each port what is at its far side, and whether it leads up
+pub record AreSides (es : List EntryOf) (numbers : List ℕ) (wires : List (Option Channel)) (up : List Bool)
+    : Type 0 where
+  pub far : (s : Channel) → wire_at wires s ≡ far_at es numbers s
+  pub leads_up : (s : Channel) → ((up_at up s ≡ true) ↔ LeadsUpAt es numbers s)
+
+-- by the tables an exit has no link, or goes upward although what comes in came down
+abbrev pub IsBadExit : List (Option Channel) → List Bool → ℕ → Bool → ℕ → Type 0
+IsBadExit wires up at came_down exit =
+    (wire_at wires (record { at = at; port = exit }) ≡ None)
+    ⊎ ((came_down ≡ true) × (up_at up (record { at = at; port = exit }) ≡ true))
 
 -- an illegal exit of one row
 pub record IsBadOf (es : List EntryOf) (numbers : List ℕ) (r : RowOf) (i : RowExit) : Type 0 where

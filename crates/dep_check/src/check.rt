@@ -75,6 +75,10 @@ fn are_all_ranked(steps: &Steps, levels: &[Option<u16>]) -> bool
 /// whose number is the switch's own or no switch's, count for cycles and illegal exits and not for
 /// pairs. A host's port and a link of a switch to itself are exits without a link.
 ///
+/// The time is linear in the rows and their exits: it looks a few times at each row and at each step from
+/// channel to channel, and once at each step of packets, which is by an exit of a row towards their number.
+/// Beside that each number of the topology takes a fixed time, and a shortest cycle one search.
+///
 /// It refuses, in this order, a cycle of channels, a pair that is not joined, and an illegal exit, each
 /// the least there is; and else gives the ranks of the channels.
 pub fn check(
@@ -102,7 +106,7 @@ pub fn check(
             entry: gap.entry,
         });
     }
-    if let Some(illegal) = least_illegal(graph, numbers, rows) {
+    if let Some(illegal) = least_illegal(alloc, graph, numbers, &wires, rows)? {
         return Err(CheckRefusal::IllegalExit {
             at: illegal.at,
             entry: illegal.entry,

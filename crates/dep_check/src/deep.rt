@@ -3,6 +3,7 @@ ghost use Rattle.dep_check.specs.Deep.{AreVisits, HasVisited, IsLonger};
 ghost use Rattle.dep_check.specs.Tables.{IsSpot};
 
 use crate::channel::Channel;
+use crate::ports::has;
 use crate::spot::{SPOTS, place_of, spot_at};
 use crate::steps::Steps;
 use crate::walk::none_seen;
@@ -33,14 +34,34 @@ fn come_to(path: &mut Vec<Visit>, spot: Option<Channel>) -> Result<(), OutOfMemo
     Ok(())
 }
 
+// Comes to where the step by an exit leads, if it is one of some exits.
+fn come_by(
+    steps: &Steps,
+    path: &mut Vec<Visit>,
+    spot: Channel,
+    exits: u16,
+    exit: u8,
+) -> Result<(), OutOfMemory>
+    requires path { AreVisits path.old.items }
+    requires spot { IsSpot spot }
+    requires exit { exit < 13 }
+    ensures { OnOk result (IsLonger 1 path.old.items path.new.items) }
+{
+    if !has(exits, exit) {
+        return Ok(());
+    }
+    come_to(path, steps.next(spot, exit))
+}
+
 // Comes to all that the steps from a spot lead to.
 fn come_to_next(steps: &Steps, path: &mut Vec<Visit>, spot: Channel) -> Result<(), OutOfMemory>
     requires path { AreVisits path.old.items }
     requires spot { IsSpot spot }
     ensures { OnOk result (IsLonger 13 path.old.items path.new.items) }
 {
+    let exits = steps.exits_from(spot);
     'exits: for exit in 0..13u8 {
-        come_to(path, steps.next(spot, exit))?;
+        come_by(steps, path, spot, exits, exit)?;
     }
     Ok(())
 }

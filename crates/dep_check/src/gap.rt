@@ -1,8 +1,9 @@
-ghost use Rattle.std.specs.Prelude.{◌≡◌, ◌<◌, ◌+◌, ℕ, List, Option, length, IfOk, MatchBool, MatchOption};
+ghost use Rattle.std.specs.Prelude.{◌≡◌, ◌<◌, ◌+◌, ℕ, List, Option, length, IfOk, OnOk, MatchBool, MatchOption};
 ghost use Rattle.an_base.specs.Rows.{RowOf};
 ghost use Rattle.dep_check.specs.declared.channel.Channel.{Channel};
 ghost use Rattle.dep_check.specs.Tables.{AreLinks, IsSpot, wire_at};
-ghost use Rattle.dep_check.specs.Targets.{AreByTarget};
+ghost use Rattle.dep_check.specs.Search.{AreBetween};
+ghost use Rattle.dep_check.specs.Targets.{AreByTarget, AreFor};
 ghost use Rattle.dep_check.specs.Packets.{AllAreJoined, IsLeastGap};
 ghost use Rattle.dep_check.specs.Pairs.{FirstOf, FirstStuck, IsLeastEnd, IsLeastPair, IsStuckFrom};
 ghost use Rattle.dep_check.specs.Pairs.{StaysClear};
@@ -11,9 +12,8 @@ ghost use Rattle.dep_check.specs.Walks.{IsClear};
 use crate::channel::Channel;
 use crate::spot::{SPOTS, spot_at};
 use crate::steps::Steps;
-use crate::targets::RowsByTarget;
+use crate::targets::ByTarget;
 use crate::walk::{is_seen, none_seen, walk};
-use crate::wires::place_in;
 use an_base::memory::OutOfMemory;
 use an_base::numbers::Numbers;
 use an_base::row::Row;
@@ -45,10 +45,12 @@ fn is_stuck_from(
     alloc: Global,
     steps: &Steps,
     numbers: &Numbers,
+    by_target: &ByTarget,
     seen: &mut Vec<bool>,
     to: u8,
     from: u8,
 ) -> Result<bool, OutOfMemory>
+    requires numbers { AreFor numbers.now by_target.now }
     requires count { length seen.old.items ≡ 1651 }
     requires clear { IsClear steps.now seen.old.items }
     requires from { from < 127 }
@@ -58,7 +60,7 @@ fn is_stuck_from(
     if from == to {
         return Ok(false);
     }
-    if place_in(numbers, from).is_none() {
+    if !by_target.has(from) {
         return Ok(false);
     }
     let stuck = walk(alloc, steps, seen, Channel { at: from, port: 0 })?;
@@ -70,13 +72,15 @@ fn first_stuck(
     alloc: Global,
     steps: &Steps,
     numbers: &Numbers,
+    by_target: &ByTarget,
     to: u8,
 ) -> Result<Option<u8>, OutOfMemory>
+    requires { AreFor numbers.now by_target.now }
     ensures { IfOk result (FirstStuck numbers.now steps.now to 127) }
 {
     let mut seen = none_seen(alloc)?;
     'numbers: for from in 0..127u8 {
-        if is_stuck_from(alloc, steps, numbers, &mut seen, to, from)? {
+        if is_stuck_from(alloc, steps, numbers, by_target, &mut seen, to, from)? {
             return Ok(Some(from));
         }
     }
@@ -86,21 +90,24 @@ fn first_stuck(
 // The least other switch from which packets to a number may get stuck.
 fn stuck_towards(
     alloc: Global,
-    wires: &[Option<Channel>],
+    steps: &mut Steps,
     numbers: &Numbers,
     rows: &[Row],
-    by_target: &RowsByTarget,
+    by_target: &ByTarget,
     to: u8,
 ) -> Result<Option<u8>, OutOfMemory>
-    requires wires { AreLinks wires.now }
-    requires rows { AreByTarget rows.now by_target.now }
-    ensures { IfOk result (FirstOf (wire_at wires.now) numbers.now rows.now to) }
+    requires count { length steps.old.exits.items ≡ 1651 }
+    requires rows { AreByTarget rows.now numbers.now by_target.now }
+    requires to { to < 127 }
+    ensures first { IfOk result (FirstOf (wire_at steps.old.wires.items) numbers.now rows.now to) }
+    ensures kept { OnOk result (AreBetween steps.old.wires.items steps.new) }
 {
-    if place_in(numbers, to).is_none() {
+    let _names = numbers.as_slice();
+    if !by_target.has(to) {
         return Ok(None);
     }
-    let steps = Steps::to(alloc, wires, rows, by_target, to)?;
-    let first = first_stuck(alloc, &steps, numbers, to)?;
+    steps.turn(rows, numbers, by_target, to);
+    let first = first_stuck(alloc, steps, numbers, by_target, to)?;
     Ok(first)
 }
 
@@ -119,21 +126,22 @@ fn lesser(best: Option<Pair>, from: Option<u8>, to: u8) -> Option<Pair>
     }
 }
 
-// The least pair that is not joined.
+// The least pair that is not joined. For each target it looks once at each step that packets may take.
 fn least_pair(
     alloc: Global,
-    wires: &[Option<Channel>],
+    steps: &mut Steps,
     numbers: &Numbers,
     rows: &[Row],
-    by_target: &RowsByTarget,
+    by_target: &ByTarget,
 ) -> Result<Option<Pair>, OutOfMemory>
-    requires wires { AreLinks wires.now }
-    requires rows { AreByTarget rows.now by_target.now }
-    ensures { IfOk result (IsLeastPair (wire_at wires.now) numbers.now rows.now 127) }
+    requires count { length steps.old.exits.items ≡ 1651 }
+    requires rows { AreByTarget rows.now numbers.now by_target.now }
+    ensures least { IfOk result (IsLeastPair (wire_at steps.old.wires.items) numbers.now rows.now 127) }
+    ensures kept { OnOk result (AreBetween steps.old.wires.items steps.new) }
 {
     let mut best = None;
     'numbers: for to in 0..127u8 {
-        let from = stuck_towards(alloc, wires, numbers, rows, by_target, to)?;
+        let from = stuck_towards(alloc, steps, numbers, rows, by_target, to)?;
         best = lesser(best, from, to);
     }
     Ok(best)
@@ -167,11 +175,12 @@ pub fn least_gap(
         (λ g. IsLeastGap (wire_at wires.now) numbers.now rows.now g.from g.to g.at g.entry)) }
 {
     let _names = numbers.as_slice();
-    let by_target = RowsByTarget::of(alloc, rows)?;
-    let Some(pair) = least_pair(alloc, wires, numbers, rows, &by_target)? else {
+    let by_target = ByTarget::of(alloc, numbers, rows)?;
+    let mut steps = Steps::between(alloc, wires)?;
+    let Some(pair) = least_pair(alloc, &mut steps, numbers, rows, &by_target)? else {
         return Ok(None);
     };
-    let steps = Steps::to(alloc, wires, rows, &by_target, pair.to)?;
+    steps.turn(rows, numbers, &by_target, pair.to);
     let start = Channel {
         at: pair.from,
         port: 0,

@@ -1,15 +1,19 @@
-ghost use Rattle.std.specs.Prelude.{◌≡◌, ◌<◌, ◌↔◌, ◌+◌, ℕ, List, Option, IsTrue, MatchBool, MatchOption};
-ghost use Rattle.std.specs.Prelude.{Some, None, length};
+ghost use Rattle.std.specs.Prelude.{◌≡◌, ◌↔◌, ◌+◌, ℕ, List, Option, IsTrue, MatchOption, None, IfOk};
 ghost use Rattle.an_base.specs.Rows.{RowOf};
 ghost use Rattle.an_base.specs.Values.{EntryOf};
-ghost use Rattle.dep_check.specs.Channels.{place_in};
-ghost use Rattle.dep_check.specs.Illegal.{AllAreLegal, IsBad, IsLeastIllegal, LeadsUp};
-ghost use Rattle.dep_check.specs.Tables.{row_at};
-ghost use Rattle.dep_check.specs.Worst.{FirstBad, IsNotAfter, LeastBelow};
+ghost use Rattle.dep_check.specs.Channels.{far_at};
+ghost use Rattle.dep_check.specs.Illegal.{AllAreLegal, IsLeastIllegal, LeadsUp};
+ghost use Rattle.dep_check.specs.Tables.{AreWires, row_at, wire_at};
+ghost use Rattle.dep_check.specs.Worst.{AreSides, AreUpBelow, FirstBad, IsBadExit, IsNotAfter, LeadsUpAt, LeastBelow, up_at};
 
+use crate::channel::Channel;
+use crate::spot::{SPOTS, place_of, spot_at};
 use crate::wires::place_in;
+use an_base::limits::{LAST_PORT, MOST_NUMBER};
+use an_base::memory::OutOfMemory;
 use an_base::numbers::Numbers;
 use an_base::row::Row;
+use std::alloc::Global;
 use topo_graph::graph::Graph;
 use updown::route::is_up_end;
 
@@ -36,22 +40,68 @@ fn leads_up(graph: &Graph, place: u8, port: u8) -> bool
     }
 }
 
-// Whether an exit for what came in at an entry of the switch at a place, if there is one, is illegal.
-fn is_illegal(graph: &Graph, place: Option<u8>, entry: u8, exit: u8) -> bool
-    ensures { (numbers : List ℕ) (at : ℕ) → length numbers ≡ length graph.now → place ≡ place_in numbers at
-        → MatchBool result (IsBad graph.now numbers at entry exit)
-        (IsBad graph.now numbers at entry exit → ⊥) }
+// The same of a port of the switch that has a number.
+fn leads_up_at(graph: &Graph, numbers: &Numbers, spot: Channel) -> bool
+    ensures { IsTrue result ↔ LeadsUpAt graph.now numbers.now spot }
 {
-    let Some(place) = place else {
-        return true;
-    };
-    if graph.far_place(place, exit).is_none() {
-        return true;
+    match place_in(numbers, spot.at) {
+        Some(place) => leads_up(graph, place, spot.port),
+        None => false,
     }
-    if !leads_up(graph, place, entry) {
-        return false;
+}
+
+// The same of each spot.
+fn all_up(alloc: Global, graph: &Graph, numbers: &Numbers) -> Result<Vec<bool>, OutOfMemory>
+    ensures { IfOk result (λ up. AreUpBelow graph.now numbers.now 1651 up.items) }
+{
+    let mut up = Vec::with_capacity(alloc, usize::from(SPOTS))?;
+    'spots: for place in 0..SPOTS {
+        up.push(leads_up_at(graph, numbers, spot_at(place)))?;
     }
-    leads_up(graph, place, exit)
+    Ok(up)
+}
+
+// What is known of the ports of switches, by their numbers.
+#[derive(Drop)]
+struct Sides<'a> {
+    // The far side of each spot.
+    wires: &'a [Option<Channel>],
+    // Whether each leads up.
+    up: &'a [bool],
+}
+
+impl Sides<'_> {
+    // Whether a port of a switch has no link.
+    fn is_loose(&self, at: u8, port: u8) -> bool
+        ensures { IsTrue result ↔ (wire_at self.now.wires.now (record { at = at; port = port }) ≡ None) }
+    {
+        if at > MOST_NUMBER || port > LAST_PORT {
+            return true;
+        }
+        let place = place_of(Channel { at, port });
+        self.wires.get(place).copied().flatten().is_none()
+    }
+
+    // Whether a port of a switch leads up.
+    fn is_up(&self, at: u8, port: u8) -> bool
+        ensures { result ≡ up_at self.now.up.now (record { at = at; port = port }) }
+    {
+        if at > MOST_NUMBER || port > LAST_PORT {
+            return false;
+        }
+        let place = place_of(Channel { at, port });
+        self.up.get(place).copied().unwrap_or(false)
+    }
+
+    // Whether an exit is illegal for what came in there, which came downward or not.
+    fn is_illegal(&self, at: u8, came_down: bool, exit: u8) -> bool
+        ensures { IsTrue result ↔ IsBadExit self.now.wires.now self.now.up.now at came_down exit }
+    {
+        if self.is_loose(at, exit) {
+            return true;
+        }
+        came_down && self.is_up(at, exit)
+    }
 }
 
 // Whether an exit is not after another.
@@ -81,13 +131,13 @@ fn lesser(best: Option<RowExit>, next: Option<RowExit>) -> Option<RowExit>
 }
 
 // The first illegal exit of a row.
-fn first_illegal(graph: &Graph, numbers: &Numbers, row: &Row) -> Option<RowExit>
-    requires { length numbers.now ≡ length graph.now }
-    ensures { FirstBad graph.now numbers.now row.now result }
+fn first_illegal(sides: &Sides<'_>, row: &Row) -> Option<RowExit>
+    ensures { (es : List EntryOf) (numbers : List ℕ) → AreSides es numbers sides.now.wires.now sides.now.up.now
+        → FirstBad es numbers row.now result }
 {
-    let place = place_in(numbers, row.at);
+    let came_down = sides.is_up(row.at, row.entry);
     'exits: for exit in row.exits.as_slice() {
-        if is_illegal(graph, place, row.entry, *exit) {
+        if sides.is_illegal(row.at, came_down, *exit) {
             return Some(RowExit {
                 at: row.at,
                 entry: row.entry,
@@ -99,15 +149,33 @@ fn first_illegal(graph: &Graph, numbers: &Numbers, row: &Row) -> Option<RowExit>
     None
 }
 
-/// The least illegal exit of the rows.
-pub fn least_illegal(graph: &Graph, numbers: &Numbers, rows: &[Row]) -> Option<RowExit>
-    requires { length numbers.now ≡ length graph.now }
-    ensures { MatchOption result (AllAreLegal graph.now numbers.now rows.now)
-        (λ i. IsLeastIllegal graph.now numbers.now rows.now i.at i.entry i.to i.exit) }
+// The least illegal exit of rows between these sides.
+fn least_between(sides: &Sides<'_>, rows: &[Row]) -> Option<RowExit>
+    ensures { (es : List EntryOf) (numbers : List ℕ) → AreSides es numbers sides.now.wires.now sides.now.up.now
+        → MatchOption result (AllAreLegal es numbers rows.now)
+        (λ i. IsLeastIllegal es numbers rows.now i.at i.entry i.to i.exit) }
 {
     let mut best = None;
     'rows: for row in rows {
-        best = lesser(best, first_illegal(graph, numbers, row));
+        best = lesser(best, first_illegal(sides, row));
     }
     best
+}
+
+/// The least illegal exit of the rows, where these are the far sides of the spots. It looks once at each
+/// exit.
+pub fn least_illegal(
+    alloc: Global,
+    graph: &Graph,
+    numbers: &Numbers,
+    wires: &[Option<Channel>],
+    rows: &[Row],
+) -> Result<Option<RowExit>, OutOfMemory>
+    requires { AreWires (far_at graph.now numbers.now) wires.now }
+    ensures { IfOk result (λ found. MatchOption found (AllAreLegal graph.now numbers.now rows.now)
+        (λ i. IsLeastIllegal graph.now numbers.now rows.now i.at i.entry i.to i.exit)) }
+{
+    let up = all_up(alloc, graph, numbers)?;
+    let sides = Sides { wires, up: &up };
+    Ok(least_between(&sides, rows))
 }

@@ -2,11 +2,12 @@ ghost use Rattle.std.specs.Prelude.{◌≡◌, ◌<◌, ◌↔◌, ◌++◌, ℕ
 ghost use Rattle.std.specs.Prelude.{Contains, IfOk, OnOk, MatchBool};
 ghost use Rattle.dep_check.specs.declared.channel.Channel.{Channel};
 ghost use Rattle.dep_check.specs.Tables.{IsSpot, level_at};
-ghost use Rattle.dep_check.specs.Search.{AreNearest, AreRanked, ComesIn, HasNext, IsDue, IsHeld, Step};
+ghost use Rattle.dep_check.specs.Search.{AreNearest, AreRanked, ComesIn, HasNext, HasNextBy, IsDue, IsHeld, Step};
 ghost use Rattle.dep_check.specs.Rounds.{AddsDue, AreDue, AreGoals, AreLevels, AreLevelsBelow, IsRaisedTo};
 ghost use Rattle.dep_check.specs.Rounds.{LeadsToOne};
 
 use crate::channel::Channel;
+use crate::ports::{lowest, without};
 use crate::spot::{SPOTS, place_of, spot_at};
 use crate::steps::Steps;
 use an_base::memory::OutOfMemory;
@@ -32,16 +33,29 @@ pub fn level_of(levels: &[Option<u16>], spot: Channel) -> Option<u16>
     levels.get(place_of(spot)).copied().flatten()
 }
 
+// Whether the step by an exit leads to a spot that has a level, or to one that has none.
+fn has_next_by(steps: &Steps, levels: &[Option<u16>], spot: Channel, exit: u8, has: bool) -> bool
+    requires spot { IsSpot spot }
+    requires exit { exit < 13 }
+    ensures { IsTrue result ↔ HasNextBy steps.now levels.now spot has exit }
+{
+    match steps.next(spot, exit) {
+        Some(next) => level_of(levels, next).is_some() == has,
+        None => false,
+    }
+}
+
 // Whether some step from a spot leads to one that has a level, or to one that has none.
 fn has_next(steps: &Steps, levels: &[Option<u16>], spot: Channel, has: bool) -> bool
     requires { IsSpot spot }
     ensures { IsTrue result ↔ HasNext steps.now levels.now spot has }
 {
-    'exits: for exit in 0..13u8 {
-        if let Some(next) = steps.next(spot, exit) {
-            if level_of(levels, next).is_some() == has {
-                return true;
-            }
+    let mut left = steps.exits_from(spot);
+    'exits: while left > 0 {
+        let exit = lowest(left);
+        left = without(left, exit);
+        if has_next_by(steps, levels, spot, exit, has) {
+            return true;
         }
     }
     false

@@ -1,13 +1,17 @@
-ghost use Rattle.std.specs.Prelude.{◌≡◌, ◌≢◌, ◌<◌, ◌↔◌, Some, None, IsTrue, IfOk, IfSome};
+ghost use Rattle.std.specs.Prelude.{◌≡◌, ◌≢◌, ◌<◌, ◌↔◌, ℕ, length, Some, None, Contains, IsTrue, IfOk, IfSome};
+ghost use Rattle.std.specs.Int.{bit_at};
 ghost use Rattle.dep_check.specs.declared.channel.Channel.{Channel};
 ghost use Rattle.dep_check.specs.Tables.{AreLinks, IsSpot, wire_at};
+ghost use Rattle.dep_check.specs.Ports.{HasOnlyPorts};
 ghost use Rattle.dep_check.specs.Targets.{AreByTarget};
 
 use crate::channel::Channel;
-use crate::exits::{all_exits, exits_to, has_exit};
+use crate::exits::{all_exits, exits_at, has_exit, no_exits};
+use crate::ports::{lowest, without};
 use crate::spot::place_of;
-use crate::targets::RowsByTarget;
+use crate::targets::ByTarget;
 use an_base::memory::OutOfMemory;
+use an_base::numbers::Numbers;
 use an_base::row::Row;
 use std::alloc::Global;
 
@@ -25,7 +29,7 @@ pub struct Steps {
 }
 
 impl Steps {
-    ghost use Rattle.dep_check.specs.Search.{AreSteps, ComesIn, Depends, GoesBy, IsEnd, IsStep, IsStuck};
+    ghost use Rattle.dep_check.specs.Search.{AreBetween, AreSteps, ComesIn, Depends, GoesBy, HasLoose, IsEnd, IsStep, IsStuck};
 
     /// The steps of channels, by these rows.
     pub fn of(alloc: Global, wires: &[Option<Channel>], rows: &[Row]) -> Result<Steps, OutOfMemory>
@@ -41,25 +45,30 @@ impl Steps {
         })
     }
 
-    /// The steps of packets to a number, by these rows.
-    pub fn to(
-        alloc: Global,
-        wires: &[Option<Channel>],
-        rows: &[Row],
-        by_target: &RowsByTarget,
-        to: u8,
-    ) -> Result<Steps, OutOfMemory>
-        requires wires { AreLinks wires.now }
-        requires rows { AreByTarget rows.now by_target.now }
-        ensures { IfOk result (AreSteps wires.now rows.now (Some to)) }
+    /// Steps between these far sides that lead nowhere yet.
+    pub fn between(alloc: Global, wires: &[Option<Channel>]) -> Result<Steps, OutOfMemory>
+        requires { AreLinks wires.now }
+        ensures { IfOk result (AreBetween wires.now) }
     {
         let wires = Vec::from_slice(alloc, wires)?;
-        let exits = exits_to(alloc, rows, by_target, to)?;
+        let exits = no_exits(alloc)?;
         Ok(Steps {
             wires,
             exits,
-            to: Some(to),
+            to: None,
         })
+    }
+
+    /// Makes them the steps of packets to a number of the topology, by the rows towards it.
+    pub fn turn(&mut self, rows: &[Row], numbers: &Numbers, by_target: &ByTarget, to: u8)
+        requires count { length self.old.exits.items ≡ 1651 }
+        requires rows { AreByTarget rows.now numbers.now by_target.now }
+        requires to { to < 127 }
+        requires known { Contains numbers.now to }
+        ensures { AreSteps self.old.wires.items rows.now (Some to) self.new }
+    {
+        self.exits.copy_from_slice(by_target.table(to));
+        self.to = Some(to);
     }
 
     /// The far side of a spot, if a link is there.
@@ -69,6 +78,44 @@ impl Steps {
         ensures links { AreLinks self.now.wires.items }
     {
         self.wires.get(place_of(spot)).copied().flatten()
+    }
+
+    // The exits by which a channel may lead on.
+    fn channel_exits(&self, channel: Channel) -> u16
+        requires { IsSpot channel }
+        ensures ports { HasOnlyPorts result }
+        ensures steps { (e : ℕ) (b : Channel) → Depends self.now.wires.items self.now.exits.items channel e b
+            → bit_at result e ≡ 1 }
+    {
+        match self.far(channel) {
+            Some(far) => exits_at(&self.exits, far),
+            None => 0,
+        }
+    }
+
+    // The exits by which packets to a number may go on from a spot.
+    fn packet_exits(&self, to: u8, spot: Channel) -> u16
+        requires { IsSpot spot }
+        ensures ports { HasOnlyPorts result }
+        ensures steps { (e : ℕ) (b : Channel) → GoesBy self.now.wires.items self.now.exits.items to spot e b
+            → bit_at result e ≡ 1 }
+    {
+        if spot.at == to {
+            return 0;
+        }
+        exits_at(&self.exits, spot)
+    }
+
+    /// The exits by which steps from a spot may lead on: all others do not.
+    pub fn exits_from(&self, spot: Channel) -> u16
+        requires { IsSpot spot }
+        ensures ports { HasOnlyPorts result }
+        ensures steps { (e : ℕ) (b : Channel) → IsStep self.now spot e b → bit_at result e ≡ 1 }
+    {
+        match self.to {
+            None => self.channel_exits(spot),
+            Some(to) => self.packet_exits(to, spot),
+        }
     }
 
     // The channel of an exit of the far side of a channel.
@@ -138,6 +185,23 @@ impl Steps {
         self.far(near)
     }
 
+    // Whether one of some ports of a switch has no link.
+    fn has_loose(&self, at: u8, ports: u16) -> bool
+        requires at { at < 127 }
+        requires ports { HasOnlyPorts ports }
+        ensures { IsTrue result ↔ HasLoose self.now.wires.items at ports }
+    {
+        let mut left = ports;
+        'ports: while left > 0 {
+            let port = lowest(left);
+            left = without(left, port);
+            if self.far(Channel { at, port }).is_none() {
+                return true;
+            }
+        }
+        false
+    }
+
     // Whether packets get stuck at a spot.
     fn is_end(&self, to: u8, spot: Channel) -> bool
         requires { IsSpot spot }
@@ -146,16 +210,11 @@ impl Steps {
         if spot.at == to {
             return false;
         }
-        let mut stuck = true;
-        'exits: for port in 0..13u8 {
-            if has_exit(&self.exits, spot, port) {
-                stuck = false;
-                if self.far(Channel { at: spot.at, port }).is_none() {
-                    return true;
-                }
-            }
+        let exits = exits_at(&self.exits, spot);
+        if exits == 0 {
+            return true;
         }
-        stuck
+        self.has_loose(spot.at, exits)
     }
 
     /// Whether packets get stuck at a spot before their target; channels never do.

@@ -1,46 +1,92 @@
-ghost use Rattle.std.specs.Prelude.{◌≡◌, length, IfOk};
-ghost use Rattle.dep_check.specs.Targets.{AreByTarget};
+ghost use Rattle.std.specs.Prelude.{◌≡◌, ◌<◌, ◌+◌, ◌↔◌, ℕ, List, length, Contains, IfOk, IsTrue, Some};
+ghost use Rattle.an_base.specs.Numbers.{AreNumbers};
+ghost use Rattle.an_base.specs.Rows.{RowOf};
+ghost use Rattle.dep_check.specs.Tables.{AreExitsBelow, row_at};
+ghost use Rattle.dep_check.specs.Targets.{AreByTarget, AreTablesBelow, HasTable, IsTableBelow, table_of};
 
+use crate::exits::{add_row, no_exits};
+use crate::spot::SPOTS;
+use crate::wires::place_in;
+use an_base::limits::MOST_NUMBER;
 use an_base::memory::OutOfMemory;
+use an_base::numbers::Numbers;
 use an_base::row::Row;
 use std::alloc::Global;
 
-/// Rows by their targets: for each target the place of its first row, and for each row the place of
-/// the next one with the same target. Where there is no such row, the place is the number of rows.
+/// The exits of rows by their targets: for each number of a topology those of the rows towards it, as a
+/// table over all spots, and for each other number an empty table.
 #[derive(Debug, Drop)]
-pub struct RowsByTarget {
-    /// For each target its first row.
-    pub first: [usize; 256],
-    /// For each row the next one.
-    pub next: Vec<usize>,
+pub struct ByTarget {
+    /// For each number its table.
+    pub tables: Vec<Vec<u16>>,
 }
 
-// As many times the number of rows as there are rows.
-fn no_next(alloc: Global, rows: &[Row]) -> Result<Vec<usize>, OutOfMemory>
-    ensures { IfOk result (λ next. length next.items ≡ length rows.now) }
+// The table of a number before any row.
+fn first_table(alloc: Global, numbers: &Numbers, number: u8) -> Result<Vec<u16>, OutOfMemory>
+    ensures { IfOk result (λ table. (rows : List RowOf) → IsTableBelow rows numbers.now 0 number table.items) }
 {
-    let mut next = Vec::with_capacity(alloc, rows.len())?;
-    'rows: for _ in 0..rows.len() {
-        next.push(rows.len())?;
+    match place_in(numbers, number) {
+        None => Ok(Vec::new(alloc)),
+        Some(_place) => {
+            let table = no_exits(alloc)?;
+            Ok(table)
+        }
     }
-    Ok(next)
 }
 
-impl RowsByTarget {
-    /// These rows, by their targets.
-    pub fn of(alloc: Global, rows: &[Row]) -> Result<RowsByTarget, OutOfMemory>
-        ensures { IfOk result (AreByTarget rows.now) }
+// The tables before any row.
+fn first_tables(alloc: Global, numbers: &Numbers) -> Result<Vec<Vec<u16>>, OutOfMemory>
+    ensures { IfOk result (λ tables. (rows : List RowOf) → AreTablesBelow rows numbers.now 0 tables.items) }
+{
+    let mut tables = Vec::with_capacity(alloc, 127)?;
+    'numbers: for number in 0..127u8 {
+        let table = first_table(alloc, numbers, number)?;
+        tables.push(table)?;
+    }
+    Ok(tables)
+}
+
+// Adds the exits of a row to the table of its target, if that is a number of the topology.
+fn add_to_target(tables: &mut Vec<Vec<u16>>, row: &Row)
+    requires { length tables.old.items ≡ 127 }
+    ensures { (rows : List RowOf) (numbers : List ℕ) (k : ℕ) → row_at rows k ≡ row.now
+        → AreTablesBelow rows numbers k tables.old.items → AreTablesBelow rows numbers (k + 1) tables.new.items }
+{
+    if row.to > MOST_NUMBER {
+        return;
+    }
+    let to = usize::from(row.to);
+    if tables[to].as_slice().len() != usize::from(SPOTS) {
+        return;
+    }
+    add_row(&mut tables[to], row);
+}
+
+impl ByTarget {
+    /// The exits of these rows. It looks once at each row.
+    pub fn of(alloc: Global, numbers: &Numbers, rows: &[Row]) -> Result<ByTarget, OutOfMemory>
+        ensures { IfOk result (AreByTarget rows.now numbers.now) }
     {
-        let mut first = [rows.len(); 256];
-        let mut next = no_next(alloc, rows)?;
-        let mut place = rows.len();
-        'places: while place > 0 {
-            place -= 1;
-            let row = &rows[place];
-            let to = usize::from(row.to);
-            next[place] = first[to];
-            first[to] = place;
+        let mut tables = first_tables(alloc, numbers)?;
+        'rows: for row in rows {
+            add_to_target(&mut tables, row);
         }
-        Ok(RowsByTarget { first, next })
+        Ok(ByTarget { tables })
+    }
+
+    /// The table of a number, empty for none of the topology.
+    pub fn table(&self, number: u8) -> &[u16]
+        requires { number < length self.now.tables.items }
+        ensures { result.now ≡ table_of self.now.tables.items number }
+    {
+        self.tables[usize::from(number)].as_slice()
+    }
+
+    /// Whether this is a number of the topology.
+    pub fn has(&self, number: u8) -> bool
+        requires { number < length self.now.tables.items }
+        ensures { IsTrue result ↔ HasTable self.now number }
+    {
+        !self.table(number).is_empty()
     }
 }

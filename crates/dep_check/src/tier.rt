@@ -1,9 +1,10 @@
-ghost use Rattle.std.specs.Prelude.{◌≡◌, ◌≤◌, ◌↔◌, length, All, IfOk, IsTrue, None};
+ghost use Rattle.std.specs.Prelude.{◌≡◌, ◌≤◌, ◌<◌, ◌↔◌, length, All, IfOk, IsTrue, None};
 ghost use Rattle.dep_check.specs.Tables.{IsSpot};
-ghost use Rattle.dep_check.specs.Tiers.{AreTiers, HasPeer, RisesFrom, tier_at};
+ghost use Rattle.dep_check.specs.Tiers.{AreTiers, HasPeer, HasPeerBy, RisesFrom, SinksBy, tier_at};
 
 use crate::channel::Channel;
 use crate::deep::{leave_all, walk_deep};
+use crate::ports::{lowest, without};
 use crate::spot::{SPOTS, place_of, spot_at};
 use crate::steps::Steps;
 use crate::walk::{is_seen, none_seen};
@@ -51,16 +52,29 @@ fn tiers_by(alloc: Global, steps: &Steps, left: &[Channel]) -> Result<Vec<usize>
     Ok(tiers)
 }
 
+// Whether the step by an exit leads to a lower tier.
+fn sinks_by(steps: &Steps, tiers: &[usize], spot: Channel, exit: u8) -> bool
+    requires spot { IsSpot spot }
+    requires exit { exit < 13 }
+    ensures { IsTrue result ↔ SinksBy steps.now tiers.now spot exit }
+{
+    match steps.next(spot, exit) {
+        Some(next) => tier_of(tiers, next) < tier_of(tiers, spot),
+        None => false,
+    }
+}
+
 // Whether no step from a spot leads to a lower tier.
 fn rises_from(steps: &Steps, tiers: &[usize], spot: Channel) -> bool
     requires { IsSpot spot }
     ensures { IsTrue result ↔ RisesFrom steps.now tiers.now spot }
 {
-    'exits: for exit in 0..13u8 {
-        if let Some(next) = steps.next(spot, exit) {
-            if tier_of(tiers, next) < tier_of(tiers, spot) {
-                return false;
-            }
+    let mut left = steps.exits_from(spot);
+    'exits: while left > 0 {
+        let exit = lowest(left);
+        left = without(left, exit);
+        if sinks_by(steps, tiers, spot, exit) {
+            return false;
         }
     }
     true
@@ -93,16 +107,29 @@ pub fn tiers_of(alloc: Global, steps: &Steps) -> Result<Vec<usize>, OutOfMemory>
     Ok(Vec::new(alloc))
 }
 
+// Whether the step by an exit leads to a spot's own tier.
+fn has_peer_by(steps: &Steps, tiers: &[usize], spot: Channel, exit: u8) -> bool
+    requires spot { IsSpot spot }
+    requires exit { exit < 13 }
+    ensures { IsTrue result ↔ HasPeerBy steps.now tiers.now spot exit }
+{
+    match steps.next(spot, exit) {
+        Some(next) => tier_of(tiers, next) == tier_of(tiers, spot),
+        None => false,
+    }
+}
+
 /// Whether some step from a spot leads to its own tier.
 pub fn has_peer(steps: &Steps, tiers: &[usize], spot: Channel) -> bool
     requires { IsSpot spot }
     ensures { IsTrue result ↔ HasPeer steps.now tiers.now spot }
 {
-    'exits: for exit in 0..13u8 {
-        if let Some(next) = steps.next(spot, exit) {
-            if tier_of(tiers, next) == tier_of(tiers, spot) {
-                return true;
-            }
+    let mut left = steps.exits_from(spot);
+    'exits: while left > 0 {
+        let exit = lowest(left);
+        left = without(left, exit);
+        if has_peer_by(steps, tiers, spot, exit) {
+            return true;
         }
     }
     false

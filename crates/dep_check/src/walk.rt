@@ -5,6 +5,7 @@ ghost use Rattle.dep_check.specs.Search.{IsStep, Step};
 ghost use Rattle.dep_check.specs.Walks.{IsWalked, seen_at, Sees};
 
 use crate::channel::Channel;
+use crate::ports::{lowest, without};
 use crate::spot::{SPOTS, place_of};
 use crate::steps::Steps;
 use an_base::memory::OutOfMemory;
@@ -15,11 +16,7 @@ pub fn none_seen(alloc: Global) -> Result<Vec<bool>, OutOfMemory>
     ensures none { IfOk result (λ seen. (s : Channel) → seen_at seen.items s ≡ false) }
     ensures count { IfOk result (λ seen. length seen.items ≡ 1651) }
 {
-    let mut seen = Vec::with_capacity(alloc, usize::from(SPOTS))?;
-    'spots: for _ in 0..SPOTS {
-        seen.push(false)?;
-    }
-    Ok(seen)
+    Ok(vec![in alloc; false; usize::from(SPOTS)]?)
 }
 
 /// Whether a spot is seen.
@@ -77,7 +74,10 @@ fn see_next(
     ensures { OnOk result (Sees (Step steps.now spot) seen.old.items ahead.old.items
         seen.new.items ahead.new.items) }
 {
-    'exits: for exit in 0..13u8 {
+    let mut left = steps.exits_from(spot);
+    'exits: while left > 0 {
+        let exit = lowest(left);
+        left = without(left, exit);
         see_exit(steps, seen, ahead, spot, exit)?;
     }
     Ok(())

@@ -1,6 +1,7 @@
 -- The sets of ports at places, and the unions above them.
-use Rattle.std.specs.Prelude.{◌≡◌, ◌≢◌, ◌⊎◌, ◌+◌, ◌*◌, ◌<◌, ◌≤◌, ◌^◌, ℕ, List, All, bit_and, length}
-use Rattle.std.specs.Prelude.{slice_index}
+use Rattle.std.specs.Prelude.{◌≡◌, ◌≢◌, ◌⊎◌, ◌+◌, ◌-◌, ◌*◌, ◌<◌, ◌≤◌, ◌++◌, ◌^◌, ℕ, List, All, bit_and, drop}
+use Rattle.std.specs.Prelude.{length, replicate, slice_index}
+use Rattle.std.specs.Int.{IsPowerOfTwo}
 use Rattle.std.specs.Int.RustNames.{bit_or}
 
 -- none of the sets has one of these ports
@@ -34,8 +35,20 @@ pub record IsTree (places : ℕ) (unions : List ℕ) : Type 0 where
   pub count : length unions ≡ 2 * places
   pub each : (node : ℕ) → 1 ≤ node → node < places → IsUnion unions node
 
--- the same but for a node and those above it
+-- the same but for one node
 pub record IsTreeBut (places : ℕ) (unions : List ℕ) (end : ℕ) : Type 0 where
   pub count : length unions ≡ 2 * places
-  pub each : (node : ℕ) → 1 ≤ node → node < places
-      → IsUnion unions node ⊎ ((levels : ℕ) × IsAbove levels node end)
+  pub each : (node : ℕ) → 1 ≤ node → node < places → node ≢ end → IsUnion unions node
+
+-- the sets of all places: those behind the kept ones are empty
+abbrev pub all_sets : ℕ → ℕ → List ℕ → List ℕ
+all_sets kept places unions = drop kept unions ++ replicate (places - kept) 0
+
+-- so many of the places are kept, and there is room for all
+pub record IsGrown (kept places capacity : ℕ) (unions : List ℕ) : Type 0 where
+  pub tree : IsTree kept unions
+  pub power : IsPowerOfTwo kept
+  pub all : IsPowerOfTwo places
+  pub below : kept ≤ places
+  pub most : places ≤ 2 ^ 15
+  pub room : 2 * places ≤ capacity

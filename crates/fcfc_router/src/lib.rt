@@ -7,4 +7,4 @@
 
 pub mod law;
 pub mod router;
-mod tree;
+pub mod tree;

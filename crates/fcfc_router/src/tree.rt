@@ -1,7 +1,7 @@
-ghost use Rattle.std.specs.Prelude.{◌≡◌, ◌<◌, ◌≤◌, ◌+◌, ◌*◌, ◌^◌, length, replicate, slice_set, IfOk};
-ghost use Rattle.std.specs.Prelude.{MatchOption};
+ghost use Rattle.std.specs.Prelude.{◌≡◌, ◌<◌, ◌≤◌, ◌+◌, ◌*◌, ◌++◌, ◌^◌, drop, length, replicate};
+ghost use Rattle.std.specs.Prelude.{slice_set, vec_capacity, IfOk, MatchOption};
 ghost use Rattle.std.specs.Int.{IsPowerOfTwo};
-ghost use Rattle.fcfc_router.specs.Tree.{HasNone, IsFirst, IsHalf};
+ghost use Rattle.fcfc_router.specs.Tree.{HasNone, IsFirst, IsHalf, IsTree};
 
 use an_base::memory::OutOfMemory;
 use std::alloc::Global;
@@ -9,24 +9,26 @@ use std::marker::Model;
 
 /// A set of ports at each of so many places, a power of two. Over each half, quarter and so on of the
 /// places stands the union of its sets, so that the first place with one of some ports is found in as
-/// many steps as there are halvings. Contracts see it as the list of the sets.
+/// many steps as there are halvings. Only as many places are kept as were needed; those behind them
+/// have no port. Contracts see it as the list of all sets.
 #[derive(Debug, Drop)]
 pub struct PortTree {
-    // The union of all at 1, those of the two halves at 2 and 3, and so on; the sets of the places last.
+    // The union of the kept places at 1, those of the two halves at 2 and 3, and so on; the sets last.
     unions: Vec<u16>,
+    // How many places are kept, and how many there are.
+    kept: usize,
     places: usize,
 }
 
 impl Model for PortTree {
-    ghost use Rattle.std.specs.Prelude.{◌≤◌, ◌^◌, ℕ, List, drop};
-    ghost use Rattle.std.specs.Int.{IsPowerOfTwo};
-    ghost use Rattle.fcfc_router.specs.Tree.{IsTree};
+    ghost use Rattle.std.specs.Prelude.{ℕ, List, vec_capacity};
+    ghost use Rattle.fcfc_router.specs.Tree.{all_sets, IsGrown};
 
     ghost Value = { List ℕ };
 
-    ghost view = { λ t. drop t.places t.unions.items };
+    ghost view = { λ t. all_sets t.kept t.places t.unions.items };
 
-    ghost invariant = { λ t. IsPowerOfTwo t.places × (t.places ≤ 2 ^ 15) × IsTree t.places t.unions.items };
+    ghost invariant = { λ t. IsGrown t.kept t.places (vec_capacity t.unions) t.unions.items };
 }
 
 // The one of the two nodes below a node that has one of these ports: the second where the first has none.
@@ -40,6 +42,62 @@ fn half_with(unions: &[u16], node: usize, ports: u16) -> usize
     2 * node
 }
 
+// Writes the set of a place, and the unions above it as far as they change.
+fn write(unions: &mut [u16], kept: usize, place: usize, set: u16)
+    requires tree { IsTree kept unions.old }
+    requires most { kept ≤ 2 ^ 15 }
+    requires place { place < kept }
+    ensures tree { IsTree kept unions.new }
+    ensures sets { drop kept unions.new ≡ slice_set (drop kept unions.old) place set }
+{
+    let leaf = kept + place;
+    unions[leaf] = set;
+    let mut node = leaf / 2;
+    'nodes: while node > 0 {
+        let union = unions[2 * node] | unions[2 * node + 1];
+        if unions[node] == union {
+            return;
+        }
+        unions[node] = union;
+        node /= 2;
+    }
+}
+
+// Writes the unions over all sets.
+fn unite(unions: &mut Vec<u16>, kept: usize)
+    requires count { length unions.old.items ≡ 2 * kept }
+    requires most { kept ≤ 2 ^ 15 }
+    ensures tree { IsTree kept unions.new.items }
+    ensures sets { drop kept unions.new.items ≡ drop kept unions.old.items }
+    ensures capacity { vec_capacity unions.new ≡ vec_capacity unions.old }
+{
+    let mut node = kept;
+    'nodes: while node > 1 {
+        node -= 1;
+        unions[node] = unions[2 * node] | unions[2 * node + 1];
+    }
+}
+
+// Keeps twice as many places. It takes no memory.
+fn double(unions: &mut Vec<u16>, kept: usize)
+    requires count { length unions.old.items ≡ 2 * kept }
+    requires most { 2 * kept ≤ 2 ^ 15 }
+    requires room { 4 * kept ≤ vec_capacity unions.old }
+    ensures tree { IsTree (2 * kept) unions.new.items }
+    ensures sets { drop (2 * kept) unions.new.items ≡ drop kept unions.old.items ++ replicate kept 0 }
+    ensures capacity { vec_capacity unions.old ≤ vec_capacity unions.new }
+{
+    match unions.extend_from_within(kept..) {
+        Ok(()) => (),
+        Err(_) => unreachable!(),
+    }
+    match unions.resize(4 * kept, 0) {
+        Ok(()) => (),
+        Err(_) => unreachable!(),
+    }
+    unite(unions, 2 * kept);
+}
+
 impl PortTree {
     /// So many places, a power of two up to 2^15, each with no port.
     pub fn new(alloc: Global, places: usize) -> Result<Self, OutOfMemory>
@@ -47,8 +105,14 @@ impl PortTree {
         requires most { places ≤ 2 ^ 15 }
         ensures { IfOk result (λ tree. tree ≡ replicate places 0) }
     {
-        let unions = vec![in alloc; 0u16; 2 * places]?;
-        Ok(PortTree { unions, places })
+        let mut unions = Vec::with_capacity(alloc, 2 * places)?;
+        unions.push(0)?;
+        unions.push(0)?;
+        Ok(PortTree {
+            unions,
+            kept: 1,
+            places,
+        })
     }
 
     /// How many places there are.
@@ -59,18 +123,19 @@ impl PortTree {
         self.places
     }
 
-    /// Writes the set of a place.
+    /// Writes the set of a place. It takes no memory.
     pub fn put(&mut self, place: usize, set: u16)
         requires { place < length self.old }
         ensures { self.new ≡ slice_set self.old place set }
     {
-        let leaf = self.places + place;
-        self.unions[leaf] = set;
-        let mut node = leaf / 2;
-        'nodes: while node > 0 {
-            self.unions[node] = self.unions[2 * node] | self.unions[2 * node + 1];
-            node /= 2;
+        if place >= self.kept && set == 0 {
+            return;
         }
+        'places: while place >= self.kept {
+            double(&mut self.unions, self.kept);
+            self.kept *= 2;
+        }
+        write(&mut self.unions, self.kept, place, set);
     }
 
     /// The first place whose set has one of these ports; none exactly where no set has.
@@ -81,9 +146,9 @@ impl PortTree {
             return None;
         }
         let mut node = 1;
-        'levels: while node < self.places {
+        'levels: while node < self.kept {
             node = half_with(&self.unions, node, ports);
         }
-        Some(node - self.places)
+        Some(node - self.kept)
     }
 }

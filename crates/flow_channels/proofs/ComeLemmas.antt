@@ -21,7 +21,7 @@ use Rattle.flow_channels.proofs.FewLaws.{few_queued}
 use Rattle.flow_channels.proofs.StateLemmas.{queue_here}
 
 -- asking changes no queue
-asked_queues : (o : Option Channel) (first : Option PacketOf) (flow : FlowOf) → (asks_at o first flow).queues ≡ flow.queues
+pub asked_queues : (o : Option Channel) (first : Option PacketOf) (flow : FlowOf) → (asks_at o first flow).queues ≡ flow.queues
 asked_queues None first flow = refl
 asked_queues (Some end) None flow = refl
 asked_queues (Some end) (Some packet) flow = elim (cases_Bool (end.at == packet.to)) [
@@ -29,13 +29,13 @@ asked_queues (Some end) (Some packet) flow = elim (cases_Bool (end.at == packet.
   | inr before ↦ rw before refl
 ]
 
-came_first : (layout : LayoutOf) (channel : Channel) (packet : PacketOf) (flow : FlowOf) → length (queue_at flow channel) ≡ 0 → comes_into layout channel packet flow ≡ first_asks layout channel (with_queue channel (queue_at flow channel ++ (packet ∷ [])) flow)
+pub came_first : (layout : LayoutOf) (channel : Channel) (packet : PacketOf) (flow : FlowOf) → length (queue_at flow channel) ≡ 0 → comes_into layout channel packet flow ≡ first_asks layout channel (with_queue channel (queue_at flow channel ++ (packet ∷ [])) flow)
 came_first layout channel packet flow empty =
     let test : (length (queue_at flow channel) == 0) ≡ true = (grind (arith, nat_tests)) in
     let nil = nil_from_length (queue_at flow channel) empty in
     rw test (ap (λ (ps : List PacketOf). first_asks layout channel (with_queue channel (ps ++ (packet ∷ [])) flow)) (sym nil))
 
-came_behind : (layout : LayoutOf) (channel : Channel) (packet : PacketOf) (flow : FlowOf) → length (queue_at flow channel) ≢ 0 → comes_into layout channel packet flow ≡ with_queue channel (queue_at flow channel ++ (packet ∷ [])) flow
+pub came_behind : (layout : LayoutOf) (channel : Channel) (packet : PacketOf) (flow : FlowOf) → length (queue_at flow channel) ≢ 0 → comes_into layout channel packet flow ≡ with_queue channel (queue_at flow channel ++ (packet ∷ [])) flow
 came_behind layout channel packet flow some =
     let test : (length (queue_at flow channel) == 0) ≡ false = (grind (arith, nat_tests)) in
     rw test refl

@@ -15,6 +15,8 @@ pub mod BoardLemmas
 pub mod ComeLemmas
 pub mod TurnLemmas
 pub mod DepartLemmas
+pub mod WatchLemmas
+pub mod IdleLemmas
 pub mod ExitTableLemmas
 pub mod LeftLaws
 pub mod TurnLaws

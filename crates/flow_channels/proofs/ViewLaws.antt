@@ -19,8 +19,9 @@ use Rattle.flow_channels.specs.Flows.{FlowOf, WaitOf, empty_flow, enters, left_o
 use Rattle.flow_channels.specs.Layout.{LayoutOf, layout_of}
 use Rattle.flow_channels.specs.Runs.{MayEnter}
 use Rattle.flow_channels.specs.Sound.{IsIn, IsInOne, IsSound}
+use Rattle.flow_channels.specs.Moves.{IsTurn}
 use Rattle.flow_channels.specs.Turns.{IsSame}
-use Rattle.flow_channels.specs.View.{FlowView, HasLeft, HasTurned, IsOver, IsRunning, IsStill, view_of}
+use Rattle.flow_channels.specs.View.{FlowView, HasLeft, HasTurned, IsOver, IsRunning, IsStill, TurnsTo, view_of}
 use Rattle.flow_channels.proofs.DepartLemmas.{same_flow}
 use Rattle.flow_channels.proofs.WeightLaws.{starting_push, starting_set}
 use Rattle.flow_channels.proofs.MoveLaws.{some_move}
@@ -81,6 +82,29 @@ same_view tables old new same =
     let flow = sym (same_flow old new same) in
     let known = ap (map number) (sym same.packets) in
     ap (λ (ks : List ℕ). viewed tables ks (flow_of old)) known ∙ ap (λ (f : FlowOf). viewed tables (map number new.packets.items) f) flow
+
+pub running_same : (tables : Tables) (old new : Board) → IsRunning tables old → IsSame old new → IsKept tables new → IsRunning tables new
+running_same tables old new running same kept = record {
+  kept = kept;
+  least = running.least;
+  limit = running.limit;
+  layout = running.layout;
+  over = subst (λ (v : FlowView). IsOver running.layout v) (same_view tables old new same) running.over;
+}
+
+-- what callers see of a turn
+turned_view : (tables : Tables) (old new : Board) (went : Went) (view : FlowView) → view_of tables old ≡ view → HasTurned tables old new went → (layout : LayoutOf) → IsOver layout view → IsTurn layout view.flow went (flow_of new) × (view_of tables new ≡ record view { flow = flow_of new })
+turned_view tables old new went view is turned layout over = (
+  subst (λ (v : FlowView). IsTurn layout v.flow went (flow_of new)) is (turned.turn layout (subst (λ (v : FlowView). IsOver layout v) (sym is) over)),
+  ap (λ (ks : List ℕ). viewed tables ks (flow_of new)) (ap (map number) turned.packets) ∙ ap (λ (v : FlowView). let w : FlowView = record v { flow = flow_of new } in w) is,
+)
+
+pub arrived_view : (tables : Tables) (old new : Board) (went : Went) (view : FlowView) → view_of tables old ≡ view → HasTurned tables old new went → (layout : LayoutOf) → IsOver layout view → TurnsTo layout view (view_of tables new) (Some went)
+arrived_view tables old new went view is turned layout over = turned_view tables old new went view is turned layout over
+
+pub departed_view : (tables : Tables) (start old new : Board) (result : Option Went) (view : FlowView) → view_of tables start ≡ view → old ≡ start → MatchOption result (IsStill tables old) (HasTurned tables old new) → IfNone result (IsSame old new) → (layout : LayoutOf) → IsOver layout view → TurnsTo layout view (view_of tables new) result
+departed_view tables start old new None view is same still stays layout over = sym (same_view tables old new stays) ∙ ap (view_of tables) same ∙ is
+departed_view tables start old new (Some went) view is same turned stays layout over = turned_view tables old new went view (ap (view_of tables) same ∙ is) turned layout over
 
 pub left_after : (tables : Tables) (start old new : Board) (left : ℕ) (result : Option Went) → old ≡ start → HasLeft tables start left → MatchOption result (IsStill tables old) (HasTurned tables old new) → IfNone result (IsSame old new) → (IsNone result → IsRunning tables new) → IfSome result (λ _. left_of (flow_of new) ≡ left_of (flow_of old)) → HasLeft tables new left
 left_after tables start old new left None is has still same running lefts = record {

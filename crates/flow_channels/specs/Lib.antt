@@ -10,3 +10,4 @@ pub mod Queue
 pub mod Board
 pub mod Exits
 pub mod Turns
+pub mod Watch

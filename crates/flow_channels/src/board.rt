@@ -1,21 +1,19 @@
-ghost use Rattle.std.specs.Prelude.{◌≡◌, ◌<◌, ◌≤◌, ◌++◌, ◌∷◌, [], length, replicate, slice_get, slice_index};
-ghost use Rattle.std.specs.Prelude.{slice_index_or, IfOk, IsTrue, IsNone, MatchOption, ◌↔◌};
+ghost use Rattle.std.specs.Prelude.{◌≡◌, ◌<◌, ◌≤◌, ◌++◌, ◌∷◌, [], length, replicate, slice_get};
+ghost use Rattle.std.specs.Prelude.{slice_index_or, IfOk, IsTrue, MatchOption, ◌↔◌};
 ghost use Rattle.dep_check.specs.Tables.{IsSpot, place_of, WiresAreWithin};
-ghost use Rattle.flow_channels.specs.Board.{asked_by, come_by, flow_of, freed_by, gone_by, IsKept};
-ghost use Rattle.flow_channels.specs.Board.{IsSoundOver, left_by, ways};
+ghost use Rattle.flow_channels.specs.Board.{asked_by, come_by, flow_of, IsKept, IsSoundOver, ways};
 ghost use Rattle.flow_channels.specs.Flows.{empty_flow, enters, first_asks, leaves};
 ghost use Rattle.flow_channels.specs.Moves.{CanArrive, HasRoom};
 ghost use Rattle.flow_channels.specs.Queue.{QueueOf};
-ghost use Rattle.flow_channels.specs.Turns.{AreFree, HasDeparted, IsAtTarget, IsFirstArrival, IsSame};
-ghost use Rattle.flow_channels.specs.Turns.{NoneArrives, NoneGoes};
+ghost use Rattle.flow_channels.specs.Turns.{AreFree, IsAtTarget};
 
 use crate::exits::NUMBERS;
 use crate::queue::Queue;
 use crate::tables::Tables;
 use an_base::memory::OutOfMemory;
 use dep_check::channel::Channel;
-use dep_check::spot::{SPOTS, place_of, spot_at};
-use fcfc_router::router::{Grant, Router};
+use dep_check::spot::{SPOTS, place_of};
+use fcfc_router::router::Router;
 use std::alloc::Global;
 
 /// A packet that entered, and the number of the switch to which it goes.
@@ -121,8 +119,8 @@ impl Board {
         self.first_asks(tables, channel);
     }
 
-    // A packet comes last in a channel, and asks where it is the first there.
-    fn come_into(&mut self, tables: &Tables, channel: Channel, slot: u32)
+    /// A packet comes last in a channel, and asks where it is the first there.
+    pub fn come_into(&mut self, tables: &Tables, channel: Channel, slot: u32)
         requires kept { IsKept tables.now self.old }
         requires spot { IsSpot channel }
         requires slot { slot < length self.old.packets.items }
@@ -138,47 +136,8 @@ impl Board {
         }
     }
 
-    // What came in at a spot leaves the channel that brought it, if one did.
-    fn leave_by(&mut self, tables: &Tables, came: Channel)
-        requires kept { IsKept tables.now self.old }
-        requires spot { IsSpot came }
-        requires sound { IsSoundOver tables.now (freed_by tables.now self.old came) }
-        ensures kept { IsKept tables.now self.new }
-        ensures flow { flow_of self.new ≡ freed_by tables.now self.old came }
-        ensures packets { self.new.packets.items ≡ self.old.packets.items }
-    {
-        if let Some(channel) = tables.far(came) {
-            self.leave(tables, channel);
-        }
-    }
-
-    /// A packet that was let go leaves the channel that brought it, and goes into that of the port.
-    pub fn go(&mut self, tables: &Tables, departure: Departure)
-        requires kept { IsKept tables.now self.old }
-        requires at { departure.at < 127 }
-        requires exit { departure.exit < 13 }
-        requires slot { departure.slot < length self.old.packets.items }
-        requires entry { slice_index self.old.entries.items departure.slot < 13 }
-        requires left { IsSoundOver tables.now (left_by tables.now self.old departure) }
-        requires sound { IsSoundOver tables.now (gone_by tables.now self.old departure) }
-        ensures kept { IsKept tables.now self.new }
-        ensures flow { flow_of self.new ≡ gone_by tables.now self.old departure }
-        ensures packets { self.new.packets.items ≡ self.old.packets.items }
-    {
-        let came = Channel {
-            at: departure.at,
-            port: self.entries[departure.slot as usize],
-        };
-        self.leave_by(tables, came);
-        let channel = Channel {
-            at: departure.at,
-            port: departure.exit,
-        };
-        self.come_into(tables, channel, departure.slot);
-    }
-
-    // The first packet of a channel, where it is at its target.
-    fn arrived_in(&self, tables: &Tables, channel: Channel) -> Option<Packet>
+    /// The first packet of a channel, where it is at its target.
+    pub fn arrived_in(&self, tables: &Tables, channel: Channel) -> Option<Packet>
         requires kept { IsKept tables.now self.now }
         requires spot { IsSpot channel }
         ensures { MatchOption result (CanArrive (ways tables.now) (flow_of self.now) channel → ⊥)
@@ -193,23 +152,8 @@ impl Board {
         None
     }
 
-    /// The first channel whose first packet is at its target, and that packet.
-    pub fn arrival(&self, tables: &Tables) -> Option<Arrival>
-        requires { IsKept tables.now self.now }
-        ensures { MatchOption result (NoneArrives tables.now self.now 1651)
-            (IsFirstArrival tables.now self.now) }
-    {
-        'spots: for place in 0..SPOTS {
-            let channel = spot_at(place);
-            if let Some(packet) = self.arrived_in(tables, channel) {
-                return Some(Arrival { channel, packet });
-            }
-        }
-        None
-    }
-
-    // Whether a port has a channel with room.
-    fn has_room(&self, tables: &Tables, channel: Channel) -> bool
+    /// Whether a port has a channel with room.
+    pub fn has_room(&self, tables: &Tables, channel: Channel) -> bool
         requires kept { IsKept tables.now self.now }
         requires spot { IsSpot channel }
         ensures { IsTrue result ↔ HasRoom (ways tables.now) (flow_of self.now) channel }
@@ -217,8 +161,8 @@ impl Board {
         tables.far(channel).is_some() && self.queues[place_of(channel)].len() < tables.room
     }
 
-    // The ports of a switch whose channels have room.
-    fn free_ports(&self, tables: &Tables, at: u8) -> u16
+    /// The ports of a switch whose channels have room.
+    pub fn free_ports(&self, tables: &Tables, at: u8) -> u16
         requires kept { IsKept tables.now self.now }
         requires at { at < 127 }
         ensures { AreFree tables.now self.now at result }
@@ -230,27 +174,6 @@ impl Board {
             }
         }
         free
-    }
-
-    /// Lets go the packet that asked first of those that can go, at the first switch where one can.
-    pub fn departure(&mut self, tables: &Tables) -> Option<Departure>
-        requires { IsKept tables.now self.old }
-        ensures departed { MatchOption result (NoneGoes tables.now self.old 127)
-            (HasDeparted tables.now self.old self.new) }
-        ensures same { IsNone result → IsSame self.old self.new }
-        ensures kept { IsKept tables.now self.new }
-    {
-        'numbers: for at in 0..NUMBERS {
-            let free = self.free_ports(tables, at);
-            if let Some(Grant { packet, port }) = self.routers[usize::from(at)].grant(free) {
-                return Some(Departure {
-                    at,
-                    exit: port,
-                    slot: packet,
-                });
-            }
-        }
-        None
     }
 
     /// A packet enters at a switch, and asks there.

@@ -8,9 +8,11 @@ ghost use Rattle.flow_channels.specs.Runs.{MayEnter};
 ghost use Rattle.flow_channels.specs.Turns.{IsSame, NoneArrives};
 ghost use Rattle.flow_channels.specs.View.{HasTurned, IsFresh, IsOver, IsRunning, IsStill, MayEnterNow};
 ghost use Rattle.flow_channels.specs.View.{TurnsTo};
+ghost use Rattle.flow_channels.specs.Watch.{IsWatched};
 
 use crate::board::{Arrival, Board, Packet};
 use crate::tables::Tables;
+use crate::watch::Watch;
 use crate::went::Went;
 use an_base::memory::OutOfMemory;
 use an_base::numbers::Numbers;
@@ -25,31 +27,37 @@ use topo_graph::graph::Graph;
 pub struct Flow {
     tables: Tables,
     board: Board,
+    watch: Watch,
     left: u32,
 }
 
 impl Model for Flow {
+    ghost use Rattle.flow_channels.specs.Board.{flow_of};
     ghost use Rattle.flow_channels.specs.View.{FlowView, HasLeft, view_of};
+    ghost use Rattle.flow_channels.specs.Watch.{IsWatched};
 
     ghost Value = { FlowView };
 
     ghost view = { λ f. view_of f.tables f.board };
 
-    ghost invariant = { λ f. HasLeft f.tables f.board f.left };
+    ghost invariant = { λ f.
+        HasLeft f.tables f.board f.left × IsWatched f.tables (flow_of f.board) f.watch };
 }
 
 // The first packet of the least channel whose first packet is at its target arrives.
-fn arrive(tables: &Tables, board: &mut Board) -> Option<Went>
-    requires { IsRunning tables.now board.old }
+fn arrive(tables: &Tables, board: &mut Board, watch: &mut Watch) -> Option<Went>
+    requires running { IsRunning tables.now board.old }
+    requires watched { IsWatched tables.now (flow_of board.old) watch.old }
     ensures turned { MatchOption result (NoneArrives tables.now board.old 1651)
         (HasTurned tables.now board.old board.new) }
     ensures same { IfNone result (board.new ≡ board.old) }
     ensures left { IfSome result (λ _. left_of (flow_of board.new) + 1 ≡ left_of (flow_of board.old)) }
+    ensures watched { IsWatched tables.now (flow_of board.new) watch.new }
 {
-    let Some(Arrival { channel, packet }) = board.arrival(tables) else {
+    let Some(Arrival { channel, packet }) = watch.arrival(tables, board) else {
         return None;
     };
-    board.leave(tables, channel);
+    watch.leave(tables, board, channel);
     Some(Went::Arrived {
         packet: packet.packet,
         at: packet.to,
@@ -57,20 +65,22 @@ fn arrive(tables: &Tables, board: &mut Board) -> Option<Went>
 }
 
 // The packet that is let go at the least number goes out, where nobody arrives.
-fn depart(tables: &Tables, board: &mut Board) -> Option<Went>
+fn depart(tables: &Tables, board: &mut Board, watch: &mut Watch) -> Option<Went>
     requires running { IsRunning tables.now board.old }
+    requires watched { IsWatched tables.now (flow_of board.old) watch.old }
     requires none { NoneArrives tables.now board.old 1651 }
     ensures turned { MatchOption result (IsStill tables.now board.old)
         (HasTurned tables.now board.old board.new) }
     ensures same { IfNone result (IsSame board.old board.new) }
     ensures running { IsNone result → IsRunning tables.now board.new }
     ensures left { IfSome result (λ _. left_of (flow_of board.new) ≡ left_of (flow_of board.old)) }
+    ensures watched { IsWatched tables.now (flow_of board.new) watch.new }
 {
-    let Some(departure) = board.departure(tables) else {
+    let Some(departure) = watch.departure(tables, board) else {
         return None;
     };
     let packet = board.packets[departure.slot as usize].packet;
-    board.go(tables, departure);
+    watch.go(tables, board, departure);
     Some(Went::Out {
         packet,
         at: departure.at,
@@ -102,9 +112,11 @@ impl Flow {
         let _numbers = numbers.as_slice();
         let tables = Tables::of(alloc, graph, numbers, rows, usize::from(b), most)?;
         let board = Board::new(alloc, &tables)?;
+        let watch = Watch::new(alloc, &tables, &board)?;
         Ok(Flow {
             tables,
             board,
+            watch,
             left: 0,
         })
     }
@@ -121,7 +133,8 @@ impl Flow {
         ensures over { (layout : LayoutOf) → IsOver layout self.old
             → MayEnter layout self.old.limit self.old.known packet from to → IsOver layout self.new }
     {
-        self.board.enter(&self.tables, Packet { packet, to }, from);
+        self.watch
+            .enter(&self.tables, &mut self.board, Packet { packet, to }, from);
         self.left += 1;
     }
 
@@ -134,11 +147,11 @@ impl Flow {
         ensures over { (layout : LayoutOf) → IsOver layout self.old → IsOver layout self.new }
         ensures none { IsNone result ↔ (left_of self.old.flow ≡ 0) }
     {
-        if let Some(went) = arrive(&self.tables, &mut self.board) {
+        if let Some(went) = arrive(&self.tables, &mut self.board, &mut self.watch) {
             self.left -= 1;
             return Some(went);
         }
-        depart(&self.tables, &mut self.board)
+        depart(&self.tables, &mut self.board, &mut self.watch)
     }
 
     /// How many packets entered and have not arrived.

@@ -11,4 +11,5 @@ pub mod flow;
 pub mod law;
 mod queue;
 mod tables;
+mod watch;
 pub mod went;

@@ -190,3 +190,11 @@ ran any room es numbers home sends tables rows moves start named are rows_are st
       (subst (λ (rs : List RowOf). IsRunFrom (layout_of es (numbering es) rs room) start moves) rows_are
       (subst (λ (ns : List ℕ). IsRunFrom (layout_of es ns rows room) start moves) named run));
 }
+
+-- its channels have the ranks that were answered for its rows
+pub is_ranked : (es : List EntryOf) (numbers : List ℕ) (rows given : List RowOf) (ranks : List (Option ℕ)) (room : ℕ) (view : FlowView) → given ≡ rows → Passes es numbers given ranks → IsOver (layout_of es numbers rows room) view → IsRanked ranks view
+is_ranked es numbers rows given ranks room view same passes over = record {
+  layout = layout_of es numbers rows room;
+  over = over;
+  ranked = (subst (λ (rs : List RowOf). Passes es numbers rs ranks) same passes).ranked;
+}

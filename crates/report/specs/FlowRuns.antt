@@ -1,7 +1,8 @@
-use Rattle.std.specs.Prelude.{◌≡◌, ◌≤◌, ℕ, Bool, List, [], Option, length, map}
+use Rattle.std.specs.Prelude.{◌≡◌, ◌<◌, ◌≤◌, ℕ, Bool, List, [], Option, length, map, slice_index_or}
 use Rattle.an_base.specs.Values.{EntryOf}
 use Rattle.an_base.specs.Numbers.{AreNumbers}
 use Rattle.an_base.specs.Rows.{RowOf}
+use Rattle.net_script.specs.Scripts.{ScriptOf}
 use Rattle.topo_graph.specs.Topology.{IsGraph, IsTree}
 use Rattle.table_build.specs.Tables.{TableOf}
 use Rattle.dep_check.specs.Channels.{IsChannel, LeadsTo}
@@ -14,6 +15,7 @@ use Rattle.flow_channels.specs.Layout.{LayoutOf}
 use Rattle.flow_channels.specs.Runs.{Turns}
 use Rattle.flow_channels.specs.View.{FlowView, IsOver}
 use Rattle.report.specs.declared.sent.Sent.{Sent}
+use Rattle.report.specs.Check.{name_of}
 use Rattle.report.specs.Expect.{AreTables}
 use Rattle.report.specs.Flows.{entered_flow, layout_in}
 
@@ -64,3 +66,11 @@ pub record IsRun (any : Bool) (room : ℕ) (entries : List EntryOf) (home : List
   pub are : AreTables entries any (length entries) tables
   pub run : IsRunFrom (layout_in room (record { entries = entries; tables = tables }))
       (entered_flow home sends) moves
+
+-- the names of the switches that have the numbers below an end
+pub record AreNames (script : ScriptOf) (entries : List EntryOf) (numbers : List ℕ) (end : ℕ)
+    (names : List (List ℕ))
+    : Type 0 where
+  pub count : length names ≡ end
+  pub each :
+      (number : ℕ) → number < end → slice_index_or names number [] ≡ name_of script entries numbers number

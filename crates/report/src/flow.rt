@@ -2,7 +2,9 @@
 
 ghost use Rattle.std.specs.Prelude.{◌≡◌, ◌++◌, ◌<◌, ◌≤◌, ℕ, Bool, List, [], count_by, length, map, IfOk, IfSome, OnOk, slice_index_or};
 ghost use Rattle.std.specs.List.{flat_map};
+ghost use Rattle.an_base.specs.Values.{EntryOf};
 ghost use Rattle.net_graph.specs.Forest.{IsComponent, IsForest};
+ghost use Rattle.net_script.specs.Scripts.{ScriptOf};
 ghost use Rattle.text_lines.specs.Lines.{line_text};
 ghost use Rattle.switch_numbering.specs.Numbering.{numbering};
 ghost use Rattle.table_build.specs.Tables.{TableOf};
@@ -15,7 +17,9 @@ ghost use Rattle.report.specs.Check.{name_of};
 ghost use Rattle.report.specs.Expect.{AreTables};
 ghost use Rattle.report.specs.Flows.{end_line, entries_of, fate_lines, flow_told, flow_words, FlowPart};
 ghost use Rattle.report.specs.Flows.{IsFlowOf, IsFlowPart, is_out, part_lines, went_line};
-ghost use Rattle.report.specs.FlowRuns.{AreOwnRows, HasEntered, IsNumbered, IsRanked, IsReady, IsRun, IsRunFrom};
+ghost use Rattle.report.specs.Flows.FlowLine.{Arrives, Moves};
+ghost use Rattle.report.specs.FlowRuns.{AreNames, AreOwnRows, HasEntered, IsNumbered, IsRanked};
+ghost use Rattle.report.specs.FlowRuns.{IsReady, IsRun, IsRunFrom};
 ghost use Rattle.report.specs.Sends.{homes_of, MayAllEnter, sends_of};
 
 use crate::piece::life_word;
@@ -27,10 +31,12 @@ use an_base::entry::{Entries, Entry};
 use an_base::memory::OutOfMemory;
 use an_base::numbers::Numbers;
 use an_base::row::Row;
+use an_base::text::Word;
 use dep_check::check::{Ranks, check};
 use dep_check::refusal::CheckRefusal;
 use flow_channels::flow::Flow;
 use flow_channels::went::Went;
+use itoa::Buffer;
 use net_graph::forest::trees;
 use net_script::script::Script;
 use std::alloc::Global;
@@ -162,49 +168,76 @@ fn name_of(
     Ok(life_word(alloc, script, entry.life)?)
 }
 
-// Appends the line of a move.
-fn push_went(
+// The name of each switch, by its number; empty where no switch has the number.
+fn names_of(
     alloc: Global,
-    text: &mut Vec<u8>,
     script: &Script,
     entries: &[Entry],
     numbers: &[u8],
-    went: Went,
-) -> Result<(), OutOfMemory>
-    requires { numbers.now ≡ numbering entries.now }
+) -> Result<Vec<Word>, OutOfMemory>
+    requires { length numbers.now ≡ length entries.now }
+    ensures { IfOk result (λ names. AreNames script.now entries.now numbers.now 256 names.items) }
+{
+    let mut names = Vec::with_capacity(alloc, 256)?;
+    'numbers: for number in 0..256u16 {
+        let name = name_of(alloc, script, entries, numbers, number as u8)?;
+        names.push(Word::new(name))?;
+    }
+    Ok(names)
+}
+
+// Appends the line of a move out of a switch.
+fn push_out(text: &mut Vec<u8>, packet: u32, name: &[u8], exit: u8) -> Result<(), OutOfMemory>
     ensures { OnOk result (text.new.items
-        ≡ text.old.items ++ line_text (flow_words (went_line script.now entries.now went))) }
+        ≡ text.old.items ++ line_text (flow_words (Moves packet name.now exit))) }
+{
+    let mut digits = Buffer::new();
+    let packet = digits.format(packet).as_bytes();
+    let mut digits = Buffer::new();
+    let exit = digits.format(exit).as_bytes();
+    push_line(text, &[b"move", packet, name, b"out", exit])
+}
+
+// Appends the line of an arrival.
+fn push_arrival(text: &mut Vec<u8>, packet: u32, name: &[u8]) -> Result<(), OutOfMemory>
+    ensures { OnOk result (text.new.items
+        ≡ text.old.items ++ line_text (flow_words (Arrives packet name.now))) }
+{
+    let mut digits = Buffer::new();
+    push_line(text, &[b"arrive", digits.format(packet).as_bytes(), name])
+}
+
+// Appends the line of a move. The switches have these names, by number.
+fn push_went(text: &mut Vec<u8>, names: &[Word], went: Went) -> Result<(), OutOfMemory>
+    requires { length names.now ≡ 256 }
+    ensures { OnOk result ((script : ScriptOf) (entries : List EntryOf)
+        → AreNames script entries (numbering entries) 256 names.now
+        → text.new.items ≡ text.old.items ++ line_text (flow_words (went_line script entries went))) }
 {
     match went {
-        Went::Out { packet, at, exit } => {
-            let packet = decimal(alloc, u64::from(packet))?;
-            let name = name_of(alloc, script, entries, numbers, at)?;
-            let port = decimal(alloc, u64::from(exit))?;
-            push_line(text, &[b"move", &packet, &name, b"out", &port])
-        }
-        Went::Arrived { packet, at } => {
-            let packet = decimal(alloc, u64::from(packet))?;
-            let name = name_of(alloc, script, entries, numbers, at)?;
-            push_line(text, &[b"arrive", &packet, &name])
-        }
+        Went::Out { packet, at, exit } => push_out(
+            text,
+            packet,
+            names[usize::from(at)].as_bytes(),
+            exit,
+        ),
+        Went::Arrived { packet, at } => push_arrival(
+            text,
+            packet,
+            names[usize::from(at)].as_bytes(),
+        ),
     }
 }
 
 // Appends the lines of moves.
-fn push_moves(
-    alloc: Global,
-    text: &mut Vec<u8>,
-    script: &Script,
-    entries: &[Entry],
-    numbers: &[u8],
-    moves: &[Went],
-) -> Result<(), OutOfMemory>
-    requires { numbers.now ≡ numbering entries.now }
-    ensures { OnOk result (text.new.items
-        ≡ text.old.items ++ flow_told (map (went_line script.now entries.now) moves.now)) }
+fn push_moves(text: &mut Vec<u8>, names: &[Word], moves: &[Went]) -> Result<(), OutOfMemory>
+    requires { length names.now ≡ 256 }
+    ensures { OnOk result ((script : ScriptOf) (entries : List EntryOf)
+        → AreNames script entries (numbering entries) 256 names.now
+        → text.new.items ≡ text.old.items ++ flow_told (map (went_line script entries) moves.now)) }
 {
     'moves: for went in moves {
-        push_went(alloc, text, script, entries, numbers, *went)?;
+        push_went(text, names, *went)?;
     }
     Ok(())
 }
@@ -235,7 +268,8 @@ fn push_part(
     let mut moves = run(alloc, &graph, &numbers, any, &home, &those, b)?;
     let entries = component.as_slice();
     let named = numbers.as_slice();
-    push_moves(alloc, text, script, entries, named, &moves)?;
+    let names = names_of(alloc, script, entries, named)?;
+    push_moves(text, &names, &moves)?;
     all.append(&mut moves)?;
     Ok(())
 }
@@ -253,7 +287,6 @@ fn switch_name(names: &Names, switch: u8) -> &[u8]
 
 // Appends the line of a packet that enters nowhere.
 fn push_fate(
-    alloc: Global,
     text: &mut Vec<u8>,
     script: &Script,
     homes: &[Home],
@@ -261,26 +294,20 @@ fn push_fate(
 ) -> Result<(), OutOfMemory>
     ensures { OnOk result (text.new.items ≡ text.old.items ++ flow_told (fate_lines script.now homes.now sent)) }
 {
-    let packet = decimal(alloc, u64::from(sent.packet))?;
+    let mut digits = Buffer::new();
+    let packet = digits.format(sent.packet).as_bytes();
     if sent.is_local() {
-        return push_line(
-            text,
-            &[
-                b"local",
-                &packet,
-                switch_name(script.switch_names(), sent.from),
-            ],
-        );
+        let name = switch_name(script.switch_names(), sent.from);
+        return push_line(text, &[b"local", packet, name]);
     }
     if is_joined(homes, sent) {
         return Ok(());
     }
-    push_line(text, &[b"unjoined", &packet])
+    push_line(text, &[b"unjoined", packet])
 }
 
 // Appends the lines of the packets that enter nowhere.
 fn push_fates(
-    alloc: Global,
     text: &mut Vec<u8>,
     script: &Script,
     homes: &[Home],
@@ -290,7 +317,7 @@ fn push_fates(
         ≡ text.old.items ++ flow_told (flat_map (fate_lines script.now homes.now) sends.now)) }
 {
     'sends: for sent in sends {
-        push_fate(alloc, text, script, homes, *sent)?;
+        push_fate(text, script, homes, *sent)?;
     }
     Ok(())
 }
@@ -356,7 +383,7 @@ fn text_with(
     ensures { IfOk result (λ text. IsFlowOf script.now b text.items) }
 {
     let mut text = Vec::new(alloc);
-    push_fates(alloc, &mut text, script, homes, sends)?;
+    push_fates(&mut text, script, homes, sends)?;
     let mut moves = Vec::new(alloc);
     'components: for component in forest {
         push_part(alloc, &mut text, &mut moves, script, component, sends, b)?;

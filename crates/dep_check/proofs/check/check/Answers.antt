@@ -35,15 +35,15 @@ returns-in-Some-clause-refused c =
       subst (λ (far : Channel → Option Channel). IsLeastGap far numbers rows gap.from gap.to gap.at gap.entry) (fun_ext c.in_ok-wires.ensures.each) least,
     )
 
-pub returns-in-Some-least_illegal-clause-refused : goal.returns-in-Some-least_illegal-clause-refused
-returns-in-Some-least_illegal-clause-refused c =
+pub returns-in-Some-2-clause-refused : goal.returns-in-Some-2-clause-refused
+returns-in-Some-2-clause-refused c =
     let wires = c.in_ok-wires.wires.items in
     let rows = c.args.rows.now in
     let numbers = c.args.numbers.now in
     let joined : AllAreJoined (wire_at wires) numbers rows = rw (c.deref-3.ensures.value, c.in_default.is) at c.in_ok-gap.ensures in (
       no_cycle_at (far_at c.args.graph.now numbers) wires rows c.in_ok-steps.steps c.in_ok-levels.levels.items c.in_ok-wires.ensures (rw c.deref.ensures.value at c.in_ok-steps.ensures) c.in_ok-levels.ensures (rw (c.deref-2.ensures.value, c.if-not-are_all_ranked.false) at c.are_all_ranked.ensures),
       subst (λ (far : Channel → Option Channel). AllAreJoined far numbers rows) (fun_ext c.in_ok-wires.ensures.each) joined,
-      rw c.in-Some-least_illegal.is at c.least_illegal.ensures,
+      rw c.in-Some-2.is at c.in_ok-illegal.ensures,
     )
 
 pub returns-clause-passes : goal.returns-clause-passes
@@ -60,6 +60,6 @@ returns-clause-passes c =
     record {
       no_cycle = no_cycle_at far wires rows steps levels c.in_ok-wires.ensures are c.in_ok-levels.ensures all;
       joined = subst (λ (far : Channel → Option Channel). AllAreJoined far numbers rows) (fun_ext c.in_ok-wires.ensures.each) joined;
-      legal = rw c.in_default-least_illegal.is at c.least_illegal.ensures;
+      legal = rw c.in_default-2.is at c.in_ok-illegal.ensures;
       ranked = ranks_at far wires rows steps levels c.in_ok-wires.ensures are c.in_ok-levels.ensures all;
     }

@@ -5,4 +5,4 @@ pub exits-init : goal.exits-init
 exits-init c = longer_none c.args.path.now.items c.requires.path
 
 pub exits-preserved : goal.exits-preserved
-exits-preserved c = longer_more c.exits.exit c.args.path.now.items c.exits.path.items c.come_to.new.path.items c.exits.invariant c.in_ok-come_to.ensures
+exits-preserved c = longer_more c.exits.exit c.args.path.now.items c.exits.path.items c.come_by.new.path.items c.exits.invariant c.in_ok-come_by.ensures

@@ -1,16 +1,37 @@
-use Rattle.std.proofs.Common.{inl, inr}
+use Rattle.std.proofs.Common.{refl}
 use Rattle.dep_check.specs.Tables.{wire_at}
-use Rattle.dep_check.specs.Channels.{place_in}
-use Rattle.dep_check.proofs.SpotLemmas.{option_cases}
-use Rattle.dep_check.proofs.BridgeLemmas.{place_contained, contained_place}
-use Rattle.dep_check.proofs.GapLemmas.{first_parted, no_target, not_none, yes_none}
+use Rattle.dep_check.proofs.GapLemmas.{first_parted, no_target}
+use Rattle.dep_check.proofs.TargetLemmas.{tables_for}
 use Rattle.dep_check.proofs.gap.stuck_towards.Goals as goal
 
-pub returns-then-is_none : goal.returns-then-is_none
-returns-then-is_none c = no_target (wire_at c.args.wires.now) c.args.numbers.now c.args.rows.now c.args.to (λ there. let place = contained_place c.args.numbers.now c.args.to c.place_in.ensures.numbers there in not_none c.place_in.result (place_in c.args.numbers.now c.args.to) c.is_none.result place.0 c.place_in.ensures.place c.is_none.ensures c.if-is_none.true place.1)
+pub has-requires : goal.has-requires
+has-requires c = rw c.requires.rows.count c.requires.to
+
+pub returns-then-not-has : goal.returns-then-not-has
+returns-then-not-has c =
+    let are = tables_for c.args.rows.now c.args.numbers.now c.args.by_target.now c.as_slice-names.ensures.numbers c.requires.rows in
+    record {
+      first = no_target (wire_at c.args.steps.now.wires.items) c.args.numbers.now c.args.rows.now c.args.to (λ there. absurd (
+          let has = c.has.ensures.1 ((are.each c.args.to c.requires.to).1 there) in
+          let gone = c.if-not-has.true in
+          cc));
+      kept = record { wires_are = refl; count = c.requires.count };
+    }
+
+pub turn-requires-clause-known : goal.turn-requires-clause-known
+turn-requires-clause-known c =
+    let are = tables_for c.args.rows.now c.args.numbers.now c.args.by_target.now c.as_slice-names.ensures.numbers c.requires.rows in
+    (are.each c.args.to c.requires.to).0 (c.has.ensures.0 c.if-not-has.false)
+
+pub first_stuck-requires : goal.first_stuck-requires
+first_stuck-requires c = tables_for c.args.rows.now c.args.numbers.now c.args.by_target.now c.as_slice-names.ensures.numbers c.requires.rows
 
 pub returns : goal.returns
-returns c = elim (option_cases (place_in c.args.numbers.now c.args.to)) [
-  | inl none ↦ absurd (yes_none c.place_in.result (place_in c.args.numbers.now c.args.to) c.is_none.result c.place_in.ensures.place c.is_none.ensures c.if-is_none.false none)
-  | inr some ↦ first_parted c.args.wires.now c.args.rows.now c.args.numbers.now c.args.to c.in_ok-steps.steps c.requires.wires.within c.in_ok-steps.ensures c.place_in.ensures.numbers (place_contained c.args.numbers.now c.args.to some.0 some.1).0 c.in_ok-first.first c.in_ok-first.ensures
-]
+returns c =
+    let are = tables_for c.args.rows.now c.args.numbers.now c.args.by_target.now c.as_slice-names.ensures.numbers c.requires.rows in
+    let known = (are.each c.args.to c.requires.to).0 (c.has.ensures.0 c.if-not-has.false) in
+    let steps = c.turn.ensures in
+    record {
+      first = first_parted c.args.steps.now.wires.items c.args.rows.now c.args.numbers.now c.args.to c.turn.new.self c.args.steps.now.links.within steps c.as_slice-names.ensures.numbers known c.in_ok-first.first c.in_ok-first.ensures;
+      kept = record { wires_are = steps.wires_are; count = steps.exits.count };
+    }

@@ -1,8 +1,16 @@
-use Rattle.std.proofs.Common.{◌<◌, ℕ}
+use Rattle.std.proofs.Common.{◌≡◌, ℕ}
+use Rattle.std.specs.Int.{bit_at}
+use Rattle.dep_check.specs.Ports.{HasOnlyPorts}
 use Rattle.dep_check.specs.Search.{IsStep}
 use Rattle.dep_check.specs.Walks.{Sees}
 use Rattle.dep_check.proofs.walk.see_next.Given as goal
 
--- all is seen to which the steps by the exits so far lead
+-- all is seen to which the steps lead by the exits that are not left
 abbrev pub invariant-exits : goal.invariant-exits
-invariant-exits l = Sees (λ b. (e : ℕ) × (e < l.exit) × IsStep l.steps l.spot e b) l.fn.seen.items l.fn.ahead.items l.seen.items l.ahead.items
+invariant-exits l = record {
+  sees : Sees (λ b. (e : ℕ) × (bit_at l.left e ≡ 1 → ⊥) × IsStep l.steps l.spot e b) l.fn.seen.items l.fn.ahead.items l.seen.items l.ahead.items;
+  ports : HasOnlyPorts l.left;
+}
+
+abbrev pub decreases-exits : goal.decreases-exits
+decreases-exits l = l.left

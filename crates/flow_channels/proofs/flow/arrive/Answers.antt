@@ -11,14 +11,14 @@ leave-requires-clause-sound c =
     let b = c.args.board.now in
     let a = c.in-Some.field-0 in
     let new = leaves (ways t) a.channel (flow_of b) in
-    sound_over t b new (Arrived a.packet.packet a.packet.to) c.requires (arrival_turn t b c.requires.layout c.requires.over a new c.in-Some.ensures refl)
+    sound_over t b new (Arrived a.packet.packet a.packet.to) c.requires.running (arrival_turn t b c.requires.running.layout c.requires.running.over a new c.in-Some.ensures refl)
 
 pub returns-clause-turned : goal.returns-clause-turned
 returns-clause-turned c = record {
-  turn = λ layout over. arrival_turn c.args.tables.now c.args.board.now layout over c.in-Some.field-0 (flow_of c.leave.new.self) c.in-Some.ensures c.leave.ensures.flow;
+  turn = λ layout over. arrival_turn c.args.tables.now c.args.board.now layout over c.in-Some.field-0 (flow_of c.leave.new.board) c.in-Some.ensures c.leave.ensures.flow;
   packets = c.leave.ensures.packets;
   kept = c.leave.ensures.kept;
 }
 
 pub returns-clause-left : goal.returns-clause-left
-returns-clause-left c = arrival_left c.args.tables.now c.args.board.now c.in-Some.field-0 (flow_of c.leave.new.self) c.requires c.in-Some.ensures c.leave.ensures.flow
+returns-clause-left c = arrival_left c.args.tables.now c.args.board.now c.in-Some.field-0 (flow_of c.leave.new.board) c.requires.running c.in-Some.ensures c.leave.ensures.flow

@@ -1,76 +1,60 @@
-use Rattle.std.proofs.Common.{◌≡◌, ◌∙◌, ap, refl, subst, arith, ℕ, ◌+◌, ◌*◌, List, length, set}
-use Rattle.std.specs.Int.RustNames.{bit_or}
-use Rattle.std.proofs.lemmas.List.{get_or_read}
-use Rattle.fcfc_router.specs.Tree.{IsTreeBut}
-use Rattle.fcfc_router.proofs.TreeLemmas.{all_mended, count_is, mended, put_is, same_place, written}
+use Rattle.std.proofs.Common.{◌≡◌, ◌∙◌, ap, subst, arith, ℕ, ◌*◌, List, drop, length, set}
+use Rattle.std.specs.Prelude.{vec_capacity}
+use Rattle.fcfc_router.specs.Tree.{all_sets, IsGrown}
+use Rattle.fcfc_router.proofs.TreeLemmas.{all_count, doubled_grown, doubled_sets, taken_back, twice_below, written_sets}
 use Rattle.fcfc_router.proofs.tree.PortTree.put.Goals as goal
 
-pub nodes-init : goal.nodes-init
-nodes-init c =
+pub double-requires-clause-most : goal.double-requires-clause-most
+double-requires-clause-most c =
+    let l = c.places.invariant in
     let i = c.self.inside in
-    let n = count_is i.places i.unions.items c.self.invariant.2 in
-    let v = ap (λ (xs : List ℕ). length xs) c.self.view_is in
+    let count = all_count i.kept i.places (vec_capacity i.unions) i.unions.items c.self.invariant in
+    let seen = ap (λ (xs : List ℕ). length xs) c.self.view_is in
     let low = c.requires in
+    let same = l.same in
+    let twice = twice_below c.places.self-inside.kept c.places.self-inside.places c.args.place l.grown.power l.grown.all (omega arith) (omega arith) in
+    let most = l.grown.most in
+    omega arith
+
+pub double-requires-clause-room : goal.double-requires-clause-room
+double-requires-clause-room c =
+    let l = c.places.invariant in
+    let i = c.self.inside in
+    let count = all_count i.kept i.places (vec_capacity i.unions) i.unions.items c.self.invariant in
+    let seen = ap (λ (xs : List ℕ). length xs) c.self.view_is in
+    let low = c.requires in
+    let same = l.same in
+    let twice = twice_below c.places.self-inside.kept c.places.self-inside.places c.args.place l.grown.power l.grown.all (omega arith) (omega arith) in
+    let room = l.grown.room in
+    omega arith
+
+pub places-preserved : goal.places-preserved
+places-preserved c =
+    let l = c.places.invariant in
+    let i = c.self.inside in
+    let j = c.places.self-inside in
+    let count = all_count i.kept i.places (vec_capacity i.unions) i.unions.items c.self.invariant in
+    let seen = ap (λ (xs : List ℕ). length xs) c.self.view_is in
+    let low = c.requires in
+    let same = l.same in
+    let new = c.double.new.unions in
+    let grown = doubled_grown j.kept j.places (vec_capacity j.unions) (vec_capacity new) c.args.place j.unions.items new.items l.grown (omega arith) (omega arith) c.double.ensures.capacity c.double.ensures.tree in
+    let sets = doubled_sets j.kept j.places j.unions.items new.items grown.below c.double.ensures.sets in
+    let twice : 2 * j.kept ≡ j.kept * 2 = omega arith in
     record {
-      same = refl;
-      below = omega arith;
-      tree = written i.places (i.places + c.args.place) c.args.set i.unions.items c.self.invariant.2 (omega arith);
-      sets = λ k. refl;
-    }
-
-pub invariant_of-self : goal.invariant_of-self
-invariant_of-self c =
-    let l = c.nodes.invariant in
-    let p = c.self.invariant.0 in
-    let m = c.self.invariant.1 in
-    let s = l.same in
-    let zero_is : c.nodes.node ≡ 0 = omega arith in (
-      (p.0, s ∙ p.1),
-      omega arith,
-      all_mended c.nodes.self-inside.places c.nodes.self-inside.unions.items (subst (λ (n : ℕ). IsTreeBut c.nodes.self-inside.places c.nodes.self-inside.unions.items n) zero_is l.tree),
-    )
-
-pub overflow_mul-node : goal.overflow_mul-node
-overflow_mul-node c = let l = c.nodes.invariant in let m = c.self.invariant.1 in let s = l.same in let b = l.below in omega arith
-
-pub index-requires : goal.index-requires
-index-requires c = let l = c.nodes.invariant in let b = l.below in let n = l.tree.count in omega arith
-
-pub overflow_mul-node-in-nodes : goal.overflow_mul-node-in-nodes
-overflow_mul-node-in-nodes c = let l = c.nodes.invariant in let m = c.self.invariant.1 in let s = l.same in let b = l.below in omega arith
-
-pub overflow_add-node : goal.overflow_add-node
-overflow_add-node c = let l = c.nodes.invariant in let m = c.self.invariant.1 in let s = l.same in let b = l.below in omega arith
-
-pub index-requires-in-nodes : goal.index-requires-in-nodes
-index-requires-in-nodes c = let l = c.nodes.invariant in let b = l.below in let n = l.tree.count in omega arith
-
-pub index_mut-requires-in-nodes : goal.index_mut-requires-in-nodes
-index_mut-requires-in-nodes c = let l = c.nodes.invariant in let b = l.below in let n = l.tree.count in omega arith
-
-pub nodes-preserved : goal.nodes-preserved
-nodes-preserved c =
-    let l = c.nodes.invariant in
-    let i = c.nodes.self-inside in
-    let b = l.below in
-    let n = l.tree.count in
-    let first = get_or_read i.unions.items (2 * c.nodes.node) c.index.result.now (omega arith) c.index.ensures 0 in
-    let second = get_or_read i.unions.items (2 * c.nodes.node + 1) c.index-in-nodes.result.now (omega arith) c.index-in-nodes.ensures 0 in
-    record {
+      grown = subst (λ (n : ℕ). IsGrown n j.places (vec_capacity new) new.items) twice grown;
       same = l.same;
-      below = omega arith;
-      tree = mended i.places c.nodes.node (bit_or c.index.result.now c.index-in-nodes.result.now) i.unions.items l.tree (omega arith) b cc;
-      sets = λ k. same_place i.places c.nodes.node (bit_or c.index.result.now c.index-in-nodes.result.now) k i.unions.items b ∙ l.sets k;
+      sets = subst (λ (n : ℕ). all_sets n j.places new.items ≡ all_sets j.kept j.places j.unions.items) twice sets ∙ l.sets;
     }
 
 pub returns : goal.returns
 returns c =
-    let l = c.nodes.invariant in
-    let i = c.self.inside in
-    let j = c.nodes.self-inside in
-    let n = count_is i.places i.unions.items c.self.invariant.2 in
-    let v = ap (λ (xs : List ℕ). length xs) c.self.view_is in
-    let low = c.requires in
-    let zero_is : c.nodes.node ≡ 0 = omega arith in
-    put_is i.places j.places c.args.place c.args.set i.unions.items j.unions.items l.same c.self.invariant.2 (all_mended j.places j.unions.items (subst (λ (n : ℕ). IsTreeBut j.places j.unions.items n) zero_is l.tree)) (omega arith) l.sets
-    ∙ ap (λ (xs : List ℕ). set xs c.args.place c.args.set) c.self.view_is
+    let l = c.places.invariant in
+    let j = c.places.self-inside in
+    let is = c.write.ensures.sets ∙ ap (λ (xs : List ℕ). set (drop j.kept xs) c.args.place c.args.set) c.deref_mut.ensures.value in
+    let count = l.grown.tree.count in
+    let after = c.write.ensures.tree.count in
+    let long = j.unions.ok.0 in
+    ap (all_sets j.kept j.places) (taken_back j.unions.len c.write.new.unions j.unions.items (omega arith))
+    ∙ written_sets j.kept j.places c.args.place c.args.set j.unions.items c.write.new.unions l.grown.tree (omega (arith, c.places-test.false)) is
+    ∙ ap (λ (xs : List ℕ). set xs c.args.place c.args.set) (l.sets ∙ c.self.view_is)

@@ -1,15 +1,15 @@
-use Rattle.std.proofs.Common.{◌≡◌, ℕ, ◌+◌, ◌<◌, get_or}
-use Rattle.fcfc_router.specs.Tree.{IsTreeBut}
+use Rattle.std.proofs.Common.{◌≡◌, ◌+◌, ◌-◌}
+use Rattle.std.specs.Prelude.{vec_capacity}
+use Rattle.fcfc_router.specs.Tree.{all_sets, IsGrown}
 use Rattle.fcfc_router.proofs.tree.PortTree.put.Given as goal
 
--- the unions are right but for the node and those above it, and the sets of the places stay
-abbrev pub invariant-nodes : goal.invariant-nodes
-invariant-nodes l = record {
+-- more places may be kept, and all sets stay
+abbrev pub invariant-places : goal.invariant-places
+invariant-places l = record {
+  grown : IsGrown l.self-inside.kept l.self-inside.places (vec_capacity l.self-inside.unions) l.self-inside.unions.items;
   same : l.self-inside.places ≡ l.initial.self-inside.places;
-  below : l.node < l.self-inside.places;
-  tree : IsTreeBut l.self-inside.places l.self-inside.unions.items l.node;
-  sets : (k : ℕ) → get_or l.self-inside.unions.items (l.self-inside.places + k) 0 ≡ get_or l.initial.self-inside.unions.items (l.initial.self-inside.places + k) 0;
+  sets : all_sets l.self-inside.kept l.self-inside.places l.self-inside.unions.items ≡ all_sets l.initial.self-inside.kept l.initial.self-inside.places l.initial.self-inside.unions.items;
 }
 
-abbrev pub decreases-nodes : goal.decreases-nodes
-decreases-nodes l = l.node
+abbrev pub decreases-places : goal.decreases-places
+decreases-places l = l.place + 1 - l.self-inside.kept

@@ -18,18 +18,20 @@ enter-requires-clause-sound c =
 
 pub overflow_add-self : goal.overflow_add-self
 overflow_add-self c =
-    let few = c.self.invariant.few in
-    let most = c.self.invariant.running.kept.few in
-    let limit = c.self.invariant.running.limit in
+    let few = c.self.invariant.0.few in
+    let most = c.self.invariant.0.running.kept.few in
+    let limit = c.self.invariant.0.running.limit in
     omega arith
 
 pub invariant_of-self : goal.invariant_of-self
 invariant_of-self c =
     let i = c.self.inside in
-    let r = c.requires in
-    running_entered i.tables i.board c.enter.new.self i.left (record { packet = c.args.packet; to = c.args.to }) c.args.from r.layout c.self.invariant c.enter.ensures.kept (subst (λ (v : FlowView). IsOver r.layout v) (sym c.self.view_is) r.over) (subst (λ (v : FlowView). MayEnter r.layout v.limit v.known c.args.packet c.args.from c.args.to) (sym c.self.view_is) r.may) c.enter.ensures.flow c.enter.ensures.packets
+    let r = c.requires in (
+      running_entered i.tables i.board c.enter.new.board i.left (record { packet = c.args.packet; to = c.args.to }) c.args.from r.layout c.self.invariant.0 c.enter.ensures.kept (subst (λ (v : FlowView). IsOver r.layout v) (sym c.self.view_is) r.over) (subst (λ (v : FlowView). MayEnter r.layout v.limit v.known c.args.packet c.args.from c.args.to) (sym c.self.view_is) r.may) c.enter.ensures.flow c.enter.ensures.packets,
+      c.enter.ensures.watched,
+    )
 
 pub returns-clause-over : goal.returns-clause-over
 returns-clause-over c = λ layout over may.
     let i = c.self.inside in
-    over_entered i.tables i.board c.enter.new.self (record { packet = c.args.packet; to = c.args.to }) c.args.from layout (subst (λ (v : FlowView). IsOver layout v) (sym c.self.view_is) over) (subst (λ (v : FlowView). MayEnter layout v.limit v.known c.args.packet c.args.from c.args.to) (sym c.self.view_is) may) c.enter.ensures.flow c.enter.ensures.packets
+    over_entered i.tables i.board c.enter.new.board (record { packet = c.args.packet; to = c.args.to }) c.args.from layout (subst (λ (v : FlowView). IsOver layout v) (sym c.self.view_is) over) (subst (λ (v : FlowView). MayEnter layout v.limit v.known c.args.packet c.args.from c.args.to) (sym c.self.view_is) may) c.enter.ensures.flow c.enter.ensures.packets

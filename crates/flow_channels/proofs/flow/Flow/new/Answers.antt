@@ -15,18 +15,20 @@ invariant_of-result c =
     let limit = t.ensures.limit in
     let least = r.least in
     let most = r.limit in
-    let are = subst (λ (n : ℕ). AreTablesOf (layout_of c.args.graph.now c.args.numbers.now c.args.rows.now n) t.tables.wires.items t.tables.exits.sets.items t.tables.room) c.from.ensures t.ensures.tables in
-    record {
-      running = record {
-        kept = b.ensures.kept;
-        least = omega arith;
-        limit = omega arith;
-        layout = layout_of c.args.graph.now c.args.numbers.now c.args.rows.now c.args.b;
-        over = over_fresh c.args.graph.now c.args.numbers.now c.args.rows.now c.args.ranks.now c.args.b t.tables b.board c.count-count.ensures.graph c.as_slice-numbers.ensures.numbers r.same r.room r.passes are b.ensures.flow b.ensures.packets;
-      };
-      left_is = ap left_of (sym b.ensures.flow);
-      few = omega arith;
-    }
+    let are = subst (λ (n : ℕ). AreTablesOf (layout_of c.args.graph.now c.args.numbers.now c.args.rows.now n) t.tables.wires.items t.tables.exits.sets.items t.tables.room) c.from.ensures t.ensures.tables in (
+      record {
+        running = record {
+          kept = b.ensures.kept;
+          least = omega arith;
+          limit = omega arith;
+          layout = layout_of c.args.graph.now c.args.numbers.now c.args.rows.now c.args.b;
+          over = over_fresh c.args.graph.now c.args.numbers.now c.args.rows.now c.args.ranks.now c.args.b t.tables b.board c.count-count.ensures.graph c.as_slice-numbers.ensures.numbers r.same r.room r.passes are b.ensures.flow b.ensures.packets;
+        };
+        left_is = ap left_of (sym b.ensures.flow);
+        few = omega arith;
+      },
+      c.in_ok-watch.ensures,
+    )
 
 pub returns : goal.returns
 returns c =

@@ -1,0 +1,77 @@
+-- What a worker and the driver ask is fit for what their seats have seen, and what kind of reply comes.
+
+use Rattle.std.specs.Prelude.{◌≡◌, ℕ, List, Option, Some, IfSome, refl}
+use Rattle.std.proofs.Common.{sym, subst}
+use Rattle.an_base.specs.Ports.{NoteOf}
+use Rattle.an_base.specs.declared.event.Event.{Event}
+use Rattle.net_script.specs.Scripts.{ScriptOf}
+use Rattle.switch_core.specs.Kept.{KeptOf, StandsFor}
+use Rattle.switch_core.specs.Steps.{loaded}
+use Rattle.switch_core.specs.Switch.{SwitchOf, note_of}
+use Rattle.switch_core.specs.declared.switch.TableFor.{TableFor}
+use Rattle.fabric_state.specs.declared.ending.Ending.{Ending}
+use Rattle.fabric_state.specs.declared.work.Drive.{Drive}
+use Rattle.fabric_state.specs.declared.work.Work.{Work}
+use Rattle.fabric_turn.specs.Calls.{IsFitFor}
+use Rattle.fabric_turn.specs.declared.view.View.{View}
+use Rattle.fabric_world.specs.declared.ask.Ask.{Ask}
+use Rattle.fabric_world.specs.declared.ask.Ask.TheVariants as ask
+use Rattle.fabric_world.specs.declared.ask.Done.{Done}
+use Rattle.fabric_world.specs.declared.ask.LoadReply.{LoadReply}
+use Rattle.fabric_world.specs.declared.ask.Reply.{Reply}
+use Rattle.fabric_world.specs.declared.ask.Reply.TheVariants as reply
+use Rattle.fabric_world.specs.Turns.{AnswersDrive, AnswersLoad, AnswersPut, AnswersTake, IsFit, IsToLoad}
+use Rattle.fabric_world.specs.World.{world_after}
+use Rattle.fabric_book.specs.Nets.{PowerOf}
+use Rattle.switch_threads.specs.declared.desk.Pending.TheVariants as pending
+use Rattle.switch_threads.specs.Workers.{IsAtPlace, IsDriving}
+
+-- what may be asked is fit
+fit_of : (view : View Event ScriptOf) (script : ScriptOf) (asked : Ask) → view.start ≡ Some script → IsFit script view.seen view.number asked → IsFitFor IsFit view asked
+fit_of view script asked begun fit = subst (λ (o : Option ScriptOf). IfSome o (λ start. IsFit start view.seen view.number asked)) (sym begun) fit
+
+module _ (view : View Event ScriptOf) (place : ℕ) (power : PowerOf) (switch : KeptOf) where
+  pub take_fit : (out : List ℕ) → IsAtPlace view place power switch pending.Work → IsFitFor IsFit view (ask.Take place out)
+  take_fit out step =
+      let at = step.keeps_up.powered in
+      fit_of view step.script (ask.Take place out) step.begun (record { kept = at.kept; may_ask = (record { within = at.within; caller_is = step.number }, step.keeps_up.fits.0) })
+
+  pub put_fit : (done : Done) → IsAtPlace view place power switch (pending.Put done) → IsFitFor IsFit view (ask.Put place done)
+  put_fit done step =
+      let at = step.keeps_up.powered in
+      fit_of view step.script (ask.Put place done) step.begun (record { kept = at.kept; may_ask = (record { within = at.within; caller_is = step.number }, step.keeps_up.fits.0) })
+
+  pub load_fit : (table : TableFor) (note : NoteOf) → IsAtPlace view place power switch (pending.Load table) → ((x : SwitchOf) → StandsFor switch x → note ≡ note_of x) → IsFitFor IsFit view (ask.Load place table note)
+  load_fit table note step shows =
+      let at = step.keeps_up.powered in
+      let w = world_after step.script view.seen in
+      let to = subst (IsToLoad w place table) (sym (shows (loaded table.table.number (w.switches place)) step.keeps_up.fits.1)) step.keeps_up.fits.0 in
+      fit_of view step.script (ask.Load place table note) step.begun (record { kept = at.kept; may_ask = (record { within = at.within; caller_is = step.number }, to) })
+
+pub drive_fit : (view : View Event ScriptOf) (told : Option Ending) → IsDriving view told → IsFitFor IsFit view ask.Drive
+drive_fit view told is = fit_of view is.script ask.Drive is.begun (record { kept = is.kept; may_ask = is.number })
+
+-- each ask has its own kind of reply
+pub replies_take : (script : ScriptOf) (h : List Event) (place : ℕ) (answer : Reply) (after : List Event) → AnswersTake script h place answer after → (job : Work) × (out : List ℕ) × (answer ≡ reply.Take job out)
+replies_take script h place (reply.Take job out) after is = (job, out, refl)
+replies_take script h place (reply.Put done) after is = absurd is
+replies_take script h place (reply.Load came) after is = absurd is
+replies_take script h place (reply.Drive did) after is = absurd is
+
+pub replies_put : (h : List Event) (place : ℕ) (done : Done) (answer : Reply) (after : List Event) → AnswersPut h place done answer after → (back : Done) × (answer ≡ reply.Put back)
+replies_put h place done (reply.Put back) after is = (back, refl)
+replies_put h place done (reply.Take job out) after is = absurd is
+replies_put h place done (reply.Load came) after is = absurd is
+replies_put h place done (reply.Drive did) after is = absurd is
+
+pub replies_load : (script : ScriptOf) (h : List Event) (place : ℕ) (table : TableFor) (answer : Reply) (after : List Event) → AnswersLoad script h place table answer after → (came : LoadReply) × (answer ≡ reply.Load came)
+replies_load script h place table (reply.Load came) after is = (came, refl)
+replies_load script h place table (reply.Take job out) after is = absurd is
+replies_load script h place table (reply.Put done) after is = absurd is
+replies_load script h place table (reply.Drive did) after is = absurd is
+
+pub replies_drive : (script : ScriptOf) (h : List Event) (answer : Reply) (after : List Event) → AnswersDrive script h answer after → (did : Drive) × (answer ≡ reply.Drive did)
+replies_drive script h (reply.Drive did) after is = (did, refl)
+replies_drive script h (reply.Take job out) after is = absurd is
+replies_drive script h (reply.Put done) after is = absurd is
+replies_drive script h (reply.Load came) after is = absurd is

@@ -1,0 +1,79 @@
+-- What a worker has keeps up with the world when events of others come.
+
+use Rattle.std.specs.Prelude.{◌≡◌, ◌≢◌, ◌+◌, ◌<◌, ◌≤◌, ℕ, List, [], ◌∷◌, ◌++◌, All, length, not, slice_index_or, refl}
+use Rattle.std.proofs.Common.{sym, ◌∙◌, ap, subst, arith, append_assoc}
+use Rattle.std.proofs.lemmas.List.{append-nil}
+use Rattle.an_base.specs.declared.event.Event.{Event}
+use Rattle.net_script.specs.Scripts.{IsScript, ScriptOf}
+use Rattle.wire_set.specs.WireState.{hand_of}
+use Rattle.switch_core.specs.Kept.{KeptOf, StandsFor}
+use Rattle.switch_core.specs.Steps.{Step, loaded}
+use Rattle.switch_core.specs.Switch.{SwitchOf, note_of}
+use Rattle.fabric_state.specs.Fabric.{StationOf, held_bytes, is_empty, station}
+use Rattle.fabric_turn.specs.History.{NoneOf}
+use Rattle.fabric_world.specs.declared.ask.Ask.TheVariants as ask
+use Rattle.fabric_world.specs.Histories.{owner_of}
+use Rattle.fabric_world.specs.Turns.{IsToLoad}
+use Rattle.fabric_world.specs.World.{WorldOf, handled, handles, start_of, world_after}
+use Rattle.fabric_world.proofs.CountLemmas.{event_counts}
+use Rattle.fabric_world.proofs.ElsewhereLemmas.{AreSameAt, world_elsewhere}
+use Rattle.fabric_world.proofs.FitLemmas.{fit_stays, others_from_none, world_hand_elsewhere}
+use Rattle.fabric_world.proofs.InductionLemmas.{kept_by}
+use Rattle.fabric_book.specs.Nets.{PowerOf}
+use Rattle.switch_threads.specs.declared.desk.Pending.{Pending}
+use Rattle.switch_threads.specs.declared.desk.Pending.TheVariants as pending
+use Rattle.switch_threads.specs.Workers.{IsPending, KeepsUp}
+
+-- there are never fewer events
+grow_one : (script : ScriptOf) → IsScript script → (h : List Event) (e : Event) → (world_after script h).fabric.events ≤ (world_after script (h ++ e ∷ [])).fabric.events
+grow_one script kept h e =
+    kept_by script (λ w. (world_after script h).fabric.events ≤ w.fabric.events) h e
+    (λ lawful. let counts = event_counts script kept h e lawful in omega (arith, counts)) (omega arith)
+
+pub events_grow : (script : ScriptOf) → IsScript script → (h more : List Event) → (world_after script h).fabric.events ≤ (world_after script (h ++ more)).fabric.events
+events_grow script kept h [] = subst (λ (x : List Event). (world_after script h).fabric.events ≤ (world_after script x).fabric.events) (sym (append-nil h)) (omega arith)
+events_grow script kept h (e ∷ more) =
+    let one = grow_one script kept h e in
+    let rest = events_grow script kept (h ++ e ∷ []) more in
+    subst (λ (x : List Event). (world_after script h).fabric.events ≤ (world_after script x).fabric.events) (append_assoc h (e ∷ []) more) (omega (arith, one, rest))
+
+-- what comes of what is in hand stays
+handled_same : (w v : WorldOf) (s : ℕ) → AreSameAt s w v → hand_of v.fabric.wires s ≡ hand_of w.fabric.wires s → handled s v ≡ handled s w
+handled_same w v s same bytes =
+    ap (λ (x : StationOf). handles x.hand (held_bytes v.fabric s) (v.switches s)) same.place
+    ∙ ap (λ xs. handles (station w.fabric s).hand (slice_index_or xs 0 []) (v.switches s)) bytes
+    ∙ ap (handles (station w.fabric s).hand (held_bytes w.fabric s)) same.switch
+
+module _ (script : ScriptOf) (kept : IsScript script) (h more : List Event) (s : ℕ) (below : s < length script.wires.switches) (none : NoneOf owner_of (s + 1) more) where
+  others : All (λ e. owner_of e ≢ s + 1) more
+  others = others_from_none (s + 1) more none
+
+  same : AreSameAt s (world_after script h) (world_after script (h ++ more))
+  same = world_elsewhere script h more s others
+
+  bytes : hand_of (world_after script (h ++ more)).fabric.wires s ≡ hand_of (world_after script h).fabric.wires s
+  bytes = world_hand_elsewhere script kept h more s others
+
+  fits_stay : (switch : KeptOf) (next : Pending) → IsPending (world_after script h) s switch next → IsPending (world_after script (h ++ more)) s switch next
+  fits_stay switch pending.Work is =
+      (ap (λ (x : StationOf). not (is_empty x.hand)) same.place ∙ is.0, subst (StandsFor switch) (sym same.switch) is.1)
+  fits_stay switch (pending.Put done) is =
+      let may = fit_stays script h (s + 1) (ask.Put s done) more (record { kept = kept; may_ask = (record { within = below; caller_is = refl }, is.0) }) none in
+      (may.may_ask.1, subst (λ (t : Step). StandsFor switch t.switch) (sym (handled_same (world_after script h) (world_after script (h ++ more)) s same bytes)) is.1)
+  fits_stay switch (pending.Load table) is =
+      let w = world_after script h in
+      let v = world_after script (h ++ more) in
+      let note = note_of (loaded table.table.number (w.switches s)) in
+      let may = fit_stays script h (s + 1) (ask.Load s table note) more (record { kept = kept; may_ask = (record { within = below; caller_is = refl }, is.0) }) none in
+      (subst (λ (x : SwitchOf). IsToLoad v s table (note_of (loaded table.table.number x))) (sym same.switch) may.may_ask.1, subst (λ (x : SwitchOf). StandsFor switch (loaded table.table.number x)) (sym same.switch) is.1)
+
+  pub others_came : (power : PowerOf) (switch : KeptOf) (next : Pending) → KeepsUp script (world_after script h) s power switch next → KeepsUp script (world_after script (h ++ more)) s power switch next
+  others_came power switch next is =
+      let grow = events_grow script kept h more in
+      let works = is.works in
+      record {
+        powered = is.powered;
+        start = is.start ∙ ap (λ (x : SwitchOf). start_of script s x.life.boot) (sym same.switch);
+        works = omega (arith, grow, works);
+        fits = fits_stay switch next is.fits;
+      }

@@ -1,0 +1,52 @@
+-- What was in hand was handled.
+
+use Rattle.std.proofs.Common.{◌∙◌, List, ℕ, ap, subst, sym}
+use Rattle.switch_core.specs.Bytes.{OutOf}
+use Rattle.fabric_state.specs.Fabric.{is_empty}
+use Rattle.fabric_state.specs.Fits.{IsHandPort}
+use Rattle.fabric_world.proofs.NextLemmas.{handle_is_lawful}
+use Rattle.fabric_world.specs.World.{world_after}
+use Rattle.fabric_book.specs.Nets.{IsHandled}
+use Rattle.fabric_book.proofs.HandLemmas.{hand_filled, hand_port, hand_working, hand_works}
+use Rattle.switch_threads.proofs.TurnLemmas.{handled_fits}
+use Rattle.switch_threads.proofs.desk.Desk.handle.Goals as goal
+
+pub work-requires-clause-full : goal.work-requires-clause-full
+work-requires-clause-full c =
+    let s = c.args.self.now.s in
+    let script = c.requires.0 in
+    let history = c.requires.1 in
+    let is = c.requires.2 in
+    ap is_empty is.hand_is ∙ hand_filled script is.powered.kept history s (handle_is_lawful script history s is.powered.within is.full)
+
+pub work-requires-clause-port : goal.work-requires-clause-port
+work-requires-clause-port c =
+    let s = c.args.self.now.s in
+    let script = c.requires.0 in
+    let history = c.requires.1 in
+    let is = c.requires.2 in
+    subst IsHandPort (sym is.hand_is) (hand_port script is.powered.kept history s (handle_is_lawful script history s is.powered.within is.full))
+
+pub work-requires-clause-works : goal.work-requires-clause-works
+work-requires-clause-works c =
+    let desk = c.args.self.now in
+    let script = c.requires.0 in
+    let history = c.requires.1 in
+    let is = c.requires.2 in
+    hand_works script is.powered.kept history desk.s (handle_is_lawful script history desk.s is.powered.within is.full) desk.switch desk.buffer is.kept
+
+pub work-requires-clause-working : goal.work-requires-clause-working
+work-requires-clause-working c =
+    let desk = c.args.self.now in
+    let script = c.requires.0 in
+    let history = c.requires.1 in
+    let is = c.requires.2 in
+    hand_working script is.powered.kept history desk.s (handle_is_lawful script history desk.s is.powered.within is.full) desk.switch desk.buffer is.kept
+
+pub returns-clause-done : goal.returns-clause-done
+returns-clause-done c script history is =
+    let desk = c.args.self.now in
+    let x = (world_after script history).switches desk.s in
+    let does = subst (λ (xs : List ℕ). IsHandled x c.args.hand xs c.work.new.switch c.work.new.out) c.bytes.ensures.all (c.in_ok-work.ensures.handled x is.kept.stands) in
+    handled_fits script history desk.s desk.power_on desk.switch c.work.new.switch desk.buffer c.args.hand c.work.new.out (record { frames = c.frames.inside.frames; noframe = c.frames.inside.noframe; note = c.note.result; spent = c.is_spent.result }) is
+    c.work.ensures.start c.work.ensures.works does (ap (λ (o : OutOf). o.frames) (c.frames.view_is ∙ c.replace.ensures.value)) (ap (λ (o : OutOf). o.noframe) (c.frames.view_is ∙ c.replace.ensures.value)) c.note.ensures c.is_spent.ensures.stands

@@ -1,0 +1,98 @@
+-- How a worker and the driver follow the world: what each has fits what stands after the history that its
+-- seat has seen.
+
+use Rattle.std.specs.Prelude.{◌≡◌, ◌+◌, ◌<◌, ◌≤◌, ℕ, List, length, Option, Some, IfSome, false, true}
+use Rattle.an_base.specs.declared.event.Event.{Event}
+use Rattle.net_script.specs.Scripts.{IsScript, ScriptOf}
+use Rattle.switch_core.specs.Kept.{KeptOf, StandsFor}
+use Rattle.switch_core.specs.Steps.{loaded}
+use Rattle.switch_core.specs.Switch.{note_of}
+use Rattle.fabric_state.specs.declared.ending.Ending.{Ending}
+use Rattle.fabric_state.specs.declared.hand.Hand.{Hand}
+use Rattle.fabric_state.specs.declared.hand.Hand.TheVariants as hand
+use Rattle.fabric_state.specs.declared.work.Work.{Work}
+use Rattle.fabric_state.specs.declared.work.Work.TheVariants as work
+use Rattle.fabric_state.specs.Fabric.{is_full_at, station}
+use Rattle.fabric_world.specs.World.{WorldOf, handled, start_of, world_after}
+use Rattle.fabric_world.specs.Histories.{end_of}
+use Rattle.fabric_world.specs.Turns.{IsDone, IsToLoad}
+use Rattle.fabric_book.specs.Nets.{IsStarted, IsSwitchKept, PowerOf, power_of, start_with}
+use Rattle.fabric_turn.specs.declared.view.View.{View}
+use Rattle.switch_threads.specs.declared.desk.Desk.{Desk}
+use Rattle.switch_threads.specs.declared.desk.Pending.{Pending}
+use Rattle.switch_threads.specs.declared.desk.Pending.TheVariants as pending
+
+-- What a worker has to ask for next fits the world, and its switch is the one at its place: as it stands, or
+-- as it will stand once that is put or loaded.
+abbrev pub IsPending : WorldOf → ℕ → KeptOf → Pending → Type 0
+IsPending world place switch pending.Work =
+    (is_full_at world.fabric place ≡ false) × StandsFor switch (world.switches place)
+IsPending world place switch (pending.Put done) =
+    IsDone world place done × StandsFor switch (handled place world).switch
+IsPending world place switch (pending.Load table) =
+    IsToLoad world place table (note_of (loaded table.table.number (world.switches place)))
+    × StandsFor switch (loaded table.table.number (world.switches place))
+
+-- This is with what the switch at a place of a script is started.
+pub record IsPowerAt (script : ScriptOf) (place : ℕ) (power : PowerOf) : Type 0 where
+  pub kept : IsScript script
+  pub within : place < length script.wires.switches
+  pub power_is : power ≡ power_of script place
+
+-- A worker keeps up with the world: its switch is of the life that stands at its place, after no more clocks
+-- and frames than there were events, and what it has to ask for next fits what stands there.
+pub record KeepsUp (script : ScriptOf) (world : WorldOf) (place : ℕ) (power : PowerOf) (switch : KeptOf)
+    (next : Pending) : Type 0 where
+  pub powered : IsPowerAt script place power
+  pub start : switch.start ≡ start_of script place (world.switches place).life.boot
+  pub works : switch.works ≤ world.fabric.events
+  pub fits : IsPending world place switch next
+
+-- A switch has this in hand, and has not handled it yet. Where it is a frame, the buffer has its bytes.
+pub record HasInHand (script : ScriptOf) (world : WorldOf) (place : ℕ) (power : PowerOf) (switch : KeptOf)
+    (buffer : List ℕ) (hand : Hand) : Type 0 where
+  pub powered : IsPowerAt script place power
+  pub full : is_full_at world.fabric place ≡ true
+  pub hand_is : hand ≡ (station world.fabric place).hand
+  pub kept : IsSwitchKept world place switch buffer
+  pub more : switch.works < world.fabric.events
+
+-- Of the desk of a worker, after a history
+
+abbrev pub IsUpTo : ScriptOf → List Event → Desk → Pending → Type 0
+IsUpTo script history desk next =
+    KeepsUp script (world_after script history) desk.s desk.power_on desk.switch next
+
+abbrev pub IsToHandle : ScriptOf → List Event → Desk → Hand → Type 0
+IsToHandle script history desk hand =
+    HasInHand script (world_after script history) desk.s desk.power_on desk.switch desk.buffer hand
+
+-- What is to be done with the work that a worker took: nothing; to handle what is in hand then; or to begin
+-- the next life, with whichever switch is started in it.
+abbrev pub IsToDo : ScriptOf → List Event → Desk → Work → Type 0
+IsToDo script history desk (work.Nothing reason) = IsUpTo script history desk pending.Work
+IsToDo script history desk (work.Clock now samples) = IsToHandle script history desk (hand.Clock now samples)
+IsToDo script history desk (work.Frame port) = IsToHandle script history desk (hand.Frame port)
+IsToDo script history desk (work.Restart life) = (switch : KeptOf)
+    → IsStarted (start_with desk.power_on life) switch
+    → KeepsUp script (world_after script history) desk.s desk.power_on switch pending.Work
+
+-- The worker of a seat is in step: the seat's number is that of its place, and it keeps up with the world
+-- after what the seat has seen.
+pub record IsAtPlace (view : View Event ScriptOf) (place : ℕ) (power : PowerOf) (switch : KeptOf)
+    (next : Pending) : Type 0 where
+  pub script : ScriptOf
+  pub begun : view.start ≡ Some script
+  pub number : view.number ≡ place + 1
+  pub keeps_up : KeepsUp script (world_after script view.seen) place power switch next
+
+abbrev pub IsInStep : View Event ScriptOf → Desk → Pending → Type 0
+IsInStep view desk next = IsAtPlace view desk.s desk.power_on desk.switch next
+
+-- The driver has the number 0. Where it was told an end, that is the end of what its seat has seen.
+pub record IsDriving (view : View Event ScriptOf) (told : Option Ending) : Type 0 where
+  pub script : ScriptOf
+  pub kept : IsScript script
+  pub begun : view.start ≡ Some script
+  pub number : view.number ≡ 0
+  pub told_is : IfSome told (λ end. end_of script view.seen ≡ Some end)

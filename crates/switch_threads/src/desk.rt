@@ -1,0 +1,226 @@
+//! What a worker works with.
+
+ghost use Rattle.std.specs.Prelude.{◌≡◌, ◌<◌, List, [], length, IfOk, OnOk};
+ghost use Rattle.an_base.specs.declared.event.Event.{Event};
+ghost use Rattle.net_script.specs.Scripts.{ScriptOf};
+ghost use Rattle.fabric_turn.specs.Names.{turnstile_id};
+ghost use Rattle.switch_threads.specs.declared.desk.Pending.TheVariants as pending;
+ghost use Rattle.switch_threads.specs.Runs.{HasCalled};
+ghost use Rattle.switch_threads.specs.Workers.{IsInStep, IsToDo, IsToHandle, IsUpTo};
+
+use an_base::memory::OutOfMemory;
+use fabric_book::book::Book;
+use fabric_book::handling::work;
+use fabric_book::power::PowerOn;
+use fabric_state::hand::Hand;
+use fabric_state::work::Work;
+use fabric_turn::{Seat, Turnstile};
+use fabric_world::ask::{Ask, Done, LoadReply, Reply};
+use frame_region::buffer::FrameBuf;
+use net_script::script::Script;
+use std::alloc::Global;
+use std::mem::replace;
+use std::sync::Wait;
+use switch_core::out::Out;
+use switch_core::switch::{Switch, TableFor};
+
+/// What a worker has to ask for next.
+#[derive(Debug, Drop)]
+pub(crate) enum Pending {
+    /// For work.
+    Work,
+    /// To put what came of what it had in hand.
+    Put(Done),
+    /// To load a table.
+    Load(TableFor),
+}
+
+/// What a worker works with.
+#[derive(Drop)]
+pub(crate) struct Desk {
+    pub alloc: Global,
+    /// The place of its switch in the script, from 0.
+    pub s: u8,
+    /// With what the switch is started in each of its lives.
+    pub power_on: PowerOn,
+    /// The switch.
+    pub switch: Switch,
+    /// Where the bytes of a frame go.
+    pub buffer: FrameBuf,
+    /// Where the frames go that the switch sends.
+    pub out: Out,
+}
+
+impl Desk {
+    /// The desk of a switch that begins its first life.
+    pub fn new(alloc: Global, script: &Script, s: u8) -> Result<Desk, OutOfMemory>
+        requires { s < length script.now.wires.switches }
+        ensures place { IfOk result (λ desk. desk.s ≡ s) }
+        ensures up { IfOk result (λ desk. IsUpTo script.now [] desk pending.Work) }
+    {
+        let power_on = PowerOn::of(script, s);
+        Ok(Desk {
+            alloc,
+            s,
+            power_on,
+            switch: power_on.start(alloc, script.wiring().life(s))?,
+            buffer: FrameBuf::new(alloc)?,
+            out: Out::new(alloc),
+        })
+    }
+
+    /// What there is to ask for next: that a table be loaded, where one is due and nothing else is to be
+    /// asked for.
+    pub fn ready(&mut self, next: Pending) -> Result<Pending, OutOfMemory>
+        ensures place { self.new.s ≡ self.old.s }
+        ensures up { (script : ScriptOf) (history : List Event) → IsUpTo script history self.old next
+            → IfOk result (IsUpTo script history self.new) }
+    {
+        match next {
+            Pending::Work if self.switch.load_due() => Ok(Pending::Load(self.switch.load()?)),
+            next => Ok(next),
+        }
+    }
+
+    /// Asks for what is to be asked for next. Answers what there is to ask for then, and whether that may be
+    /// done at once.
+    pub fn ask<R: Wait>(
+        mut self,
+        rt: &R,
+        turnstile: &Turnstile<Book>,
+        seat: &mut Seat<Book>,
+        next: Pending,
+    ) -> Result<(Desk, Pending, bool), OutOfMemory>
+        requires turnstile { seat.old.0 ≡ turnstile_id turnstile.now }
+        requires step { IsInStep seat.old.1 self next }
+        ensures called { HasCalled seat.old seat.new }
+        ensures step { IfOk result (λ r. IsInStep seat.new.1 r.0 r.1) }
+    {
+        match next {
+            Pending::Work => self.take(rt, turnstile, seat),
+            Pending::Put(done) => {
+                self.put(rt, turnstile, seat, done);
+                Ok((self, Pending::Work, true))
+            }
+            Pending::Load(table) => {
+                let (next, more) = self.load(rt, turnstile, seat, table);
+                Ok((self, next, more))
+            }
+        }
+    }
+
+    // Asks for work, and does it.
+    fn take<R: Wait>(
+        self,
+        rt: &R,
+        turnstile: &Turnstile<Book>,
+        seat: &mut Seat<Book>,
+    ) -> Result<(Desk, Pending, bool), OutOfMemory>
+        requires turnstile { seat.old.0 ≡ turnstile_id turnstile.now }
+        requires step { IsInStep seat.old.1 self pending.Work }
+        ensures called { HasCalled seat.old seat.new }
+        ensures step { IfOk result (λ r. IsInStep seat.new.1 r.0 r.1) }
+    {
+        let ask = Ask::Take {
+            s: self.s,
+            out: self.buffer,
+        };
+        let Reply::Take { work, out } = turnstile.call(rt, seat, ask) else {
+            unreachable!()
+        };
+        let mut desk = Desk {
+            buffer: out,
+            ..self
+        };
+        let next = desk.work(&work)?;
+        Ok((desk, next, !matches!(work, Work::Nothing { why: _ })))
+    }
+
+    // Does the work that it took.
+    fn work(&mut self, job: &Work) -> Result<Pending, OutOfMemory>
+        requires { (script : ScriptOf) × (history : List Event) × IsToDo script history self.old job.now }
+        ensures place { self.new.s ≡ self.old.s }
+        ensures done { (script : ScriptOf) (history : List Event) → IsToDo script history self.old job.now
+            → IfOk result (IsUpTo script history self.new) }
+    {
+        match *job {
+            Work::Restart { life } => {
+                self.switch = self.power_on.start(self.alloc, life)?;
+                Ok(Pending::Work)
+            }
+            Work::Clock { now, samples } => self.handle(Hand::Clock { now, samples }),
+            Work::Frame { port } => self.handle(Hand::Frame { port }),
+            Work::Nothing { why: _ } => Ok(Pending::Work),
+        }
+    }
+
+    // The switch handles what it has in hand, and what came of it is to be put then.
+    fn handle(&mut self, hand: Hand) -> Result<Pending, OutOfMemory>
+        requires { (script : ScriptOf) × (history : List Event) × IsToHandle script history self.old hand }
+        ensures place { self.new.s ≡ self.old.s }
+        ensures done { (script : ScriptOf) (history : List Event) → IsToHandle script history self.old hand
+            → IfOk result (IsUpTo script history self.new) }
+    {
+        work(&mut self.switch, hand, self.buffer.bytes(), &mut self.out)?;
+        let Out { frames, noframe } = replace(&mut self.out, Out::new(self.alloc));
+        Ok(Pending::Put(Done {
+            frames,
+            noframe,
+            note: self.switch.note(),
+            spent: self.switch.is_spent(),
+        }))
+    }
+
+    // Puts what came of what it had in hand. The memory of the frames is kept for those that come.
+    fn put<R: Wait>(
+        &mut self,
+        rt: &R,
+        turnstile: &Turnstile<Book>,
+        seat: &mut Seat<Book>,
+        done: Done,
+    )
+        requires turnstile { seat.old.0 ≡ turnstile_id turnstile.now }
+        requires step { IsInStep seat.old.1 self.old (pending.Put done) }
+        ensures called { HasCalled seat.old seat.new }
+        ensures step { IsInStep seat.new.1 self.new pending.Work }
+    {
+        let Reply::Put { done } = turnstile.call(rt, seat, Ask::Put { s: self.s, done }) else {
+            unreachable!()
+        };
+        self.out = Out {
+            frames: done.frames,
+            noframe: false,
+        };
+    }
+
+    // Asks for a table to be used. Where it is handed back it is to be asked for again, and not at once.
+    fn load<R: Wait>(
+        &mut self,
+        rt: &R,
+        turnstile: &Turnstile<Book>,
+        seat: &mut Seat<Book>,
+        table: TableFor,
+    ) -> (Pending, bool)
+        requires turnstile { seat.old.0 ≡ turnstile_id turnstile.now }
+        requires step { IsInStep seat.old.1 self.old (pending.Load table) }
+        ensures called { HasCalled seat.old seat.new }
+        ensures step { IsInStep seat.new.1 self.new result.0 }
+    {
+        let note = self.switch.note();
+        let Reply::Load { reply } = turnstile.call(
+            rt,
+            seat,
+            Ask::Load {
+                s: self.s,
+                table,
+                note,
+            },
+        ) else {
+            unreachable!()
+        };
+        match reply {
+            LoadReply::Loaded => (Pending::Work, true),
+            LoadReply::NotNow(table) => (Pending::Load(table), false),
+        }
+    }
+}

@@ -1,0 +1,177 @@
+//! A run: rounds of workers and driver, until the driver is told an end.
+
+ghost use Rattle.std.specs.Prelude.{◌≡◌, ◌+◌, [], All, Some, length, IfOk, vec_len};
+ghost use Rattle.net_script.specs.Scripts.{IsScript, ScriptOf};
+ghost use Rattle.fabric_world.specs.Histories.{IsLegal, end_of};
+ghost use Rattle.fabric_turn.specs.Names.{turnstile_id};
+ghost use Rattle.fabric_turn.specs.History.{Extends};
+ghost use Rattle.fabric_turn.specs.Seats.{HasAllNumbers};
+ghost use Rattle.switch_threads.specs.Runs.{callers_of, driver_seat, first_seat};
+ghost use Rattle.switch_threads.specs.Runs.{HasCalled, HaveCalled, IsOneOf};
+
+use crate::driver::Driver;
+use crate::gate::Gate;
+use crate::worker::Worker;
+use an_base::memory::OutOfMemory;
+use fabric_book::book::Book;
+use fabric_book::solo::Run;
+use fabric_state::ending::Ending;
+use fabric_turn::{Seat, Turnstile};
+use net_script::script::Script;
+use std::alloc::Global;
+use std::sync::Wait;
+use std::thread::{Threads, for_each_mut, join_mut};
+
+// A worker for each switch of a script, and the seat that is left.
+fn open(
+    alloc: Global,
+    script: &Script,
+    turnstile: &Turnstile<Book>,
+    seat: Seat<Book>,
+) -> Result<(Seat<Book>, Vec<Worker>), OutOfMemory>
+    requires { seat ≡ first_seat (turnstile_id turnstile.now) script.now }
+    ensures seat { IfOk result (λ r. r.0 ≡ driver_seat (turnstile_id turnstile.now) script.now) }
+    ensures count { IfOk result (λ r. vec_len r.1 ≡ length script.now.wires.switches) }
+    ensures workers { IfOk result (λ r.
+        All (IsOneOf (turnstile_id turnstile.now) (callers_of script.now)) r.1.items) }
+    ensures script { IsScript script.now }
+{
+    let count = script.wiring().count();
+    let mut seat = seat;
+    let mut workers = Vec::with_capacity(alloc, usize::from(count))?;
+    'switches: for s in 0..count {
+        let (first, second) = turnstile.split(seat);
+        seat = first;
+        workers.push(Worker::new(alloc, script, s, second)?)?;
+    }
+    Ok((seat, workers))
+}
+
+// Each worker makes its turns of a round.
+fn work<R: Threads + Wait + Sync, G: Gate>(
+    rt: &R,
+    turnstile: &Turnstile<Book>,
+    gate: &G,
+    workers: &mut [Worker],
+)
+    requires { All (λ worker. worker.0 ≡ turnstile_id turnstile.now) workers.old }
+    ensures { HaveCalled workers.old workers.new }
+{
+    let threads = workers.len().max(1);
+    for_each_mut(
+        rt,
+        workers,
+        threads,
+        &|_: usize, worker: &mut Worker|
+            requires { worker.now.0 ≡ turnstile_id turnstile.now }
+            ensures { HasCalled worker.entry.now worker.exit.now }
+        { worker.turns(rt, turnstile, gate) },
+    );
+}
+
+// A round: all workers and the driver, beside each other.
+fn round<R: Threads + Wait + Sync, G: Gate>(
+    rt: &R,
+    turnstile: &Turnstile<Book>,
+    gate: &G,
+    driver: &mut Driver,
+    workers: &mut [Worker],
+)
+    requires driver { driver.old.seat.0 ≡ turnstile_id turnstile.now }
+    requires workers { All (λ worker. worker.0 ≡ turnstile_id turnstile.now) workers.old }
+    ensures driver { HasCalled driver.old.seat driver.new.seat }
+    ensures workers { HaveCalled workers.old workers.new }
+{
+    join_mut(
+        rt,
+        &mut ||
+            requires { driver.now.seat.0 ≡ turnstile_id turnstile.now }
+            ensures { HasCalled driver.entry.now.seat driver.exit.now.seat }
+        { driver.steps(rt, turnstile) },
+        &mut ||
+            requires { All (λ worker. worker.0 ≡ turnstile_id turnstile.now) workers.now }
+            ensures { HaveCalled workers.entry.now workers.exit.now }
+        { work(rt, turnstile, gate, workers) },
+    );
+}
+
+// Rounds, until the driver is told an end.
+fn rounds<R: Threads + Wait + Sync, G: Gate>(
+    rt: &R,
+    turnstile: &Turnstile<Book>,
+    gate: &G,
+    driver: &mut Driver,
+    workers: &mut [Worker],
+) -> Result<Ending, OutOfMemory>
+    requires driver { driver.old.seat.0 ≡ turnstile_id turnstile.now }
+    requires workers { All (λ worker. worker.0 ≡ turnstile_id turnstile.now) workers.old }
+    ensures driver { HasCalled driver.old.seat driver.new.seat }
+    ensures workers { HaveCalled workers.old workers.new }
+    ensures end { IfOk result (λ end. driver.new.end ≡ Some end) }
+{
+    'rounds: for _ in rt.forever() {
+        round(rt, turnstile, gate, driver, workers);
+        if workers.iter().any(|worker| worker.failed()) {
+            return Err(OutOfMemory);
+        }
+        if let Some(end) = driver.end() {
+            return Ok(end);
+        }
+    }
+    unreachable!()
+}
+
+// All seats joined into one.
+fn joined(turnstile: &Turnstile<Book>, seat: Seat<Book>, workers: Vec<Worker>) -> Seat<Book>
+    requires turnstile { seat.0 ≡ turnstile_id turnstile.now }
+    requires first { (seat.1.next ≡ seat.1.callers) × (seat.1.ended ≡ []) }
+    requires workers { All (IsOneOf (turnstile_id turnstile.now) seat.1.callers) workers.items }
+    requires all { vec_len workers + 1 ≡ seat.1.callers }
+    ensures turnstile { result.0 ≡ turnstile_id turnstile.now }
+    ensures numbers { HasAllNumbers result.1 }
+    ensures start { result.1.start ≡ seat.1.start }
+    ensures seen { Extends seat.1.seen result.1.seen }
+{
+    let mut seat = seat;
+    let mut workers = workers;
+    'workers: while let Some(worker) = workers.pop() {
+        seat = turnstile.join(seat, worker.into_seat());
+    }
+    seat
+}
+
+// The whole run, whose history the seat has seen.
+fn close(turnstile: Turnstile<Book>, seat: Seat<Book>, end: Ending) -> Run
+    requires turnstile { seat.0 ≡ turnstile_id turnstile }
+    requires all { HasAllNumbers seat.1 }
+    ensures { (script : ScriptOf) → seat.1.start ≡ Some script → end_of script seat.1.seen ≡ Some end
+        → IsLegal script result.journal result.end }
+{
+    Run {
+        journal: turnstile.close(seat).into_journal(),
+        end,
+    }
+}
+
+/// A run of the network of a script: a worker for each switch and the driver, side by side, until the driver
+/// is told an end. `gate` is called round each turn of a worker. It gives a legal history and its end.
+///
+/// It may never return: nothing is promised of when a turn comes, nor that a thread is served at all. Which
+/// of the legal histories it is, and with which end, may differ from run to run.
+pub fn run<R: Threads + Wait + Sync, G: Gate>(
+    rt: &R,
+    alloc: Global,
+    script: &Script,
+    gate: &G,
+) -> Result<Run, OutOfMemory>
+    ensures { IfOk result (λ run. IsLegal script.now run.journal run.end) }
+{
+    let book = Book::begin(alloc, script)?;
+    let callers = u32::from(script.wiring().count()) + 1;
+    let (turnstile, seat) = Turnstile::new(alloc, book, callers)?;
+    let (seat, mut workers) = open(alloc, script, &turnstile, seat)?;
+    let mut driver = Driver::new(seat);
+    let end = rounds(rt, &turnstile, gate, &mut driver, workers.as_mut_slice())?;
+    let seat = joined(&turnstile, driver.into_seat(), workers);
+    Ok(close(turnstile, seat, end))
+}

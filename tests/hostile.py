@@ -1,0 +1,182 @@
+"""What the hostile scripts of this folder share: the program, a library that is loaded before it and makes
+calls of the C library fail, and one run of it with all that it wrote. They are no part of the gate.
+
+The program is out/autonet, or the one that the variable AUTONET names; with AUTONET none is built. Where it is
+built by `rt try` it has checks of its own, and a run takes longer."""
+
+import os
+import pathlib
+import resource
+import subprocess
+import tempfile
+
+TOP = pathlib.Path(__file__).resolve().parent.parent
+CASES = TOP / "tests" / "cases"
+
+# Of the calls of the C library by which memory is taken, bytes are read from standard input and bytes are written,
+# the one whose number is given fails: a growth, or with FAIL_GROWTHS_FROM each from that one on; a read or a write
+# with the error number FAILURE, and a write with FAILURE 0 takes nothing. SHORT has each move one byte at most. At
+# the end COUNTS is the file that gets how many there were of each. Only calls of the program FAULTY count, and only
+# those after it was loaded.
+FAULTS = r"""
+#define _GNU_SOURCE
+#include <dlfcn.h>
+#include <errno.h>
+#include <fcntl.h>
+#include <stdio.h>
+#include <stdlib.h>
+#include <string.h>
+#include <sys/types.h>
+#include <unistd.h>
+#include <sys/syscall.h>
+
+static unsigned long wanted(const char *name) {
+    const char *text = getenv(name);
+    return text ? strtoul(text, 0, 10) : 0;
+}
+
+static unsigned long growths, reads, writes;
+static int begun;
+static unsigned long growth, reading, writing, is_short, growth_all;
+static int failure;
+
+__attribute__((constructor)) static void begin(void) {
+    char path[4096], *program = getenv("FAULTY");
+    ssize_t length = readlink("/proc/self/exe", path, sizeof path - 1);
+    if (length < 0 || !program || strlen(program) != (size_t)length || memcmp(path, program, length)) return;
+    growth = wanted("FAIL_GROWTH");
+    growth_all = wanted("FAIL_GROWTHS_FROM");
+    reading = wanted("FAIL_READ");
+    writing = wanted("FAIL_WRITE");
+    is_short = wanted("SHORT");
+    failure = (int)wanted("FAILURE");
+    begun = 1;
+}
+
+__attribute__((destructor)) static void end(void) {
+    char *path = getenv("COUNTS"), line[100];
+    int fd = begun && path ? open(path, O_WRONLY | O_CREAT | O_TRUNC, 0600) : -1;
+    if (fd >= 0) {
+        int n = snprintf(line, sizeof line, "%lu %lu %lu", growths, reads, writes);
+        syscall(SYS_write, fd, line, n);
+        close(fd);
+    }
+}
+
+static int refused(void) {
+    unsigned long at = begun ? __atomic_add_fetch(&growths, 1, __ATOMIC_SEQ_CST) : 0;
+    if (at && (at == growth || (growth_all && at >= growth_all))) {
+        errno = ENOMEM;
+        return 1;
+    }
+    return 0;
+}
+
+extern void *__libc_malloc(size_t), *__libc_calloc(size_t, size_t), *__libc_realloc(void *, size_t);
+void *malloc(size_t n) { return refused() ? 0 : __libc_malloc(n); }
+void *calloc(size_t n, size_t m) { return refused() ? 0 : __libc_calloc(n, m); }
+void *realloc(void *p, size_t n) { return refused() ? 0 : __libc_realloc(p, n); }
+
+ssize_t read(int fd, void *buf, size_t n) {
+    if (begun && fd == 0 && __atomic_add_fetch(&reads, 1, __ATOMIC_SEQ_CST) == reading) {
+        errno = failure;
+        return -1;
+    }
+    return syscall(SYS_read, fd, buf, begun && is_short && n > 1 ? 1 : n);
+}
+
+ssize_t write(int fd, const void *buf, size_t n) {
+    if (begun && __atomic_add_fetch(&writes, 1, __ATOMIC_SEQ_CST) == writing) {
+        if (failure == 0) return 0;
+        errno = failure;
+        return -1;
+    }
+    return syscall(SYS_write, fd, buf, begun && is_short && n > 1 ? 1 : n);
+}
+ssize_t __write(int fd, const void *buf, size_t n) { return write(fd, buf, n); }
+ssize_t __read(int fd, void *buf, size_t n) { return read(fd, buf, n); }
+"""
+
+
+class Run:
+    """What a run came to: its status, or less than 0 for a signal; out; and err."""
+
+    def __init__(self, status, out, err):
+        self.status, self.out, self.err = status, out, err
+
+    def __repr__(self):
+        return f"status {self.status}, {len(self.out)} bytes on out, err {self.err[:200]!r}"
+
+    def __eq__(self, other):
+        return (self.status, self.out, self.err) == (other.status, other.out, other.err)
+
+
+class Tally:
+    """Counts what passed, and says what failed."""
+
+    def __init__(self):
+        self.passed = self.failed = 0
+
+    def count(self, holds, what):
+        """Counts what is named as passed, where it holds, and else as failed."""
+        if holds:
+            self.passed += 1
+        else:
+            self.failed += 1
+            print(f"failed: {what}", flush=True)
+
+    def end(self):
+        """The last line, and the status."""
+        print(f"{self.passed} passed, {self.failed} failed")
+        raise SystemExit(1 if self.failed else 0)
+
+
+def program():
+    """The program, which the wrapper builds where AUTONET names none."""
+    if "AUTONET" in os.environ:
+        return os.environ["AUTONET"]
+    subprocess.run([TOP / "autonet"], stdin=subprocess.DEVNULL, capture_output=True)
+    return str(TOP / "out" / "autonet")
+
+
+def faults(folder):
+    """The library of FAULTS, compiled in this folder."""
+    source, library = f"{folder}/faults.c", f"{folder}/faults.so"
+    pathlib.Path(source).write_text(FAULTS)
+    subprocess.run(["cc", "-O1", "-shared", "-fPIC", "-o", library, source], check=True)
+    return library
+
+
+def faulty(library, **faults_of):
+    """The variables by which the program has these faults."""
+    return {"LD_PRELOAD": library, "FAULTY": os.path.realpath(program()),
+            **{name: str(value) for name, value in faults_of.items()}}
+
+
+def run(words, text, library=None, seconds=120, memory=None, **faults_of):
+    """A run of the program on a file with this text, with the library of FAULTS where it is given."""
+    env = faulty(library, **faults_of) if library else {}
+
+    def limit():
+        resource.setrlimit(resource.RLIMIT_CORE, (0, 0))
+        if memory:
+            resource.setrlimit(resource.RLIMIT_AS, (memory, memory))
+
+    with tempfile.TemporaryFile() as stdin:
+        stdin.write(text)
+        stdin.seek(0)
+        ran = subprocess.run([program(), *words], stdin=stdin, capture_output=True, env=env, timeout=seconds,
+                             preexec_fn=limit)
+    return Run(ran.returncode, ran.stdout, ran.stderr)
+
+
+def calls(words, text, library):
+    """How many growths, reads and writes a run makes."""
+    with tempfile.NamedTemporaryFile() as counts:
+        run(words, text, library, COUNTS=counts.name)
+        return [int(word) for word in counts.read().split()]
+
+
+def case_input(name):
+    """The input of a case."""
+    return (CASES / name / "stdin").read_bytes()
