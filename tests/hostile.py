@@ -4,9 +4,12 @@ calls of the C library fail, and one run of it with all that it wrote. They are 
 The program is out/autonet, or the one that the variable AUTONET names; with AUTONET none is built. Where it is
 built by `rt try` it has checks of its own, and a run takes longer."""
 
+import functools
 import os
 import pathlib
 import resource
+import shutil
+import signal
 import subprocess
 import tempfile
 
@@ -131,6 +134,7 @@ class Tally:
         raise SystemExit(1 if self.failed else 0)
 
 
+@functools.cache
 def program():
     """The program, which the wrapper builds where AUTONET names none."""
     if "AUTONET" in os.environ:
@@ -153,21 +157,52 @@ def faulty(library, **faults_of):
             **{name: str(value) for name, value in faults_of.items()}}
 
 
-def run(words, text, library=None, seconds=120, memory=None, **faults_of):
-    """A run of the program on a file with this text, with the library of FAULTS where it is given."""
-    env = faulty(library, **faults_of) if library else {}
+class Process:
+    """Runs a program again and again, over files in memory that are used each time."""
 
-    def limit():
-        resource.setrlimit(resource.RLIMIT_CORE, (0, 0))
-        if memory:
-            resource.setrlimit(resource.RLIMIT_AS, (memory, memory))
+    def __init__(self, path):
+        self.path = path
+        self.files = [os.memfd_create(name) for name in ("in", "out", "err")]
+        self.actions = [(os.POSIX_SPAWN_DUP2, file, number) for number, file in enumerate(self.files)]
 
-    with tempfile.TemporaryFile() as stdin:
-        stdin.write(text)
-        stdin.seek(0)
-        ran = subprocess.run([program(), *words], stdin=stdin, capture_output=True, env=env, timeout=seconds,
-                             preexec_fn=limit)
-    return Run(ran.returncode, ran.stdout, ran.stderr)
+    def run(self, words, text, env=None, seconds=900):
+        """A run on these bytes, with these variables alone. One that has no end in so many seconds is killed."""
+        for file in self.files:
+            os.ftruncate(file, 0)
+            os.lseek(file, 0, os.SEEK_SET)
+        os.pwrite(self.files[0], text, 0)
+        pid = os.posix_spawn(self.path, [self.path, *words], env or {}, file_actions=self.actions)
+        signal.setitimer(signal.ITIMER_REAL, seconds)
+        try:
+            _, status = os.waitpid(pid, 0)
+        except TimeoutError:
+            os.kill(pid, signal.SIGKILL)
+            os.waitpid(pid, 0)
+            return Run(-1000, b"", b"no end within %d seconds" % seconds)
+        finally:
+            signal.setitimer(signal.ITIMER_REAL, 0)
+        out, err = (os.pread(file, os.fstat(file).st_size, 0) for file in self.files[1:])
+        return Run(os.waitstatus_to_exitcode(status), out, err)
+
+
+def late(_number, _frame):
+    """Ends the wait for a run."""
+    raise TimeoutError
+
+
+signal.signal(signal.SIGALRM, late)
+resource.setrlimit(resource.RLIMIT_CORE, (0, 0))
+PROCESSES = {}
+
+
+def run(words, text, library=None, memory=None, **faults_of):
+    """A run of the program on these bytes, with the library of FAULTS where it is given, or in so much memory."""
+    path = program()
+    if memory:
+        path, words = shutil.which("prlimit"), [f"--as={memory}", path, *words]
+    if path not in PROCESSES:
+        PROCESSES[path] = Process(path)
+    return PROCESSES[path].run(words, text, faulty(library, **faults_of) if library else {})
 
 
 def calls(words, text, library):

@@ -1,0 +1,3 @@
+pub mod Disturbances
+pub mod Views
+pub mod Settling
