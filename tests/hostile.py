@@ -66,6 +66,12 @@ __attribute__((destructor)) static void end(void) {
     }
 }
 
+/* A program that ends by this call runs no destructor. */
+void _exit(int status) {
+    end();
+    for (;;) syscall(SYS_exit_group, status);
+}
+
 static int refused(void) {
     unsigned long at = begun ? __atomic_add_fetch(&growths, 1, __ATOMIC_SEQ_CST) : 0;
     if (at && (at == growth || (growth_all && at >= growth_all))) {
