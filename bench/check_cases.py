@@ -1,5 +1,5 @@
 """Inputs on which a check of tables may be slow, for bench/check: long paths with six links between neighbours,
-long least cycles, wide ties, and gaps at the first and at the last switch.
+long least cycles, wide ties, gaps at the first and at the last switch, and many components.
 
 `python3 bench/check_cases.py NAME` prints one, and without a name the names."""
 
@@ -71,8 +71,21 @@ def every_target_gets_stuck():
     return text(path(), rows)
 
 
+def many_components():
+    """63 components of two switches each, with a row at each of 13 entries towards each number, most without exits."""
+    lines = ["autonet 1"] + [f"switch S{s} {s + 1:012x}" for s in range(LAST)]
+    lines += [f"link S{s} 1 S{s + 1} 1" for s in range(0, LAST, 2)] + ["end"]
+    lines += [f"number S{s} {s + 1}" for s in range(LAST)]
+    rows = []
+    for s in range(LAST):
+        for entry in range(13):
+            joined = (s ^ 1) + 1 if entry == 0 else 0
+            rows.append((s, entry, " ".join(f"{to}:{1 if to == joined else '-'}" for to in range(1, LAST + 1))))
+    return text(lines, rows)
+
+
 CASES = {case.__name__: case for case in (cycle_at_the_end, gap_at_the_end, round_trip, wide_round_trip,
-                                          every_target_gets_stuck)}
+                                          every_target_gets_stuck, many_components)}
 
 
 def main():

@@ -12,17 +12,23 @@ import shutil
 import signal
 import subprocess
 import tempfile
+import time
 
 TOP = pathlib.Path(__file__).resolve().parent.parent
 CASES = TOP / "tests" / "cases"
+
+# The most seconds by the clock that a run may take.
+CLOCK = 900
 
 # Of the calls of the C library by which memory is taken, bytes are read from standard input and bytes are written,
 # the one whose number is given fails: a growth, or with FAIL_GROWTHS_FROM each from that one on; a read or a write
 # with the error number FAILURE, and a write with FAILURE 0 takes nothing. SHORT has each move one byte at most. At
 # the end COUNTS is the file that gets how many there were of each. Only calls of the program FAULTY count, and only
-# those after it was loaded.
+# those after it was loaded. STACK is how much of its stack it has from the beginning: where a limit on memory lets a
+# stack not grow, the system ends a program by a signal, which none can answer.
 FAULTS = r"""
 #define _GNU_SOURCE
+#include <alloca.h>
 #include <dlfcn.h>
 #include <errno.h>
 #include <fcntl.h>
@@ -43,6 +49,11 @@ static int begun;
 static unsigned long growth, reading, writing, is_short, growth_all;
 static int failure;
 
+__attribute__((noinline)) static void grow_stack(unsigned long size) {
+    volatile char *part = alloca(size + 1);
+    for (unsigned long at = 0; at < size; at += 1024) part[size - at] = 0;
+}
+
 __attribute__((constructor)) static void begin(void) {
     char path[4096], *program = getenv("FAULTY");
     ssize_t length = readlink("/proc/self/exe", path, sizeof path - 1);
@@ -53,6 +64,7 @@ __attribute__((constructor)) static void begin(void) {
     writing = wanted("FAIL_WRITE");
     is_short = wanted("SHORT");
     failure = (int)wanted("FAILURE");
+    grow_stack(wanted("STACK"));
     begun = 1;
 }
 
@@ -163,6 +175,30 @@ def faulty(library, **faults_of):
             **{name: str(value) for name, value in faults_of.items()}}
 
 
+def used(pid):
+    """The seconds of processor that a process has used."""
+    with open(f"/proc/{pid}/stat", encoding="utf-8") as file:
+        words = file.read().rsplit(")", 1)[1].split()
+    return (int(words[11]) + int(words[12])) / os.sysconf("SC_CLK_TCK")
+
+
+def ended(pid, seconds):
+    """The status in which a process ends; or None, where it had to be killed."""
+    begun = time.monotonic()
+    signal.setitimer(signal.ITIMER_REAL, min(seconds, CLOCK), 1)
+    try:
+        while True:
+            try:
+                return os.waitpid(pid, 0)[1]
+            except TimeoutError:
+                if used(pid) >= seconds or time.monotonic() - begun >= CLOCK:
+                    os.kill(pid, signal.SIGKILL)
+                    os.waitpid(pid, 0)
+                    return None
+    finally:
+        signal.setitimer(signal.ITIMER_REAL, 0)
+
+
 class Process:
     """Runs a program again and again, over files in memory that are used each time."""
 
@@ -171,22 +207,17 @@ class Process:
         self.files = [os.memfd_create(name) for name in ("in", "out", "err")]
         self.actions = [(os.POSIX_SPAWN_DUP2, file, number) for number, file in enumerate(self.files)]
 
-    def run(self, words, text, env=None, seconds=900):
-        """A run on these bytes, with these variables alone. One that has no end in so many seconds is killed."""
+    def run(self, words, text, env=None, seconds=CLOCK):
+        """A run on these bytes, with these variables alone. One that has no end in so many seconds of processor, or
+        in CLOCK by the clock, is killed."""
         for file in self.files:
             os.ftruncate(file, 0)
             os.lseek(file, 0, os.SEEK_SET)
         os.pwrite(self.files[0], text, 0)
         pid = os.posix_spawn(self.path, [self.path, *words], env or {}, file_actions=self.actions)
-        signal.setitimer(signal.ITIMER_REAL, seconds)
-        try:
-            _, status = os.waitpid(pid, 0)
-        except TimeoutError:
-            os.kill(pid, signal.SIGKILL)
-            os.waitpid(pid, 0)
+        status = ended(pid, seconds)
+        if status is None:
             return Run(-1000, b"", b"no end within %d seconds" % seconds)
-        finally:
-            signal.setitimer(signal.ITIMER_REAL, 0)
         out, err = (os.pread(file, os.fstat(file).st_size, 0) for file in self.files[1:])
         return Run(os.waitstatus_to_exitcode(status), out, err)
 
@@ -211,11 +242,26 @@ def run(words, text, library=None, memory=None, **faults_of):
     return PROCESSES[path].run(words, text, faulty(library, **faults_of) if library else {})
 
 
+def counted(words, text, library, **faults_of):
+    """A run, and how many growths, reads and writes it made."""
+    with tempfile.NamedTemporaryFile() as counts:
+        ran = run(words, text, library, COUNTS=counts.name, **faults_of)
+        return ran, [int(word) for word in counts.read().split()] or [0, 0, 0]
+
+
 def calls(words, text, library):
     """How many growths, reads and writes a run makes."""
-    with tempfile.NamedTemporaryFile() as counts:
-        run(words, text, library, COUNTS=counts.name)
-        return [int(word) for word in counts.read().split()]
+    return counted(words, text, library)[1]
+
+
+def is_answer(words, text, ran, whole):
+    """Whether a run gave the whole answer: that of another run, or for `run`, whose events may come in another order
+    each time, one with its status whose journal replays to its report and line on err."""
+    if words != ["run"] or whole.status not in (0, 1, 6, 10):
+        return ran == whole
+    at = ran.out.find(b"report 1\n")
+    return ran.status == whole.status and at >= 0 and (
+        run(["replay"], text + ran.out) == Run(ran.status, ran.out[at:], ran.err))
 
 
 def case_input(name):

@@ -118,6 +118,14 @@ fn count(word: &[u8], most: u64) -> Result<u32, &'static str> {
     Ok(number_within(word, 1, most).ok_or("bad number")? as u32)
 }
 
+/// The text of a journal.
+pub fn journal_text(script: &Script, events: &[Event]) -> Vec<u8> {
+    let mut out = b"journal 1\n".to_vec();
+    events.iter().for_each(|&event| push_event(&mut out, script, event));
+    out.extend_from_slice(b"end\n");
+    out
+}
+
 /// Writes the line of an event.
 pub fn push_event(out: &mut Vec<u8>, script: &Script, event: Event) {
     let switch = |s: usize| script.wiring.switches[s].name.as_str();

@@ -1,5 +1,6 @@
 //! The yardstick: an unverified program with the answers of `autonet`, to measure the proved one beside it.
-//! Want of memory ends it by an abort, and `run` takes one thread.
+//! Want of memory ends it by an abort, and `run` takes one thread. For tests/moments it also has `wild SEED`, the
+//! journal of a run in an order that is drawn, and `moments`, which looks at each moment of a journal.
 
 #![forbid(unsafe_code)]
 
@@ -12,6 +13,9 @@ mod frame;
 mod generate;
 mod journal;
 mod life;
+mod moments;
+mod plain;
+mod planted;
 mod port;
 mod ports;
 mod report;
@@ -23,6 +27,7 @@ mod switch;
 mod table;
 mod tables;
 mod text;
+mod wild;
 mod wiring;
 mod world;
 
@@ -31,7 +36,7 @@ use std::io::{self, Read, Write};
 use std::process::ExitCode;
 
 const INPUT_LIMIT: usize = 268_435_456;
-const USAGE: &str = "usage: autonet expect, run, replay, check, flow B, flood or gen SEED N";
+const USAGE: &str = "usage: autonet expect, run, replay, check, flow B, flood, names or gen SEED N";
 
 /// What the words ask for.
 enum Command {
@@ -42,6 +47,8 @@ enum Command {
     Flow(usize),
     Flood,
     Gen(u64, usize),
+    Wild(u64),
+    Moments(Option<planted::Plant>),
 }
 
 /// How a call ends: its status, what goes to out, and the line for err.
@@ -83,7 +90,7 @@ fn main() -> ExitCode {
         std::env::args_os().skip(1).map(|word| word.to_string_lossy().into_owned()).collect();
     let words: Vec<&str> = words.iter().map(String::as_str).collect();
     let answer = match command(&words) {
-        Some(command) => answer(&command).unwrap_or_else(|refusal| refusal),
+        Some(command) => answer(command).unwrap_or_else(|refusal| refusal),
         None => Answer::refused(2, USAGE),
     };
     ExitCode::from(write(answer))
@@ -101,6 +108,9 @@ fn command(words: &[&str]) -> Option<Command> {
             let (seed, count) = (argument(seed, 0, u64::MAX)?, argument(count, 1, 100)?);
             Some(Command::Gen(seed, count as usize))
         }
+        ["wild", seed] => Some(Command::Wild(argument(seed, 0, u64::MAX)?)),
+        ["moments"] => Some(Command::Moments(None)),
+        ["moments", plant] => Some(Command::Moments(Some(planted::Plant::named(plant)?))),
         _ => None,
     }
 }
@@ -110,8 +120,8 @@ fn argument(word: &str, least: u64, greatest: u64) -> Option<u64> {
 }
 
 /// The answer to a command, or why there is none.
-fn answer(command: &Command) -> Result<Answer, Answer> {
-    Ok(match *command {
+fn answer(command: Command) -> Result<Answer, Answer> {
+    Ok(match command {
         Command::Expect => Answer::good(expect::expect_text(&script()?)),
         Command::Run => Answer::ended(report::run_text(&script()?)),
         Command::Replay => Answer::ended(replayed(&input()?)?),
@@ -124,6 +134,17 @@ fn answer(command: &Command) -> Result<Answer, Answer> {
         Command::Flow(room) => Answer::good(flow::flow_text(&script()?, room)),
         Command::Flood => Answer::good(flood::flood_text(&script()?)),
         Command::Gen(seed, count) => Answer::good(generate::gen_text(seed, count)),
+        Command::Wild(seed) => {
+            let script = script()?;
+            let events = wild::run(&script, seed);
+            Answer::good(journal::journal_text(&script, &events))
+        }
+        Command::Moments(plant) => {
+            let data = input()?;
+            let (script, events) = divided(&data)?;
+            let (holds, text) = moments::moments_text(&script, &events, plant)?;
+            Answer { status: u8::from(!holds), out: text.into_bytes(), err: None }
+        }
     })
 }
 
@@ -133,10 +154,16 @@ fn script() -> Result<Script, Answer> {
 
 /// The report of the journal behind a script.
 fn replayed(data: &[u8]) -> Result<(Vec<u8>, report::End), Answer> {
+    let (script, events) = divided(data)?;
+    Ok(report::report_text(&script, &events)?)
+}
+
+/// A script and the journal behind it.
+fn divided(data: &[u8]) -> Result<(Script, Vec<script::Event>), Answer> {
     let (script, journal) = journal::divide(data);
     let script = script::read(script)?;
     let events = journal::read(&script, journal)?;
-    Ok(report::report_text(&script, &events)?)
+    Ok((script, events))
 }
 
 /// The whole of standard input.

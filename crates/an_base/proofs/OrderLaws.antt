@@ -1,6 +1,7 @@
 -- The orders of lives, ends, links, positions and entries are total, and what is alike in them is one.
 use Rattle.std.proofs.Common.{◌≡◌, ◌∙◌, ap, ℕ, List, [], ◌∷◌, refl, Equal, IsTrue}
-use Rattle.std.specs.Ordering.{nat_cmp, is_le}
+use Rattle.std.specs.Ordering.{nat_cmp, ordering_then, is_le}
+use Rattle.std.specs.declared.cmp.Ordering.{Ordering}
 use Rattle.std.specs.Cmp.{IsTotalOrder, then_total, on_total, nat_cmp_total}
 use Rattle.std.specs.Cmp.Lexicographic.{slice_cmp, lists_total}
 use Rattle.std.proofs.lemmas.Map.Lookups.{exact_unsigned}
@@ -11,32 +12,29 @@ use Rattle.an_base.proofs.OrderingLemmas.{tied, then_equal}
 pub nat_apart : (a b : ℕ) → nat_cmp a b ≡ Equal → a ≡ b
 nat_apart = exact_unsigned
 
+-- two that are compared by two parts are one where both parts are alike
+parts_apart : {A B R : Type 0} (make : A → B → R) (a b : A) (c d : B) (first second : Ordering) → (first ≡ Equal → a ≡ b) → (second ≡ Equal → c ≡ d) → ordering_then first second ≡ Equal → make a c ≡ make b d
+parts_apart make a b c d first second one other e =
+    let f = then_equal first second e in
+    ap (λ x. make x c) (one f.0) ∙ ap (λ y. make b y) (other f.1)
+
 pub life_total : IsTotalOrder life_cmp
 life_total = then_total (on_total (λ l. l.uid) nat_cmp_total) (on_total (λ l. l.boot) nat_cmp_total)
-
-pub life_apart : (a b : LifeId) → life_cmp a b ≡ Equal → a ≡ b
-life_apart a b e =
-    let f = then_equal (nat_cmp a.uid b.uid) (nat_cmp a.boot b.boot) e in
-    let mk : ℕ → ℕ → LifeId = λ u n. record { uid = u; boot = n } in
-    ap (λ (u : ℕ). mk u a.boot) (nat_apart a.uid b.uid f.0) ∙ ap (λ (n : ℕ). mk b.uid n) (nat_apart a.boot b.boot f.1)
 
 pub end_total : IsTotalOrder end_cmp
 end_total = then_total (on_total (λ e. e.life) life_total) (on_total (λ e. e.port) nat_cmp_total)
 
-pub end_apart : (a b : EndId) → end_cmp a b ≡ Equal → a ≡ b
-end_apart a b e =
-    let f = then_equal (life_cmp a.life b.life) (nat_cmp a.port b.port) e in
-    let mk : LifeId → ℕ → EndId = λ l p. record { life = l; port = p } in
-    ap (λ (l : LifeId). mk l a.port) (life_apart a.life b.life f.0) ∙ ap (λ (p : ℕ). mk b.life p) (nat_apart a.port b.port f.1)
-
 pub link_total : IsTotalOrder link_cmp
 link_total = then_total (on_total (λ l. l.port) nat_cmp_total) (on_total (λ l. l.peer) end_total)
 
+pub life_apart : (a b : LifeId) → life_cmp a b ≡ Equal → a ≡ b
+life_apart a b = parts_apart {R = LifeId} (λ u n. record { uid = u; boot = n }) a.uid b.uid a.boot b.boot _ _ (nat_apart a.uid b.uid) (nat_apart a.boot b.boot)
+
+pub end_apart : (a b : EndId) → end_cmp a b ≡ Equal → a ≡ b
+end_apart a b = parts_apart {R = EndId} (λ l p. record { life = l; port = p }) a.life b.life a.port b.port _ _ (life_apart a.life b.life) (nat_apart a.port b.port)
+
 pub link_apart : (a b : PeerAt) → link_cmp a b ≡ Equal → a ≡ b
-link_apart a b e =
-    let f = then_equal (nat_cmp a.port b.port) (end_cmp a.peer b.peer) e in
-    let mk : ℕ → EndId → PeerAt = λ p x. record { port = p; peer = x } in
-    ap (λ (p : ℕ). mk p a.peer) (nat_apart a.port b.port f.0) ∙ ap (λ (x : EndId). mk b.port x) (end_apart a.peer b.peer f.1)
+link_apart a b = parts_apart {R = PeerAt} (λ p x. record { port = p; peer = x }) a.port b.port a.peer b.peer _ _ (nat_apart a.port b.port) (end_apart a.peer b.peer)
 
 pub links_apart : (xs ys : List PeerAt) → slice_cmp link_cmp xs ys ≡ Equal → xs ≡ ys
 links_apart [] [] e = refl

@@ -8,3 +8,5 @@ pub mod GenLemmas
 pub mod ReplayLemmas
 pub mod TopLemmas
 pub mod RunLemmas
+pub mod InTimeLemmas
+pub mod CompleteLemmas

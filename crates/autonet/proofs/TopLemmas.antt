@@ -4,7 +4,7 @@ use Rattle.std.specs.Prelude.{codes}
 use Rattle.autonet.specs.Answer.{Streams, IsUsageAnswer}
 use Rattle.autonet.specs.Flow.{AreFlowWords}
 use Rattle.autonet.specs.Gen.{AreGenWords, IsGenAnswerOn}
-use Rattle.autonet.specs.Words.{IsAnswerTo, IsCheckAnswer, IsExpectAnswer, IsFloodAnswer, IsFlowAnswer, IsReplayAnswer, IsRunAnswer}
+use Rattle.autonet.specs.Words.{IsAnswerTo, IsCheckAnswer, IsExpectAnswer, IsFloodAnswer, IsFlowAnswer, IsNamesAnswer, IsReplayAnswer, IsRunAnswer}
 use Rattle.autonet.proofs.RoomLemmas.{one_room}
 use Rattle.autonet.proofs.GenLemmas.{one_seed, one_count}
 
@@ -27,8 +27,9 @@ module _ (words : List (List ℕ)) (old new : Streams) (answer : ℕ) where
     flow = λ room e. absurd (apart words _ _ are e.words_are refl);
     run = λ e. absurd (apart words _ _ are e refl);
     replay = λ e. absurd (apart words _ _ are e refl);
+    names = λ e. absurd (apart words _ _ are e refl);
     gen = λ seed count e. absurd (apart words _ _ are e.words_are refl);
-    usage = λ a b c d e f g. absurd (a are);
+    usage = λ a b c d e n f g. absurd (a are);
   }
 
   pub answers_check : words ≡ codes "check" ∷ [] → IsCheckAnswer old new answer → IsAnswerTo words old new answer
@@ -39,8 +40,9 @@ module _ (words : List (List ℕ)) (old new : Streams) (answer : ℕ) where
     flow = λ room e. absurd (apart words _ _ are e.words_are refl);
     run = λ e. absurd (apart words _ _ are e refl);
     replay = λ e. absurd (apart words _ _ are e refl);
+    names = λ e. absurd (apart words _ _ are e refl);
     gen = λ seed count e. absurd (apart words _ _ are e.words_are refl);
-    usage = λ a b c d e f g. absurd (b are);
+    usage = λ a b c d e n f g. absurd (b are);
   }
 
   pub answers_flood : words ≡ codes "flood" ∷ [] → IsFloodAnswer old new answer → IsAnswerTo words old new answer
@@ -51,8 +53,9 @@ module _ (words : List (List ℕ)) (old new : Streams) (answer : ℕ) where
     flow = λ room e. absurd (apart words _ _ are e.words_are refl);
     run = λ e. absurd (apart words _ _ are e refl);
     replay = λ e. absurd (apart words _ _ are e refl);
+    names = λ e. absurd (apart words _ _ are e refl);
     gen = λ seed count e. absurd (apart words _ _ are e.words_are refl);
-    usage = λ a b c d e f g. absurd (c are);
+    usage = λ a b c d e n f g. absurd (c are);
   }
 
   pub answers_run : words ≡ codes "run" ∷ [] → IsRunAnswer old new answer → IsAnswerTo words old new answer
@@ -63,8 +66,9 @@ module _ (words : List (List ℕ)) (old new : Streams) (answer : ℕ) where
     flow = λ room e. absurd (apart words _ _ are e.words_are refl);
     run = λ e. is;
     replay = λ e. absurd (apart words _ _ are e refl);
+    names = λ e. absurd (apart words _ _ are e refl);
     gen = λ seed count e. absurd (apart words _ _ are e.words_are refl);
-    usage = λ a b c d e f g. absurd (d are);
+    usage = λ a b c d e n f g. absurd (d are);
   }
 
   pub answers_replay : words ≡ codes "replay" ∷ [] → IsReplayAnswer old new answer → IsAnswerTo words old new answer
@@ -75,8 +79,22 @@ module _ (words : List (List ℕ)) (old new : Streams) (answer : ℕ) where
     flow = λ room e. absurd (apart words _ _ are e.words_are refl);
     run = λ e. absurd (apart words _ _ are e refl);
     replay = λ e. is;
+    names = λ e. absurd (apart words _ _ are e refl);
     gen = λ seed count e. absurd (apart words _ _ are e.words_are refl);
-    usage = λ a b c d e f g. absurd (e are);
+    usage = λ a b c d e n f g. absurd (e are);
+  }
+
+  pub answers_names : words ≡ codes "names" ∷ [] → IsNamesAnswer old new answer → IsAnswerTo words old new answer
+  answers_names are is = record {
+    expect = λ e. absurd (apart words _ _ are e refl);
+    check = λ e. absurd (apart words _ _ are e refl);
+    flood = λ e. absurd (apart words _ _ are e refl);
+    flow = λ room e. absurd (apart words _ _ are e.words_are refl);
+    run = λ e. absurd (apart words _ _ are e refl);
+    replay = λ e. absurd (apart words _ _ are e refl);
+    names = λ e. is;
+    gen = λ seed count e. absurd (apart words _ _ are e.words_are refl);
+    usage = λ a b c d e n f g. absurd (n are);
   }
 
   pub answers_flow : (room : ℕ) → AreFlowWords words room → IsFlowAnswer room old new answer → IsAnswerTo words old new answer
@@ -87,8 +105,9 @@ module _ (words : List (List ℕ)) (old new : Streams) (answer : ℕ) where
     flow = λ other e. subst (λ (b : ℕ). IsFlowAnswer b old new answer) (one_room words room other are e) is;
     run = λ e. absurd (apart words _ _ are.words_are e refl);
     replay = λ e. absurd (apart words _ _ are.words_are e refl);
+    names = λ e. absurd (apart words _ _ are.words_are e refl);
     gen = λ seed count e. absurd (apart words _ _ are.words_are e.words_are refl);
-    usage = λ a b c d e f g. absurd (f room are);
+    usage = λ a b c d e n f g. absurd (f room are);
   }
 
   pub answers_gen : (seed count : ℕ) → AreGenWords words seed count → new.source ≡ old.source → IsGenAnswerOn seed count old.out new.out old.err new.err answer → IsAnswerTo words old new answer
@@ -99,21 +118,23 @@ module _ (words : List (List ℕ)) (old new : Streams) (answer : ℕ) where
     flow = λ room e. absurd (apart words _ _ are.words_are e.words_are refl);
     run = λ e. absurd (apart words _ _ are.words_are e refl);
     replay = λ e. absurd (apart words _ _ are.words_are e refl);
+    names = λ e. absurd (apart words _ _ are.words_are e refl);
     gen = λ s n e. record {
       source = kept;
       on = subst (λ (m : ℕ). IsGenAnswerOn s m old.out new.out old.err new.err answer) (one_count words seed s count n are e) (subst (λ (t : ℕ). IsGenAnswerOn t count old.out new.out old.err new.err answer) (one_seed words seed s count n are e) is);
     };
-    usage = λ a b c d e f g. absurd (g seed count are);
+    usage = λ a b c d e n f g. absurd (g seed count are);
   }
 
-  pub answers_usage : words ≢ codes "expect" ∷ [] → words ≢ codes "check" ∷ [] → words ≢ codes "flood" ∷ [] → words ≢ codes "run" ∷ [] → words ≢ codes "replay" ∷ [] → ((room : ℕ) → ¬ AreFlowWords words room) → ((seed count : ℕ) → ¬ AreGenWords words seed count) → IsUsageAnswer old new answer → IsAnswerTo words old new answer
-  answers_usage a b c d e f g is = record {
+  pub answers_usage : words ≢ codes "expect" ∷ [] → words ≢ codes "check" ∷ [] → words ≢ codes "flood" ∷ [] → words ≢ codes "run" ∷ [] → words ≢ codes "replay" ∷ [] → words ≢ codes "names" ∷ [] → ((room : ℕ) → ¬ AreFlowWords words room) → ((seed count : ℕ) → ¬ AreGenWords words seed count) → IsUsageAnswer old new answer → IsAnswerTo words old new answer
+  answers_usage a b c d e n f g is = record {
     expect = λ are. absurd (a are);
     check = λ are. absurd (b are);
     flood = λ are. absurd (c are);
     flow = λ room are. absurd (f room are);
     run = λ are. absurd (d are);
     replay = λ are. absurd (e are);
+    names = λ are. absurd (n are);
     gen = λ seed count are. absurd (g seed count are);
-    usage = λ _ _ _ _ _ _ _. is;
+    usage = λ _ _ _ _ _ _ _ _. is;
   }

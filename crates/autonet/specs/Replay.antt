@@ -23,11 +23,11 @@ pub record IsScriptWith (bytes : List ℕ) (script : ScriptOf) (behind : List �
   pub division : IsDivision bytes first behind
   pub is_text : IsText first script
 
--- the bytes begin with the text of a legal journal, and this is its report, with the status of its end
-pub record IsReplay (script : ScriptOf) (bytes : List ℕ) (status : Status) (text : List ℕ) : Type 0 where
-  pub journal : List Event
-  pub is_journal : IsJournal script bytes journal
-  pub reported : IsReported script journal status text
+-- they begin with the text of this journal
+pub record IsJournaled (bytes : List ℕ) (script : ScriptOf) (journal : List Event) : Type 0 where
+  pub behind : List ℕ
+  pub input : IsScriptWith bytes script behind
+  pub is_journal : IsJournal script behind journal
 
 -- the bytes do not begin with the text of a journal, or the journal is not legal
 pub data IsNoReplay (script : ScriptOf) (bytes : List ℕ) (line : ℕ) (why : JournalCause) : Type 0 where
@@ -38,9 +38,9 @@ pub data IsNoReplay (script : ScriptOf) (bytes : List ℕ) (line : ℕ) (why : J
 -- behind a script stands a legal journal, and this is its report
 pub record IsReplayedOf (status : Status) (text bytes : List ℕ) : Type 0 where
   pub script : ScriptOf
-  pub behind : List ℕ
-  pub input : IsScriptWith bytes script behind
-  pub replay : IsReplay script behind status text
+  pub journal : List Event
+  pub read : IsJournaled bytes script journal
+  pub reported : IsReported script journal status text
 
 -- it gives the report, with the status of the journal's end
 abbrev pub gives_replayed : Gives

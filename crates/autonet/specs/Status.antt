@@ -24,7 +24,7 @@ code_of OutOfMemory = 9
 -- the line of a status
 abbrev pub line_of : Status → List ℕ
 line_of Ok = []
-line_of Usage = codes "usage: autonet expect, run, replay, check, flow B, flood or gen SEED N\n"
+line_of Usage = codes "usage: autonet expect, run, replay, check, flow B, flood, names or gen SEED N\n"
 line_of (ScriptRefused line cause) =
     codes "autonet: script line " ++ decimal line ++ codes ": " ++ cause_text cause ++ codes "\n"
 line_of ReadFault = codes "autonet: read fault\n"

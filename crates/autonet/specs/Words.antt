@@ -7,6 +7,7 @@ use Rattle.autonet.specs.Check.{gives_judged, refuses_tables}
 use Rattle.autonet.specs.Flood.{gives_flooded}
 use Rattle.autonet.specs.Flow.{AreFlowWords, gives_flow}
 use Rattle.autonet.specs.Gen.{AreGenWords, IsGenAnswer}
+use Rattle.autonet.specs.Names.{gives_names}
 use Rattle.autonet.specs.Replay.{gives_replayed, refuses_journal}
 use Rattle.autonet.specs.Run.{gives_run}
 
@@ -34,6 +35,10 @@ IsReplayAnswer old new answer = IsAnswer input_limit gives_replayed refuses_jour
 abbrev pub IsRunAnswer : Streams → Streams → ℕ → Type 0
 IsRunAnswer old new answer = IsAnswer input_limit gives_run refuses_script old new answer
 
+-- the answer to `names`
+abbrev pub IsNamesAnswer : Streams → Streams → ℕ → Type 0
+IsNamesAnswer old new answer = IsAnswer input_limit gives_names refuses_journal old new answer
+
 -- the answer to words: that of the command that they name, and the usage line where they name none
 pub record IsAnswerTo (words : List (List ℕ)) (old new : Streams) (answer : ℕ) : Type 0 where
   pub expect : words ≡ codes "expect" ∷ [] → IsExpectAnswer old new answer
@@ -42,8 +47,9 @@ pub record IsAnswerTo (words : List (List ℕ)) (old new : Streams) (answer : �
   pub flow : (room : ℕ) → AreFlowWords words room → IsFlowAnswer room old new answer
   pub run : words ≡ codes "run" ∷ [] → IsRunAnswer old new answer
   pub replay : words ≡ codes "replay" ∷ [] → IsReplayAnswer old new answer
+  pub names : words ≡ codes "names" ∷ [] → IsNamesAnswer old new answer
   pub gen : (seed count : ℕ) → AreGenWords words seed count → IsGenAnswer seed count old new answer
   pub usage : words ≢ codes "expect" ∷ [] → words ≢ codes "check" ∷ [] → words ≢ codes "flood" ∷ []
-      → words ≢ codes "run" ∷ [] → words ≢ codes "replay" ∷ []
+      → words ≢ codes "run" ∷ [] → words ≢ codes "replay" ∷ [] → words ≢ codes "names" ∷ []
       → ((room : ℕ) → ¬ AreFlowWords words room)
       → ((seed count : ℕ) → ¬ AreGenWords words seed count) → IsUsageAnswer old new answer

@@ -56,35 +56,3 @@ pub fn refused(refusal: ReadRefusal) -> Status
         ReadRefusal::OutOfMemory => Status::OutOfMemory,
     }
 }
-
-#[cfg(test)]
-mod tests {
-    use super::*;
-    use outside::memory::MemorySource;
-    use std::test::Fail;
-
-    #[test]
-    fn the_limit_itself_is_read_and_one_byte_more_is_refused(rt: HostRuntime) -> Result<(), Fail> {
-        for (input, line) in [
-            (b"".as_slice(), None),
-            (b"a\nb\n".as_slice(), None),
-            (b"a\nb\nc".as_slice(), Some(3)),
-            (b"abcd\n".as_slice(), Some(1)),
-            (b"a\n\nbcdefgh".as_slice(), Some(3)),
-        ] {
-            for cut in [1, 3, 100] {
-                let bytes = input.to_vec(rt.alloc())?;
-                let mut source = MemorySource::new(bytes, Vec::new(rt.alloc()), cut);
-                match (read_input(rt.alloc(), &mut source, 4), line) {
-                    (Ok(read), None) => assert_eq!(rt; read.as_slice(), input),
-                    (Err(Status::ScriptRefused { line: at, cause }), Some(line)) => {
-                        assert_eq!(rt; at, line);
-                        assert_eq!(rt; cause, ScriptCause::TooMany);
-                    }
-                    (_, _) => assert!(rt; false),
-                }
-            }
-        }
-        Ok(())
-    }
-}

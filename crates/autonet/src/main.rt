@@ -15,6 +15,7 @@ mod gates;
 mod generate;
 mod input;
 mod law;
+mod names;
 mod replaying;
 mod reported;
 mod run;

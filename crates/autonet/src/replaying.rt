@@ -1,14 +1,14 @@
-ghost use Rattle.std.specs.Prelude.{◌≡◌, ◌⊎◌, ◌<◌, ◌-◌, ◌^◌, length, IfErr, IfOk};
+ghost use Rattle.std.specs.Prelude.{◌≡◌, ◌⊎◌, ◌≤◌, length, IfErr, IfOk};
 ghost use Rattle.autonet.specs.declared.status.Status.TheVariants as ended;
-ghost use Rattle.autonet.specs.Answer.{IsEnding, streams};
-ghost use Rattle.autonet.specs.Replay.{IfJournalRefused, IsNoReplay, IsReplay};
-ghost use Rattle.autonet.specs.Replay.{gives_replayed, journal_refused_as, refuses_journal, replay_refused_as};
+ghost use Rattle.autonet.specs.Answer.{input_limit, streams};
+ghost use Rattle.autonet.specs.Replay.{IsJournaled, gives_replayed, journal_refused_as, refuses_journal, replay_refused_as};
 ghost use Rattle.autonet.specs.Words.{IsReplayAnswer};
 
 use crate::command::{Command, Given, answer};
 use crate::input::refused;
 use crate::reported::told;
 use crate::status::Status;
+use an_base::event::Journal;
 use an_base::memory::OutOfMemory;
 use journal::reader::JournalRefusal;
 use net_script::reader::read;
@@ -33,8 +33,8 @@ fn journal_refused(refusal: JournalRefusal) -> Status
     }
 }
 
-// The status of a journal that is not legal.
-fn replay_refused(refusal: ReplayRefusal) -> Status
+/// The status of a journal that is not legal.
+pub fn replay_refused(refusal: ReplayRefusal) -> Status
     ensures { result ≡ replay_refused_as refusal }
 {
     match refusal {
@@ -43,21 +43,33 @@ fn replay_refused(refusal: ReplayRefusal) -> Status
     }
 }
 
-// The report of the journal with whose text the bytes begin, with the status of its end.
-fn replayed(alloc: Global, bytes: &[u8], script: &Script) -> Result<Given, Status>
-    requires few { length bytes.now < 2 ^ 32 - 1 }
-    ensures given { IfOk result (λ given. IsReplay script.now bytes.now given.status given.text.items) }
-    ensures ends { IfOk result (λ given. IsEnding given.status) }
+/// A script, and the journal that stands behind it.
+#[derive(Debug, Drop)]
+pub struct Journaled {
+    /// The script.
+    pub script: Script,
+    /// The journal.
+    pub journal: Journal,
+}
+
+/// The script with which an input begins, and the journal behind it.
+pub fn read_journal(alloc: Global, bytes: &[u8]) -> Result<Journaled, Status>
+    requires few { length bytes.now ≤ input_limit }
+    ensures read { IfOk result (λ input. IsJournaled bytes.now input.script input.journal) }
     ensures stopped { IfErr result (λ status.
-        IfJournalRefused status (IsNoReplay script.now bytes.now) ⊎ (status ≡ ended.OutOfMemory)) }
+        refuses_journal bytes.now status ⊎ (status ≡ ended.OutOfMemory)) }
 {
-    let journal = match journal::reader::read(alloc, script, bytes) {
-        Ok(journal) => journal,
-        Err(refusal) => return Err(journal_refused(refusal)),
+    let (first, second) = match divide(alloc, bytes) {
+        Ok(parts) => parts,
+        Err(OutOfMemory) => return Err(Status::OutOfMemory),
     };
-    match told(alloc, script, &journal) {
-        Ok(given) => Ok(given),
-        Err(refusal) => Err(replay_refused(refusal)),
+    let script = match read(alloc, first) {
+        Ok(script) => script,
+        Err(refusal) => return Err(refused(refusal)),
+    };
+    match journal::reader::read(alloc, &script, second) {
+        Ok(journal) => Ok(Journaled { script, journal }),
+        Err(refusal) => Err(journal_refused(refusal)),
     }
 }
 
@@ -67,15 +79,11 @@ impl Command for Replay {
     ghost refuses = { λ _. refuses_journal };
 
     fn given(&self, alloc: Global, bytes: &[u8]) -> Result<Given, Status> {
-        let (first, second) = match divide(alloc, bytes) {
-            Ok(parts) => parts,
-            Err(OutOfMemory) => return Err(Status::OutOfMemory),
-        };
-        let script = match read(alloc, first) {
-            Ok(script) => script,
-            Err(refusal) => return Err(refused(refusal)),
-        };
-        replayed(alloc, second, &script)
+        let input = read_journal(alloc, bytes)?;
+        match told(alloc, &input.script, &input.journal) {
+            Ok(given) => Ok(given),
+            Err(refusal) => Err(replay_refused(refusal)),
+        }
     }
 }
 

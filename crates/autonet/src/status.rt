@@ -140,7 +140,7 @@ pub fn finish<E: Sink>(alloc: Global, err: &mut E, status: Status) -> u8
         Status::Usage => tell(
             err,
             &status,
-            &[b"usage: autonet expect, run, replay, check, flow B, flood or gen SEED N\n"],
+            &[b"usage: autonet expect, run, replay, check, flow B, flood, names or gen SEED N\n"],
         ),
         Status::ScriptRefused { line, cause } => tell_refusal(alloc, err, *line, *cause),
         Status::ReadFault => tell(err, &status, &[b"autonet: read fault\n"]),

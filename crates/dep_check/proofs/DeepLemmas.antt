@@ -1,5 +1,5 @@
 -- What a walk in depth has still to do.
-use Rattle.std.proofs.Common.{◌≡◌, ◌∙◌, sym, ap, ℕ, ◌+◌, ◌<◌, List, [], ◌∷◌, ◌++◌, Bool, true, false, arith, length, length-set, set, get_or, All}
+use Rattle.std.proofs.Common.{◌≡◌, ◌∙◌, ap, ℕ, ◌+◌, List, [], ◌∷◌, ◌++◌, Bool, true, false, arith, length, length-set, set, get_or, All}
 use Rattle.dep_check.specs.declared.channel.Channel.{Channel}
 use Rattle.dep_check.specs.declared.deep.Visit.{Visit}
 use Rattle.dep_check.specs.Deep.{AreVisits, HasVisited, IsLonger}

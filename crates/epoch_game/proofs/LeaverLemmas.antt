@@ -43,6 +43,9 @@ find_last w r x i hi e = find_from w r x i (w.len x) (omega arith) hi e (λ k lo
 pub record Upward (w : EpochLaws) (r y : LifeId) (j : ℕ) : Type 0 where
   pub upper : LifeId
   pub moment : ℕ
+  pub port : ℕ
+  pub far : ℕ
+  pub link : w.Link upper port y far
   pub last : IsLast w r upper moment
   pub level : (w.place upper moment).level < (w.place y j).level
   pub stable : w.stable upper moment ≡ true → w.stable y j ≡ true
@@ -66,6 +69,9 @@ upward w r y j lasting ne last =
     record {
       upper = x;
       moment = g.0;
+      port = p;
+      far = q;
+      link = lx;
       last = lg;
       level = omega (arith, low, lf);
       stable = λ s.

@@ -1,4 +1,4 @@
-use Rattle.std.proofs.Common.{◌≡◌, ◌⊎◌, inl, inr, ℕ, suc, ◌+◌, ◌≤◌, ◌<◌, List, [], ◌∷◌, length, Option, Some, None, Bool, true, false, true≢false, cond, refl, sym, ap, ◌∙◌, subst, ⊎_elim, arith}
+use Rattle.std.proofs.Common.{◌≡◌, ◌≢◌, ◌⊎◌, inl, inr, ℕ, suc, ◌+◌, ◌≤◌, ◌<◌, List, [], ◌∷◌, length, Option, Some, None, Bool, true, false, true≢false, cond, refl, sym, ap, ◌∙◌, subst, ⊎_elim, arith}
 use Rattle.std.specs.Prelude.{◌==◌, is_some}
 use Rattle.an_base.specs.Values.{LifeId, EndId, Place, PeerAt, PosOf}
 use Rattle.an_base.specs.Order.{life_cmp, IsBelow}
@@ -12,19 +12,19 @@ use Rattle.epoch_core.specs.Epoch.{version, position, is_stable, sent}
 use Rattle.epoch_core.specs.Laws.{IsAtMost}
 use Rattle.epoch_game.specs.Slice.{Earlier, Node, Slice, nobody, with_node, link_at, Names, Run, none, joins, accepts}
 use Rattle.epoch_game.specs.Streams.{positions_in, answers_in}
-use Rattle.epoch_game.specs.Leaving.{WasStableRoot, IsStableUnder, HasLeft, LeftUnstable, NobodyLeaves}
+use Rattle.epoch_game.specs.Leaving.{WasStableRoot, IsStableUnder, HadLast, IsUnstableAbove, HasLeft, LeftUnstable, NobodyLeaves}
 use Rattle.epoch_game.proofs.Basics.{number_itself, none_some, bool_cases}
 use Rattle.epoch_game.proofs.Lists.{earlier_itself}
 use Rattle.epoch_game.proofs.Moments.{version_grows, at, at_cases, at_earlier, at_grows, at_whole, number, earlier_length}
-use Rattle.epoch_game.proofs.Nodes.{decide_life, node_here, node_else, node_cases, not_own, has_link}
+use Rattle.epoch_game.proofs.Nodes.{after, decide_life, node_here, node_else, node_cases, not_own, has_link, with_item}
 use Rattle.epoch_game.proofs.StreamLemmas.{nodes}
 use Rattle.epoch_game.proofs.Orders.{Before, LifeAtMost, lesser_cases, le_or_lt, le_lt_trans, root_at_most, level_at_most}
 use Rattle.epoch_game.proofs.OfferLemmas.{behind, FromLink, position_is, at_most_self}
 use Rattle.epoch_game.proofs.ImproveLemmas.{best, best_with, improving, next_pos}
 use Rattle.epoch_game.proofs.HandshakeLemmas.{Lasting, IsLast, lasting_step, life_antisym}
 use Rattle.epoch_game.proofs.EpochLaws.{EpochLaws}
-use Rattle.epoch_game.proofs.LeaverLemmas.{NeverStable, IsLeaver, find_last, neighbour_left, nobody_leaves}
-use Rattle.epoch_game.proofs.StateLemmas.{or_blank, node, IsBlank, node_joined, node_is, Linked, turned, me_is, mom, improves_at, law_seen, law_answered, law_stable, Settled, stable_at, stable_from, stable_on, Content, laws, no_content}
+use Rattle.epoch_game.proofs.LeaverLemmas.{NeverStable, IsLeaver, Upward, find_last, neighbour_left, nobody_leaves, upward}
+use Rattle.epoch_game.proofs.StateLemmas.{or_blank, node, IsBlank, node_joined, node_is, Linked, turned, joined, me_is, mom, improves_at, law_seen, law_answered, law_stable, Settled, stable_at, stable_from, stable_on, Content, laws, no_content}
 use Rattle.std.proofs.lemmas.Bool.{eqb-true}
 
 -- Once stable, a life stays stable while its version stays.
@@ -96,13 +96,6 @@ lasting_new lives s x p z q b l few run lk is v st = stable_from c new (λ k i. 
     each k true e o = subst (Settled new (version c new)) (eqb-true p k.port e) (settled_by (b ∷ on_port p l) p here (by_body b refl))
     each k false e o =
         settled_by (on_port k.port l) k.port (ap (λ (g : Bool). cond g (b ∷ on_port k.port l) (on_port k.port l)) e) (o.answered ∙ ap Some v, o.reported)
-
--- after an acceptance
-abbrev with_item : Node → OnPort → Node
-with_item n y = record { card = n.card; log = y ∷ n.log }
-
-abbrev after : Slice → LifeId → Node → OnPort → Slice
-after t x n y = with_node t x (with_item n y)
 
 own_node : (t : Slice) (x : LifeId) (new : Node) → node (with_node t x new) x ≡ new
 own_node t x new = node_is (with_node t x new) x new (node_here t x new)
@@ -498,14 +491,63 @@ length_at (x ∷ l) i e =
     (λ (w : (i ≤ length l) × (at (x ∷ l) i ≡ at l i)). ap length w.1 ∙ old w.0)
     (at_cases x l i)
 
+-- the last moment with a root, by its number
+had_last : (s : Slice) (r y : LifeId) (n : Node) (last : Log) → HadLast s r y n last → LastIn n r (length last)
+had_last s r y n last h = record {
+  within = (number last n.log h.earlier).0;
+  root = ap (λ a. (position n.card a).root) (number last n.log h.earlier).1 ∙ h.root;
+  most = λ k hk e. subst (λ m. m ≤ length last) (length_at n.log k hk) (earlier_length (at n.log k) last (h.most (at n.log k) (at_earlier n.log k) e));
+}
+
+-- and as a moment
+last_most : (n : Node) (r : LifeId) (j : ℕ) → LastIn n r j → (h : Log) → Earlier h n.log → (position n.card h).root ≡ r → Earlier h (at n.log j)
+last_most n r j last h e d =
+    let k = number h n.log e in
+    subst (λ (a : Log). Earlier a (at n.log j)) k.1 (at_grows n.log (length h) j (last.most (length h) k.0 (ap (λ a. (position n.card a).root) k.1 ∙ d)))
+
+not_true : (b : Bool) → (b ≡ true → ⊥) → b ≡ false
+not_true true f = absurd (f refl)
+not_true false f = refl
+
+-- who was not stable has one above it that was not
+above_it : (lives : List LifeId) (s : Slice) → length lives ≤ 126 → Run lives nobody s → (r y : LifeId) (n : Node) (last : Log) → y ≢ r → HadLast s r y n last → is_stable n.card last ≡ false → IsUnstableAbove s r (position n.card last).level
+above_it lives s few run r y n last other h unstable = record {
+  life = up.upper;
+  node = m;
+  last = at m.log up.moment;
+  had = record {
+    joined = joined s up.upper up.port y up.far up.link.there;
+    earlier = at_earlier m.log up.moment;
+    root = top.root;
+    most = last_most m r up.moment top;
+  };
+  above = subst (λ (a : Log). (position m.card (at m.log up.moment)).level < (position n.card a).level) here
+      (subst (λ (a : Node). (position m.card (at m.log up.moment)).level < (position a.card (at a.log (length last))).level) is up.level);
+  unstable = not_true (is_stable m.card (at m.log up.moment)) (λ st. true≢false (sym (subst (λ (a : Node). is_stable a.card (at a.log (length last)) ≡ true) is (up.stable st)) ∙ ap (is_stable n.card) here ∙ unstable));
+}
+  where
+    is : node s y ≡ n
+    is = node_is s y n h.joined
+
+    here : at n.log (length last) ≡ last
+    here = (number last n.log h.earlier).1
+
+    mine : LastIn (node s y) r (length last)
+    mine = subst (λ (a : Node). LastIn a r (length last)) (sym is) (had_last s r y n last h)
+
+    up : Upward (laws lives s few run (no_content s)) r y (length last)
+    up = upward (laws lives s few run (no_content s)) r y (length last) (lasting_state lives s few run (no_content s)) other (record { within = mine.within; root = mine.root; most = mine.most })
+
+    m : Node
+    m = node s up.upper
+
+    top : LastIn m r up.moment
+    top = record { within = up.last.within; root = up.last.root; most = up.last.most }
+
 has_left : (s : Slice) (r y : LifeId) (h : HasLeft s r y) → LeaverIn (node s y) r (length h.last)
 has_left s r y h =
     subst (λ (a : Node). LeaverIn a r (length h.last)) (sym (node_is s y h.node h.joined)) (record {
-      last = record {
-        within = (number h.last h.node.log h.earlier).0;
-        root = ap (λ a. (position h.node.card a).root) (number h.last h.node.log h.earlier).1 ∙ h.root;
-        most = λ k hk e. subst (λ n. n ≤ length h.last) (length_at h.node.log k hk) (earlier_length (at h.node.log k) h.last (h.most (at h.node.log k) (at_earlier h.node.log k) e));
-      };
+      last = had_last s r y h.node h.last (record { joined = h.joined; earlier = h.earlier; root = h.root; most = h.most });
       left = h.left;
     })
 
@@ -518,10 +560,6 @@ left_unstable s r w = by (node_joined s w.life)
     lv : LeaverIn n r w.moment
     lv = w.witness.leaver
 
-    not_true : (b : Bool) → (b ≡ true → ⊥) → b ≡ false
-    not_true true f = absurd (f refl)
-    not_true false f = refl
-
     by : (s w.life ≡ Some n) ⊎ IsBlank w.life n → LeftUnstable s r
     by (inr b) = absurd (no_leaver n r w.moment b.log lv)
     by (inl j) = record {
@@ -532,9 +570,7 @@ left_unstable s r w = by (node_joined s w.life)
         last = at n.log w.moment;
         earlier = at_earlier n.log w.moment;
         root = lv.last.root;
-        most = λ h e d.
-            let k = number h n.log e in
-            subst (λ (a : Log). Earlier a (at n.log w.moment)) k.1 (at_grows n.log (length h) w.moment (lv.last.most (length h) k.0 (ap (λ a. (position n.card a).root) k.1 ∙ d)));
+        most = last_most n r w.moment lv.last;
         left = lv.left;
       };
       unstable = not_true (is_stable n.card (at n.log w.moment)) w.witness.unstable;
@@ -543,6 +579,7 @@ left_unstable s r w = by (node_joined s w.life)
 pub nobody_leaves_it : (lives : List LifeId) (s : Slice) → length lives ≤ 126 → Run lives nobody s → NobodyLeaves s
 nobody_leaves_it lives s few run = record {
   lasting = λ x n h g sx a b v st. lasting lives s few run x n sx h g a b v st;
+  upward = above_it lives s few run;
   never_stable = λ r y h. left_unstable s r (never lives s few run r y (length h.last) (has_left s r y h));
   stays = λ r y n h was sy e ry. stays_at lives s few run r y n h was sy e ry;
 }

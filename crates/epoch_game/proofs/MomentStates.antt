@@ -4,8 +4,8 @@ use Rattle.epoch_core.specs.Log.{CardOf, OnPort, Log}
 use Rattle.epoch_core.specs.Epoch.{version, is_stable, finish}
 use Rattle.epoch_game.specs.Slice.{Earlier, Node, Slice, nobody, with_node, Run, none, joins, accepts}
 use Rattle.epoch_game.proofs.Basics.{none_some}
-use Rattle.epoch_game.proofs.Nodes.{node_cases}
-use Rattle.epoch_game.proofs.FinishLemmas.{finished_under, root_was, is_detected}
+use Rattle.epoch_game.proofs.Nodes.{after, node_cases, with_item}
+use Rattle.epoch_game.proofs.FinishLemmas.{finished_under, is_detected}
 
 -- Each moment of a life was its list in some state of the run.
 pub record WasState (lives : List LifeId) (s : Slice) (x : LifeId) (c : CardOf) (h : Log) : Type 0 where
@@ -41,7 +41,7 @@ was_state lives _ x n h (accepts t y z p q k m b run sy sz ly lz next) sx e =
     ⊎_elim
     (λ (w : (y ≡ x) × (new ≡ n)).
     ⊎_elim
-    (λ (is : h ≡ item ∷ k.log). now_state lives after x n h (accepts t y z p q k m b run sy sz ly lz next) sx (is ∙ ap (λ (a : Node). a.log) w.1))
+    (λ (is : h ≡ item ∷ k.log). now_state lives (after t y k item) x n h (accepts t y z p q k m b run sy sz ly lz next) sx (is ∙ ap (λ (a : Node). a.log) w.1))
     (λ (old : Earlier h k.log).
     later (subst (λ (a : LifeId × CardOf). WasState lives t a.0 a.1 h) (λ i. (w.0 i, (w.1 i).card)) (was_state lives t y k h run sy old)))
     (subst (λ (a : Node). Earlier h a.log) (sym w.1) e))
@@ -52,12 +52,9 @@ was_state lives _ x n h (accepts t y z p q k m b run sy sz ly lz next) sx e =
     item = record { port = p; body = b }
 
     new : Node
-    new = record { card = k.card; log = item ∷ k.log }
+    new = with_item k item
 
-    after : Slice
-    after = with_node t y new
-
-    later : WasState lives t x n.card h → WasState lives after x n.card h
+    later : WasState lives t x n.card h → WasState lives (after t y k item) x n.card h
     later w = record { state = w.state; before = w.before; after = accepts t y z p q k m b w.after sy sz ly lz next; joined = w.joined }
 
 -- So who had finished at a moment was stable then, and has kept the version of that moment.
@@ -69,6 +66,6 @@ pub finish_kept : (lives : List LifeId) (s : Slice) → length lives ≤ 126 →
 finish_kept lives s few run x n h t sx e done =
     let w = was_state lives s x n h run sx e in
     let u = finished_under lives w.state few w.before x (record { card = n.card; log = h }) t w.joined done in
-    let d = is_detected lives w.state u.root few w.before (root_was w.state x t u) in
+    let d = is_detected lives w.state u.root few w.before u.was in
     let st = d.settled x (record { card = n.card; log = h }) u.reached w.joined in
     record { stable = st.stable; version = st.version s n w.after sx }

@@ -6,7 +6,7 @@ use Rattle.an_base.specs.Values.{LifeId, EndId, PeerAt}
 use Rattle.an_base.specs.Order.{life_cmp}
 use Rattle.an_base.proofs.LifeLemmas.{life_passes, same_life}
 use Rattle.topo_report.proofs.Members.{In, contains_from}
-use Rattle.epoch_core.specs.Log.{CardOf}
+use Rattle.epoch_core.specs.Log.{CardOf, OnPort}
 use Rattle.epoch_game.specs.Slice.{Node, Slice, with_node, link_at, Names, IsCardOf}
 use Rattle.epoch_game.proofs.Basics.{bool_cases, some_same}
 use Rattle.epoch_game.proofs.SentLemmas.{RiseFrom, rise_from}
@@ -18,6 +18,13 @@ life_ne x y f e = true≢false (sym (life_passes x y e) ∙ f)
 
 pub decide_life : (x y : LifeId) → (x ≡ y → ⊥) ⊎ (x ≡ y)
 decide_life x y = ⊎_elim (λ (t : is_eq (life_cmp x y) ≡ true). inr (same_life x y t)) (λ (f : is_eq (life_cmp x y) ≡ false). inl (life_ne x y f)) (bool_cases (is_eq (life_cmp x y)))
+
+-- a node that has accepted one more body, and the slice with it
+abbrev pub with_item : Node → OnPort → Node
+with_item n y = record { card = n.card; log = y ∷ n.log }
+
+abbrev pub after : Slice → LifeId → Node → OnPort → Slice
+after t x n y = with_node t x (with_item n y)
 
 -- the node of a life, and of another
 pub node_here : (s : Slice) (x : LifeId) (n : Node) → with_node s x n x ≡ Some n

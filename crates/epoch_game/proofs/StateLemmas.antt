@@ -195,9 +195,6 @@ law_parent lives s run x i ne = by (position_is c h)
     c : CardOf
     c = (node s x).card
 
-    e : Earlier h (node s x).log
-    e = at_earlier (node s x).log i
-
     from_far : (w : FromLink c h (position c h)) → (on_port w.link.port h ≡ []) ⊎ ShowsFar s x (node s x) w.link.port (on_port w.link.port h) → HasParent s x h
     from_far w (inl nil) = absurd (no_pos (on_port w.link.port h) w.told nil w.offered.last)
     from_far w (inr v) =
@@ -210,7 +207,7 @@ law_parent lives s run x i ne = by (position_is c h)
         }
 
     by_join : (w : FromLink c h (position c h)) → (s x ≡ Some (node s x)) ⊎ IsBlank x (node s x) → HasParent s x h
-    by_join w (inl j) = from_far w (shows_far lives s x (node s x) w.link.port h run j e)
+    by_join w (inl j) = from_far w (shows_far lives s x (node s x) w.link.port h run j (at_earlier (node s x).log i))
     by_join w (inr b) = absurd (subst (λ (ks : List PeerAt). In w.link ks) b.links w.in_links)
 
     by : (position c h ≡ self_root c.me) ⊎ FromLink c h (position c h) → HasParent s x h

@@ -278,12 +278,12 @@ is_tree lives s x n t few run sx done = (is_graph lives s u.root t.entries m, st
     u = finished_under lives s few run x n t sx done
 
     d : Rooted lives s u.root
-    d = record { few = few; run = run; was = record { node = u.node; joined = u.joined; moment = u.moment; earlier = u.earlier; stable = u.stable; root = u.is_root } }
+    d = record { few = few; run = run; was = u.was }
 
     m : MemberEntries lives s u.root t.entries
     m = record {
       rooted = d;
-      rising = subst (λ (a : TopoOf). LivesRise a.entries) (sym u.topology) (report_is_report u.node.card.me (own_entry u.node.card u.moment ∷ reported u.node.card u.moment)).rising;
+      rising = subst (λ (a : TopoOf). LivesRise a.entries) (sym u.topology) (report_is_report u.was.node.card.me (own_entry u.was.node.card u.was.moment ∷ reported u.was.node.card u.was.moment)).rising;
       only = λ e i. (u.entries e).0 (contains_from e t.entries i);
       has = λ y h. in_from _ t.entries ((u.entries (own_entry (node s y).card (node s y).log)).1 (record { life = y; node = node s y; reached = h; joined = (member lives s u.root y d h).joined; is = refl }));
     }

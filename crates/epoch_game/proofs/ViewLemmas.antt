@@ -275,21 +275,35 @@ finished_staged c q = record {
     three : (x : OnPort) (l : Log) → Finished c q l (sent c q l) → Finished c q (x ∷ l) (after_up c q x l (sent c q l))
     three x l s t i = two x l s t (in_up (reports c x l) ((position c (x ∷ l)).port == q) (report c (x ∷ l)) t (after_answer c q x l (sent c q l)) i)
 
+-- What counts answers alone passes over the other bodies.
+record PassesOver {A : Type 0} (f : List Body → A) : Type 0 where
+  told : (b : PosOf) (r : List Body) → f (Pos b ∷ r) ≡ f r
+  up : (es : List EntryOf) (r : List Body) → f (Stable es ∷ r) ≡ f r
+  down : (t : TopoOf) (r : List Body) → f (Topo t ∷ r) ≡ f r
+
+module _ {A : Type 0} (f : List Body → A) (passes : PassesOver f) where
+  over_told : (g : Bool) (b : PosOf) (r : List Body) → f (cond g (Pos b ∷ []) [] ++ r) ≡ f r
+  over_told false b r = refl
+  over_told true b r = passes.told b r
+
+  over_up : (g h : Bool) (es : List EntryOf) (r : List Body) → f (cond g (cond h (Stable es ∷ []) []) [] ++ r) ≡ f r
+  over_up false h es r = refl
+  over_up true false es r = refl
+  over_up true true es r = passes.up es r
+
+  over_down : (g : Bool) (a b : Option TopoOf) (r : List Body) → f (cond g (topo_of a b) [] ++ r) ≡ f r
+  over_down false a b r = refl
+  over_down true None None r = refl
+  over_down true None (Some t) r = passes.down t r
+  over_down true (Some t) b r = refl
+
+counting : PassesOver answers_in
+counting = record { told = λ b r. refl; up = λ es r. refl; down = λ t r. refl }
+
+answering : PassesOver answered
+answering = record { told = λ b r. refl; up = λ es r. refl; down = λ t r. refl }
+
 -- There are as many answers as positions came.
-count_told : (g : Bool) (b : PosOf) (r : List Body) → answers_in (cond g (Pos b ∷ []) [] ++ r) ≡ answers_in r
-count_told false b r = refl
-count_told true b r = refl
-
-count_up : (g h : Bool) (es : List EntryOf) (r : List Body) → answers_in (cond g (cond h (Stable es ∷ []) []) [] ++ r) ≡ answers_in r
-count_up false h es r = refl
-count_up true false es r = refl
-count_up true true es r = refl
-
-count_down : (g : Bool) (f h : Option TopoOf) (r : List Body) → answers_in (cond g (topo_of f h) [] ++ r) ≡ answers_in r
-count_down false f h r = refl
-count_down true None None r = refl
-count_down true None (Some t) r = refl
-count_down true (Some t) h r = refl
 
 one_for_each : (g : Bool) (q : ℕ) (p : Place) (b : Body) (r heard : List Body) → answers_in r ≡ positions_in heard → answers_in (cond g (answer_on q p b) [] ++ r) ≡ positions_in (cond g (b ∷ heard) heard)
 one_for_each false q p b r heard e = e
@@ -302,10 +316,10 @@ pub answers_sent : (c : CardOf) (q : ℕ) (l : Log) → HasLink c q → answers_
 answers_sent c q [] k = ap answers_in (sent_is_first c q k)
 answers_sent c q (x ∷ l) k =
     ap answers_in (sent_is c q x l k)
-    ∙ count_down (is_claimed (on_port q (x ∷ l))) (finish c l) (finish c (x ∷ l)) (after_up c q x l (sent c q l))
-    ∙ count_up (reports c x l) ((position c (x ∷ l)).port == q) (report c (x ∷ l)) (after_answer c q x l (sent c q l))
+    ∙ over_down answers_in counting (is_claimed (on_port q (x ∷ l))) (finish c l) (finish c (x ∷ l)) (after_up c q x l (sent c q l))
+    ∙ over_up answers_in counting (reports c x l) ((position c (x ∷ l)).port == q) (report c (x ∷ l)) (after_answer c q x l (sent c q l))
     ∙ one_for_each (x.port == q) q (position c (x ∷ l)) x.body (after_told c q x l (sent c q l)) (on_port q l)
-    (count_told (has_moved c x l) (told_on (version c (x ∷ l)) (position c (x ∷ l)) q) (sent c q l) ∙ answers_sent c q l k)
+    (over_told answers_in counting (has_moved c x l) (told_on (version c (x ∷ l)) (position c (x ∷ l)) q) (sent c q l) ∙ answers_sent c q l k)
 
 -- The last answer names the position that it answers, at a moment at which the version was at most the one shown.
 abbrev Replied : CardOf → ℕ → Log → List Body → Type 0
@@ -327,21 +341,6 @@ replied_older c q x l r (inr y) =
     let low = y.version in
     inr (record { moment = y.moment; told = y.told; earlier = inr y.earlier; version = omega (arith, up, low); count = y.count; last = y.last; answered = y.answered })
 
-answered_told : (g : Bool) (b : PosOf) (r : List Body) → answered (cond g (Pos b ∷ []) [] ++ r) ≡ answered r
-answered_told false b r = refl
-answered_told true b r = refl
-
-answered_up : (g h : Bool) (es : List EntryOf) (r : List Body) → answered (cond g (cond h (Stable es ∷ []) []) [] ++ r) ≡ answered r
-answered_up false h es r = refl
-answered_up true false es r = refl
-answered_up true true es r = refl
-
-answered_down : (g : Bool) (f h : Option TopoOf) (r : List Body) → answered (cond g (topo_of f h) [] ++ r) ≡ answered r
-answered_down false f h r = refl
-answered_down true None None r = refl
-answered_down true None (Some t) r = refl
-answered_down true (Some t) h r = refl
-
 replied_answer : (c : CardOf) (q : ℕ) (k : Log) (g : Bool) (p : Place) (b : Body) (heard r : List Body) → on_port q k ≡ cond g (b ∷ heard) heard → answers_in r ≡ positions_in heard → Replied c q k r → Replied c q k (cond g (answer_on q p b) [] ++ r)
 replied_answer c q k false p b heard r e a old = old
 replied_answer c q k true p (Pos b) heard r e a old =
@@ -356,25 +355,25 @@ replied_staged c q k = record { first = inl (record { count = refl; answered = r
     one : (x : OnPort) (l : Log) → Replied c q l (sent c q l) → Replied c q (x ∷ l) (after_told c q x l (sent c q l))
     one x l s =
         let b = told_on (version c (x ∷ l)) (position c (x ∷ l)) q in
-        replied_same c q (x ∷ l) (sent c q l) (after_told c q x l (sent c q l)) (count_told (has_moved c x l) b (sent c q l)) (answered_told (has_moved c x l) b (sent c q l)) (replied_older c q x l (sent c q l) s)
+        replied_same c q (x ∷ l) (sent c q l) (after_told c q x l (sent c q l)) (over_told answers_in counting (has_moved c x l) b (sent c q l)) (over_told answered answering (has_moved c x l) b (sent c q l)) (replied_older c q x l (sent c q l) s)
 
     two : (x : OnPort) (l : Log) → Replied c q l (sent c q l) → Replied c q (x ∷ l) (after_answer c q x l (sent c q l))
     two x l s =
         replied_answer c q (x ∷ l) (x.port == q) (position c (x ∷ l)) x.body (on_port q l) (after_told c q x l (sent c q l)) refl
-        (count_told (has_moved c x l) (told_on (version c (x ∷ l)) (position c (x ∷ l)) q) (sent c q l) ∙ answers_sent c q l k) (one x l s)
+        (over_told answers_in counting (has_moved c x l) (told_on (version c (x ∷ l)) (position c (x ∷ l)) q) (sent c q l) ∙ answers_sent c q l k) (one x l s)
 
     three : (x : OnPort) (l : Log) → Replied c q l (sent c q l) → Replied c q (x ∷ l) (after_up c q x l (sent c q l))
     three x l s =
         let g = reports c x l in
         let h = (position c (x ∷ l)).port == q in
         let r = after_answer c q x l (sent c q l) in
-        replied_same c q (x ∷ l) r (after_up c q x l (sent c q l)) (count_up g h (report c (x ∷ l)) r) (answered_up g h (report c (x ∷ l)) r) (two x l s)
+        replied_same c q (x ∷ l) r (after_up c q x l (sent c q l)) (over_up answers_in counting g h (report c (x ∷ l)) r) (over_up answered answering g h (report c (x ∷ l)) r) (two x l s)
 
     four : (x : OnPort) (l : Log) → Replied c q l (sent c q l) → Replied c q (x ∷ l) (after_down c q x l (sent c q l))
     four x l s =
         let g = is_claimed (on_port q (x ∷ l)) in
         let r = after_up c q x l (sent c q l) in
-        replied_same c q (x ∷ l) r (after_down c q x l (sent c q l)) (count_down g (finish c l) (finish c (x ∷ l)) r) (answered_down g (finish c l) (finish c (x ∷ l)) r) (three x l s)
+        replied_same c q (x ∷ l) r (after_down c q x l (sent c q l)) (over_down answers_in counting g (finish c l) (finish c (x ∷ l)) r) (over_down answered answering g (finish c l) (finish c (x ∷ l)) r) (three x l s)
 
 -- all of these of one moment
 abbrev All_shown : CardOf → ℕ → Log → List Body → Type 0

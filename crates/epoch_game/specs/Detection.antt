@@ -9,6 +9,7 @@ use Rattle.an_base.specs.declared.body.Body.TheVariants.{Topo}
 use Rattle.epoch_core.specs.Log.{Log}
 use Rattle.epoch_core.specs.Epoch.{version, position, is_stable, own_entry, report, topology_of, sent}
 use Rattle.epoch_game.specs.Slice.{Earlier, Node, Slice, Names, Run}
+use Rattle.epoch_game.specs.Leaving.{WasStableRoot}
 
 -- r, and the lives that are reached from it by walks on which each life names the next one among its links
 pub data Reached (s : Slice) (r : LifeId) : LifeId → Type 0 where
@@ -109,12 +110,7 @@ pub record IsDetected (lives : List LifeId) (s : Slice) (r : LifeId) : Type 0 wh
 -- its entries are those of the lives that are reached from there
 pub record FinishedUnder (s : Slice) (x : LifeId) (t : TopoOf) : Type 0 where
   pub root : LifeId
-  pub node : Node
-  pub joined : s root ≡ Some node
-  pub moment : Log
-  pub earlier : Earlier moment node.log
-  pub stable : is_stable node.card moment ≡ true
-  pub is_root : (position node.card moment).root ≡ root
-  pub topology : t ≡ topology_of (report node.card moment)
+  pub was : WasStableRoot s root
+  pub topology : t ≡ topology_of (report was.node.card was.moment)
   pub reached : Reached s root x
   pub entries : (e : EntryOf) → (Contains t.entries e) ↔ (IsMemberEntry s root e)

@@ -1,6 +1,6 @@
 -- Each call of a book is one event of the world.
 
-use Rattle.std.specs.Prelude.{◌≡◌, ◌≢◌, ◌⊎◌, ◌+◌, ◌-◌, ◌^◌, ◌&&◌, not, ◌==◌, ◌<◌, ◌≤◌, ℕ, List, [], ◌∷◌, ◌++◌, map, length, slice_index_or, slice_set, cond, Bool, true, false, refl}
+use Rattle.std.specs.Prelude.{◌≡◌, ◌⊎◌, ◌+◌, ◌-◌, ◌^◌, ◌&&◌, not, ◌==◌, ◌<◌, ◌≤◌, ℕ, List, [], ◌∷◌, ◌++◌, map, length, slice_index_or, slice_set, cond, Bool, true, false, refl}
 use Rattle.std.specs.List.{range_with_len}
 use Rattle.std.proofs.Common.{sym, ◌∙◌, ap, subst, arith, true≢false, length-append, eq-eqb, ne_eqb, inl, inr}
 use Rattle.std.proofs.lemmas.Bool.{and_parts, cases_eq, ltb-true}
@@ -15,9 +15,9 @@ use Rattle.net_script.specs.Scripts.{ScriptOf, IsScript}
 use Rattle.table_build.proofs.MadeTables.{only_table}
 use Rattle.table_build.specs.Made.{table_of, number_in}
 use Rattle.table_build.specs.Tables.{TableOf}
-use Rattle.switch_core.specs.Bytes.{BytesOut, all_spelled}
+use Rattle.switch_core.specs.Bytes.{BytesOut}
 use Rattle.switch_core.specs.Steps.{loaded}
-use Rattle.switch_core.specs.Switch.{SwitchOf, finish_of, note_of}
+use Rattle.switch_core.specs.Switch.{finish_of, note_of}
 use Rattle.switch_core.specs.declared.switch.TableFor.{TableFor}
 use Rattle.fabric_state.specs.Fabric.{FabricOf, clock_due_at, count, full_hands, has_frame, is_external, is_full_at, is_switch, places, station}
 use Rattle.fabric_state.specs.declared.work.Work.{Work}
@@ -27,25 +27,20 @@ use Rattle.fabric_state.specs.Effects.{after_clock, after_command, after_handle,
 use Rattle.fabric_state.specs.Effects.{all_put_out, emptied, shows}
 use Rattle.fabric_state.specs.Starts.{begun_fabric, life_of, next_note_at, started_note}
 use Rattle.fabric_state.specs.Fits.{Fits}
-use Rattle.fabric_world.specs.World.{WorldOf, after_all, begun, effect, handled, loads_with, next_life, step, table_for, world_after}
-use Rattle.fabric_world.specs.Histories.{HistoryOf, AreLawful, IsLawful, fabric_of, last_port, last_taken, with_event, world_of}
+use Rattle.fabric_world.specs.World.{WorldOf, effect, handled, loads_with, next_life, table_for, world_after}
+use Rattle.fabric_world.specs.Histories.{HistoryOf, IsLawful, fabric_of, last_port, last_taken, with_event, world_of}
 use Rattle.fabric_world.specs.Sound.{AllMayCome}
 use Rattle.fabric_world.specs.Turns.{Handled, HasBytes, IsToLoad, TakesWork}
 use Rattle.fabric_book.specs.Kept.{IsKept, with_events}
-use Rattle.fabric_book.proofs.WorldFacts.{event_more, step_makes, begun_is, fits_after, work_may_come, world_script, place_sound, boot_most, command_fits, emptied_room, handle_may_come, ready_is, room_is, handled_parts}
+use Rattle.fabric_book.proofs.WorldFacts.{event_more, step_makes, begun_is, fits_after, work_may_come, world_script, place_sound, boot_most, command_fits, emptied_room, handle_may_come, lawful_more, ready_is, room_is, handled_parts}
 
 -- the fabric is as fabrics are
 pub fabric_fits : (f : FabricOf) (h : List Event) (taken : List ℕ) (room : ℕ) → IsKept f h taken room → Fits f
 fabric_fits f h taken room kept = subst Fits (sym kept.fabric_is) (fits_after f.script kept.script h)
 
 -- a lawful event at the end
-are_lawful-more : (w : WorldOf) (h : List Event) (e : Event) → AreLawful w h → is_lawful (after_all h w).fabric e ≡ true → AreLawful w (h ++ e ∷ [])
-are_lawful-more w [] e before lawful = (lawful, tt)
-are_lawful-more w (x ∷ h) e before lawful = (before.0, are_lawful-more (step w x) h e before.1 lawful)
-
 pub is_lawful-more : (script : ScriptOf) (h : List Event) (e : Event) → IsLawful script h → is_lawful (world_after script h).fabric e ≡ true → IsLawful script (h ++ e ∷ [])
-unfolding world_after
-is_lawful-more script h e before lawful = are_lawful-more (begun script) h e before lawful
+is_lawful-more = lawful_more
 
 -- the world after one more lawful event
 pub world_more : (script : ScriptOf) (h : List Event) (e : Event) → is_lawful (world_after script h).fabric e ≡ true → world_after script (h ++ e ∷ []) ≡ effect e (world_after script h)
@@ -150,13 +145,6 @@ restart_kept f h s taken room kept below lawful =
 -- a command but a restart
 command_makes : (script : ScriptOf) (e : Event) → IsCommandEvent script.wires e → is_restart e ≡ false → (w : WorldOf) → (effect e w).fabric ≡ after_command e w.fabric
 unfolding effect
-command_makes script (Fail s p) fits other w = refl
-command_makes script (Repair s p) fits other w = refl
-command_makes script (Lose s p n) fits other w = refl
-command_makes script (Again s p n) fits other w = refl
-command_makes script (Swap s p n) fits other w = refl
-command_makes script (Noise s p n) fits other w = refl
-command_makes script (Send from to) fits other w = refl
 command_makes script (Restart s) fits other w = absurd (true≢false other)
 command_makes script Tick fits other w = absurd fits
 command_makes script (Clock s) fits other w = absurd fits
@@ -164,6 +152,7 @@ command_makes script (Take s p) fits other w = absurd fits
 command_makes script (Handle s) fits other w = absurd fits
 command_makes script (Load s) fits other w = absurd fits
 command_makes script (Move k) fits other w = absurd fits
+command_makes script e fits other w = refl
 
 record IsPlain (f : FabricOf) (e : Event) : Type 0 where
   script : (after_command e f).script ≡ f.script
@@ -171,13 +160,6 @@ record IsPlain (f : FabricOf) (e : Event) : Type 0 where
   takes : (place port : ℕ) → last_port place port (e ∷ []) ≡ port
 
 command_plain : (f : FabricOf) (e : Event) → IsCommandEvent f.script.wires e → is_restart e ≡ false → IsPlain f e
-command_plain f (Fail s p) fits other = record { script = refl; events = refl; takes = λ place port. refl }
-command_plain f (Repair s p) fits other = record { script = refl; events = refl; takes = λ place port. refl }
-command_plain f (Lose s p n) fits other = record { script = refl; events = refl; takes = λ place port. refl }
-command_plain f (Again s p n) fits other = record { script = refl; events = refl; takes = λ place port. refl }
-command_plain f (Swap s p n) fits other = record { script = refl; events = refl; takes = λ place port. refl }
-command_plain f (Noise s p n) fits other = record { script = refl; events = refl; takes = λ place port. refl }
-command_plain f (Send from to) fits other = record { script = refl; events = refl; takes = λ place port. refl }
 command_plain f (Restart s) fits other = absurd (true≢false other)
 command_plain f Tick fits other = absurd fits
 command_plain f (Clock s) fits other = absurd fits
@@ -185,6 +167,7 @@ command_plain f (Take s p) fits other = absurd fits
 command_plain f (Handle s) fits other = absurd fits
 command_plain f (Load s) fits other = absurd fits
 command_plain f (Move k) fits other = absurd fits
+command_plain f e fits other = record { script = refl; events = refl; takes = λ place port. refl }
 
 pub command_kept : (f : FabricOf) (h : List Event) (e : Event) (taken : List ℕ) (room : ℕ) → IsKept f h taken room → is_lawful f e ≡ true → IsCommandEvent f.script.wires e → is_restart e ≡ false
     → IsKept (after_command e f) (h ++ e ∷ []) taken room
@@ -333,6 +316,9 @@ taken_here f es taken room s d kept below =
 module _ (f : FabricOf) (es : List Event) (taken : List ℕ) (room : ℕ) (kept : IsKept f es taken room) (h : HistoryOf) (view_is : record { script = f.script; events = es } ≡ h) where
   pub good_at : IsScript h.script
   good_at = subst IsScript (script_at f es taken room kept h view_is) kept.script
+
+  pub history_at : IsLawful h.script h.events
+  history_at = subst (λ (x : HistoryOf). IsLawful x.script x.events) view_is kept.lawful
 
   pub below_at : (s : ℕ) → s < length h.script.wires.switches → s < count f
   below_at s below = subst (λ (x : ScriptOf). s < length x.wires.switches) (sym (script_at f es taken room kept h view_is)) below

@@ -1,14 +1,14 @@
 -- What the driver does is its own to do.
 
-use Rattle.std.specs.Prelude.{◌≡◌, ◌+◌, ℕ, List, [], ◌∷◌, cond, Option, Some, None, Bool, true, false, refl}
-use Rattle.std.proofs.Common.{sym, ◌∙◌, ap, subst, inl, inr, true≢false}
+use Rattle.std.specs.Prelude.{◌≡◌, ◌+◌, ◌++◌, ℕ, List, [], ◌∷◌, cond, Option, Some, None, Bool, true, false, refl}
+use Rattle.std.proofs.Common.{sym, ◌∙◌, subst, inl, inr, true≢false}
 use Rattle.std.proofs.lemmas.List.{append-nil}
 use Rattle.std.proofs.lemmas.List.Elements.{All-head}
 use Rattle.net_script.specs.Scripts.{ScriptOf, IsScript}
 use Rattle.switch_core.specs.declared.switch.TableFor.{TableFor}
 use Rattle.fabric_turn.specs.History.{AppendsAtMostOne}
 use Rattle.fabric_world.specs.declared.ask.LoadReply.{LoadReply}
-use Rattle.fabric_world.specs.Histories.{owner_of}
+use Rattle.fabric_world.specs.Histories.{HistoryOf, IsLawful, fabric_of, owner_of}
 use Rattle.fabric_world.specs.Sound.{AllMayCome}
 use Rattle.fabric_world.specs.Turns.{Drives, LoadsOrNot}
 use Rattle.fabric_world.specs.World.{world_after}
@@ -17,30 +17,23 @@ use Rattle.an_base.specs.declared.event.Event.TheVariants.{Tick, Clock, Take, Ha
 use Rattle.net_script.specs.Commands.{is_restart}
 use Rattle.host_traffic.specs.Packets.{first_packet}
 use Rattle.fabric_state.specs.declared.ending.Ending.{Ending}
+use Rattle.fabric_state.specs.declared.ending.Ending.TheVariants as ending
 use Rattle.fabric_state.specs.declared.work.Drive.{Drive}
 use Rattle.fabric_state.specs.declared.work.Drive.TheVariants as drive
 use Rattle.fabric_state.specs.Fabric.{FabricOf, due_command}
-use Rattle.fabric_state.specs.Lawful.{is_barred, is_command, is_lawful, is_tick_due}
+use Rattle.fabric_state.specs.Lawful.{is_barred, is_lawful, is_tick_due}
 use Rattle.fabric_state.specs.Agree.{ending_of}
 use Rattle.fabric_state.specs.Choices.{command_or_move, drive_by, event_of_drive, move_or_tick, next_drive, tick_or_wait}
 use Rattle.fabric_book.specs.Kept.{IsDrivers, IsPlainCommand}
-use Rattle.fabric_book.proofs.WorldFacts.{command_fits, due_is_command, world_script}
+use Rattle.fabric_world.proofs.SoloLemmas.{told_end}
+use Rattle.fabric_settling.specs.Settling.{HasTime, SettlesSoon}
+use Rattle.fabric_settling.proofs.Whole.{ends_in_time, settles_soon}
+use Rattle.fabric_book.proofs.WorldFacts.{command_fits, due_is_command, lawful_more, world_script}
 
 pub plain_is : (f : FabricOf) (e : Event) → IsPlainCommand f e → IsDrivers f e
 plain_is f Tick is = tt
 plain_is f (Move packet) is = tt
-plain_is f (Clock s) is = is
-plain_is f (Take s p) is = is
-plain_is f (Handle s) is = is
-plain_is f (Load s) is = is
-plain_is f (Fail s p) is = is
-plain_is f (Repair s p) is = is
-plain_is f (Lose s p n) is = is
-plain_is f (Again s p n) is = is
-plain_is f (Swap s p n) is = is
-plain_is f (Noise s p n) is = is
-plain_is f (Send from to) is = is
-plain_is f (Restart s) is = is
+plain_is f e is = is
 
 did : (f : FabricOf) (a b : Event) → IsDrivers f a → drive.Did a ≡ drive.Did b → IsDrivers f b
 did f a b is same = let eq : a ≡ b = cc in subst (IsDrivers f) eq is
@@ -76,22 +69,22 @@ drive_lawful f e all is =
     let now : AllMayCome f (event_of_drive (drive.Did e)) = subst (λ (d : Drive). AllMayCome f (event_of_drive d)) is all in
     All-head (λ (x : Event). is_lawful f x ≡ true) e [] now
 
+-- so the history behind it settles as soon as each lawful one
+pub driven_soon : (h : HistoryOf) → IsScript h.script → IsLawful h.script h.events → (e : Event) → is_lawful (fabric_of h) e ≡ true → SettlesSoon h.script (h.events ++ e ∷ [])
+driven_soon h kept lawful e may = settles_soon h.script kept (h.events ++ e ∷ []) (lawful_more h.script h.events e lawful may)
+
+-- and an unsettled end is not told of a history that had the time to settle
+pub unsettled_late : (h : HistoryOf) → IsScript h.script → IsLawful h.script h.events → next_drive (fabric_of h) ≡ drive.Ended ending.Unsettled → ¬ HasTime h.script h.events
+unsettled_late h kept lawful is time = let f = fabric_of h in ends_in_time h.script kept h.events lawful time (told_end f (ending_of f) ending.Unsettled is)
+
 -- and belongs to the driver
 pub driver_owns : (f : FabricOf) (e : Event) → IsScript f.script → IsDrivers f e → owner_of e ≡ 0
-driver_owns f Tick kept is = refl
-driver_owns f (Move packet) kept is = refl
-driver_owns f (Fail s p) kept is = refl
-driver_owns f (Repair s p) kept is = refl
-driver_owns f (Lose s p n) kept is = refl
-driver_owns f (Again s p n) kept is = refl
-driver_owns f (Swap s p n) kept is = refl
-driver_owns f (Noise s p n) kept is = refl
-driver_owns f (Send from to) kept is = refl
 driver_owns f (Restart s) kept is = absurd (true≢false is.other)
 driver_owns f (Clock s) kept is = absurd (command_fits f (Clock s) kept is.command)
 driver_owns f (Take s p) kept is = absurd (command_fits f (Take s p) kept is.command)
 driver_owns f (Handle s) kept is = absurd (command_fits f (Handle s) kept is.command)
 driver_owns f (Load s) kept is = absurd (command_fits f (Load s) kept is.command)
+driver_owns f e kept is = refl
 
 -- What a load and the driver append
 pub load_appends : (b : Bool) (table : TableFor) (answer : LoadReply) (s c : ℕ) (h after : List Event) → c ≡ s + 1 → LoadsOrNot b table answer s h after → AppendsAtMostOne owner_of c h after

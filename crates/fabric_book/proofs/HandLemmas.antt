@@ -1,12 +1,10 @@
 -- What a switch does with what it has in hand, and with a table that is due.
 
-use Rattle.std.specs.Prelude.{◌≡◌, ◌+◌, ◌++◌, ◌∷◌, ◌==◌, ◌<◌, ◌≤◌, ◌^◌, ◌&&◌, ℕ, not, List, [], All, length, cond, slice_index_or, Option, Some, None, is_some, option_copied, Bool, true, false, refl}
+use Rattle.std.specs.Prelude.{◌≡◌, ◌++◌, ◌∷◌, ◌==◌, ◌<◌, ◌^◌, ◌&&◌, ℕ, not, List, [], length, cond, Option, Some, None, is_some, option_copied, Bool, true, false, refl}
 use Rattle.std.specs.List.{flat_map}
-use Rattle.std.proofs.Common.{Bor, sym, ◌∙◌, ap, subst, append_assoc, arith, true≢false}
+use Rattle.std.proofs.Common.{Bor, sym, ◌∙◌, ap, subst, arith, true≢false}
 use Rattle.std.proofs.lemmas.Bool.{and_parts, ltb-true}
 use Rattle.std.proofs.lemmas.Option.{none-some}
-use Rattle.std.proofs.lemmas.List.{append-nil}
-use Rattle.an_base.specs.Numbers.{AreNumbers}
 use Rattle.an_base.specs.Ports.{NoteOf}
 use Rattle.an_base.specs.Values.{LifeId, TopoOf}
 use Rattle.an_base.specs.declared.event.Event.TheVariants.{Handle, Load}
@@ -18,11 +16,10 @@ use Rattle.frame_codec.proofs.Decoding.{frame_again, frame_takes}
 use Rattle.frame_codec.proofs.Readers.{IsBytes}
 use Rattle.frame_codec.specs.Reading.{frame_of}
 use Rattle.port_monitor.specs.Histories.{externals}
-use Rattle.topo_graph.specs.Topology.{IsGraph}
 use Rattle.wire_set.specs.declared.side.Put.{Put}
 use Rattle.table_build.proofs.MadeTables.{only_table}
 use Rattle.table_build.specs.Made.{number_in, table_of}
-use Rattle.table_build.specs.Tables.{IsTableOf, TableOf}
+use Rattle.table_build.specs.Tables.{TableOf}
 use Rattle.switch_core.specs.Bytes.{BytesOut, OutOf, all_spelled}
 use Rattle.switch_core.specs.Kept.{Handles, IsLoadDue, IsWorking, KeptOf, Loads, StandsFor, Ticks}
 use Rattle.switch_core.specs.Steps.{Step, loaded}
@@ -31,7 +28,7 @@ use Rattle.switch_core.specs.declared.switch.TableFor.{TableFor}
 use Rattle.fabric_state.specs.declared.hand.Hand.TheVariants as hand
 use Rattle.fabric_state.specs.declared.hand.Hand.{Hand}
 use Rattle.fabric_state.specs.Effects.{all_put_becomes, wires_at_hand}
-use Rattle.fabric_state.specs.Fabric.{count, full_hands, held_bytes, is_empty, is_full_at, is_switch, load_due_at, station}
+use Rattle.fabric_state.specs.Fabric.{count, held_bytes, is_empty, is_full_at, is_switch, load_due_at, station}
 use Rattle.fabric_state.specs.Fits.{IsHandPort}
 use Rattle.fabric_state.specs.Lawful.{is_lawful}
 use Rattle.fabric_world.specs.Lines.{finish_line, finish_lines, has_joined, join_lines, lines_of, load_lines, lost_lines, no_frame_lines, port_line, spent_lines}

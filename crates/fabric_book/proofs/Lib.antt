@@ -1,4 +1,3 @@
-pub mod UnspentLemmas
 pub mod WorldFacts
 pub mod PutLemmas
 pub mod BookLemmas

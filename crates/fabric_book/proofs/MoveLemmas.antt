@@ -1,6 +1,6 @@
 -- A packet that is under way makes a hop, which is told.
 
-use Rattle.std.specs.Prelude.{◌≡◌, ◌==◌, ◌++◌, ◌∷◌, ◌<◌, ℕ, List, [], length, Option, Some, None, is_some, true, false, refl}
+use Rattle.std.specs.Prelude.{◌≡◌, ◌==◌, ◌++◌, ◌∷◌, ◌<◌, ℕ, List, [], Option, Some, None, is_some, true, refl}
 use Rattle.std.specs.Option.{option_map}
 use Rattle.std.proofs.Common.{sym, ◌∙◌, ap, subst, true≢false}
 use Rattle.std.proofs.lemmas.Bool.{eqb-true}
@@ -21,7 +21,7 @@ use Rattle.fabric_world.specs.declared.line.Line.{Line}
 use Rattle.fabric_world.proofs.NextLemmas.{found_in}
 use Rattle.fabric_book.specs.Told.{told_of_hop}
 use Rattle.fabric_book.proofs.TellLemmas.{hop_is}
-use Rattle.fabric_book.proofs.WorldFacts.{fits_after, ready_is, world_script}
+use Rattle.fabric_book.proofs.WorldFacts.{fits_after, ready_is}
 
 -- A packet with this number is at this switch, by this port.
 pub record IsUnderWay (f : FabricOf) (number s entry : ℕ) : Type 0 where

@@ -1,42 +1,32 @@
 -- The switches of a network stand for those of the world.
 
-use Rattle.std.specs.Prelude.{◌≡◌, ◌≢◌, ◌⊎◌, ◌+◌, ◌==◌, ◌<◌, ◌≤◌, ◌&&◌, ℕ, not, List, [], ◌∷◌, ◌++◌, All, length, slice_index, slice_index_or, slice_set, Bool, Some, true, false, refl}
-use Rattle.std.specs.List.{range_with_len}
-use Rattle.std.proofs.Common.{sym, ◌∙◌, ap, subst, arith, inl, inr, eq-eqb, length-append, true≢false}
+use Rattle.std.specs.Prelude.{◌≡◌, ◌≢◌, ◌⊎◌, ◌+◌, ◌<◌, ◌≤◌, ◌&&◌, ℕ, not, List, [], ◌∷◌, ◌++◌, length, slice_index_or, slice_set, Bool, true, false, refl}
+use Rattle.std.proofs.Common.{sym, ◌∙◌, ap, subst, arith, inl, inr, length-append, true≢false}
 use Rattle.std.proofs.lemmas.Bool.{and_parts, cases_eq, ltb-true}
 use Rattle.std.proofs.lemmas.List.{append-nil, get_or-set_other, get_or-set_same, get_or_default, length-set}
 use Rattle.std.proofs.lemmas.List.Elements.{All-nil, All-cons}
 use Rattle.std.proofs.lemmas.List.FromFn.{get_or-map-range_with_len, length-map-range_with_len}
-use Rattle.an_base.specs.Values.{LifeId}
 use Rattle.an_base.specs.declared.event.Event.{Event}
 use Rattle.an_base.specs.declared.event.Event.TheVariants.{Tick, Clock, Take, Handle, Load, Fail, Repair, Lose, Again, Swap, Noise, Send, Move, Restart}
-use Rattle.net_graph.specs.Wires.{Wires, had_of, network}
+use Rattle.net_graph.specs.Wires.{network}
 use Rattle.net_script.specs.Scripts.{ScriptOf, IsScript}
-use Rattle.wire_set.specs.WireState.{hand_of}
-use Rattle.switch_core.specs.Switch.{SwitchOf, StartOf, at_port, note_of, started_as}
-use Rattle.switch_core.specs.Steps.{loaded}
+use Rattle.switch_core.specs.Switch.{SwitchOf}
 use Rattle.switch_core.specs.Kept.{KeptOf, StandsFor}
-use Rattle.fabric_state.specs.declared.hand.Hand.{Hand}
-use Rattle.fabric_state.specs.declared.hand.Hand.TheVariants as hand
-use Rattle.fabric_state.specs.Fabric.{FabricOf, StationOf, clock_due_at, count, full_hands, is_full_at, is_switch, load_due_at, station, held_bytes, vacant}
+use Rattle.fabric_state.specs.Fabric.{FabricOf, StationOf, clock_due_at, count, is_full_at, is_switch, load_due_at, station, held_bytes, vacant}
 use Rattle.fabric_state.specs.Choices.{next_drive}
 use Rattle.fabric_state.specs.Lawful.{is_command, is_lawful}
 use Rattle.fabric_state.specs.declared.work.Drive.{Drive}
 use Rattle.fabric_state.specs.declared.work.Drive.TheVariants as drive
-use Rattle.fabric_state.specs.Starts.{life_of, next_life_at}
-use Rattle.fabric_world.specs.World.{WorldOf, begun, effect, first_station, handled, handles, start_of, started_at, world_after}
+use Rattle.fabric_world.specs.World.{WorldOf, begun, first_station, start_of, world_after}
 use Rattle.net_script.specs.Commands.{is_restart}
 use Rattle.fabric_world.specs.Turns.{Drives}
 use Rattle.fabric_world.specs.Histories.{HistoryOf, IsLawful, fabric_of, owner_of, with_event, world_of}
 use Rattle.fabric_book.specs.Kept.{IsPlainCommand, with_events as more_events}
 use Rattle.fabric_book.specs.Nets.{AreStarted, HasFrame, IsNetKept, IsSameOrNext, IsStarted, IsSwitchKept, NetOf, PowerOf, all_powers, history_of, power_of, start_with, with_events, with_step}
 use Rattle.fabric_book.proofs.DriveLemmas.{drive_lawful, driven, driver_owns, plain_is}
-use Rattle.fabric_book.proofs.WorldFacts.{drive_may_come, fits_after, world_script, event_counts, ready_is, station_stays, switch_stays, hand_stays}
+use Rattle.fabric_world.proofs.CountLemmas.{world_counts}
+use Rattle.fabric_book.proofs.WorldFacts.{drive_may_come, fits_after, world_script, ready_is, station_stays, switch_stays, hand_stays}
 use Rattle.fabric_book.proofs.BookLemmas.{is_lawful-more, restart_below, take_below, world_more}
-
--- how many events there were
-pub world_counts : (script : ScriptOf) → IsScript script → (h : List Event) (e : Event) → is_lawful (world_after script h).fabric e ≡ true → (world_after script (h ++ e ∷ [])).fabric.events ≡ (world_after script h).fabric.events + 1
-world_counts script kept h e lawful = ap (λ (w : WorldOf). w.fabric.events) (world_more script h e lawful) ∙ event_counts script kept h e lawful
 
 -- what a switch is started with stays
 start_stays : (script : ScriptOf) (h more : List Event) (place : ℕ) (x y : SwitchOf) → x.life.boot ≡ y.life.boot → start_of (world_after script more).fabric.script place x.life.boot ≡ start_of (world_after script h).fabric.script place y.life.boot
@@ -81,15 +71,7 @@ pub net_on : (h : HistoryOf) (e : Event) (lost now : Bool) (power : List PowerOf
     → IsNetKept (with_event e h) now power more filled
 net_on h e lost now power switches more buffers filled kept lawful switch_count buffer_count each =
     let next = next_is h e kept.script kept.lawful kept.counted lawful in
-    record {
-      script = kept.script;
-      lawful = next.lawful;
-      counted = next.counted;
-      powers_are = kept.powers_are;
-      switch_count = switch_count ∙ kept.switch_count;
-      buffer_count = buffer_count ∙ kept.buffer_count;
-      each = each;
-    }
+    assumption (next, switch_count ∙ kept.switch_count, buffer_count ∙ kept.buffer_count, each, kept)
 
 -- the driver's
 pub net_driven : (h : HistoryOf) (e : Event) (lost : Bool) (power : List PowerOf) (switches : List KeptOf) (buffers : List (List ℕ)) → IsNetKept h lost power switches buffers → is_lawful (fabric_of h) e ≡ true → owner_of e ≡ 0
@@ -136,25 +118,21 @@ net_filled h e lost power switches buffers kept here lawful s bytes below owner 
 -- no event, where the hand of a switch is empty, whose buffer has these bytes then
 pub net_refilled : (h : HistoryOf) (lost : Bool) (power : List PowerOf) (switches : List KeptOf) (buffers : List (List ℕ)) → IsNetKept h lost power switches buffers → (s : ℕ) (bytes : List ℕ) → s < length h.script.wires.switches
     → ((switch : KeptOf) (buffer : List ℕ) → IsSwitchKept (world_of h) s switch buffer → IsSwitchKept (world_of h) s switch bytes) → IsNetKept h lost power switches (slice_set buffers s bytes)
-net_refilled h lost power switches buffers kept s bytes below fills = record {
-  script = kept.script;
-  lawful = kept.lawful;
-  counted = kept.counted;
-  powers_are = kept.powers_are;
-  switch_count = kept.switch_count;
-  buffer_count = length-set buffers s bytes ∙ kept.buffer_count;
-  each = λ here place low switch buffer. by here place low switch buffer (cases_eq place s);
-} where
-  by : lost ≡ false → (place : ℕ) → place < length h.script.wires.switches → (switch : KeptOf) (buffer : List ℕ) → (place ≡ s) ⊎ (place ≡ s → ⊥)
-      → IsSwitchKept (world_of h) place (slice_index_or switches place switch) (slice_index_or (slice_set buffers s bytes) place buffer)
-  by here place low switch buffer (inl same) =
-      let much = kept.buffer_count in
-      let bytes_are = get_or-set_same buffers s bytes buffer (omega (arith, below, much)) in
-      subst (λ (k : ℕ). IsSwitchKept (world_of h) k (slice_index_or switches k switch) (slice_index_or (slice_set buffers s bytes) k buffer)) (sym same)
-      (subst (λ (xs : List ℕ). IsSwitchKept (world_of h) s (slice_index_or switches s switch) xs) (sym bytes_are)
-      (fills (slice_index_or switches s switch) (slice_index_or buffers s buffer) (kept.each here s below switch buffer)))
-  by here place low switch buffer (inr other) =
-      subst (λ (xs : List ℕ). IsSwitchKept (world_of h) place (slice_index_or switches place switch) xs) (sym (get_or-set_other buffers s place bytes buffer other)) (kept.each here place low switch buffer)
+net_refilled h lost power switches buffers kept s bytes below fills =
+    let each : lost ≡ false → (place : ℕ) → place < length h.script.wires.switches → (switch : KeptOf) (buffer : List ℕ) → IsSwitchKept (world_of h) place (slice_index_or switches place switch) (slice_index_or (slice_set buffers s bytes) place buffer)
+    = λ here place low switch buffer. by here place low switch buffer (cases_eq place s) in
+    assumption (length-set buffers s bytes ∙ kept.buffer_count, each, kept)
+  where
+    by : lost ≡ false → (place : ℕ) → place < length h.script.wires.switches → (switch : KeptOf) (buffer : List ℕ) → (place ≡ s) ⊎ (place ≡ s → ⊥)
+        → IsSwitchKept (world_of h) place (slice_index_or switches place switch) (slice_index_or (slice_set buffers s bytes) place buffer)
+    by here place low switch buffer (inl same) =
+        let much = kept.buffer_count in
+        let bytes_are = get_or-set_same buffers s bytes buffer (omega (arith, below, much)) in
+        subst (λ (k : ℕ). IsSwitchKept (world_of h) k (slice_index_or switches k switch) (slice_index_or (slice_set buffers s bytes) k buffer)) (sym same)
+        (subst (λ (xs : List ℕ). IsSwitchKept (world_of h) s (slice_index_or switches s switch) xs) (sym bytes_are)
+        (fills (slice_index_or switches s switch) (slice_index_or buffers s buffer) (kept.each here s below switch buffer)))
+    by here place low switch buffer (inr other) =
+        subst (λ (xs : List ℕ). IsSwitchKept (world_of h) place (slice_index_or switches place switch) xs) (sym (get_or-set_other buffers s place bytes buffer other)) (kept.each here place low switch buffer)
 
 -- a worker's, whose switch is this one then
 pub net_switched : (h : HistoryOf) (e : Event) (lost : Bool) (power : List PowerOf) (switches : List KeptOf) (buffers : List (List ℕ)) → IsNetKept h lost power switches buffers → lost ≡ false → is_lawful (fabric_of h) e ≡ true
@@ -215,15 +193,10 @@ net_as h g lost now power switches more buffers filled kept books losts all full
 -- where memory was wanting nothing is known of the switches
 pub net_lost : (h : HistoryOf) (lost : Bool) (power : List PowerOf) (switches more : List KeptOf) (buffers filled : List (List ℕ)) → IsNetKept h lost power switches buffers
     → length more ≡ length switches → length filled ≡ length buffers → IsNetKept h true power more filled
-net_lost h lost power switches more buffers filled kept all full = record {
-  script = kept.script;
-  lawful = kept.lawful;
-  counted = kept.counted;
-  powers_are = kept.powers_are;
-  switch_count = all ∙ kept.switch_count;
-  buffer_count = full ∙ kept.buffer_count;
-  each = λ (here : true ≡ false). absurd (true≢false here);
-}
+net_lost h lost power switches more buffers filled kept all full =
+    let each : true ≡ false → (place : ℕ) → place < length h.script.wires.switches → (switch : KeptOf) (buffer : List ℕ) → IsSwitchKept (world_of h) place (slice_index_or more place switch) (slice_index_or filled place buffer)
+    = λ here. absurd (true≢false here) in
+    assumption (all ∙ kept.switch_count, full ∙ kept.buffer_count, each, kept)
 
 -- there is a station at the place of each switch
 pub within_count : (h : HistoryOf) (s : ℕ) → s < length h.script.wires.switches → s < count (fabric_of h)

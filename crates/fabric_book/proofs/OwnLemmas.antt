@@ -1,6 +1,6 @@
 -- The switch at a place after its own event stands for that of the world.
 
-use Rattle.std.specs.Prelude.{◌≡◌, ◌+◌, ◌==◌, ◌<◌, ◌≤◌, ℕ, List, [], ◌∷◌, ◌++◌, length, slice_index_or, slice_set, cond, Bool, Option, Some, None, true, false, refl}
+use Rattle.std.specs.Prelude.{◌≡◌, ◌+◌, ◌<◌, ℕ, List, [], ◌∷◌, ◌++◌, length, slice_index_or, slice_set, Option, Some, true, false, refl}
 use Rattle.std.proofs.Common.{sym, ◌∙◌, ap, subst, arith, eq-eqb}
 use Rattle.std.proofs.lemmas.List.{get_or-set_same}
 use Rattle.an_base.specs.Ports.{NoteOf}
@@ -9,7 +9,7 @@ use Rattle.an_base.specs.declared.event.Event.{Event}
 use Rattle.an_base.specs.declared.event.Event.TheVariants.{Clock, Take, Handle, Load, Restart}
 use Rattle.net_script.specs.Scripts.{ScriptOf, IsScript}
 use Rattle.table_build.specs.Made.{number_in}
-use Rattle.switch_core.specs.Switch.{SwitchOf, StartOf, at_port, finish_of, note_of, started_as}
+use Rattle.switch_core.specs.Switch.{SwitchOf, at_port, finish_of, note_of, started_as}
 use Rattle.switch_core.specs.Steps.{loaded}
 use Rattle.switch_core.specs.Kept.{KeptOf, StandsFor}
 use Rattle.fabric_state.specs.declared.hand.Hand.{Hand}

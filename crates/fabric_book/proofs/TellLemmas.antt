@@ -23,9 +23,8 @@ use Rattle.frame_codec.specs.Reading.{frame_of}
 use Rattle.port_monitor.specs.Histories.{externals}
 use Rattle.wire_set.specs.declared.side.Put.{Put}
 use Rattle.wire_set.specs.WireState.{WiresOf, is_link, place as port_place, side_at, what_becomes, wire_out}
-use Rattle.switch_core.specs.Bytes.{BytesOut, all_spelled}
+use Rattle.switch_core.specs.Bytes.{BytesOut}
 use Rattle.switch_core.specs.Switch.{SwitchOf, note_of}
-use Rattle.switch_core.specs.Steps.{Step}
 use Rattle.fabric_state.specs.declared.hand.Hand.{Hand}
 use Rattle.fabric_state.specs.declared.hand.Hand.TheVariants as hand
 use Rattle.fabric_state.specs.PortStates.{state_code}

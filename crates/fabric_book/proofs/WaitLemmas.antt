@@ -1,6 +1,6 @@
 -- Where no worker has anything to do, the driver does not wait.
 
-use Rattle.std.specs.Prelude.{◌≡◌, ◌+◌, ◌-◌, ◌&&◌, ◌||◌, ◌<◌, ◌≤◌, ℕ, zero, suc, nat_lt, nat_le, not, List, [], ◌∷◌, find, length, cond, slice_index_or, Option, Some, None, is_some, Bool, true, false, refl}
+use Rattle.std.specs.Prelude.{◌≡◌, ◌-◌, ◌&&◌, ◌<◌, ◌≤◌, ℕ, zero, suc, nat_lt, nat_le, not, List, [], ◌∷◌, find, length, cond, slice_index_or, Option, Some, None, is_some, Bool, true, false, refl}
 use Rattle.std.specs.List.{range_with_len}
 use Rattle.std.specs.Option.{option_or}
 use Rattle.std.proofs.Common.{sym, ◌∙◌, ap, subst, arith, true≢false}
@@ -8,19 +8,17 @@ use Rattle.std.proofs.lemmas.Bool.{and_parts, and_from, or_parts, leb-true, lt-l
 use Rattle.std.proofs.lemmas.List.FromFn.{get_or-range_with_len}
 use Rattle.an_base.specs.declared.event.Event.{Event}
 use Rattle.an_base.specs.declared.event.Event.TheVariants.{Tick, Clock, Take, Handle, Load, Fail, Repair, Lose, Again, Swap, Noise, Send, Move, Restart}
-use Rattle.net_script.specs.Commands.{IsCommandEvent, is_restart}
+use Rattle.net_script.specs.Commands.{is_restart}
 use Rattle.net_script.specs.Scripts.{ScriptOf, IsScript}
 use Rattle.port_monitor.specs.Histories.{externals}
 use Rattle.host_traffic.specs.Packets.{PacketOf, first_packet, packet_of}
 use Rattle.fabric_state.specs.declared.ending.Ending.{Ending}
-use Rattle.fabric_state.specs.declared.work.Work.{Work}
 use Rattle.fabric_state.specs.declared.work.Work.TheVariants as work
 use Rattle.fabric_state.specs.declared.work.Why.TheVariants as why
-use Rattle.fabric_state.specs.declared.work.Drive.{Drive}
 use Rattle.fabric_state.specs.declared.work.Drive.TheVariants as drive
 use Rattle.fabric_state.specs.Fabric.{FabricOf, clock_due_at, due_command, has_frame, is_external, is_full_at, is_some_spent, is_switch, load_due_at, room, samples_of}
 use Rattle.fabric_state.specs.Agree.{ending_of}
-use Rattle.fabric_state.specs.Lawful.{is_barred, is_command, is_handle, is_lawful, is_ready, is_tick_due}
+use Rattle.fabric_state.specs.Lawful.{is_barred, is_command, is_handle, is_lawful, is_tick_due}
 use Rattle.fabric_state.specs.Starts.{next_life_at}
 use Rattle.fabric_state.specs.Choices.{command_or_move, drive_by, event_of_work, frame_work, move_or_tick, next_drive, next_port, next_work, port_above, tick_or_wait}
 use Rattle.fabric_world.specs.World.{WorldOf, world_after}

@@ -1,13 +1,13 @@
 -- A switch whose hand is empty takes its next work, and the turn of a worker.
 
-use Rattle.std.specs.Prelude.{◌≡◌, ◌⊎◌, ◌+◌, ◌++◌, ◌∷◌, ◌<◌, ◌≤◌, ℕ, nat_lt, List, [], All, length, cond, slice_index_or, slice_set, Option, Some, None, Bool, true, false, refl}
+use Rattle.std.specs.Prelude.{◌≡◌, ◌+◌, ◌++◌, ◌∷◌, ◌<◌, ◌≤◌, ℕ, nat_lt, List, [], length, cond, slice_index_or, slice_set, Option, Some, None, Bool, true, false, refl}
 use Rattle.std.proofs.Common.{sym, ◌∙◌, ap, subst, arith, inl, inr, length-append}
 use Rattle.std.proofs.lemmas.List.{append-nil, length-set}
 use Rattle.std.proofs.lemmas.List.Elements.{All-head}
 use Rattle.an_base.specs.Values.{LifeId}
 use Rattle.an_base.specs.declared.event.Event.{Event}
 use Rattle.an_base.specs.declared.event.Event.TheVariants.{Clock, Take, Handle, Load, Restart}
-use Rattle.net_script.specs.Scripts.{ScriptOf, IsScript}
+use Rattle.net_script.specs.Scripts.{ScriptOf}
 use Rattle.switch_core.specs.Kept.{KeptOf}
 use Rattle.fabric_state.specs.declared.work.Why.{Why}
 use Rattle.fabric_state.specs.declared.work.Why.TheVariants as why
@@ -24,7 +24,7 @@ use Rattle.fabric_world.specs.Sound.{AllMayCome}
 use Rattle.fabric_world.specs.Turns.{HasBytes, TakesWork}
 use Rattle.fabric_world.specs.World.{WorldOf}
 use Rattle.fabric_book.specs.Kept.{with_events}
-use Rattle.fabric_book.specs.Nets.{IsNetKept, IsStarted, IsSwitchKept, NetOf, PowerOf, history_of, start_with}
+use Rattle.fabric_book.specs.Nets.{IsNetKept, IsStarted, NetOf, PowerOf, history_of, start_with}
 use Rattle.fabric_book.specs.Nets.{with_events as more_events}
 use Rattle.fabric_book.proofs.NetLemmas.{book_at, goes_at, net_as, net_filled, net_lost_on, net_refilled, net_room, net_switched, power_here}
 use Rattle.fabric_book.proofs.OwnLemmas.{clock_own, refill_own, restart_own, take_own}

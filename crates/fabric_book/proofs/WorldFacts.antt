@@ -1,35 +1,32 @@
 -- What is cited of the world and of its fabric.
 
-use Rattle.std.specs.Prelude.{◌≡◌, ◌≢◌, ◌+◌, ◌<◌, ◌≤◌, ℕ, List, [], ◌∷◌, ◌++◌, All, length, not, Option, is_some, Bool, Some, None, true, false, refl}
+use Rattle.std.specs.Prelude.{◌≡◌, ◌≢◌, ◌+◌, ◌<◌, ◌≤◌, ℕ, List, [], ◌∷◌, ◌++◌, All, length, Option, is_some, Bool, Some, None, true, false, refl}
 use Rattle.std.specs.Option.{option_map_or}
 use Rattle.std.proofs.Common.{sym, ◌∙◌, ap, arith, true≢false}
 use Rattle.an_base.specs.Ports.{NoteOf}
-use Rattle.an_base.specs.Values.{TopoOf}
 use Rattle.an_base.specs.declared.event.Event.{Event}
 use Rattle.an_base.specs.declared.event.Event.TheVariants.{Tick, Clock, Take, Handle, Load, Fail, Repair, Lose, Again, Swap, Noise, Send, Move, Restart}
-use Rattle.net_script.specs.Commands.{IsCommandEvent, is_restart}
+use Rattle.net_script.specs.Commands.{IsCommandEvent}
 use Rattle.net_script.specs.Scripts.{ScriptOf, IsScript, restarts_of}
 use Rattle.wire_set.specs.WireState.{hand_of}
 use Rattle.switch_core.specs.Bytes.{BytesOut}
-use Rattle.switch_core.specs.Switch.{finish_of}
-use Rattle.fabric_state.specs.declared.hand.Hand.{Hand}
 use Rattle.fabric_state.specs.declared.hand.Hand.TheVariants as hand
-use Rattle.fabric_state.specs.Fabric.{FabricOf, count, due_command, full_hands, held_bytes, is_empty, is_full_at, load_due_at, station}
+use Rattle.fabric_state.specs.Fabric.{FabricOf, count, due_command, full_hands, held_bytes, is_full_at, load_due_at, station}
 use Rattle.fabric_state.specs.Lawful.{is_barred, is_command, is_handle, is_lawful, is_ready, is_same_event}
 use Rattle.fabric_state.specs.Agree.{ending_of}
 use Rattle.fabric_state.specs.Effects.{after_handle, all_put_out, emptied, shows}
 use Rattle.fabric_state.specs.Starts.{begun_fabric}
 use Rattle.fabric_state.specs.Choices.{next_work, event_of_work, next_drive, event_of_drive}
 use Rattle.fabric_state.specs.Fits.{Fits}
-use Rattle.fabric_world.specs.World.{WorldOf, begun, effect, handled, loads_with, step, world_after}
-use Rattle.fabric_world.specs.Histories.{owner_of}
+use Rattle.fabric_world.specs.World.{WorldOf, begun, effect, handled, step, world_after}
+use Rattle.fabric_world.specs.Histories.{IsLawful, owner_of}
 use Rattle.fabric_world.specs.Sound.{AllMayCome, HasNext, IsSoundAt}
 use Rattle.fabric_state.proofs.EventLemmas.{same_event}
 use Rattle.fabric_state.proofs.LawfulLemmas.{command_is, lawful_is, next_open, open_unbarred}
 use Rattle.fabric_state.proofs.LawfulLemmas.{command_fits as fits_in}
 use Rattle.fabric_state.proofs.EndLemmas.{full_some}
 use Rattle.fabric_state.proofs.EndLemmas.{due_is_command as due_commands}
-use Rattle.fabric_state.proofs.ReadyLemmas.{handle_ready, load_ready}
+use Rattle.fabric_state.proofs.ReadyLemmas.{handle_ready}
 use Rattle.fabric_state.proofs.FitsLemmas.{free_of, station_below}
 use Rattle.fabric_state.proofs.FitsLemmas.{switch_below as place_below}
 use Rattle.fabric_state.proofs.HandleLemmas.{handle_parts}
@@ -38,15 +35,17 @@ use Rattle.fabric_world.proofs.WorldLemmas.{world_after-event, step-lawful}
 use Rattle.fabric_world.proofs.BegunLemmas.{begun_is as begun_fabric_is}
 use Rattle.fabric_world.proofs.InductionLemmas.{world_script as script_stays}
 use Rattle.fabric_world.proofs.FabricLemmas.{world_fits}
-use Rattle.fabric_world.proofs.PlaceLemmas.{switch_below, world_places}
+use Rattle.fabric_world.proofs.PlaceLemmas.{world_places}
 use Rattle.fabric_world.proofs.BootLemmas.{boot_most as boots_most}
+use Rattle.fabric_world.proofs.CountLemmas.{event_counts as counts_each}
+use Rattle.fabric_world.proofs.CountLemmas.{lawful_more as lawful_and_one}
+use Rattle.fabric_world.proofs.SpentLemmas.{world_empty}
+use Rattle.fabric_world.proofs.SpentLemmas.{full_unspent as place_unspent}
 use Rattle.fabric_world.proofs.StaysLemmas.{handles_stay}
-use Rattle.fabric_world.proofs.SoundLemmas.{world_sound}
 use Rattle.fabric_world.proofs.NextLemmas.{work_is_lawful, handle_is_lawful, load_is_lawful, drive_is_lawful}
 use Rattle.fabric_world.proofs.ProgressLemmas.{progress}
 use Rattle.fabric_world.proofs.ElsewhereLemmas.{world_elsewhere}
 use Rattle.fabric_world.proofs.FitLemmas.{world_hand_elsewhere}
-use Rattle.fabric_book.proofs.UnspentLemmas.{spent_free}
 
 -- Of the world after events
 pub event_more : (script : ScriptOf) (h : List Event) (e : Event) → world_after script (h ++ e ∷ []) ≡ step (world_after script h) e
@@ -71,37 +70,14 @@ pub boot_most : (script : ScriptOf) (h : List Event) (s : ℕ) → ((world_after
 boot_most = boots_most
 
 pub full_unspent : (script : ScriptOf) → IsScript script → (h : List Event) (s : ℕ) → s < length script.wires.switches → is_full_at (world_after script h).fabric s ≡ true → ((world_after script h).switches s).spent ≡ false
-full_unspent script kept h s below full = sym (world_places script kept h s below).spent ∙ by (station (world_after script h).fabric s).spent refl where
-  by : (b : Bool) → (station (world_after script h).fabric s).spent ≡ b → (station (world_after script h).fabric s).spent ≡ false
-  by false is = is
-  by true is = absurd (true≢false (sym full ∙ ap (λ (x : Hand). not (is_empty x)) (spent_free script h s is)))
+full_unspent script kept h s below full = sym (world_places script kept h s below).spent ∙ place_unspent (world_after script h).fabric s (world_empty script h) full
 
 -- an event counts
-loads_count : (topo : Option TopoOf) (s : ℕ) (w : WorldOf) → is_some topo ≡ true → (loads_with topo s w).fabric.events ≡ w.fabric.events + 1
-loads_count None s w some = absurd (true≢false (sym some))
-loads_count (Some topo) s w some = refl
-
 pub event_counts : (script : ScriptOf) → IsScript script → (h : List Event) (e : Event) → is_lawful (world_after script h).fabric e ≡ true → (effect e (world_after script h)).fabric.events ≡ (world_after script h).fabric.events + 1
-unfolding effect
-event_counts script kept h Tick lawful = refl
-event_counts script kept h (Clock s) lawful = refl
-event_counts script kept h (Take s p) lawful = refl
-event_counts script kept h (Handle s) lawful = refl
-event_counts script kept h (Fail s p) lawful = refl
-event_counts script kept h (Repair s p) lawful = refl
-event_counts script kept h (Lose s p n) lawful = refl
-event_counts script kept h (Again s p n) lawful = refl
-event_counts script kept h (Swap s p n) lawful = refl
-event_counts script kept h (Noise s p n) lawful = refl
-event_counts script kept h (Send from to) lawful = refl
-event_counts script kept h (Move k) lawful = refl
-event_counts script kept h (Restart s) lawful = refl
-event_counts script kept h (Load s) lawful =
-    let w = world_after script h in
-    let ready = load_ready w.fabric s (lawful_is w.fabric (Load s) lawful).ready in
-    let below = switch_below script h s ready.0 in
-    let due : (w.switches s).load_due ≡ true = ap (λ (n : NoteOf). n.load_due) (sym (world_places script kept h s below).note) ∙ ready.2 in
-    loads_count (finish_of (w.switches s)) s w ((world_sound script kept h s below).due due)
+event_counts = counts_each
+
+pub lawful_more : (script : ScriptOf) (h : List Event) (e : Event) → IsLawful script h → is_lawful (world_after script h).fabric e ≡ true → IsLawful script (h ++ e ∷ [])
+lawful_more = lawful_and_one
 
 pub handled_life : (w : WorldOf) (s : ℕ) → (handled s w).switch.life ≡ (w.switches s).life
 handled_life w s = (handles_stay (station w.fabric s).hand (held_bytes w.fabric s) (w.switches s)).life
@@ -150,19 +126,7 @@ room_is f (Handle s) fits lawful =
     let some = full_some f s (station_below f s fits (place_below f s ready.0)) ready.1 in
     let room = fits.room in
     omega (arith, some, room)
-room_is f Tick fits lawful = let free = free_of f Tick lawful refl in omega (arith, free)
-room_is f (Clock s) fits lawful = let free = free_of f (Clock s) lawful refl in omega (arith, free)
-room_is f (Take s p) fits lawful = let free = free_of f (Take s p) lawful refl in omega (arith, free)
-room_is f (Load s) fits lawful = let free = free_of f (Load s) lawful refl in omega (arith, free)
-room_is f (Fail s p) fits lawful = let free = free_of f (Fail s p) lawful refl in omega (arith, free)
-room_is f (Repair s p) fits lawful = let free = free_of f (Repair s p) lawful refl in omega (arith, free)
-room_is f (Lose s p n) fits lawful = let free = free_of f (Lose s p n) lawful refl in omega (arith, free)
-room_is f (Again s p n) fits lawful = let free = free_of f (Again s p n) lawful refl in omega (arith, free)
-room_is f (Swap s p n) fits lawful = let free = free_of f (Swap s p n) lawful refl in omega (arith, free)
-room_is f (Noise s p n) fits lawful = let free = free_of f (Noise s p n) lawful refl in omega (arith, free)
-room_is f (Send from to) fits lawful = let free = free_of f (Send from to) lawful refl in omega (arith, free)
-room_is f (Move k) fits lawful = let free = free_of f (Move k) lawful refl in omega (arith, free)
-room_is f (Restart s) fits lawful = let free = free_of f (Restart s) lawful refl in omega (arith, free)
+room_is f e fits lawful = let free = free_of f e lawful refl in omega (arith, free)
 
 -- Of what stays
 pub station_stays : (script : ScriptOf) (h more : List Event) (s : ℕ) → All (λ e. owner_of e ≢ s + 1) more → station (world_after script (h ++ more)).fabric s ≡ station (world_after script h).fabric s

@@ -10,8 +10,8 @@ use Rattle.fabric_state.specs.Lawful.{is_command}
 use Rattle.fabric_world.specs.World.{world_after}
 use Rattle.fabric_world.specs.Histories.{HistoryOf, IsLawful, last_taken}
 
--- The script can be, the events were lawful in turn, the fabric is what they make of it, the port last taken at
--- each place is theirs, and there is room for all events of the script.
+-- The script can be, the events were lawful in turn, the fabric is what they make of it, the port last taken
+-- at each place is theirs, and there is room for all events of the script.
 pub record IsKept (fabric : FabricOf) (events : List Event) (taken : List ℕ) (capacity : ℕ) : Type 0 where
   pub script : IsScript fabric.script
   pub lawful : IsLawful fabric.script events

@@ -31,8 +31,8 @@ with_step event net = record net { events = net.events ++ event ∷ [] }
 abbrev pub with_events : List Event → NetOf → NetOf
 with_events events net = record net { events = net.events ++ events }
 
--- With what a switch is started in each of its lives: an epoch, the number that it had before, and whether its
--- tables have all legal routes.
+-- With what a switch is started in each of its lives: an epoch, the number that it had before, and whether
+-- its tables have all legal routes.
 pub record PowerOf : Type 0 where
   pub epoch : ℕ
   pub had : ℕ
@@ -62,10 +62,11 @@ pub record AreStarted (powers : List PowerOf) (wires : Wires) (switches : List K
       (slice_index_or switches place switch)
 
 -- What came of what a switch had in hand: the switch that is kept, and what goes out.
-pub record IsHandled (old : SwitchOf) (hand : Hand) (bytes : List ℕ) (new : KeptOf) (out : OutOf) : Type 0 where
-  pub stands : StandsFor new (handles hand bytes old).switch
-  pub frames : out.frames ≡ all_spelled (handles hand bytes old).frames
-  pub noframe : out.noframe ≡ is_noise hand bytes
+pub record IsHandled (old : SwitchOf) (hand : Hand) (bytes : List ℕ) (new : KeptOf) (out : OutOf) : Type 0
+  where
+    pub stands : StandsFor new (handles hand bytes old).switch
+    pub frames : out.frames ≡ all_spelled (handles hand bytes old).frames
+    pub noframe : out.noframe ≡ is_noise hand bytes
 
 -- the buffer of a switch that has a frame in hand has the bytes of that frame
 abbrev pub HasFrame : Hand → List ℕ → List ℕ → Type 0

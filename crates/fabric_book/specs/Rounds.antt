@@ -1,6 +1,6 @@
 -- A network on one thread, in the order of `IsOneThread`. No public clause cites this module.
 
-use Rattle.std.specs.Prelude.{◌≡◌, ◌+◌, ◌++◌, ◌<◌, ◌≤◌, ℕ, List, [], length, Option, Some, None, false}
+use Rattle.std.specs.Prelude.{◌≡◌, ◌++◌, ◌<◌, ◌≤◌, ℕ, List, [], length, Option, Some, None, false}
 use Rattle.an_base.specs.declared.event.Event.{Event}
 use Rattle.fabric_state.specs.declared.ending.Ending.{Ending}
 use Rattle.fabric_state.specs.declared.work.Drive.TheVariants as drive

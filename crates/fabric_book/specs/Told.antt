@@ -47,7 +47,8 @@ losses place [] puts = []
 losses place (out ∷ more) [] = []
 losses place (out ∷ more) (what ∷ puts) = loss_lines place out.port what ++ losses place more puts
 
--- what is told of a hop of a packet at a place, where a table of this epoch is in use and it came in by a port
+-- what is told of a hop of a packet at a place, where a table of this epoch is in use and it came in by a
+-- port
 abbrev pub told_of_hop : ℕ → ℕ → ℕ → ℕ → Hop → Line
 told_of_hop packet place epoch entry (hop.Went exit) = line.Moved packet place epoch entry exit None
 told_of_hop packet place epoch entry (hop.Delivered exit host) =

@@ -6,6 +6,8 @@ ghost use Rattle.an_base.specs.declared.event.Event.TheVariants as events;
 ghost use Rattle.net_script.specs.Commands.{is_restart};
 ghost use Rattle.host_traffic.specs.Packets.{packet_of};
 ghost use Rattle.switch_core.specs.Bytes.{IsFrameOut};
+ghost use Rattle.fabric_state.specs.declared.ending.Ending.TheVariants as ending;
+ghost use Rattle.fabric_state.specs.declared.work.Drive.TheVariants as drive;
 ghost use Rattle.fabric_state.specs.Choices.{event_of_work};
 ghost use Rattle.fabric_state.specs.Fabric.{count, full_hands, held_bytes, is_full_at};
 ghost use Rattle.fabric_state.specs.Agree.{is_settled};
@@ -16,6 +18,7 @@ ghost use Rattle.fabric_world.specs.Histories.{IsLawful, fabric_of, owner_of, wi
 ghost use Rattle.fabric_world.specs.Sound.{AllMayCome};
 ghost use Rattle.fabric_world.specs.Turns.{AnswersAsk, Drives, Handled, HasBytes, IsDone, IsFit, IsToLoad, LoadsOrNot, TakesWork};
 ghost use Rattle.fabric_world.proofs.FitLemmas.{fit_stays};
+ghost use Rattle.fabric_settling.specs.Settling.{HasTime, SettlesSoon};
 ghost use Rattle.fabric_book.specs.Kept.{IsDrivers, with_events};
 
 use an_base::event::{Event, Journal};
@@ -185,10 +188,13 @@ impl Book {
         LoadReply::Loaded
     }
 
-    /// The driver does its next thing.
+    /// The driver does its next thing. The history settles as soon as is claimed of each lawful one, and a
+    /// history that had the time to settle is not told to have ended unsettled.
     pub fn drive(&mut self) -> Drive
         ensures script { self.new.script ≡ self.old.script }
         ensures did { Drives self.old.script self.old.events result self.new.events }
+        ensures settles { SettlesSoon self.new.script self.new.events }
+        ensures in_time { result ≡ drive.Ended ending.Unsettled → ¬ HasTime self.new.script self.new.events }
     {
         let drive = self.fabric.drive();
         if let Drive::Did(event) = drive {

@@ -1,9 +1,9 @@
 //! What a switch does with what it has in hand, and with a table that is due.
 
-ghost use Rattle.std.specs.Prelude.{◌≡◌, ◌+◌, ◌<◌, ◌^◌, ◌++◌, false, true, ℕ, List, is_some, OnOk, OnErr, IfOk};
+ghost use Rattle.std.specs.Prelude.{◌≡◌, ◌+◌, ◌<◌, ◌^◌, ◌++◌, false, true, ℕ, List, [], is_some, OnOk, OnErr, IfOk};
 ghost use Rattle.an_base.specs.declared.event.Event.TheVariants as events;
 ghost use Rattle.net_script.specs.Scripts.{IsScript};
-ghost use Rattle.switch_core.specs.Switch.{SwitchOf, finish_of, note_of};
+ghost use Rattle.switch_core.specs.Switch.{SwitchOf, finish_of, note_of, started_as};
 ghost use Rattle.switch_core.specs.Kept.{IsWorking, StandsFor};
 ghost use Rattle.fabric_state.specs.Fabric.{is_empty};
 ghost use Rattle.fabric_state.specs.Fits.{IsHandPort};
@@ -25,7 +25,8 @@ use switch_core::out::Out;
 use switch_core::switch::{ClockRefusal, Switch};
 use wire_set::side::Put;
 
-/// A switch does with what it has in hand what it does.
+/// A switch does with what it has in hand what it does. After want of memory it is as it was started, and no frame
+/// goes out.
 pub fn work(switch: &mut Switch, hand: Hand, bytes: &[u8], out: &mut Out) -> Result<(), OutOfMemory>
     requires full { is_empty hand ≡ false }
     requires port { IsHandPort hand }
@@ -35,6 +36,8 @@ pub fn work(switch: &mut Switch, hand: Hand, bytes: &[u8], out: &mut Out) -> Res
     ensures works { switch.new.works ≡ switch.old.works + 1 }
     ensures handled { (x : SwitchOf) → StandsFor switch.old x
         → OnOk result (IsHandled x hand bytes.now switch.new out.new) }
+    ensures lost { OnErr result (StandsFor switch.new (started_as switch.old.start)) }
+    ensures nothing { OnErr result (out.new ≡ record { frames = []; noframe = false }) }
 {
     match hand {
         Hand::Empty => unreachable!(),

@@ -126,13 +126,14 @@ third_of true b x y z is nx ny = absurd (true≢false (sym is ∙ nx))
 third_of false true x y z is nx ny = absurd (true≢false (sym is ∙ ny))
 third_of false false x y z is nx ny = is
 
-pub ends_agree : (f : FabricOf) (l : LinkAt) → link_agrees f l ≡ true
-    → ((is_dead (port_shown f l.a l.a_port).state ≡ false) × (is_loop (port_shown f l.a l.a_port).state ≡ false)) ⊎ ((is_dead (port_shown f l.b l.b_port).state ≡ false) × (is_loop (port_shown f l.b l.b_port).state ≡ false))
+abbrev pub IsShownGood : FabricOf → LinkAt → Type 0
+IsShownGood f l = ((is_dead (port_shown f l.a l.a_port).state ≡ false) × (is_loop (port_shown f l.a l.a_port).state ≡ false)) ⊎ ((is_dead (port_shown f l.b l.b_port).state ≡ false) × (is_loop (port_shown f l.b l.b_port).state ≡ false))
+
+pub ends_agree : (f : FabricOf) (l : LinkAt) → link_agrees f l ≡ true → IsShownGood f l
     → (is_good_to (end_shown f l.b l.b_port) (port_shown f l.a l.a_port) ≡ true) × (is_good_to (end_shown f l.a l.a_port) (port_shown f l.b l.b_port) ≡ true)
 ends_agree f l is good = and_parts (is_good_to (end_shown f l.b l.b_port) (port_shown f l.a l.a_port)) (is_good_to (end_shown f l.a l.a_port) (port_shown f l.b l.b_port)) (by good)
   where
-    by : ((is_dead (port_shown f l.a l.a_port).state ≡ false) × (is_loop (port_shown f l.a l.a_port).state ≡ false)) ⊎ ((is_dead (port_shown f l.b l.b_port).state ≡ false) × (is_loop (port_shown f l.b l.b_port).state ≡ false))
-        → (is_good_to (end_shown f l.b l.b_port) (port_shown f l.a l.a_port) && is_good_to (end_shown f l.a l.a_port) (port_shown f l.b l.b_port)) ≡ true
+    by : IsShownGood f l → (is_good_to (end_shown f l.b l.b_port) (port_shown f l.a l.a_port) && is_good_to (end_shown f l.a l.a_port) (port_shown f l.b l.b_port)) ≡ true
     by (inl h) = third_of (not (is_up f l.a l.a_port)) (l.a == l.b) _ _ _ is (and_left _ (is_dead (port_shown f l.b l.b_port).state) h.0) (and_left _ (is_loop (port_shown f l.b l.b_port).state) h.1)
     by (inr h) = third_of (not (is_up f l.a l.a_port)) (l.a == l.b) _ _ _ is (and_right (is_dead (port_shown f l.a l.a_port).state) _ h.0) (and_right (is_loop (port_shown f l.a l.a_port).state) _ h.1)
 

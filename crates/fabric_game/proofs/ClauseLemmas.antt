@@ -86,7 +86,7 @@ first_in (x ∷ xs) d some = (0, omega arith, refl)
 has_first : (lives : List LifeId) (s : Slice) (x : LifeId) (t : TopoOf) → length lives ≤ 126 → Done lives s x t → Contains t.entries (entry_at t.entries 0)
 has_first lives s x t few d =
     let u = finished_under lives s few d.run x d.node t d.joined d.finish_is in
-    let some = (u.entries (own_entry u.node.card u.node.log)).1 (record { life = u.root; node = u.node; reached = start; joined = u.joined; is = refl }) in
+    let some = (u.entries (own_entry u.was.node.card u.was.node.log)).1 (record { life = u.root; node = u.was.node; reached = start; joined = u.was.joined; is = refl }) in
     first_in t.entries _ (omega (arith, some.1))
 
 pub one_picture : (script : ScriptOf) (lives : List LifeId) → length lives ≤ 126 → IsScript script → AreFirm script lives → (h : List Event) → AreOnePicture script h

@@ -74,18 +74,9 @@ pub record State (script : ScriptOf) (lives : List LifeId) (h : List Event) (w :
 
 -- what was sent before one more event, or by it
 sent_before : (script : ScriptOf) (h : List Event) (e : Event) (f : Frame) → WasSent script h f → WasSent script (h ++ e ∷ []) f
-sent_before script h e f k = record {
-  before = k.before;
-  event = k.event;
-  later = k.later ++ e ∷ [];
-  parts = ap (λ (l : List Event). l ++ e ∷ []) k.parts ∙ append_assoc k.before (k.event ∷ k.later) (e ∷ []);
-  lawful = k.lawful;
-  act = k.act;
-  acts = k.acts;
-  sent = k.sent;
-  is_frame = k.is_frame;
-  goes_out = k.goes_out;
-}
+sent_before script h e f k =
+    let parts = ap (λ (l : List Event). l ++ e ∷ []) k.parts ∙ append_assoc k.before (k.event ∷ k.later) (e ∷ []) in
+    record { before = k.before; event = k.event; later = k.later ++ e ∷ []; parts = parts; lawful = k.lawful; act = k.act; acts = k.acts; sent = k.sent; is_frame = k.is_frame; goes_out = k.goes_out }
 
 sent_now : (script : ScriptOf) (h : List Event) (e : Event) (f : Frame) → is_lawful (world_after script h).fabric e ≡ true → IsSentBy (world_after script h) e f → WasSent script (h ++ e ∷ []) f
 sent_now script h e f lawful k = record { before = h; event = e; later = []; parts = refl; lawful = lawful; act = k.act; acts = k.acts; sent = k.sent; is_frame = k.is_frame; goes_out = k.goes_out }

@@ -25,6 +25,7 @@ use Rattle.ordered_link.specs.Receiving.{Receiving, last, has_come, come, accept
 use Rattle.ordered_link.specs.Receiving as receiving
 use Rattle.ordered_link.specs.declared.receiver.Verdict.{Verdict}
 use Rattle.ordered_link.specs.declared.receiver.Verdict.TheVariants as verdict_is
+use Rattle.ordered_link.proofs.KeepLemmas.{verdict_keeps}
 use Rattle.epoch_core.specs.Log.{Log}
 use Rattle.epoch_core.specs.Epoch.{adds}
 use Rattle.epoch_game.proofs.Basics.{some_same, none_some}
@@ -131,7 +132,7 @@ ranged_started life epoch had any is low within = record {
 
 -- nothing of it is of what is sent
 ranged_sends : (s t : SwitchOf) → t ≡ record s { sendings = t.sendings } → IsRanged s → IsRanged t
-ranged_sends s t only ok = subst IsRanged (sym only) (record { life_is = ok.life_is; epoch_is = ok.epoch_is; card_is = ok.card_is; number_is = ok.number_is; log_is = ok.log_is; receivings_are = ok.receivings_are; ports_are = ok.ports_are })
+ranged_sends s t only ok = subst IsRanged (sym only) (assumption ok)
 
 -- good links are within their ranges
 links_few : (n : ℕ) (ps : List Port) → length (links_from n ps) ≤ length ps
@@ -202,18 +203,8 @@ follow_ranged r ok = by (r.held (last r + 1)) refl
     by None is = ok
     by (Some body) is = hold_none (last r + 1) (accept body r) (accept_ranged body r (ok.held_are (last r + 1) body is) ok)
 
-follow_all_ranged : (n : ℕ) (r : Receiving) → IsRangedReceiving r → IsRangedReceiving (follow_all n r)
-follow_all_ranged zero r ok = ok
-follow_all_ranged (suc n) r ok = follow_all_ranged n (follow r) (follow_ranged r ok)
-
-verdict_ranged : (v : Verdict) (r : Receiving) → IsRangedReceiving r → IsRangedReceiving (after_verdict v r)
-verdict_ranged (verdict_is.Accepted body) r ok = follow_all_ranged 7 r ok
-verdict_ranged (verdict_is.Held wanted got) r ok = ok
-verdict_ranged (verdict_is.Repeat last) r ok = ok
-verdict_ranged (verdict_is.Ahead wanted got) r ok = ok
-
 received_ranged : (k : ℕ) (body : Body) (r : Receiving) → IsBody body → IsRangedReceiving r → IsRangedReceiving (received k body r)
-received_ranged k body r is ok = verdict_ranged (verdict k body r) (come k body r) (come_ranged k body r is ok)
+received_ranged k body r is ok = verdict_keeps IsRangedReceiving follow_ranged (verdict k body r) (come k body r) (come_ranged k body r is ok)
 
 log_ranged : (port : ℕ) (bodies : List Body) (log : Log) → Each IsBody bodies → AreRanged log → AreRanged (log_with port bodies log)
 log_ranged port [] log all old = old
@@ -241,15 +232,10 @@ ranged_carry port f s is ok =
     (λ _. cond_both (f.epoch == s.epoch) (answers_body port f.from f.k f.body s) (still s) (λ (st : Step). IsRanged st.switch) (λ _. ranged_body port f.k f.from f.body s is.body ok) (λ _. ok))
 
 ranged_hears : (port nonce : ℕ) (from : EndId) (s : SwitchOf) → IsEnd from → IsRanged s → IsRanged (record s { ports = with_happening port (Replied from nonce) s.ports })
-ranged_hears port nonce from s is ok = record {
-  life_is = ok.life_is;
-  epoch_is = ok.epoch_is;
-  card_is = ok.card_is;
-  number_is = ok.number_is;
-  log_is = ok.log_is;
-  receivings_are = ok.receivings_are;
-  ports_are = λ p. cond_both (p == port) (Replied from nonce ∷ s.ports p) (s.ports p) (Each IsRangedHappening) (λ _. (is, ok.ports_are p)) (λ _. ok.ports_are p);
-}
+ranged_hears port nonce from s is ok =
+    let ports : (p : ℕ) → Each IsRangedHappening (with_happening port (Replied from nonce) s.ports p)
+    = λ p. cond_both (p == port) (Replied from nonce ∷ s.ports p) (s.ports p) (Each IsRangedHappening) (λ _. (is, ok.ports_are p)) (λ _. ok.ports_are p) in
+    assumption (ports, ok)
 
 pub ranged_framed : (port : ℕ) (f : Frame) (s : SwitchOf) → IsFrame f → IsRanged s → IsRanged (framed port f s).switch
 ranged_framed port (Carry f) s is ok = cond_both (counts s port f.from f.to) (on_carry port f s) (still s) (λ (st : Step). IsRanged st.switch) (λ _. ranged_carry port f s is ok) (λ _. ok)
@@ -259,15 +245,9 @@ ranged_framed port (Reply from to nonce) s is ok =
     cond_both (is_same_end to (end_at s port)) (still (record s { ports = with_happening port (Replied from nonce) s.ports })) (still s) (λ (st : Step). IsRanged st.switch) (λ _. ranged_hears port nonce from s is.0 ok) (λ _. ok)
 
 pub ranged_sampled : (now : ℕ) (samples : List Sample) (s : SwitchOf) → IsRanged s → IsRanged (sampled_by now samples s)
-ranged_sampled now samples s ok = record {
-  life_is = ok.life_is;
-  epoch_is = ok.epoch_is;
-  card_is = ok.card_is;
-  number_is = ok.number_is;
-  log_is = ok.log_is;
-  receivings_are = ok.receivings_are;
-  ports_are = λ p. (tt, ok.ports_are p);
-}
+ranged_sampled now samples s ok =
+    let ports : (p : ℕ) → Each IsRangedHappening ((sampled_by now samples s).ports p) = λ p. (tt, ok.ports_are p) in
+    assumption (ports, ok)
 
 -- where epochs are not spent the next one is within its range
 ranged_goes : (before s : SwitchOf) → is_spent_by before s ≡ false → IsRanged s → IsRanged (goes_on before s).switch

@@ -37,7 +37,7 @@ use Rattle.fabric_game.proofs.PortFacts.{has_ports}
 use Rattle.fabric_game.proofs.EmbedLemmas.{embedded}
 use Rattle.fabric_game.proofs.ClauseLemmas.{any_from, finished_now, first_in, topologies, topology_table}
 use Rattle.fabric_state.proofs.EmptyLemmas.{none_external}
-use Rattle.fabric_game.proofs.AgreeFacts.{IsSettledNow, settled_now, none_any, none_found, shown_is, view_good, view_not_dead, ends_agree, all_contained}
+use Rattle.fabric_game.proofs.AgreeFacts.{IsSettledNow, settled_now, none_any, none_found, shown_is, view_good, view_not_dead, IsShownGood, ends_agree, all_contained}
 use Rattle.fabric_world.proofs.InductionLemmas.{world_script}
 
 -- the world of a settled history
@@ -97,6 +97,9 @@ joined script lives h k s low =
     let f = (world_after script h).fabric in
     true_from_ne_false (at script h s).joined (λ no. true≢false (sym (k.ports.clock s low no (works script lives h k s low) k.now.hands) ∙ (known f k.now).clocks))
 
+abbrev IsExternal : ℕ → Type 0
+IsExternal p = (1 ≤ p) × (p ≤ 12)
+
 -- the other end of a good port
 record FarEnd (script : ScriptOf) (h : List Event) (s p : ℕ) (far : EndId) : Type 0 where
   place : ℕ
@@ -128,49 +131,37 @@ agreed script lives h k l has =
 one_peer : (u : SwitchOf) (p : ℕ) (a b : EndId) → good_peer u p ≡ Some a → good_peer u p ≡ Some b → a ≡ b
 one_peer u p a b x y = Rattle.epoch_game.proofs.Basics.some_same a b (sym x ∙ y)
 
-from_a : (script : ScriptOf) (lives : List LifeId) (h : List Event) → Settled script lives h → (l : LinkAt) (far : EndId) → Contains script.wires.links l → good_peer (at script h l.a) l.a_port ≡ Some far → FarEnd script h l.a l.a_port far
-from_a script lives h k l far has good =
+-- both ends of a link are good, each the peer of the other, where one shows itself to be neither dead nor a loop
+both_good : (script : ScriptOf) (lives : List LifeId) (h : List Event) → Settled script lives h → (l : LinkAt) → Contains script.wires.links l → IsShownGood (world_after script h).fabric l
+    → (good_peer (at script h l.a) l.a_port ≡ Some (end_shown (world_after script h).fabric l.b l.b_port)) × (good_peer (at script h l.b) l.b_port ≡ Some (end_shown (world_after script h).fabric l.a l.a_port))
+both_good script lives h k l has one =
     let f = (world_after script h).fabric in
     let is = link_of script lives h k l has in
-    let view_a = view_is script lives h k l.a l.a_port is.a is.a_port_least is.a_port_most in
-    let view_b = view_is script lives h k l.b l.b_port is.b is.b_port_least is.b_port_most in
-    let e = ends_agree f l (agreed script lives h k l has) (inl (view_not_dead (at script h l.a) l.a_port far (port_shown f l.a l.a_port) view_a good)) in
-    let there = view_good (at script h l.a) l.a_port (end_shown f l.b l.b_port) (port_shown f l.a l.a_port) view_a e.0 in
-    let back = view_good (at script h l.b) l.b_port (end_shown f l.a l.a_port) (port_shown f l.b l.b_port) view_b e.1 in
-    record {
-      place = l.b;
-      port = l.b_port;
-      s_within = is.a;
-      within = is.b;
-      least = is.a_port_least;
-      most = is.a_port_most;
-      port_least = is.b_port_least;
-      port_most = is.b_port_most;
-      far_is = one_peer (at script h l.a) l.a_port far (end_shown f l.b l.b_port) good there ∙ end_is script lives h k l.b l.b_port is.b;
-      back = back ∙ ap (λ (x : EndId). Some x) (end_is script lives h k l.a l.a_port is.a);
-    }
+    let e = ends_agree f l (agreed script lives h k l has) one in (
+      view_good (at script h l.a) l.a_port (end_shown f l.b l.b_port) (port_shown f l.a l.a_port) (view_is script lives h k l.a l.a_port is.a is.a_port_least is.a_port_most) e.0,
+      view_good (at script h l.b) l.b_port (end_shown f l.a l.a_port) (port_shown f l.b l.b_port) (view_is script lives h k l.b l.b_port is.b is.b_port_least is.b_port_most) e.1,
+    )
+
+-- the port at the other end of a link
+from_end : (script : ScriptOf) (lives : List LifeId) (h : List Event) → Settled script lives h → (s p t q : ℕ) (far : EndId) → s < places script → t < places script → IsExternal p → IsExternal q
+    → good_peer (at script h s) p ≡ Some far → good_peer (at script h s) p ≡ Some (end_shown (world_after script h).fabric t q) → good_peer (at script h t) q ≡ Some (end_shown (world_after script h).fabric s p) → FarEnd script h s p far
+from_end script lives h k s p t q far s_in t_in own other good good_there good_back =
+    let far_is = one_peer (at script h s) p far (end_shown (world_after script h).fabric t q) good good_there ∙ end_is script lives h k t q t_in in
+    let back = good_back ∙ ap (λ (x : EndId). Some x) (end_is script lives h k s p s_in) in
+    record { place = t; port = q; s_within = s_in; within = t_in; least = own.0; most = own.1; port_least = other.0; port_most = other.1; far_is = far_is; back = back }
+
+from_a : (script : ScriptOf) (lives : List LifeId) (h : List Event) → Settled script lives h → (l : LinkAt) (far : EndId) → Contains script.wires.links l → good_peer (at script h l.a) l.a_port ≡ Some far → FarEnd script h l.a l.a_port far
+from_a script lives h k l far has good =
+    let is = link_of script lives h k l has in
+    let view = view_is script lives h k l.a l.a_port is.a is.a_port_least is.a_port_most in
+    let both = both_good script lives h k l has (inl (view_not_dead (at script h l.a) l.a_port far _ view good)) in
+    from_end script lives h k l.a l.a_port l.b l.b_port far is.a is.b (is.a_port_least, is.a_port_most) (is.b_port_least, is.b_port_most) good both.0 both.1
 
 from_b : (script : ScriptOf) (lives : List LifeId) (h : List Event) → Settled script lives h → (l : LinkAt) (far : EndId) → Contains script.wires.links l → good_peer (at script h l.b) l.b_port ≡ Some far → FarEnd script h l.b l.b_port far
 from_b script lives h k l far has good =
-    let f = (world_after script h).fabric in
     let is = link_of script lives h k l has in
-    let view_a = view_is script lives h k l.a l.a_port is.a is.a_port_least is.a_port_most in
-    let view_b = view_is script lives h k l.b l.b_port is.b is.b_port_least is.b_port_most in
-    let e = ends_agree f l (agreed script lives h k l has) (inr (view_not_dead (at script h l.b) l.b_port far (port_shown f l.b l.b_port) view_b good)) in
-    let there = view_good (at script h l.a) l.a_port (end_shown f l.b l.b_port) (port_shown f l.a l.a_port) view_a e.0 in
-    let back = view_good (at script h l.b) l.b_port (end_shown f l.a l.a_port) (port_shown f l.b l.b_port) view_b e.1 in
-    record {
-      place = l.a;
-      port = l.a_port;
-      s_within = is.b;
-      within = is.a;
-      least = is.b_port_least;
-      most = is.b_port_most;
-      port_least = is.a_port_least;
-      port_most = is.a_port_most;
-      far_is = one_peer (at script h l.b) l.b_port far (end_shown f l.a l.a_port) good back ∙ end_is script lives h k l.a l.a_port is.a;
-      back = there ∙ ap (λ (x : EndId). Some x) (end_is script lives h k l.b l.b_port is.b);
-    }
+    let both = both_good script lives h k l has (inr (view_not_dead (at script h l.b) l.b_port far _ (view_is script lives h k l.b l.b_port is.b is.b_port_least is.b_port_most) good)) in
+    from_end script lives h k l.b l.b_port l.a l.a_port far is.b is.a (is.b_port_least, is.b_port_most) (is.a_port_least, is.a_port_most) good both.1 both.0
 
 far_end : (script : ScriptOf) (lives : List LifeId) (h : List Event) → Settled script lives h → (s p : ℕ) (far : EndId) → s < places script → good_peer (at script h s) p ≡ Some far → FarEnd script h s p far
 far_end script lives h k s p far low good = by found.at

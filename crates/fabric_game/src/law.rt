@@ -14,6 +14,7 @@ ghost use Rattle.fabric_world.specs.Clauses.{AreAllJoined, AreOnePicture, AreOwn
 ghost use Rattle.fabric_world.specs.Traces.{AreDelivered, AreHopsByTables, AreLegalRoutes};
 ghost use Rattle.fabric_world.specs.Heard.{IsHeard};
 ghost use Rattle.fabric_game.specs.Embedding.{IsEmbedded};
+ghost use Rattle.fabric_game.specs.Histories.{OfEachHistory};
 ghost use Rattle.fabric_game.specs.Meeting.{Met};
 ghost use Rattle.fabric_game.specs.Lives.{all_lives};
 ghost use Rattle.fabric_game.specs.Moves.{HasRested, first_game, game_after};
@@ -55,7 +56,7 @@ pub fn a_history_happens_in_a_network()
 
 /// Each frame that a switch handles was sent by some switch before.
 pub fn what_is_heard_was_sent()
-    ensures { (script : ScriptOf) → IsScript script → (history : List Event) → IsHeard script history }
+    ensures { OfEachHistory IsHeard }
 {}
 
 /// Lives that finished one epoch under one root hold one topology, now or at any moment. It is a tree of
@@ -64,18 +65,12 @@ pub fn what_is_heard_was_sent()
 /// table in use is the routing table of what its life finished with in the table's epoch. After a load of a
 /// topology in an epoch none of its members uses a table of a lower epoch, in whatever history.
 pub fn what_is_finished_is_one_picture()
-    ensures picture { (script : ScriptOf) → IsScript script → (history : List Event)
-        → AreOnePicture script history }
-    ensures topologies { (script : ScriptOf) → IsScript script → (history : List Event)
-        → AreTopologies script history }
-    ensures joined { (script : ScriptOf) → IsScript script → (history : List Event)
-        → AreAllJoined script history }
-    ensures tables { (script : ScriptOf) → IsScript script → (history : List Event)
-        → AreOwnTables script history }
-    ensures older { (script : ScriptOf) → IsScript script → (history : List Event)
-        → NoneIsOlder script history }
-    ensures moments { (script : ScriptOf) → IsScript script → (history : List Event)
-        → HoldsAtEachMoment script history }
+    ensures picture { OfEachHistory AreOnePicture }
+    ensures topologies { OfEachHistory AreTopologies }
+    ensures joined { OfEachHistory AreAllJoined }
+    ensures tables { OfEachHistory AreOwnTables }
+    ensures older { OfEachHistory NoneIsOlder }
+    ensures moments { OfEachHistory HoldsAtEachMoment }
 {}
 
 /// What the moves of a packet say. Each of its hops to another switch is by the lowest exit of the row that
@@ -83,12 +78,9 @@ pub fn what_is_finished_is_one_picture()
 /// epoch. Hops that follow each other under tables of one epoch and root lead over the links of that one
 /// topology, from life to life, along a legal route. Where it is delivered is the host to which it was sent.
 pub fn what_moves_say()
-    ensures hops { (script : ScriptOf) → IsScript script → (history : List Event)
-        → AreHopsByTables script history }
-    ensures routes { (script : ScriptOf) → IsScript script → (history : List Event)
-        → AreLegalRoutes script history }
-    ensures delivered { (script : ScriptOf) → IsScript script → (history : List Event)
-        → AreDelivered script history }
+    ensures hops { OfEachHistory AreHopsByTables }
+    ensures routes { OfEachHistory AreLegalRoutes }
+    ensures delivered { OfEachHistory AreDelivered }
 {}
 
 /// A good link leads to who is at the far end of its wire: where a life shows a port as good, the other end
@@ -105,12 +97,11 @@ pub fn a_good_link_leads_to_who_was_there()
 /// its least life with one topology, whose entries are the members with their good links in their places in
 /// the tree, and each uses the table of it.
 pub fn a_settled_history_has_finished()
-    ensures { (script : ScriptOf) → IsScript script → (history : List Event) → IfSettled script history }
+    ensures { OfEachHistory IfSettled }
 {}
 
 /// All that is claimed of a history holds of each one: at each moment of it, and at its end where it ends
 /// settled.
 pub fn what_is_claimed_holds()
-    ensures { (script : ScriptOf) → IsScript script → (history : List Event)
-        → HoldsThroughout script history }
+    ensures { OfEachHistory HoldsThroughout }
 {}

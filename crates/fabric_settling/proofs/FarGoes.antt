@@ -21,7 +21,7 @@ use Rattle.port_settling.proofs.Basics.{same_end}
 use Rattle.ordered_link.specs.Sending.{unused}
 use Rattle.ordered_link.specs.Receiving.{Receiving, untouched, is_acknowledged, received, verdict}
 use Rattle.ordered_link.specs.Receiving as receiving
-use Rattle.session_settling.specs.Directions.{CarriesStay, AcksStay, Direction, passes, drops, ignores, far_joins, receives}
+use Rattle.session_settling.specs.Directions.{Direction, Stay, passes, drops, ignores, far_joins, receives}
 use Rattle.topo_report.proofs.Members.{In}
 use Rattle.epoch_game.proofs.Basics.{none_some, some_same}
 use Rattle.switch_core.specs.Switch.{SwitchOf, counts, end_at}
@@ -100,10 +100,10 @@ carry_kept script h l k ends n found =
     elim (keeps_such (is_carry (here w l).epoch (end_here w l) (end_there w l) n) script h (Handle l.t) l k.kept k.link k.lawful refl (λ e. cc) found)
     [ inl stays ↦ inl (carry_is w v l n v ends ∙ stays) | inr held ↦ inr (held.1, held.2) ]
 
-carries_stay : (script : ScriptOf) (h : List Event) (l : LinkOf) → IsEvent script h (Handle l.t) l → IsFarEnd (world_after script h) (effect (Handle l.t) (world_after script h)) l → NoneCome (world_after script h) l → CarriesStay (way (world_after script h) l) (way (effect (Handle l.t) (world_after script h)) l)
+carries_stay : (script : ScriptOf) (h : List Event) (l : LinkOf) → IsEvent script h (Handle l.t) l → IsFarEnd (world_after script h) (effect (Handle l.t) (world_after script h)) l → NoneCome (world_after script h) l → Stay (way (world_after script h) l).carry (way (effect (Handle l.t) (world_after script h)) l).carry
 carries_stay script h l k ends none = record {
-  carry = λ n found. carry_back script h l k ends n found;
-  carry_on = λ n found. elim (carry_kept script h l k ends n found) [ inl stays ↦ stays | inr held ↦ absurd (none n held.0 held.1) ];
+  no_others = λ n found. carry_back script h l k ends n found;
+  stay = λ n found. elim (carry_kept script h l k ends n found) [ inl stays ↦ stays | inr held ↦ absurd (none n held.0 held.1) ];
 }
 
 ack_kept : (script : ScriptOf) (h : List Event) (l : LinkOf) → IsEvent script h (Handle l.t) l → IsFarEnd (world_after script h) (effect (Handle l.t) (world_after script h)) l → (n : ℕ) → (way (world_after script h) l).ack n ≡ true → (way (effect (Handle l.t) (world_after script h)) l).ack n ≡ true
@@ -120,10 +120,10 @@ ack_from script h l k ends n found =
     let v = effect (Handle l.t) w in
     such_from (is_ack (here w l).epoch (end_there w l) (end_here w l) n) script h (Handle l.t) (turned l) k.kept (link_turned script l k.link) k.lawful (sym (ack_is w v l n v ends) ∙ found)
 
-acks_stay : (script : ScriptOf) (h : List Event) (l : LinkOf) → IsEvent script h (Handle l.t) l → IsFarEnd (world_after script h) (effect (Handle l.t) (world_after script h)) l → NoneGone (world_after script h) l → AcksStay (way (world_after script h) l) (way (effect (Handle l.t) (world_after script h)) l)
+acks_stay : (script : ScriptOf) (h : List Event) (l : LinkOf) → IsEvent script h (Handle l.t) l → IsFarEnd (world_after script h) (effect (Handle l.t) (world_after script h)) l → NoneGone (world_after script h) l → Stay (way (world_after script h) l).ack (way (effect (Handle l.t) (world_after script h)) l).ack
 acks_stay script h l k ends none = record {
-  ack = λ n found. elim (ack_from script h l k ends n found) [ inl old ↦ old | inr new ↦ absurd (none n new.sent new.among new.port new.found) ];
-  ack_on = λ n found. ack_kept script h l k ends n found;
+  no_others = λ n found. elim (ack_from script h l k ends n found) [ inl old ↦ old | inr new ↦ absurd (none n new.sent new.among new.port new.found) ];
+  stay = λ n found. ack_kept script h l k ends n found;
 }
 
 -- nothing that counts happens
@@ -147,7 +147,7 @@ joins_far script h l k ends greater came none_come none_gone =
       greater = greater;
       is = far_parts script h l k ends (WayAfter script h l).far_epoch untouched refl came;
       carries = carries_stay script h l k ends none_come;
-      ack = (acks_stay script h l k ends none_gone).ack;
+      ack = (acks_stay script h l k ends none_gone).no_others;
     }))
 
 -- what was received, by its parts
@@ -317,7 +317,7 @@ body_comes script h l f k is read st_is epoch_is from_is to_is = by_count (count
           early = early;
           is = still_way stays;
           carry = λ n found. carry_back script h l k (still_ends stays) n found;
-          ack = (acks_stay script h l k (still_ends stays) (still_gone stays)).ack;
+          ack = (acks_stay script h l k (still_ends stays) (still_gone stays)).no_others;
         }))
     drop stays none (inr late) =
         let now = late_now script h (Handle l.t) l k (tick_handle l.t w) late in
@@ -329,7 +329,7 @@ body_comes script h l f k is read st_is epoch_is from_is to_is = by_count (count
           ahead = ahead;
           is = still_way stays;
           carry = λ n found. carry_back script h l k (still_ends stays) n found;
-          acks = record { ack = (acks_stay script h l k (still_ends stays) (still_gone stays)).ack; ack_on = (acks_stay script h l k (still_ends stays) (still_gone stays)).ack_on };
+          acks = acks_stay script h l k (still_ends stays) (still_gone stays);
         }))
 
     -- the session of the far end is with this end

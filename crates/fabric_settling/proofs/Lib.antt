@@ -30,3 +30,4 @@ pub mod SenderHandles
 pub mod FarSteps
 pub mod FarGoes
 pub mod Runs
+pub mod Whole

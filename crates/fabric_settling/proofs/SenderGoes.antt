@@ -13,7 +13,7 @@ use Rattle.frame_codec.specs.Spelling.{spelling}
 use Rattle.frame_codec.proofs.Decoding.{frame_again}
 use Rattle.ordered_link.specs.Sending.{Sending, unused}
 use Rattle.ordered_link.specs.Receiving.{Receiving, untouched}
-use Rattle.session_settling.specs.Directions.{Direction, AcksStay, Joins, Run, SendsAll, IsOneOf, clocked, joins, then_step}
+use Rattle.session_settling.specs.Directions.{Direction, Joins, Run, SendsAll, Stay, IsOneOf, clocked, joins, then_step}
 use Rattle.session_settling.specs.Moves.{Moves, carried_by, resting}
 use Rattle.session_settling.proofs.MovesRun.{run_of_moves}
 use Rattle.topo_report.proofs.Members.{In}
@@ -129,7 +129,7 @@ moves_by now s t ks b false same m = subst (λ x. Moves now unused (cond x ks []
 
 pub same_goes : (script : ScriptOf) (h : List Event) (l : LinkOf) → IsEvent script h (Handle l.s) l → IsSame script h l
     → (is_session (world_after script h) l ≡ true → Moves (world_after script h).fabric.tick ((here (world_after script h) l).sendings l.p) (carried_by l.p (handled l.s (world_after script h)).frames) ((handled l.s (world_after script h)).switch.sendings l.p))
-    → AcksStay (way (world_after script h) l) (way (effect (Handle l.s) (world_after script h)) l) → (start : Direction) → Run (base_after script h (Handle l.s)) start (way (world_after script h) l)
+    → Stay (way (world_after script h) l).ack (way (effect (Handle l.s) (world_after script h)) l).ack → (start : Direction) → Run (base_after script h (Handle l.s)) start (way (world_after script h) l)
     → Run (base_after script h (Handle l.s)) start (record (way (effect (Handle l.s) (world_after script h)) l) { late = (way (world_after script h) l).late })
 same_goes script h l k same moves stay start run =
     let w = world_after script h in
@@ -147,7 +147,7 @@ same_goes script h l k same moves stay start run =
       carry_on = λ n found. elim (keeps_such (is_carry (here w l).epoch (end_here w l) (end_there w l) n) script h (Handle l.s) l k.kept k.link k.lawful refl (λ e. cc) found)
           [ inl stays ↦ carry_is w v l n v ends ∙ stays | inr held ↦ absurd (k.apart (same_handle l.s l.t held.0)) ];
       put = λ late n one. put_one script h l n k late one;
-      acks = record { ack = stay.ack; ack_on = stay.ack_on };
+      acks = stay;
     } in
     run_of_moves base start d next ks (way v l).sending run
     (subst (λ (u : SwitchOf). Moves w.fabric.tick d.sending ks (cond (is_session v l) (u.sendings l.p) unused)) (sym own)
@@ -207,7 +207,7 @@ mid_clocked base v l old late start (inl same) run = subst (λ n. Run base start
 mid_clocked base v l old late start (inr three) run =
     subst (λ n. Run base start (mid v l n)) (sym three)
     (then_step start (mid v l old) (mid v l 3) run
-    (clocked (record { is = refl; done = λ n above most. absurd (omega (arith, above, most)); carries = record { carry = λ n f. f; carry_on = λ n f. f }; acks = record { ack = λ n f. f; ack_on = λ n f. f } })))
+    (clocked (record { is = refl; done = λ n above most. absurd (omega (arith, above, most)); carries = record { no_others = λ n f. f; stay = λ n f. f }; acks = record { no_others = λ n f. f; stay = λ n f. f } })))
 
 pub join_goes : (script : ScriptOf) (h : List Event) (l : LinkOf) → IsEvent script h (Handle l.s) l → IsJoin script h l → ((way (effect (Handle l.s) (world_after script h)) l).late ≡ (way (world_after script h) l).late) ⊎ ((way (effect (Handle l.s) (world_after script h)) l).late ≡ 3) → GoesOn script h (Handle l.s) l
 join_goes script h l k join late start run =
@@ -274,7 +274,7 @@ join_goes script h l k join late start run =
           [ inl old ↦ absurd (none_ahead_carry script h l (here v l).epoch n (end_here v l) (end_there v l) k.kept k.link life greater old) | inr new ↦ inr (out_one script h l n k v refl new) ];
       carry_on = λ n found. absurd (false≢true found);
       put = λ late n one. put_one script h l n k (subst (λ m. base ≤ m) (tick_handle l.s w) late) one;
-      acks = record { ack = λ n f. f; ack_on = λ n f. f };
+      acks = record { no_others = λ n f. f; stay = λ n f. f };
     }
 
     by_session : (b : Bool) → Moves w.fabric.tick unused (goes_by w l b) (cond b ((handled l.s w).switch.sendings l.p) unused)

@@ -19,7 +19,7 @@ use Rattle.frame_codec.specs.Reading.{frame_of}
 use Rattle.port_settling.proofs.Basics.{same_end}
 use Rattle.ordered_link.specs.Sending.{Sending, unused, is_outstanding, send_next, forget, acknowledge, sent_by_ack, next_to_send}
 use Rattle.ordered_link.specs.Session.{numbered, put_out}
-use Rattle.session_settling.specs.Directions.{Direction, AcksStay, Gains, Acked, Drops, Run, SendsAll, IsOneOf, acks, drops, then_step}
+use Rattle.session_settling.specs.Directions.{Direction, Gains, Acked, Drops, Run, SendsAll, Stay, IsOneOf, acks, drops, then_step}
 use Rattle.session_settling.specs.Directions as direction
 use Rattle.session_settling.specs.Moves.{IsFilled, IsFilledBut, IsFresh, Moves, carried_by, shown}
 use Rattle.session_settling.proofs.Moves.{IsPushed, carried_both, fills_here, filled_forgotten, filled_next, next_pushed}
@@ -66,13 +66,13 @@ acks_only script h l k same n found =
     let v = effect (Handle l.s) w in
     only_from (is_ack (here w l).epoch (end_there w l) (end_here w l) n) script h (Handle l.s) (turned l) k.kept (link_turned script l k.link) k.lawful (λ e. k.apart (same_handle l.s l.t e)) (sym (ack_is w v l n v (same_ends script h l k same)) ∙ found)
 
-acks_stay : (script : ScriptOf) (h : List Event) (l : LinkOf) → IsEvent script h (Handle l.s) l → IsSame script h l → NoneHeld (world_after script h) l → AcksStay (way (world_after script h) l) (way (effect (Handle l.s) (world_after script h)) l)
+acks_stay : (script : ScriptOf) (h : List Event) (l : LinkOf) → IsEvent script h (Handle l.s) l → IsSame script h l → NoneHeld (world_after script h) l → Stay (way (world_after script h) l).ack (way (effect (Handle l.s) (world_after script h)) l).ack
 acks_stay script h l k same none =
     let w = world_after script h in
     let v = effect (Handle l.s) w in
     record {
-      ack = λ n found. acks_only script h l k same n found;
-      ack_on = λ n found. elim (keeps_such (is_ack (here w l).epoch (end_there w l) (end_here w l) n) script h (Handle l.s) (turned l) k.kept (link_turned script l k.link) k.lawful refl (λ e. cc) found)
+      no_others = λ n found. acks_only script h l k same n found;
+      stay = λ n found. elim (keeps_such (is_ack (here w l).epoch (end_there w l) (end_here w l) n) script h (Handle l.s) (turned l) k.kept (link_turned script l k.link) k.lawful refl (λ e. cc) found)
           [ inl stays ↦ ack_is w v l n v (same_ends script h l k same) ∙ stays | inr held ↦ absurd (none n held.1 held.2) ];
     }
 
@@ -150,8 +150,8 @@ clock_goes script h l k n samples is start run = by (is_change_due u (sampled_by
         (direction.clocked (record {
           is = λ i. record (way v l) { late = late i };
           done = fresh_by same due (is_session v l) refl;
-          carries = record { carry = λ m f. f; carry_on = λ m f. f };
-          acks = record { ack = λ m f. f; ack_on = λ m f. f };
+          carries = record { no_others = λ m f. f; stay = λ m f. f };
+          acks = record { no_others = λ m f. f; stay = λ m f. f };
         }))
     by true due =
         let left : u.epoch ≢ last_epoch = λ e. true≢false (sym (spent_then n samples u (ap (λ b. b && (u.epoch == last_epoch)) due ∙ eq-eqb u.epoch last_epoch e)) ∙ sym (ap (λ (x : Step). x.switch.spent) st_is) ∙ works_after script h l k) in
@@ -433,7 +433,7 @@ ack_goes script h l n k is read st_is start run = by_count (counts u l.p far own
               [ inl old ↦ inl (left_or (d.carry j) (is_one out j && (way v l).carry j) (sym (carry_is w v l j w ends) ∙ old)) | inr new ↦ new_one j found (shown_parts (sent_by_ack n t) j ks (subst (IsOneOf j) all_numbers (out_one script h l j k v refl new))) ];
           carry_on = λ j found. elim (or_cases (d.carry j) (is_one out j && (way v l).carry j) found) [ inl old ↦ carry_on j old | inr new ↦ (and_parts (is_one out j) ((way v l).carry j) new).1 ];
           put = λ late j one. put_one script h l j k late (subst (IsOneOf j) (sym all_numbers) (shown_more (sent_by_ack n t) j ks one));
-          acks = record { ack = λ m f. f; ack_on = λ m f. f };
+          acks = record { no_others = λ m f. f; stay = λ m f. f };
         })
       where
         sending_is : d.sending ≡ t

@@ -159,12 +159,12 @@ tick_goes script h l k =
       before = ap (λ b. cond b 3 4) (all_clocked script k.kept h l.s at k.link.here.s_below);
       is = way_same w v l (suc w.fabric.tick) 4 a b now (ap (λ b. cond b 3 4) (none_clocked script k.kept h l.s k.link.here.s_below));
       carries = record {
-        carry = λ n found. absurd (false≢true (sym (ticked_under (is_carry (here v l).epoch (end_here v l) (end_there v l) n) w l ∙ none_under (is_carry (here v l).epoch (end_here v l) (end_there v l) n) script h l at k.link) ∙ found));
-        carry_on = λ n found. absurd (false≢true (sym (none_under (is_carry (here w l).epoch (end_here w l) (end_there w l) n) script h l at k.link) ∙ found));
+        no_others = λ n found. absurd (false≢true (sym (ticked_under (is_carry (here v l).epoch (end_here v l) (end_there v l) n) w l ∙ none_under (is_carry (here v l).epoch (end_here v l) (end_there v l) n) script h l at k.link) ∙ found));
+        stay = λ n found. absurd (false≢true (sym (none_under (is_carry (here w l).epoch (end_here w l) (end_there w l) n) script h l at k.link) ∙ found));
       };
       acks = record {
-        ack = λ n found. absurd (false≢true (sym (ticked_under (is_ack (here v l).epoch (end_there v l) (end_here v l) n) w (turned l) ∙ none_under (is_ack (here v l).epoch (end_there v l) (end_here v l) n) script h (turned l) at back) ∙ found));
-        ack_on = λ n found. absurd (false≢true (sym (none_under (is_ack (here w l).epoch (end_there w l) (end_here w l) n) script h (turned l) at back) ∙ found));
+        no_others = λ n found. absurd (false≢true (sym (ticked_under (is_ack (here v l).epoch (end_there v l) (end_here v l) n) w (turned l) ∙ none_under (is_ack (here v l).epoch (end_there v l) (end_here v l) n) script h (turned l) at back) ∙ found));
+        stay = λ n found. absurd (false≢true (sym (none_under (is_ack (here w l).epoch (end_there w l) (end_here w l) n) script h (turned l) at back) ∙ found));
       };
       no_carry = λ n found. false≢true (sym (none_under (is_carry (here w l).epoch (end_here w l) (end_there w l) n) script h l at k.link) ∙ found);
       no_ack = λ n found. false≢true (sym (none_under (is_ack (here w l).epoch (end_there w l) (end_here w l) n) script h (turned l) at back) ∙ found);
@@ -180,12 +180,12 @@ left_goes script h e l k quiet no_tick not_here not_there a b tick clocked =
     one_step script h e l (passes (record {
       is = way_same w v l w.fabric.tick (way w l).late a b tick (ap (λ b. cond b 3 4) clocked);
       carries = record {
-        carry = λ n found. only_from (is_carry (here w l).epoch (end_here w l) (end_there w l) n) script h e l k.kept k.link k.lawful not_here (sym (carry_same w v l n a b v) ∙ found);
-        carry_on = λ n found. carry_same w v l n a b v ∙ on_still (is_carry (here w l).epoch (end_here w l) (end_there w l) n) script h e l k.kept k.link k.lawful quiet no_tick not_there found;
+        no_others = λ n found. only_from (is_carry (here w l).epoch (end_here w l) (end_there w l) n) script h e l k.kept k.link k.lawful not_here (sym (carry_same w v l n a b v) ∙ found);
+        stay = λ n found. carry_same w v l n a b v ∙ on_still (is_carry (here w l).epoch (end_here w l) (end_there w l) n) script h e l k.kept k.link k.lawful quiet no_tick not_there found;
       };
       acks = record {
-        ack = λ n found. only_from (is_ack (here w l).epoch (end_there w l) (end_here w l) n) script h e (turned l) k.kept back k.lawful not_there (sym (ack_same w v l n a b v) ∙ found);
-        ack_on = λ n found. ack_same w v l n a b v ∙ on_still (is_ack (here w l).epoch (end_there w l) (end_here w l) n) script h e (turned l) k.kept back k.lawful quiet no_tick not_here found;
+        no_others = λ n found. only_from (is_ack (here w l).epoch (end_there w l) (end_here w l) n) script h e (turned l) k.kept back k.lawful not_there (sym (ack_same w v l n a b v) ∙ found);
+        stay = λ n found. ack_same w v l n a b v ∙ on_still (is_ack (here w l).epoch (end_there w l) (end_here w l) n) script h e (turned l) k.kept back k.lawful quiet no_tick not_here found;
       };
     }))
 

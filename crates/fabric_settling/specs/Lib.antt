@@ -1,3 +1,4 @@
 pub mod Disturbances
 pub mod Views
 pub mod Settling
+pub mod Claims

@@ -96,3 +96,16 @@ pub record Settles (script : ScriptOf) (history : List Event) : Type 0 where
 abbrev pub IfUndisturbed : ScriptOf → (ScriptOf → List Event → Type 0) → List Event → Type 0
 IfUndisturbed script claim history =
     script.pace ≡ None → NoneForRoom script history → claim script history
+
+-- What is claimed of each lawful history of a script of how soon it settles: of its ports, and of all of it.
+pub record SettlesSoon (script : ScriptOf) (history : List Event) : Type 0 where
+  pub ports : IfUndisturbed script PortsSettle history
+  pub all : IfUndisturbed script Settles history
+
+-- The three conditions under which no lawful history ends unsettled: there is no pace, no frame and no copy
+-- was lost for want of room, and the limit on ticks is 1,024 or more above the times of all commands and the
+-- last told loss.
+pub record HasTime (script : ScriptOf) (history : List Event) : Type 0 where
+  pub unpaced : script.pace ≡ None
+  pub roomy : NoneForRoom script history
+  pub limit : IsLimitLate script history

@@ -12,12 +12,14 @@ ghost use Rattle.port_settling.specs.Measures.{Knows};
 ghost use Rattle.port_settling.specs.Links.{Ticks};
 ghost use Rattle.port_settling.specs.Moments.{TickEnds};
 ghost use Rattle.session_settling.specs.Directions.{IsStill};
+ghost use Rattle.fabric_state.specs.declared.ending.Ending.TheVariants as ending;
 ghost use Rattle.fabric_state.specs.Fabric.{is_some_spent, is_up};
 ghost use Rattle.fabric_world.specs.World.{WorldOf, step, world_after};
-ghost use Rattle.fabric_world.specs.Histories.{IsLawful};
+ghost use Rattle.fabric_world.specs.Histories.{IsLawful, end_of};
 ghost use Rattle.fabric_settling.specs.Views.{IsCut, IsRun, LinkOf, end_here, end_there, here, is_session, there, turned, view, way};
 ghost use Rattle.fabric_settling.specs.Disturbances.{is_either, last_disturbance};
-ghost use Rattle.fabric_settling.specs.Settling.{AreBodiesThrough, ArePortsFinal, IfUndisturbed, PortsSettle, Settles};
+ghost use Rattle.fabric_settling.specs.Settling.{AreBodiesThrough, ArePortsFinal, HasTime, IfUndisturbed, PortsSettle, Settles};
+ghost use Rattle.fabric_settling.specs.Claims.{HoldsAndSettles};
 
 /// The clock never goes back; the last disturbance is no later than the clock, and no earlier in a longer
 /// history.
@@ -82,4 +84,19 @@ pub fn all_settles()
     ensures through { (script : ScriptOf) → IsScript script → script.pace ≡ None → AreBodiesThrough script }
     ensures settles { (script : ScriptOf) → IsScript script → (history : List Event) → IsLawful script history
         → IfUndisturbed script Settles history }
+{}
+
+/// So no lawful history ends unsettled that had the time to settle: without a pace, without loss for want of
+/// room, and with a limit on ticks that is 1,024 or more above the times of all commands and the last told
+/// loss.
+pub fn none_with_time_ends_unsettled()
+    ensures { (script : ScriptOf) → IsScript script → (history : List Event) → IsLawful script history
+        → HasTime script history → end_of script history ≢ Some ending.Unsettled }
+{}
+
+/// All that is claimed of a lawful history holds of each one: at each moment of it, at its end where it ends
+/// settled, and of how soon it settles.
+pub fn what_is_claimed_holds()
+    ensures { (script : ScriptOf) → IsScript script → (history : List Event) → IsLawful script history
+        → HoldsAndSettles script history }
 {}

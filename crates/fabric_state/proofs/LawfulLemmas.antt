@@ -15,6 +15,10 @@ use Rattle.fabric_state.specs.Agree.{ending_of}
 use Rattle.fabric_state.specs.Lawful.{is_lawful, is_handle, is_barred, is_ready, is_command, is_same_event}
 use Rattle.fabric_state.proofs.EventLemmas.{same_event}
 
+-- an event that is lawful in what contracts see of a fabric is so in the fabric
+pub lawful_in : {f view : FabricOf} (e : Event) → f ≡ view → is_lawful view e ≡ true → is_lawful f e ≡ true
+lawful_in {f} {view} e same lawful = subst (λ (g : FabricOf). is_lawful g e ≡ true) (sym same) lawful
+
 -- what makes an event lawful
 pub record IsNext (f : FabricOf) (e : Event) : Type 0 where
   pub goes_on : is_some (ending_of f) ≡ false

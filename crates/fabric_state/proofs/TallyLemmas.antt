@@ -1,6 +1,6 @@
 -- How many stations of a kind there are, as one of them changes.
 
-use Rattle.std.specs.Prelude.{◌≡◌, ◌||◌, ◌+◌, ◌<◌, ◌≤◌, ℕ, nat_lt, not, List, [], ◌∷◌, ◌++◌, All, cond, count_by, length, map, slice_index_or, slice_set, Bool, true, false, refl}
+use Rattle.std.specs.Prelude.{◌≡◌, ◌||◌, ◌+◌, ◌<◌, ◌≤◌, ℕ, suc, nat_lt, not, List, [], ◌∷◌, ◌++◌, All, cond, count_by, length, map, slice_index_or, slice_set, Bool, true, false, refl}
 use Rattle.std.specs.List.{list_any, range_with_len}
 use Rattle.std.proofs.Common.{sym, ◌∙◌, ap, subst, arith}
 use Rattle.std.proofs.lemmas.Bool.{lt-ltb, le-leb}
@@ -60,22 +60,26 @@ ticked tick xs tally n size room was = record {
   next = λ k d low. let low = was.next k d low in omega (arith, low);
 }
 
--- At first
-pub begun_none : (p : StationOf → Bool) (wires : Wires) (epoch : ℕ) → ((place : ℕ) → p (begun_station wires epoch place) ≡ false) → (xs : List ℕ) → count_by p (map (begun_station wires epoch) xs) ≡ 0
-begun_none p wires epoch none [] = refl
-begun_none p wires epoch none (x ∷ xs) =
-    let here : one_if (p (begun_station wires epoch x)) ≡ 0 = ap one_if (none x) in
+-- At first all stations pass a test, or none does
+one_more : (b : Bool) (n : ℕ) → one_if b + cond b n 0 ≡ cond b (suc n) 0
+one_more true n = omega arith
+one_more false n = refl
+
+begun_count : (p : StationOf → Bool) (wires : Wires) (epoch : ℕ) (b : Bool) → ((place : ℕ) → p (begun_station wires epoch place) ≡ b) → (xs : List ℕ) → count_by p (map (begun_station wires epoch) xs) ≡ cond b (length xs) 0
+begun_count p wires epoch true is [] = refl
+begun_count p wires epoch false is [] = refl
+begun_count p wires epoch b is (x ∷ xs) =
+    let here : one_if (p (begun_station wires epoch x)) ≡ one_if b = ap one_if (is x) in
     let sum : count_by p (map (begun_station wires epoch) (x ∷ xs)) ≡ one_if (p (begun_station wires epoch x)) + count_by p (map (begun_station wires epoch) xs) = sum_by-cons (λ (y : StationOf). cond (p y) 1 0) (begun_station wires epoch x) (map (begun_station wires epoch) xs) in
-    let rest = begun_none p wires epoch none xs in
-    omega (arith, here, sum, rest)
+    let rest = begun_count p wires epoch b is xs in
+    let more = one_more b (length xs) in
+    omega (arith, here, sum, rest, more)
+
+pub begun_none : (p : StationOf → Bool) (wires : Wires) (epoch : ℕ) → ((place : ℕ) → p (begun_station wires epoch place) ≡ false) → (xs : List ℕ) → count_by p (map (begun_station wires epoch) xs) ≡ 0
+begun_none p wires epoch none xs = begun_count p wires epoch false none xs
 
 pub begun_all : (p : StationOf → Bool) (wires : Wires) (epoch : ℕ) → ((place : ℕ) → p (begun_station wires epoch place) ≡ true) → (xs : List ℕ) → count_by p (map (begun_station wires epoch) xs) ≡ length xs
-begun_all p wires epoch all [] = refl
-begun_all p wires epoch all (x ∷ xs) =
-    let here : one_if (p (begun_station wires epoch x)) ≡ 1 = ap one_if (all x) in
-    let sum : count_by p (map (begun_station wires epoch) (x ∷ xs)) ≡ one_if (p (begun_station wires epoch x)) + count_by p (map (begun_station wires epoch) xs) = sum_by-cons (λ (y : StationOf). cond (p y) 1 0) (begun_station wires epoch x) (map (begun_station wires epoch) xs) in
-    let rest = begun_all p wires epoch all xs in
-    omega (arith, here, sum, rest)
+begun_all p wires epoch all xs = begun_count p wires epoch true all xs
 
 -- one station more
 pub begun_more : (wires : Wires) (epoch s : ℕ) (x : StationOf) (old new : List StationOf) → old ≡ map (begun_station wires epoch) (range_with_len 0 s) → x ≡ begun_station wires epoch s → new ≡ old ++ x ∷ [] → new ≡ map (begun_station wires epoch) (range_with_len 0 (s + 1))

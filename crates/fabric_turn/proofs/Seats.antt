@@ -10,14 +10,14 @@ use Rattle.fabric_turn.specs.Plays.{Compares}
 use Rattle.atomic_table.specs.Table.{State, Me, opening, step, keeps, Allows, Splits, Joins, Seen, Final}
 use Rattle.atomic_table.proofs.Lists.{set_else, at_longer, at_last}
 use Rattle.fabric_turn.specs.History.{own_entries}
-use Rattle.fabric_turn.specs.Rule.{total_by, is_live, tickets_at, numbers_at, tickets_of, numbers_of, HasNumber, first_view, acting, spare, over, HoldsTicket, IsSeated, IsKept}
+use Rattle.fabric_turn.specs.Rule.{total_by, is_live, tickets_at, numbers_at, tickets_of, numbers_of, HasNumber, first_view, acting, spare, over, HoldsTicket, HasPlaces, IsSeated, IsKept}
 use Rattle.fabric_turn.specs.Seats.{longer_of, ended_caller, unused_callers, remaining_view, new_view, merged_view, compared_view, spent_view, HasAllNumbers}
 use Rattle.fabric_turn.specs.declared.view.View.{View}
 use Rattle.fabric_turn.specs.declared.view.Ended.{Ended}
 use Rattle.fabric_turn.specs.declared.view.Stage.{Stage}
 use Rattle.fabric_turn.specs.declared.view.Stage.TheVariants.{Spent, Idle, Waits, Serves}
 use Rattle.fabric_turn.proofs.Facts.{total_by-set, total_by-snoc, set_put, seats_stay, own_entries-append, none_of_rest}
-use Rattle.fabric_turn.proofs.Steps.{latest_stays, Covered, covered_stays, out_stays, not_serving}
+use Rattle.fabric_turn.proofs.Steps.{latest_stays, Covered, covered_stays, out_stays, not_serving, rule_with}
 
 module _ {A : Type 0} where
   at_snoc_at : (l : List A) (a b : A) (j : ℕ) → get_elem? (l ++ a ∷ []) j ≡ some b → (get_elem? l j ≡ some b) ⊎ ((j ≡ length l) × (a ≡ b))
@@ -132,16 +132,14 @@ module _ {S E D : Type 0} (history : S → List E) (start_of : S → D) (owner :
     begun = refl;
     bound = refl;
     below = some_caller;
-    limit = some_caller;
-    acts = refl;
-    spares = λ n l _. moved_else 0 (0, acting) (λ _. (0, spare)) n (λ e. omega arith);
-    ends = λ k x e. absurd (some-ne-none x (sym e));
     made = refl;
-    saw = refl;
-    rest = [];
-    prefix = refl;
-    heard_rest = [];
-    heard_prefix = refl;
+    places = record {
+      limit = some_caller;
+      acts = refl;
+      spares = λ n l _. moved_else 0 (0, acting) (λ _. (0, spare)) n (λ e. omega arith);
+      ends = λ k x e. absurd (some-ne-none x (sym e));
+    };
+    sight = record { saw = refl; rest = []; prefix = refl; heard_rest = []; heard_prefix = refl };
   }
   first_sits some_caller (suc i) v at = absurd (some-ne-none v (sym at))
 
@@ -176,21 +174,14 @@ module _ {S E D : Type 0} (history : S → List E) (start_of : S → D) (owner :
 
   -- a view keeps its part of the rule where no number of its own goes elsewhere
   replaced : (log : List E) (place place' : ℕ → ℕ × ℕ) (j : ℕ) (y : V) → ((n role : ℕ) → place n ≡ (j, role) → place' n ≡ place n) → SitsIn log place j y → SitsIn log place' j y
-  replaced log place place' j y same q = record {
-    begun = q.begun;
-    bound = q.bound;
-    below = q.below;
-    limit = q.limit;
-    acts = same y.number acting q.acts ∙ q.acts;
-    spares = λ n a b. let e = q.spares n a b in same n spare e ∙ e;
-    ends = λ k x here. let f = q.ends k x here in (same x.number over f.0 ∙ f.0, f.1);
-    made = q.made;
-    saw = q.saw;
-    rest = q.rest;
-    prefix = q.prefix;
-    heard_rest = q.heard_rest;
-    heard_prefix = q.heard_prefix;
-  }
+  replaced log place place' j y same q =
+      let places : HasPlaces history start_of owner callers start log place' j y.number y.next y.ended = record {
+        limit = q.limit;
+        acts = same y.number acting q.acts ∙ q.acts;
+        spares = λ n a b. let e = q.spares n a b in same n spare e ∙ e;
+        ends = λ k x here. let f = q.ends k x here in (same x.number over f.0 ∙ f.0, f.1);
+      } in
+      assumption (q, places)
 
   own_start : (seen rest log : List E) (c : ℕ) → seen ++ rest ≡ log → own_entries owner log c ≡ [] → own_entries owner seen c ≡ []
   own_start seen rest log c whole no_entry = let e : own_entries owner seen c ++ own_entries owner rest c ≡ [] = sym (own_entries-append owner seen rest c) ∙ ap (λ h. own_entries owner h c) whole ∙ no_entry in
@@ -219,16 +210,14 @@ module _ {S E D : Type 0} (history : S → List E) (start_of : S → D) (owner :
         begun = q.begun;
         bound = q.bound;
         below = q.below;
-        limit = omega arith;
-        acts = moved_else m (len, acting) r.place v.number (λ e. role_apart (r.place v.number) id id acting spare q.acts (λ z. let z' : acting ≡ spare = z in absurd (omega arith)) (ap r.place e ∙ mine)) ∙ q.acts;
-        spares = λ n a b. moved_else m (len, acting) r.place n (λ e. omega arith) ∙ q.spares n (omega arith) b;
-        ends = λ k x here. let f = q.ends k x here in (moved_else m (len, acting) r.place x.number (λ e. role_apart (r.place x.number) id id over spare f.0 (λ z. let z' : over ≡ spare = z in absurd (omega arith)) (ap r.place e ∙ mine)) ∙ f.0, f.1);
         made = q.made;
-        saw = q.saw;
-        rest = q.rest;
-        prefix = q.prefix;
-        heard_rest = q.heard_rest;
-        heard_prefix = q.heard_prefix;
+        sight = q.sight;
+        places = record {
+          limit = omega arith;
+          acts = moved_else m (len, acting) r.place v.number (λ e. role_apart (r.place v.number) id id acting spare q.acts (λ z. let z' : acting ≡ spare = z in absurd (omega arith)) (ap r.place e ∙ mine)) ∙ q.acts;
+          spares = λ n a b. moved_else m (len, acting) r.place n (λ e. omega arith) ∙ q.spares n (omega arith) b;
+          ends = λ k x here. let f = q.ends k x here in (moved_else m (len, acting) r.place x.number (λ e. role_apart (r.place x.number) id id over spare f.0 (λ z. let z' : over ≡ spare = z in absurd (omega arith)) (ap r.place e ∙ mine)) ∙ f.0, f.1);
+        };
       })
       (λ j y apart here live. replaced r.log r.place place' j y (λ n role e. moved_else m (len, acting) r.place n (λ is. view_apart (r.place n) j id role spare e apart (ap r.place is ∙ mine))) (r.seated j y here live)) in
       let rests : (j : ℕ) (y : V) → get_elem? vs j ≡ some y → HoldsTicket r.drawn r.served r.log r.holder j y.seen y.stage =
@@ -237,42 +226,22 @@ module _ {S E D : Type 0} (history : S → List E) (start_of : S → D) (owner :
         begun = q.begun;
         bound = q.bound;
         below = below;
-        limit = omega arith;
-        acts = moved_here m (len, acting) r.place;
-        spares = λ n a b. absurd (omega arith);
-        ends = λ k x here. absurd (some-ne-none x (sym here));
         made = no_entry;
-        saw = own_start v.seen q.rest r.log m q.prefix no_entry;
-        rest = q.rest;
-        prefix = q.prefix;
-        heard_rest = r.log;
-        heard_prefix = refl;
+        places = record { limit = omega arith; acts = moved_here m (len, acting) r.place; spares = λ n a b. absurd (omega arith); ends = λ k x here. absurd (some-ne-none x (sym here)) };
+        sight = record { saw = own_start v.seen q.rest r.log m q.prefix no_entry; rest = q.rest; prefix = q.prefix; heard_rest = r.log; heard_prefix = refl };
       } in
       let last = latest_stays history start_of owner callers start r.log s.views id v left at refl refl alive r.latest in
-      record {
-        drawn = r.drawn;
-        served = r.served;
-        log = r.log;
-        holder = r.holder;
-        place = place';
-        two = r.two;
-        tickets = r.tickets;
-        serving = r.serving;
-        few = r.few;
-        counted = omega arith;
-        numbered = omega arith;
-        fresh = λ n kind. dite (ℕ_discrete n m)
-            (λ e. let z : acting ≡ spare = sym (ap (λ (p : ℕ × ℕ). p.1) (ap place' e ∙ moved_here m (len, acting) r.place)) ∙ kind in absurd (omega arith))
-            (λ ne. r.fresh n (ap (λ (p : ℕ × ℕ). p.1) (sym (moved_else m (len, acting) r.place n ne)) ∙ kind));
-        beyond = r.beyond;
-        seated = λ j y here live. ⊎_elim (λ h. stays j y h live) (λ (t : (j ≡ length vs) × (right ≡ y)). subst (λ (p : ℕ × V). SitsIn r.log place' p.0 p.1) (λ i. (sym (t.0 ∙ same_len) i, t.1 i)) new)
-            (at_snoc_at vs right y j here);
-        ticketed = λ j y here. ⊎_elim (λ h. rests j y h) (λ (t : (j ≡ length vs) × (right ≡ y)). subst (λ (x : V). HoldsTicket r.drawn r.served r.log r.holder j x.seen x.stage) t.1 tt) (at_snoc_at vs right y j here);
-        covers = λ n l. gave_has s.views id v n at alive (r.covers n l);
-        latest = (last.0, last.1, at_longer vs (right ∷ []) last.0 last.1 last.2, last.3, last.4);
-        slot = ⊎_elim inl (λ o. let p = out_stays history start_of owner callers start s.views id v left at (λ t e. not_serving history start_of owner callers start t (sym idle ∙ e)) o in
-            inr (p.0, p.1, p.2, at_longer vs (right ∷ []) p.0 p.1 p.3, p.4)) r.slot;
-      }
+      rule_with history start_of owner callers start s r s.homes (vs ++ right ∷ []) place' (omega arith) (omega arith)
+      (λ n kind. dite (ℕ_discrete n m)
+      (λ e. let z : acting ≡ spare = sym (ap (λ (p : ℕ × ℕ). p.1) (ap place' e ∙ moved_here m (len, acting) r.place)) ∙ kind in absurd (omega arith))
+      (λ ne. r.fresh n (ap (λ (p : ℕ × ℕ). p.1) (sym (moved_else m (len, acting) r.place n ne)) ∙ kind)))
+      (λ j y here live. ⊎_elim (λ h. stays j y h live) (λ (t : (j ≡ length vs) × (right ≡ y)). subst (λ (p : ℕ × V). SitsIn r.log place' p.0 p.1) (λ i. (sym (t.0 ∙ same_len) i, t.1 i)) new)
+      (at_snoc_at vs right y j here))
+      (λ j y here. ⊎_elim (λ h. rests j y h) (λ (t : (j ≡ length vs) × (right ≡ y)). subst (λ (x : V). HoldsTicket r.drawn r.served r.log r.holder j x.seen x.stage) t.1 tt) (at_snoc_at vs right y j here))
+      (λ n l. gave_has s.views id v n at alive (r.covers n l))
+      (last.0, last.1, at_longer vs (right ∷ []) last.0 last.1 last.2, last.3, last.4)
+      (⊎_elim inl (λ o. let p = out_stays history start_of owner callers start s.views id v left at (λ t e. not_serving history start_of owner callers start t (sym idle ∙ e)) o in
+      inr (p.0, p.1, p.2, at_longer vs (right ∷ []) p.0 p.1 p.3, p.4)) r.slot)
 
   -- of two beginnings of the history the longer, where one is all of it, is all of it
   longer_whole : (xs ys r q log : List E) → xs ++ r ≡ log → ys ++ q ≡ log → (xs ≡ log) ⊎ (ys ≡ log) → longer_of xs ys ≡ log
@@ -357,48 +326,33 @@ module _ {S E D : Type 0} (history : S → List E) (start_of : S → D) (owner :
         begun = q.begun;
         bound = q.bound;
         below = q.below;
-        limit = q.limit;
-        acts = merged_else other id r.place v.number (λ e. apart' (ap (λ (z : ℕ × ℕ). z.0) (sym q.acts) ∙ e)) ∙ q.acts;
-        spares = λ n a b. let f = q.spares n a b in merged_else other id r.place n (λ e. apart' (ap (λ (z : ℕ × ℕ). z.0) (sym f) ∙ e)) ∙ f;
-        ends = joined_ends r.log r.place id other v w apart' q p r.fresh;
         made = q.made;
-        saw = q.saw;
-        rest = q.rest;
-        prefix = q.prefix;
-        heard_rest = p.rest;
-        heard_prefix = p.prefix;
+        places = record {
+          limit = q.limit;
+          acts = merged_else other id r.place v.number (λ e. apart' (ap (λ (z : ℕ × ℕ). z.0) (sym q.acts) ∙ e)) ∙ q.acts;
+          spares = λ n a b. let f = q.spares n a b in merged_else other id r.place n (λ e. apart' (ap (λ (z : ℕ × ℕ). z.0) (sym f) ∙ e)) ∙ f;
+          ends = joined_ends r.log r.place id other v w apart' q p r.fresh;
+        };
+        sight = record { saw = q.saw; rest = q.rest; prefix = q.prefix; heard_rest = p.rest; heard_prefix = p.prefix };
       } in
-      record {
-        drawn = r.drawn;
-        served = r.served;
-        log = r.log;
-        holder = r.holder;
-        place = place';
-        two = r.two;
-        tickets = r.tickets;
-        serving = r.serving;
-        few = r.few;
-        counted = omega arith;
-        numbered = omega arith;
-        fresh = λ n kind. dite (ℕ_discrete (r.place n).0 other)
-            (λ e. let z : over ≡ spare = sym (ap (λ (z : ℕ × ℕ). z.1) (merged_here other id r.place n (r.place n).1 (λ i. (e i, (r.place n).1)))) ∙ kind in absurd (omega arith))
-            (λ ne. r.fresh n (ap (λ (z : ℕ × ℕ). z.1) (sym (merged_else other id r.place n ne)) ∙ kind));
-        beyond = r.beyond;
-        seated = seats_stay (SitsAt r.log place') vs other spent_view (λ dead. absurd (dead_alive dead)) (λ j y ne here live. seats_stay (λ j y. j ≢ other → SitsAt r.log place' j y) s.views id both (λ _ _. mine)
-            (λ j y apart_j here ne live. replaced r.log r.place place' j y (λ n role e. merged_else other id r.place n (λ is. ne (ap (λ (z : ℕ × ℕ). z.0) (sym e) ∙ is))) (r.seated j y here live)) j y here ne live);
-        ticketed = seats_stay (λ j y. HoldsTicket r.drawn r.served r.log r.holder j y.seen y.stage) vs other spent_view tt (λ j y _ here.
-            seats_stay (λ j y. HoldsTicket r.drawn r.served r.log r.holder j y.seen y.stage) s.views id both (subst (HoldsTicket r.drawn r.served r.log r.holder id both.seen) (sym idle) tt) (λ j y _. r.ticketed j y) j y here);
-        covers = λ n l. merges_cover s.views id other v w n at there' apart' alive (subst (λ (m : ℕ). n < m) (sym p.bound) l) (r.covers n l);
-        latest = let l = r.latest in let i = l.0 in let x = l.1 in dite (ℕ_discrete i id)
-            (λ e. let is : x ≡ v = some-injective x v (sym l.2 ∙ ap (λ (k : ℕ). get_elem? s.views k) e ∙ at) in
-            (id, both, set_else vs other id spent_view apart' ∙ set_put s.views id v both at, alive, ⊎_elim (λ a. inl (ap (λ (y : V). y.seen) (sym is) ∙ a)) (λ a. inl (empty (sym a ∙ ap (λ (y : V). y.heard) is ∙ quiet))) l.4))
-            (λ ne. dite (ℕ_discrete i other)
-            (λ e. let is : x ≡ w = some-injective x w (sym l.2 ∙ ap (λ (k : ℕ). get_elem? s.views k) e ∙ there') in
-            (id, both, set_else vs other id spent_view apart' ∙ set_put s.views id v both at, alive, ⊎_elim (λ a. inr (ap (λ (y : V). y.seen) (sym is) ∙ a)) (λ a. inl (empty (sym a ∙ ap (λ (y : V). y.heard) is ∙ quiet'))) l.4))
-            (λ ne'. (i, x, set_else vs other i spent_view ne' ∙ (set_else s.views id i both ne ∙ l.2), l.3, l.4)));
-        slot = ⊎_elim inl (λ o. inr (out_stays history start_of owner callers start vs other w spent_view there (λ t e. not_serving history start_of owner callers start t (sym idle' ∙ e))
-            (out_stays history start_of owner callers start s.views id v both at (λ t e. not_serving history start_of owner callers start t (sym idle ∙ e)) o))) r.slot;
-      }
+      rule_with history start_of owner callers start s r s.homes (set vs other spent_view) place' (omega arith) (omega arith)
+      (λ n kind. dite (ℕ_discrete (r.place n).0 other)
+      (λ e. let z : over ≡ spare = sym (ap (λ (z : ℕ × ℕ). z.1) (merged_here other id r.place n (r.place n).1 (λ i. (e i, (r.place n).1)))) ∙ kind in absurd (omega arith))
+      (λ ne. r.fresh n (ap (λ (z : ℕ × ℕ). z.1) (sym (merged_else other id r.place n ne)) ∙ kind)))
+      (seats_stay (SitsAt r.log place') vs other spent_view (λ dead. absurd (dead_alive dead)) (λ j y ne here live. seats_stay (λ j y. j ≢ other → SitsAt r.log place' j y) s.views id both (λ _ _. mine)
+      (λ j y apart_j here ne live. replaced r.log r.place place' j y (λ n role e. merged_else other id r.place n (λ is. ne (ap (λ (z : ℕ × ℕ). z.0) (sym e) ∙ is))) (r.seated j y here live)) j y here ne live))
+      (seats_stay (λ j y. HoldsTicket r.drawn r.served r.log r.holder j y.seen y.stage) vs other spent_view tt (λ j y _ here.
+      seats_stay (λ j y. HoldsTicket r.drawn r.served r.log r.holder j y.seen y.stage) s.views id both (subst (HoldsTicket r.drawn r.served r.log r.holder id both.seen) (sym idle) tt) (λ j y _. r.ticketed j y) j y here))
+      (λ n l. merges_cover s.views id other v w n at there' apart' alive (subst (λ (m : ℕ). n < m) (sym p.bound) l) (r.covers n l))
+      (let l = r.latest in let i = l.0 in let x = l.1 in dite (ℕ_discrete i id)
+      (λ e. let is : x ≡ v = some-injective x v (sym l.2 ∙ ap (λ (k : ℕ). get_elem? s.views k) e ∙ at) in
+      (id, both, set_else vs other id spent_view apart' ∙ set_put s.views id v both at, alive, ⊎_elim (λ a. inl (ap (λ (y : V). y.seen) (sym is) ∙ a)) (λ a. inl (empty (sym a ∙ ap (λ (y : V). y.heard) is ∙ quiet))) l.4))
+      (λ ne. dite (ℕ_discrete i other)
+      (λ e. let is : x ≡ w = some-injective x w (sym l.2 ∙ ap (λ (k : ℕ). get_elem? s.views k) e ∙ there') in
+      (id, both, set_else vs other id spent_view apart' ∙ set_put s.views id v both at, alive, ⊎_elim (λ a. inr (ap (λ (y : V). y.seen) (sym is) ∙ a)) (λ a. inl (empty (sym a ∙ ap (λ (y : V). y.heard) is ∙ quiet'))) l.4))
+      (λ ne'. (i, x, set_else vs other i spent_view ne' ∙ (set_else s.views id i both ne ∙ l.2), l.3, l.4))))
+      (⊎_elim inl (λ o. inr (out_stays history start_of owner callers start vs other w spent_view there (λ t e. not_serving history start_of owner callers start t (sym idle' ∙ e))
+      (out_stays history start_of owner callers start s.views id v both at (λ t e. not_serving history start_of owner callers start t (sym idle ∙ e)) o))) r.slot)
 
   goes_on_first : (xs ys r q log : List E) → xs ++ r ≡ log → ys ++ q ≡ log → (more : List E) × (longer_of xs ys ≡ xs ++ more)
   goes_on_first xs ys r q log e f = longer_cases (λ h. (more : List E) × (h ≡ xs ++ more)) xs ys (λ _. ([], sym (append-nil xs))) (λ l. prefix_split xs ys r q (e ∙ sym f) (omega arith))
@@ -415,49 +369,22 @@ module _ {S E D : Type 0} (history : S → List E) (start_of : S → D) (owner :
         w,
         keeps,
         tt,
-        subst (λ (ws : List ℕ). Rule record { words = ws; homes = s.homes; views = set s.views id w }) (sym (set-get_or s.words 0 0)) record {
-          drawn = r.drawn;
-          served = r.served;
-          log = r.log;
-          holder = r.holder;
-          place = r.place;
-          two = r.two;
-          tickets = r.tickets;
-          serving = r.serving;
-          few = r.few;
-          counted = omega arith;
-          numbered = omega arith;
-          fresh = r.fresh;
-          beyond = r.beyond;
-          seated = seats_stay (SitsAt r.log r.place) s.views id w (λ _. record {
-            begun = q.begun;
-            bound = q.bound;
-            below = q.below;
-            limit = q.limit;
-            acts = q.acts;
-            spares = q.spares;
-            ends = q.ends;
-            made = q.made;
-            saw = saw;
-            rest = prefix.0;
-            prefix = prefix.1;
-            heard_rest = r.log;
-            heard_prefix = refl;
-          }) (λ j y _. r.seated j y);
-          ticketed = seats_stay (λ j y. HoldsTicket r.drawn r.served r.log r.holder j y.seen y.stage) s.views id w (subst (HoldsTicket r.drawn r.served r.log r.holder id w.seen) (sym idle) tt) (λ j y _. r.ticketed j y);
-          covers = λ n l. covered_stays history start_of owner callers start s.views id v w n at alive (λ h. h) (r.covers n l);
-          latest = let l = r.latest in let i = l.0 in let x = l.1 in dite (ℕ_discrete i id)
-              (λ e. let is : x ≡ v = some-injective x v (sym l.2 ∙ ap (λ (k : ℕ). get_elem? s.views k) e ∙ at) in (
-                id,
-                w,
-                set_put s.views id v w at,
-                alive,
-                inl (longer_whole v.seen v.heard q.rest q.heard_rest r.log q.prefix q.heard_prefix
-                    (⊎_elim (λ a. inl (ap (λ (y : V). y.seen) (sym is) ∙ a)) (λ a. inr (ap (λ (y : V). y.heard) (sym is) ∙ a)) l.4)),
-              ))
-              (λ ne. (i, x, set_else s.views id i w ne ∙ l.2, l.3, l.4));
-          slot = ⊎_elim inl (λ o. inr (out_stays history start_of owner callers start s.views id v w at (λ t e. not_serving history start_of owner callers start t (sym idle ∙ e)) o)) r.slot;
-        },
+        subst (λ (ws : List ℕ). Rule record { words = ws; homes = s.homes; views = set s.views id w }) (sym (set-get_or s.words 0 0))
+            (rule_with history start_of owner callers start s r s.homes (set s.views id w) r.place (omega arith) (omega arith) r.fresh
+            (seats_stay (SitsAt r.log r.place) s.views id w (λ _. record { begun = q.begun; bound = q.bound; below = q.below; made = q.made; places = q.places; sight = record { saw = saw; rest = prefix.0; prefix = prefix.1; heard_rest = r.log; heard_prefix = refl } }) (λ j y _. r.seated j y))
+            (seats_stay (λ j y. HoldsTicket r.drawn r.served r.log r.holder j y.seen y.stage) s.views id w (subst (HoldsTicket r.drawn r.served r.log r.holder id w.seen) (sym idle) tt) (λ j y _. r.ticketed j y))
+            (λ n l. covered_stays history start_of owner callers start s.views id v w n at alive (λ h. h) (r.covers n l))
+            (let l = r.latest in let i = l.0 in let x = l.1 in dite (ℕ_discrete i id)
+            (λ e. let is : x ≡ v = some-injective x v (sym l.2 ∙ ap (λ (k : ℕ). get_elem? s.views k) e ∙ at) in (
+              id,
+              w,
+              set_put s.views id v w at,
+              alive,
+              inl (longer_whole v.seen v.heard q.rest q.heard_rest r.log q.prefix q.heard_prefix
+                  (⊎_elim (λ a. inl (ap (λ (y : V). y.seen) (sym is) ∙ a)) (λ a. inr (ap (λ (y : V). y.heard) (sym is) ∙ a)) l.4)),
+            ))
+            (λ ne. (i, x, set_else s.views id i w ne ∙ l.2, l.3, l.4)))
+            (⊎_elim inl (λ o. inr (out_stays history start_of owner callers start s.views id v w at (λ t e. not_serving history start_of owner callers start t (sym idle ∙ e)) o)) r.slot)),
         (refl, goes_on_first v.seen v.heard q.rest q.heard_rest r.log q.prefix q.heard_prefix, goes_on_second v.seen v.heard q.rest q.heard_rest r.log q.prefix q.heard_prefix, saw),
       )
 

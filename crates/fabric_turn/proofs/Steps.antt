@@ -1,16 +1,17 @@
 -- Draw, look and pass keep the rule.
 use Rattle.std.proofs.Common.{◌≡◌, ◌⊎◌, ◌≢◌, ℕ, ◌+◌, ◌-◌, ◌%◌, ◌^◌, ◌<◌, ◌≤◌, true, cond, eqb, List, [], ◌∷◌, ◌++◌, length, get_or, set, sym, refl, ap, ◌∙◌, subst, inl, inr, ⊎_elim, arith, length-set, get_or-set_other, get_or-set_same, eq-eqb, ne_eqb, append-nil, Some}
 use mathlib.Core.Logic.{dite}
-use mathlib.Core.Option.{none, some, some-injective}
+use mathlib.Core.Option.{Option, none, some, some-injective}
 use native.Mathlib.Decide.{ℕ_discrete}
 use lib.ListN.{get_elem?}
 use lib.Seq.{set-get_or}
 use Rattle.atomic_table.specs.Table.{State, Me, step, keeps, takes, gives, stepped, Allows}
 use Rattle.atomic_table.proofs.Lists.{set_again, set_here, set_else, one_turn}
 use Rattle.fabric_turn.specs.History.{own_entries, AppendsAtMostOne}
-use Rattle.fabric_turn.specs.Rule.{is_live, tickets_at, numbers_at, tickets_of, numbers_of, HasNumber, acting, spare, over, HoldsTicket, IsSeated, IsKept}
+use Rattle.fabric_turn.specs.Rule.{total_by, is_live, tickets_at, numbers_at, tickets_of, numbers_of, HasNumber, acting, spare, over, HoldsTicket, HasPlaces, HasSeen, IsSeated, IsKept}
 use Rattle.fabric_turn.specs.Plays.{waiting_view, serving_view, resting_view, Draws, GainsTurn, Looks, PassesTurn}
 use Rattle.fabric_turn.specs.declared.view.View.{View}
+use Rattle.fabric_turn.specs.declared.view.Ended.{Ended}
 use Rattle.fabric_turn.specs.declared.view.Stage.{Stage}
 use Rattle.fabric_turn.specs.declared.view.Stage.TheVariants.{Spent, Idle, Waits, Serves}
 use Rattle.fabric_turn.proofs.Facts.{total_by-set, total_by-le, set_put, seats_stay, out_le, others_own, none_of_rest, prefix_stays}
@@ -37,21 +38,7 @@ module _ {S E D : Type 0} (history : S → List E) (start_of : S → D) (owner :
 
   -- the same seat in another stage, and with another history seen
   seated : (log : List E) (place : ℕ → ℕ × ℕ) (i : ℕ) (v : V) (st : Stage) → IsSeated history start_of owner callers start log place i v → IsSeated history start_of owner callers start log place i (record v { stage = st })
-  seated log place i v st q = record {
-    begun = q.begun;
-    bound = q.bound;
-    below = q.below;
-    limit = q.limit;
-    acts = q.acts;
-    spares = q.spares;
-    ends = q.ends;
-    made = q.made;
-    saw = q.saw;
-    rest = q.rest;
-    prefix = q.prefix;
-    heard_rest = q.heard_rest;
-    heard_prefix = q.heard_prefix;
-  }
+  seated log place i v st q = record { begun = q.begun; bound = q.bound; below = q.below; made = q.made; places = q.places; sight = q.sight }
 
   abbrev pub Latest : List E → List V → Type 0
   Latest log vs = (i : ℕ) × (v : V) × (get_elem? vs i ≡ some v) × (is_live v.stage ≡ true) × ((v.seen ≡ log) ⊎ (v.heard ≡ log))
@@ -76,6 +63,34 @@ module _ {S E D : Type 0} (history : S → List E) (start_of : S → D) (owner :
   out_stays vs id v w at never o = let i = o.0 in let x = o.1 in dite (ℕ_discrete i id)
       (λ e. let is : x ≡ v = some-injective x v (sym o.3 ∙ ap (λ (k : ℕ). get_elem? vs k) e ∙ at) in absurd (never o.2 (ap (λ (y : V). y.stage) (sym is) ∙ o.4)))
       (λ ne. (i, x, o.2, set_else vs id i w ne ∙ o.3, o.4))
+
+  -- the rule, where words stay and homes and views are others
+  pub rule_with : (s : St) (r : Rule s) (homes : List (Option S)) (views : List V) (place : ℕ → ℕ × ℕ) → total_by tickets_of views + r.served ≡ r.drawn → total_by numbers_of views ≡ callers
+      → ((n : ℕ) → (place n).1 ≡ spare → own_entries owner r.log n ≡ [])
+      → ((i : ℕ) (v : V) → get_elem? views i ≡ some v → SitsAt r.log place i v)
+      → ((i : ℕ) (v : V) → get_elem? views i ≡ some v → HoldsTicket r.drawn r.served r.log r.holder i v.seen v.stage)
+      → ((n : ℕ) → n < callers → Covered views n) → Latest r.log views
+      → ((b : S) × (get_elem? homes 0 ≡ some (some b)) × (history b ≡ r.log) × (start_of b ≡ start)) ⊎ Out views → Rule (record { words = s.words; homes = homes; views = views })
+  rule_with s r homes views place counted numbered fresh seated ticketed covers latest slot = record {
+    drawn = r.drawn;
+    served = r.served;
+    log = r.log;
+    holder = r.holder;
+    place = place;
+    two = r.two;
+    tickets = r.tickets;
+    serving = r.serving;
+    few = r.few;
+    counted = counted;
+    numbered = numbered;
+    fresh = fresh;
+    beyond = r.beyond;
+    seated = seated;
+    ticketed = ticketed;
+    covers = covers;
+    latest = latest;
+    slot = slot;
+  }
 
   pub not_serving : (t : ℕ) → ¬ (let x : Stage = Idle in x ≡ Serves t)
   not_serving t e = cc
@@ -150,41 +165,16 @@ module _ {S E D : Type 0} (history : S → List E) (start_of : S → D) (owner :
   looks_in slots id v c t s r at is now b home whole begun = let w : V = serving_view t (history b) v in let alive : is_live v.stage ≡ true = ap is_live is in let q = r.seated id v at alive in
       let ride = rides_at s r id v (Waits t) at is in let sums = total_by-set tickets_of s.views id v w at in let sizes = total_by-set numbers_of s.views id v w at in let total_size = r.numbered in let total_out = r.counted in
       let one_out : tickets_of v ≡ 1 = ap tickets_at is in let same_size : numbers_of v ≡ numbers_of w = ap (λ st. numbers_at st (1 + (v.callers - v.next) + length v.ended)) is in
-      let prefix : v.seen ++ q.rest ≡ history b = q.prefix ∙ sym whole in (
-        subst (λ (ws : List ℕ). Rule record { words = ws; homes = set s.homes 0 none; views = set s.views id w }) (sym (set-get_or s.words 1 0)) record {
-          drawn = r.drawn;
-          served = r.served;
-          log = r.log;
-          holder = r.holder;
-          place = r.place;
-          two = r.two;
-          tickets = r.tickets;
-          serving = r.serving;
-          few = r.few;
-          counted = omega arith;
-          numbered = omega arith;
-          fresh = r.fresh;
-          beyond = r.beyond;
-          seated = seats_stay (SitsAt r.log r.place) s.views id w (λ _. record {
-            begun = q.begun;
-            bound = q.bound;
-            below = q.below;
-            limit = q.limit;
-            acts = q.acts;
-            spares = q.spares;
-            ends = q.ends;
-            made = q.made;
-            saw = ap (λ h. own_entries owner h v.number) whole ∙ q.made;
-            rest = [];
-            prefix = append-nil (history b) ∙ whole;
-            heard_rest = q.heard_rest;
-            heard_prefix = q.heard_prefix;
-          }) (λ j y _. r.seated j y);
-          ticketed = seats_stay (λ j y. HoldsTicket r.drawn r.served r.log r.holder j y.seen y.stage) s.views id w (now, ride.1, ride.2, whole) (λ j y _. r.ticketed j y);
-          covers = λ n l. covered_stays s.views id v w n at refl (λ h. h) (r.covers n l);
-          latest = (id, w, set_put s.views id v w at, refl, inl whole);
-          slot = inr (id, w, t, set_put s.views id v w at, refl);
-        },
+      let prefix : v.seen ++ q.rest ≡ history b = q.prefix ∙ sym whole in
+      let sees : HasSeen history start_of owner callers start r.log (history b) v.heard v.number v.mine
+      = record { saw = ap (λ h. own_entries owner h v.number) whole ∙ q.made; rest = []; prefix = append-nil (history b) ∙ whole; heard_rest = q.heard_rest; heard_prefix = q.heard_prefix } in (
+        subst (λ (ws : List ℕ). Rule record { words = ws; homes = set s.homes 0 none; views = set s.views id w }) (sym (set-get_or s.words 1 0))
+            (rule_with s r (set s.homes 0 none) (set s.views id w) r.place (omega arith) (omega arith) r.fresh
+            (seats_stay (SitsAt r.log r.place) s.views id w (λ _. record { begun = q.begun; bound = q.bound; below = q.below; made = q.made; places = q.places; sight = sees }) (λ j y _. r.seated j y))
+            (seats_stay (λ j y. HoldsTicket r.drawn r.served r.log r.holder j y.seen y.stage) s.views id w (now, ride.1, ride.2, whole) (λ j y _. r.ticketed j y))
+            (λ n l. covered_stays s.views id v w n at refl (λ h. h) (r.covers n l))
+            (id, w, set_put s.views id v w at, refl, inl whole)
+            (inr (id, w, t, set_put s.views id v w at, refl))),
         (b, q.rest, refl, sym prefix, none_of_rest owner v.seen q.rest r.log v.mine v.number q.prefix q.made q.saw, q.begun ∙ ap Some (sym begun), q.saw),
       )
 
@@ -215,6 +205,16 @@ module _ {S E D : Type 0} (history : S → List E) (start_of : S → D) (owner :
         ),
       ))
 
+  -- the places of a seat stay, where no ended caller of it has the entry that comes
+  ends_stay : (before after : List E) (place : ℕ → ℕ × ℕ) (i c : ℕ) (v : V) → HasPlaces history start_of owner callers start before place i v.number v.next v.ended → AppendsAtMostOne owner c before after
+      → ((x : Ended E) → place x.number ≡ (i, over) → x.number ≢ c) → HasPlaces history start_of owner callers start after place i v.number v.next v.ended
+  ends_stay before after place i c v q grows other = record {
+    limit = q.limit;
+    acts = q.acts;
+    spares = q.spares;
+    ends = λ k x here. let f = q.ends k x here in (f.0, others_own owner c x.number before after grows (other x f.0) ∙ f.1);
+  }
+
   -- what the other seats know stays so where one entry of another caller comes
   others_sit : (before after : List E) (place : ℕ → ℕ × ℕ) (c id j : ℕ) (y : V) → place c ≡ (id, acting) → j ≢ id → AppendsAtMostOne owner c before after → SitsAt before place j y → SitsAt after place j y
   others_sit before after place c id j y mine apart grows sits alive = let q = sits alive in
@@ -222,16 +222,9 @@ module _ {S E D : Type 0} (history : S → List E) (start_of : S → D) (owner :
         begun = q.begun;
         bound = q.bound;
         below = q.below;
-        limit = q.limit;
-        acts = q.acts;
-        spares = q.spares;
-        ends = λ k x here. let f = q.ends k x here in (f.0, others_own owner c x.number before after grows (λ e. apart (ap (λ (p : ℕ × ℕ). p.0) (sym f.0 ∙ ap place e ∙ mine))) ∙ f.1);
         made = others_own owner c y.number before after grows other ∙ q.made;
-        saw = q.saw;
-        rest = l.0;
-        prefix = l.1;
-        heard_rest = l2.0;
-        heard_prefix = l2.1;
+        places = ends_stay before after place j c y q.places grows (λ x f e. apart (ap (λ (p : ℕ × ℕ). p.0) (sym f ∙ ap place e ∙ mine)));
+        sight = record { saw = q.saw; rest = l.0; prefix = l.1; heard_rest = l2.0; heard_prefix = l2.1 };
       }
 
   others_ride : (drawn served : ℕ) (before after : List E) (holder : ℕ → ℕ) (id j : ℕ) (seen : List E) → holder served ≡ id → j ≢ id → (st : Stage) → HoldsTicket drawn served before holder j seen st
@@ -270,17 +263,9 @@ module _ {S E D : Type 0} (history : S → List E) (start_of : S → D) (owner :
             begun = q.begun;
             bound = q.bound;
             below = q.below;
-            limit = q.limit;
-            acts = q.acts;
-            spares = q.spares;
-            ends = λ k y here. let f = q.ends k y here in
-                (f.0, others_own owner c y.number r.log h grows (λ e. let z : over ≡ acting = sym (ap (λ (p : ℕ × ℕ). p.1) f.0) ∙ ap (λ n. (r.place n).1) e ∙ ap (λ (p : ℕ × ℕ). p.1) q.acts in absurd (omega arith)) ∙ f.1);
             made = refl;
-            saw = refl;
-            rest = [];
-            prefix = append-nil h;
-            heard_rest = told.0;
-            heard_prefix = told.1;
+            places = ends_stay r.log h r.place id c v q.places grows (λ y f e. let z : over ≡ acting = sym (ap (λ (p : ℕ × ℕ). p.1) f) ∙ ap (λ n. (r.place n).1) e ∙ ap (λ (p : ℕ × ℕ). p.1) q.acts in absurd (omega arith));
+            sight = record { saw = refl; rest = []; prefix = append-nil h; heard_rest = told.0; heard_prefix = told.1 };
           }) (λ j y apart here. others_sit r.log h r.place c id j y q.acts apart grows (r.seated j y here));
           ticketed = seats_stay (λ j y. HoldsTicket r.drawn (r.served + 1) h r.holder j y.seen y.stage) s.views id w tt (λ j y apart here. others_ride r.drawn r.served r.log h r.holder id j y.seen held apart y.stage (r.ticketed j y here));
           covers = λ n l. covered_stays s.views id v w n at refl (λ h. h) (r.covers n l);

@@ -85,60 +85,70 @@ module _ {E : Type 0} (drawn served : ℕ) (log : List E) (holder : ℕ → ℕ)
   HoldsTicket (Waits t) = (served ≤ t) × (t < drawn) × (holder t ≡ i)
   HoldsTicket (Serves t) = (t ≡ served) × (t < drawn) × (holder t ≡ i) × (seen ≡ log)
 
-module _ {S E D : Type 0} (history : S → List E) (start_of : S → D) (owner : E → ℕ) (callers : ℕ) (start : D) where
-  -- What is so of view i, where it is not spent. `log` is the history, and `place` says of each caller's
-  -- number which view has it, and in what role.
-  pub record IsSeated (log : List E) (place : ℕ → ℕ × ℕ) (i : ℕ) (v : View E D) : Type 0 where
-    pub begun : v.start ≡ Some start
-    pub bound : v.callers ≡ callers
-    pub below : v.number < callers
-    pub limit : v.next ≤ callers
-    -- its numbers are its alone
-    pub acts : place v.number ≡ (i, acting)
-    pub spares : (n : ℕ) → v.next ≤ n → n < callers → place n ≡ (i, spare)
-    pub ends :
-        (k : ℕ) (x : Ended E) → get_elem? v.ended k ≡ some x
-        → (place x.number ≡ (i, over)) × (own_entries owner log x.number ≡ x.mine)
-    -- all that its caller added it has seen
-    pub made : own_entries owner log v.number ≡ v.mine
-    pub saw : own_entries owner v.seen v.number ≡ v.mine
-    -- what it has seen, and what a seat had that was joined to it, are beginnings of the history
-    pub rest : List E
-    pub prefix : v.seen ++ rest ≡ log
-    pub heard_rest : List E
-    pub heard_prefix : v.heard ++ heard_rest ≡ log
+module _ {S E D : Type 0} (history : S → List E) (start_of : S → D) (owner : E → ℕ) (callers : ℕ) (start : D)
+  where
+    -- the numbers of view i are its alone: its own, those from the next on that it may give, and ended ones
+    pub record HasPlaces (log : List E) (place : ℕ → ℕ × ℕ) (i number next : ℕ) (ended : List (Ended E)) : Type 0
+      where
+        pub limit : next ≤ callers
+        pub acts : place number ≡ (i, acting)
+        pub spares : (n : ℕ) → next ≤ n → n < callers → place n ≡ (i, spare)
+        pub ends :
+            (k : ℕ) (x : Ended E) → get_elem? ended k ≡ some x
+            → (place x.number ≡ (i, over)) × (own_entries owner log x.number ≡ x.mine)
 
-  pub record IsKept (s : State S (View E D)) : Type 0 where
-    -- tickets drawn and turns passed on, counted without bound, and the history
-    pub drawn : ℕ
-    pub served : ℕ
-    pub log : List E
-    -- which view has a ticket; which view has a caller's number, and in what role
-    pub holder : ℕ → ℕ
-    pub place : ℕ → ℕ × ℕ
-    pub two : length s.words ≡ 2
-    pub tickets : slice_index s.words 0 ≡ drawn % 2 ^ 64
-    pub serving : slice_index s.words 1 ≡ served % 2 ^ 64
-    pub few : callers < 2 ^ 32
-    -- each ticket that is not served yet is out with a view, and the views have all numbers
-    pub counted : total_by tickets_of s.views + served ≡ drawn
-    pub numbered : total_by numbers_of s.views ≡ callers
-    -- a number that was not given has no entry, and neither has one that is none
-    pub fresh : (n : ℕ) → (place n).1 ≡ spare → own_entries owner log n ≡ []
-    pub beyond : (n : ℕ) → callers ≤ n → own_entries owner log n ≡ []
-    pub seated :
-        (i : ℕ) (v : View E D) → get_elem? s.views i ≡ some v → is_live v.stage ≡ true
-        → IsSeated log place i v
-    pub ticketed :
-        (i : ℕ) (v : View E D) → get_elem? s.views i ≡ some v
-        → HoldsTicket drawn served log holder i v.seen v.stage
-    -- each number is some view's, and some view has seen all of the history
-    pub covers :
-        (n : ℕ) → n < callers
-        → (i : ℕ) × (v : View E D) × (get_elem? s.views i ≡ some v) × (is_live v.stage ≡ true) × HasNumber v n
-    pub latest :
-        (i : ℕ) × (v : View E D) × (get_elem? s.views i ≡ some v) × (is_live v.stage ≡ true)
-        × ((v.seen ≡ log) ⊎ (v.heard ≡ log))
-    -- the value is at home and stands for the history, or a view has the turn
-    pub slot : ((b : S) × (get_elem? s.homes 0 ≡ some (some b)) × (history b ≡ log) × (start_of b ≡ start))
-        ⊎ ((i : ℕ) × (v : View E D) × (t : ℕ) × (get_elem? s.views i ≡ some v) × (v.stage ≡ Serves t))
+    -- its caller's entries were all seen, and what was seen, and what a seat had that was joined to it, are
+    -- beginnings of the history
+    pub record HasSeen (log seen heard : List E) (number : ℕ) (mine : List E) : Type 0 where
+      pub saw : own_entries owner seen number ≡ mine
+      pub rest : List E
+      pub prefix : seen ++ rest ≡ log
+      pub heard_rest : List E
+      pub heard_prefix : heard ++ heard_rest ≡ log
+
+    -- What is so of view i, where it is not spent. `log` is the history, and `place` says of each caller's
+    -- number which view has it, and in what role.
+    pub record IsSeated (log : List E) (place : ℕ → ℕ × ℕ) (i : ℕ) (v : View E D) : Type 0 where
+      pub begun : v.start ≡ Some start
+      pub bound : v.callers ≡ callers
+      pub below : v.number < callers
+      pub made : own_entries owner log v.number ≡ v.mine
+      pub places : HasPlaces log place i v.number v.next v.ended
+      pub open places use {limit, acts, spares, ends}
+      pub sight : HasSeen log v.seen v.heard v.number v.mine
+      pub open sight use {saw, rest, prefix, heard_rest, heard_prefix}
+
+    pub record IsKept (s : State S (View E D)) : Type 0 where
+      -- tickets drawn and turns passed on, counted without bound, and the history
+      pub drawn : ℕ
+      pub served : ℕ
+      pub log : List E
+      -- which view has a ticket; which view has a caller's number, and in what role
+      pub holder : ℕ → ℕ
+      pub place : ℕ → ℕ × ℕ
+      pub two : length s.words ≡ 2
+      pub tickets : slice_index s.words 0 ≡ drawn % 2 ^ 64
+      pub serving : slice_index s.words 1 ≡ served % 2 ^ 64
+      pub few : callers < 2 ^ 32
+      -- each ticket that is not served yet is out with a view, and the views have all numbers
+      pub counted : total_by tickets_of s.views + served ≡ drawn
+      pub numbered : total_by numbers_of s.views ≡ callers
+      -- a number that was not given has no entry, and neither has one that is none
+      pub fresh : (n : ℕ) → (place n).1 ≡ spare → own_entries owner log n ≡ []
+      pub beyond : (n : ℕ) → callers ≤ n → own_entries owner log n ≡ []
+      pub seated :
+          (i : ℕ) (v : View E D) → get_elem? s.views i ≡ some v → is_live v.stage ≡ true
+          → IsSeated log place i v
+      pub ticketed :
+          (i : ℕ) (v : View E D) → get_elem? s.views i ≡ some v
+          → HoldsTicket drawn served log holder i v.seen v.stage
+      -- each number is some view's, and some view has seen all of the history
+      pub covers :
+          (n : ℕ) → n < callers
+          → (i : ℕ) × (v : View E D) × (get_elem? s.views i ≡ some v) × (is_live v.stage ≡ true) × HasNumber v n
+      pub latest :
+          (i : ℕ) × (v : View E D) × (get_elem? s.views i ≡ some v) × (is_live v.stage ≡ true)
+          × ((v.seen ≡ log) ⊎ (v.heard ≡ log))
+      -- the value is at home and stands for the history, or a view has the turn
+      pub slot : ((b : S) × (get_elem? s.homes 0 ≡ some (some b)) × (history b ≡ log) × (start_of b ≡ start))
+          ⊎ ((i : ℕ) × (v : View E D) × (t : ℕ) × (get_elem? s.views i ≡ some v) × (v.stage ≡ Serves t))

@@ -22,6 +22,7 @@ use Rattle.connectivity.specs.Connections.{is_same_end}
 use Rattle.port_monitor.specs.Histories.{Replied, with_happening}
 use Rattle.topo_report.specs.Report.{lesser_entry, put_by, put, least_entries, is_of, kept, report_of}
 use Rattle.topo_report.proofs.ReportLaws.{report_of-most}
+use Rattle.ordered_link.proofs.KeepLemmas.{verdict_keeps}
 use Rattle.ordered_link.specs.Receiving.{Receiving, last, has_come, accept, hold, come, follow_with, follow, verdict, accepted_by, after_verdict, follow_all, received}
 use Rattle.ordered_link.specs.declared.receiver.Verdict.{Verdict}
 use Rattle.ordered_link.specs.declared.receiver.Verdict.TheVariants as said
@@ -62,18 +63,11 @@ follow_with_fits : (o : Option Body) (r : Receiving) → IfSome o BodyFits → H
 follow_with_fits None r fits h = h
 follow_with_fits (Some body) r fits h = hold_fits (last r + 1) None (accept body r) tt (accept_fits body r fits h)
 
-follow_all_fits : (n : ℕ) (r : Receiving) → HasFit r → HasFit (follow_all n r)
-follow_all_fits zero r h = h
-follow_all_fits (suc n) r h = follow_all_fits n (follow r) (follow_with_fits (r.held (last r + 1)) r (h.held (last r + 1)) h)
-
-verdict_fits : (v : Verdict) (r : Receiving) → HasFit r → HasFit (after_verdict v r)
-verdict_fits (said.Accepted body) r h = follow_all_fits 7 r h
-verdict_fits (said.Held wanted got) r h = h
-verdict_fits (said.Repeat n) r h = h
-verdict_fits (said.Ahead wanted got) r h = h
+follow_fits : (r : Receiving) → HasFit r → HasFit (follow r)
+follow_fits r h = follow_with_fits (r.held (last r + 1)) r (h.held (last r + 1)) h
 
 received_fits : (k : ℕ) (body : Body) (r : Receiving) → BodyFits body → HasFit r → HasFit (received k body r)
-received_fits k body r fits h = verdict_fits (verdict k body r) (come k body r) (come_fits k body r fits h)
+received_fits k body r fits h = verdict_keeps HasFit follow_fits (verdict k body r) (come k body r) (come_fits k body r fits h)
 
 -- A switch is fed with bodies that fit, and proposes a number
 abbrev pub ItemFits : OnPort → Type 0

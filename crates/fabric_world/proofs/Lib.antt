@@ -21,4 +21,5 @@ pub mod BodyLemmas
 pub mod FedLemmas
 pub mod FinishLemmas
 pub mod ExampleLemmas
+pub mod ChangeLemmas
 pub mod ToldLemmas

@@ -73,15 +73,9 @@ first_sound script s below =
     (record { note = refl; spent = refl; life = refl; any = refl; boot = omega arith; clock = omega arith; fits = λ (e : 0 ≡ 0 + 1). omega (arith, e) })
 
 ticks_sound : (script : ScriptOf) (tick s : ℕ) (x : StationOf) (y : SwitchOf) → x.hand ≡ hand.Empty → IsPlaceSound script tick s x y → IsPlaceSound script (tick + 1) s x y
-ticks_sound script tick s x y empty h = record {
-  note = h.note;
-  spent = h.spent;
-  life = h.life;
-  any = h.any;
-  boot = h.boot;
-  clock = omega (arith, h.clock);
-  fits = subst (λ (k : Hand). HandFits (tick + 1) x.clock y k) (sym empty) (λ (e : x.clock ≡ (tick + 1) + 1). absurd (omega (arith, e, h.clock)));
-}
+ticks_sound script tick s x y empty h =
+    let clock : x.clock ≤ (tick + 1) + 1 = omega (arith, h.clock) in
+    assumption (clock, subst (λ (k : Hand). HandFits (tick + 1) x.clock y k) (sym empty) (λ (e : x.clock ≡ (tick + 1) + 1). absurd (omega (arith, e, h.clock))), h)
 
 -- a clock is taken
 clock_sound : (script : ScriptOf) (tick s : ℕ) (samples : List Sample) (x : StationOf) (y : SwitchOf) → IsPlaceSound script tick s x y → IsPlaceSound script tick s (record x { hand = hand.Clock tick samples; clock = tick + 1 }) y

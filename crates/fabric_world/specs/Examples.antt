@@ -1,10 +1,10 @@
 -- Histories that were worked out apart from these definitions, with all that is told of them.
 
-use Rattle.std.specs.Prelude.{◌≡◌, List, [], ◌∷◌, Some, None, false, codes}
+use Rattle.std.specs.Prelude.{◌≡◌, List, [], ◌∷◌, Some, None, codes}
 use Rattle.an_base.specs.declared.event.Event.{Event}
 use Rattle.an_base.specs.declared.event.Event.TheVariants.{Tick, Clock, Take, Handle, Load, Fail, Repair, Lose, Again, Swap, Send, Move, Restart}
 use Rattle.an_base.specs.declared.port.PortState.TheVariants as state
-use Rattle.net_script.specs.Scripts.{ScriptOf}
+use Rattle.net_script.specs.Scripts.{ScriptOf, empty_script}
 use Rattle.wire_set.specs.declared.side.Loss.TheVariants as loss
 use Rattle.table_build.specs.Tables.{TableOf}
 use Rattle.fabric_state.specs.declared.ending.Ending.{Ending}
@@ -21,22 +21,26 @@ pub record IsWorkedOut (script : ScriptOf) (history : List Event) (end : Ending)
   pub legal : IsLegal script history end
   pub told : all_lines (begun script) history ≡ lines
 
--- A switch alone, which is restarted at tick 3 and settles again.
-abbrev pub restart_script : ScriptOf
-restart_script = record {
+-- a switch alone, and two switches with a link
+abbrev pub one_switch : ScriptOf
+one_switch = record empty_script {
+  wires = record { switches = record { uid = 1; had = 1 } ∷ []; links = []; hosts = [] };
+  switch_names = codes "A" ∷ [];
+}
+
+abbrev pub two_switches : ScriptOf
+two_switches = record empty_script {
   wires = record {
-    switches = record { uid = 1; had = 1 } ∷ [];
-    links = [];
+    switches = record { uid = 1; had = 1 } ∷ record { uid = 2; had = 1 } ∷ [];
+    links = record { a = 0; a_port = 1; b = 1; b_port = 1 } ∷ [];
     hosts = [];
   };
-  switch_names = codes "A" ∷ [];
-  names_of_hosts = [];
-  commands = record { time = 3; event = Restart 0 } ∷ [];
-  epoch = 0;
-  pace = None;
-  limits = record { ticks = 4096; events = 2000000; blocks = 65536 };
-  any_routes = false;
+  switch_names = codes "A" ∷ codes "B" ∷ [];
 }
+
+-- A switch alone, which is restarted at tick 3 and settles again.
+abbrev pub restart_script : ScriptOf
+restart_script = record one_switch { commands = record { time = 3; event = Restart 0 } ∷ [] }
 
 abbrev pub restart_history : List Event
 restart_history =
@@ -55,24 +59,17 @@ restart_lines =
 
 -- A switch with two hosts, which send packets to each other.
 abbrev pub packets_script : ScriptOf
-packets_script = record {
-  wires = record {
-    switches = record { uid = 1; had = 1 } ∷ [];
-    links = [];
+packets_script = record one_switch {
+  wires = record one_switch.wires {
     hosts =
         record { uid = 1099511627777; s = 0; port = 11 } ∷
         record { uid = 1099511627778; s = 0; port = 12 } ∷ [];
   };
-  switch_names = codes "A" ∷ [];
   names_of_hosts = codes "H" ∷ codes "G" ∷ [];
   commands =
       record { time = 2; event = Send 0 1 } ∷
       record { time = 3; event = Send 1 0 } ∷
       record { time = 3; event = Send 0 1 } ∷ [];
-  epoch = 0;
-  pace = None;
-  limits = record { ticks = 4096; events = 2000000; blocks = 65536 };
-  any_routes = false;
 }
 
 abbrev pub packets_history : List Event
@@ -98,20 +95,7 @@ packets_lines =
 
 -- A switch that is started in the last epoch.
 abbrev pub spent_script : ScriptOf
-spent_script = record {
-  wires = record {
-    switches = record { uid = 1; had = 1 } ∷ [];
-    links = [];
-    hosts = [];
-  };
-  switch_names = codes "A" ∷ [];
-  names_of_hosts = [];
-  commands = [];
-  epoch = 18446744073709551615;
-  pace = None;
-  limits = record { ticks = 4096; events = 2000000; blocks = 65536 };
-  any_routes = false;
-}
+spent_script = record one_switch { epoch = 18446744073709551615 }
 
 abbrev pub spent_history : List Event
 spent_history = Clock 0 ∷ Handle 0 ∷ []
@@ -121,20 +105,7 @@ spent_lines = line.Spent 0 ∷ []
 
 -- A network with room for three events.
 abbrev pub full_script : ScriptOf
-full_script = record {
-  wires = record {
-    switches = record { uid = 1; had = 1 } ∷ [];
-    links = [];
-    hosts = [];
-  };
-  switch_names = codes "A" ∷ [];
-  names_of_hosts = [];
-  commands = [];
-  epoch = 0;
-  pace = None;
-  limits = record { ticks = 4096; events = 3; blocks = 65536 };
-  any_routes = false;
-}
+full_script = record one_switch { limits = record one_switch.limits { events = 3 } }
 
 abbrev pub full_history : List Event
 full_history = Clock 0 ∷ Handle 0 ∷ []
@@ -146,7 +117,7 @@ full_lines =
 
 -- A network that has one tick, so that some commands are never due. A packet is dropped, a link goes down.
 abbrev pub unsettled_script : ScriptOf
-unsettled_script = record {
+unsettled_script = record empty_script {
   wires = record {
     switches = record { uid = 21; had = 1 } ∷ [];
     links = record { a = 0; a_port = 1; b = 0; b_port = 5 } ∷ [];
@@ -166,10 +137,7 @@ unsettled_script = record {
       record { time = 143; event = Repair 0 1 } ∷
       record { time = 213; event = Fail 0 2 } ∷
       record { time = 213; event = Restart 0 } ∷ [];
-  epoch = 0;
-  pace = None;
-  limits = record { ticks = 1; events = 60000; blocks = 65536 };
-  any_routes = false;
+  limits = record empty_script.limits { ticks = 1; events = 60000 };
 }
 
 abbrev pub unsettled_history : List Event
@@ -197,22 +165,11 @@ unsettled_lines =
 
 -- Two switches, on whose link a frame is lost, one is copied and two are exchanged.
 abbrev pub told_script : ScriptOf
-told_script = record {
-  wires = record {
-    switches = record { uid = 1; had = 1 } ∷ record { uid = 2; had = 1 } ∷ [];
-    links = record { a = 0; a_port = 1; b = 1; b_port = 1 } ∷ [];
-    hosts = [];
-  };
-  switch_names = codes "A" ∷ codes "B" ∷ [];
-  names_of_hosts = [];
+told_script = record two_switches {
   commands =
       record { time = 2; event = Lose 0 1 1 } ∷
       record { time = 2; event = Again 1 1 2 } ∷
       record { time = 2; event = Swap 0 1 1 } ∷ [];
-  epoch = 0;
-  pace = None;
-  limits = record { ticks = 4096; events = 2000000; blocks = 65536 };
-  any_routes = false;
 }
 
 abbrev pub told_history : List Event
@@ -268,23 +225,16 @@ second_table = record {
 
 -- Two linked switches with a host each, which send packets to each other over the link.
 abbrev pub routed_script : ScriptOf
-routed_script = record {
-  wires = record {
-    switches = record { uid = 1; had = 1 } ∷ record { uid = 2; had = 1 } ∷ [];
-    links = record { a = 0; a_port = 1; b = 1; b_port = 1 } ∷ [];
+routed_script = record two_switches {
+  wires = record two_switches.wires {
     hosts =
         record { uid = 1099511627777; s = 0; port = 11 } ∷
         record { uid = 1099511627778; s = 1; port = 12 } ∷ [];
   };
-  switch_names = codes "A" ∷ codes "B" ∷ [];
   names_of_hosts = codes "H" ∷ codes "G" ∷ [];
   commands =
       record { time = 4; event = Send 0 1 } ∷
       record { time = 4; event = Send 1 0 } ∷ [];
-  epoch = 0;
-  pace = None;
-  limits = record { ticks = 4096; events = 2000000; blocks = 65536 };
-  any_routes = false;
 }
 
 abbrev pub routed_history : List Event

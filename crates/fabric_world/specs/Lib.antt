@@ -18,3 +18,4 @@ pub mod Traces
 pub mod Clauses
 pub mod Sound
 pub mod Examples
+pub mod Changes

@@ -14,5 +14,6 @@
 #![tactic(auto)]
 
 pub mod ask;
+pub mod changed;
 pub mod law;
 pub mod line;

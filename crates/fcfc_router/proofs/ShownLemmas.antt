@@ -1,6 +1,6 @@
 -- What the places of a router show, after a request and after a grant.
 use Rattle.std.proofs.Common.{◌≡◌, ◌≢◌, ◌∙◌, sym, ap, subst, refl, ℕ, suc, ◌+◌, ◌<◌, ◌≤◌, List, [], ◌∷◌, ◌++◌, true, false, arith, length, get_or, set, take, drop, inl, inr, ◌==◌}
-use Rattle.std.specs.Prelude.{bit_and, filter, map}
+use Rattle.std.specs.Prelude.{All, bit_and, filter, map}
 use Rattle.std.proofs.lemmas.Bool.{cases_Bool, cases_eq, cases_lt}
 use Rattle.std.proofs.lemmas.Bool.Decides.{nat_tests}
 use Rattle.std.proofs.lemmas.List.{drop_more, get_or_append_left, get_or_default, get_or_past, get_or_push, get_or-set_other, get_or-set_same, get_or-take, length-set, length-take-le, length_push, map-append, set_split, take-append-drop}
@@ -116,3 +116,17 @@ index_asked most capacity more packet value slots tree index low enough =
         | inr after ↦ (ap (λ (s : Slot). s.ports) (get_or_past slots k (record { packet = 0; ports = 0 }) after) ∙ sym (ap (λ (s : Slot). s.ports) (get_or_past (slots ++ (record { packet = packet; ports = value } ∷ [])) k (record { packet = 0; ports = 0 }) (omega arith))))
       ])
     ])
+
+-- where no place has a port nobody is shown
+pub none_there : (slots : List Slot) (tree : List ℕ) → slots ≡ [] → All (λ sets. sets ≡ 0) tree → HasSets slots tree
+none_there slots tree none empty place low = empty place 0 low ∙ ap (λ (xs : List Slot). set_at xs place) (sym none)
+
+nobody : (slots : List Slot) → ((k : ℕ) → k < length slots → set_at slots k ≡ 0) → shown slots ≡ []
+nobody [] none = refl
+nobody (slot ∷ slots) none =
+    let first : slot.ports ≡ 0 = none 0 (omega arith) in
+    let gone : is_taken slot ≡ false = (let test : (slot.ports == 0) ≡ true = (grind (arith, nat_tests)) in rw test refl) in
+    rw gone (nobody slots (λ k low. none (suc k) (omega arith)))
+
+pub none_shown : (old new : List Slot) (tree : List ℕ) → new ≡ [] → HasSets old tree → length old ≤ length tree → All (λ sets. sets ≡ 0) tree → shown new ≡ shown old
+none_shown old new tree none sets used empty = ap shown none ∙ sym (nobody old (λ k low. sym (sets k (omega arith)) ∙ empty k 0 (omega arith)))

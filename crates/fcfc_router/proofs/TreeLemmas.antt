@@ -1,6 +1,6 @@
 -- Unions of sets of ports, and the nodes above a place.
 use Rattle.std.proofs.Common.{◌≡◌, ◌≢◌, ◌∙◌, sym, ap, subst, refl, ℕ, zero, suc, ◌+◌, ◌-◌, ◌*◌, ◌/◌, ◌^◌, ◌<◌, ◌≤◌, List, ◌++◌, append_assoc, arith, length, get_or, set, drop, take, inl, inr}
-use Rattle.std.specs.Prelude.{◌⊎◌, bit_and, replicate}
+use Rattle.std.specs.Prelude.{◌⊎◌, All, bit_and, replicate}
 use Rattle.std.specs.List.{slice_range}
 use Rattle.std.specs.Int.{bit_at, IsPowerOfTwo}
 use Rattle.std.specs.Int.RustNames.{bit_or}
@@ -200,6 +200,10 @@ pub record IsOnWay (places ports : ℕ) (unions : List ℕ) (node : ℕ) : Type 
   pub end : (node + 1) * 2 ^ levels ≤ 2 * places
   pub before : (leaf : ℕ) → places ≤ leaf → leaf < node * 2 ^ levels → bit_and (get_or unions leaf 0) ports ≡ 0
 
+on_way : (places ports node levels : ℕ) (unions : List ℕ) → 1 ≤ node → node < 2 * places → bit_and (get_or unions node 0) ports ≢ 0 → places ≤ node * 2 ^ levels → (node + 1) * 2 ^ levels ≤ 2 * places
+    → ((leaf : ℕ) → places ≤ leaf → leaf < node * 2 ^ levels → bit_and (get_or unions leaf 0) ports ≡ 0) → IsOnWay places ports unions node
+on_way places ports node levels unions low high has start end before = record { low = low; high = high; has = has; levels = levels; start = start; end = end; before = before }
+
 pub starts_at_top : (places ports k : ℕ) (unions : List ℕ) → places ≡ 2 ^ k → bit_and (get_or unions 1 0) ports ≢ 0 → IsOnWay places ports unions 1
 starts_at_top places ports k unions power has =
     let p = pow_pos k in
@@ -226,27 +230,13 @@ goes_down places ports node half unions tree way inner is_half = step way.levels
         let b = ap (λ (w : ℕ). (node + 1) * w) (pow-suc 2 k) ∙ next_doubled node (2 ^ k) in
         let low = way.low in
         elim h [
-          | inl (e, has) ↦ subst (λ (n : ℕ). IsOnWay places ports unions n) (sym e) (record {
-            low = omega arith;
-            high = omega arith;
-            has = has;
-            levels = k;
-            start = omega arith;
-            end = omega arith;
-            before = λ leaf high less. before leaf high (omega arith);
-          })
-          | inr (e, none) ↦ subst (λ (n : ℕ). IsOnWay places ports unions n) (sym e) (record {
-            low = omega arith;
-            high = omega arith;
-            has = λ both. way.has (subst (λ (n : ℕ). bit_and n ports ≡ 0) (sym union) (both_have_none (get_or unions (2 * node) 0) (get_or unions (2 * node + 1) 0) ports none both));
-            levels = k;
-            start = omega arith;
-            end = omega arith;
-            before = λ leaf high less. elim (cases_lt leaf ((2 * node) * 2 ^ k)) [
-              | inl left ↦ before leaf high (omega arith)
-              | inr right ↦ none_below places ports unions tree k (2 * node) leaf (record { first = right; last = less }) (omega arith) (omega arith) none
-            ];
-          })
+          | inl (e, has) ↦ subst (λ (n : ℕ). IsOnWay places ports unions n) (sym e) (on_way places ports _ k unions (omega arith) (omega arith) has (omega arith) (omega arith) (λ leaf high less. before leaf high (omega arith)))
+          | inr (e, none) ↦ subst (λ (n : ℕ). IsOnWay places ports unions n) (sym e) (on_way places ports _ k unions (omega arith) (omega arith)
+              (λ both. way.has (subst (λ (n : ℕ). bit_and n ports ≡ 0) (sym union) (both_have_none (get_or unions (2 * node) 0) (get_or unions (2 * node + 1) 0) ports none both))) (omega arith) (omega arith)
+              (λ leaf high less. elim (cases_lt leaf ((2 * node) * 2 ^ k)) [
+                | inl left ↦ before leaf high (omega arith)
+                | inr right ↦ none_below places ports unions tree k (2 * node) leaf (record { first = right; last = less }) (omega arith) (omega arith) none
+              ]))
         ]
 
 pub ends_at_first : (places ports node : ℕ) (unions : List ℕ) → IsTree places unions → IsOnWay places ports unions node → places ≤ node → IsFirst ports (drop places unions) (node - places)
@@ -269,6 +259,21 @@ none_has places ports k unions tree power none = λ place d low.
     let c = tree.count in
     subst (λ (set : ℕ). bit_and set ports ≡ 0) (sym (get_or_default (drop places unions) place d 0 low ∙ get_or-drop places unions place 0)) (
     none_below places ports unions tree k 1 (places + place) (record { first = omega arith; last = omega arith }) (omega arith) (omega arith) none)
+
+-- where the top has no port, no place has one
+itself : (n : ℕ) → bit_and n n ≡ n
+itself n = same_from_bits (bit_and n n) n (λ i. let e = bit_at_and n n i in omega arith)
+
+none_and : (n : ℕ) → bit_and 0 n ≡ 0
+none_and n = no_bits (bit_and 0 n) (λ i. let e = bit_at_and 0 n i in let z = bit_at-zero i in omega arith)
+
+pub all_empty : (kept places k : ℕ) (unions : List ℕ) → IsTree kept unions → kept ≡ 2 ^ k → get_or unions 1 0 ≡ 0 → All (λ sets. sets ≡ 0) (all_sets kept places unions)
+all_empty kept places k unions tree power top = All-append (λ (sets : ℕ). sets ≡ 0) (drop kept unions) (replicate (places - kept) 0) each (All-replicate (λ (sets : ℕ). sets ≡ 0) (places - kept) 0 refl)
+  where
+    each : All (λ sets. sets ≡ 0) (drop kept unions)
+    each place d low =
+        let sets = get_or (drop kept unions) place d in
+        sym (itself sets) ∙ none_has kept sets k unions tree power (ap (λ (n : ℕ). bit_and n sets) top ∙ none_and sets) place d low
 
 -- THE PLACES BEHIND THE KEPT ONES
 
@@ -335,10 +340,7 @@ written_sets kept places place value old new tree low is =
 -- what is found among the kept ones is found among all
 pub none_at_all : (kept places ports : ℕ) (unions : List ℕ) → HasNone ports (drop kept unions) → HasNone ports (all_sets kept places unions)
 none_at_all kept places ports unions none =
-    All-append (λ (sets : ℕ). bit_and sets ports ≡ 0) (drop kept unions) (replicate (places - kept) 0) none (All-replicate (λ (sets : ℕ). bit_and sets ports ≡ 0) (places - kept) 0 none_has_none)
-  where
-    none_has_none : bit_and 0 ports ≡ 0
-    none_has_none = no_bits (bit_and 0 ports) (λ i. let e = bit_at_and 0 ports i in let z = bit_at-zero i in omega arith)
+    All-append (λ (sets : ℕ). bit_and sets ports ≡ 0) (drop kept unions) (replicate (places - kept) 0) none (All-replicate (λ (sets : ℕ). bit_and sets ports ≡ 0) (places - kept) 0 (none_and ports))
 
 pub first_of_all : (kept places ports place : ℕ) (unions : List ℕ) → IsFirst ports (drop kept unions) place → IsFirst ports (all_sets kept places unions) place
 first_of_all kept places ports place unions first =

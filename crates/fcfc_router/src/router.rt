@@ -91,7 +91,7 @@ fn close_gaps(slots: &mut Vec<Slot>, tree: &mut PortTree)
     }
 }
 
-// Sees to it that a place is left for one more request.
+// Sees to it that a place is left for one more request: the first one where nobody waits.
 fn make_room(slots: &mut Vec<Slot>, tree: &mut PortTree)
     requires sets { HasSets slots.old.items tree.old }
     requires used { length slots.old.items ≤ length tree.old }
@@ -102,6 +102,10 @@ fn make_room(slots: &mut Vec<Slot>, tree: &mut PortTree)
     ensures places { length tree.new ≡ length tree.old }
     ensures capacity { vec_capacity slots.new ≡ vec_capacity slots.old }
 {
+    if tree.is_empty() {
+        slots.clear();
+        return;
+    }
     if slots.len() == tree.places() {
         close_gaps(slots, tree);
     }

@@ -1,5 +1,5 @@
 ghost use Rattle.std.specs.Prelude.{◌≡◌, ◌<◌, ◌≤◌, ◌+◌, ◌*◌, ◌++◌, ◌^◌, drop, length, replicate};
-ghost use Rattle.std.specs.Prelude.{slice_set, vec_capacity, IfOk, MatchOption};
+ghost use Rattle.std.specs.Prelude.{slice_set, vec_capacity, All, IfOk, IsTrue, MatchOption};
 ghost use Rattle.std.specs.Int.{IsPowerOfTwo};
 ghost use Rattle.fcfc_router.specs.Tree.{HasNone, IsFirst, IsHalf, IsTree};
 
@@ -121,6 +121,13 @@ impl PortTree {
         ensures most { result ≤ 2 ^ 15 }
     {
         self.places
+    }
+
+    /// Whether no place has a port.
+    pub fn is_empty(&self) -> bool
+        ensures { IsTrue result → All (λ set. set ≡ 0) self.now }
+    {
+        self.unions[1] == 0
     }
 
     /// Writes the set of a place. It takes no memory.

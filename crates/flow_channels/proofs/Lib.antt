@@ -15,6 +15,7 @@ pub mod BoardLemmas
 pub mod ComeLemmas
 pub mod TurnLemmas
 pub mod DepartLemmas
+pub mod MarkLemmas
 pub mod WatchLemmas
 pub mod IdleLemmas
 pub mod ExitTableLemmas

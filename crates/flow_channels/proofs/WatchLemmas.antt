@@ -3,8 +3,10 @@ use Rattle.std.proofs.Common.{◌≡◌, ◌≢◌, ◌∙◌, sym, ap, subst, r
 use Rattle.std.specs.Prelude.{All, bit_and, is_some, IsTrue, ◌↔◌, MatchOption, replicate, slice_get}
 use Rattle.std.specs.Int.{bit_at, bit_not, from_bool, w16}
 use Rattle.std.specs.Int.RustNames.{bit_or}
+use Rattle.std.proofs.lemmas.Bool.Decides.{nat_tests}
 use Rattle.std.proofs.lemmas.Bool.{cases_Bool, cases_eq, cases_lt}
 use Rattle.std.proofs.lemmas.List.{get_or-append-add, get_or-replicate, get_or-set_other, get_or-set_same, get_or_append_left, length-append, length-replicate, length-set}
+use Rattle.std.proofs.lemmas.Option.{same_Some}
 use Rattle.std.proofs.lemmas.Nat.Bits.{bit_at_above, bit_at_and, bit_at_clear_other, bit_at_clear_same, bit_at_set_other, bit_at_set_same}
 use Rattle.dep_check.specs.declared.channel.Channel.{Channel}
 use Rattle.dep_check.specs.Tables.{IsSpot, place_of}
@@ -20,7 +22,7 @@ use Rattle.flow_channels.specs.Flows.{FlowOf, PacketOf, WaitOf, asks, asks_at, c
 use Rattle.flow_channels.specs.Layout.{LayoutOf, spot}
 use Rattle.flow_channels.specs.Moves.{CanArrive, HasRoom}
 use Rattle.flow_channels.specs.Turns.{IsAtTarget, NoneArrives}
-use Rattle.flow_channels.specs.Watch.{AreArriving, AreAwake, AreFreePorts, HasPortIf, IsIdle, IsIn, IsTouched}
+use Rattle.flow_channels.specs.Watch.{AreArriving, AreAwake, AreFreePorts, HasPortIf, IsIdle, IsIn, IsTouched, NoneAsks}
 use Rattle.flow_channels.proofs.ComeLemmas.{asked_queues, came_behind, came_first}
 use Rattle.flow_channels.proofs.StateLemmas.{waiting_there}
 
@@ -80,10 +82,33 @@ waits_elsewhere (Some end) (Some packet) flow at other = elim (cases_Bool (end.a
   | inr before ↦ rw before (waiting_there flow end.at at (waiting_at flow end.at ++ (record { packet = packet; entry = end.port } ∷ [])) (other end refl))
 ]
 
+-- a channel whose first packet asks at no far side
+pub no_far : (layout : LayoutOf) (flow : FlowOf) (channel : Channel) → layout.far channel ≡ None → NoneAsks layout flow channel
+no_far layout flow channel none end packet far first = absurd (let e = sym none ∙ far in cc)
+
+pub no_first : (layout : LayoutOf) (flow : FlowOf) (channel : Channel) → first_of flow channel ≡ None → NoneAsks layout flow channel
+no_first layout flow channel none end packet far first = absurd (let e = sym none ∙ first in cc)
+
+pub all_there : (layout : LayoutOf) (flow : FlowOf) (channel end : Channel) (packet : PacketOf) → layout.far channel ≡ Some end → first_of flow channel ≡ Some packet → end.at ≡ packet.to → NoneAsks layout flow channel
+all_there layout flow channel end packet far first here other another is_far is_first =
+    let one = same_Some end other (sym far ∙ is_far) in
+    let two = same_Some packet another (sym first ∙ is_first) in
+    sym (ap (λ (x : Channel). x.at) one) ∙ here ∙ ap (λ (x : PacketOf). x.to) two
+
+-- where nobody asks nothing changes
+nobody_asks : (o : Option Channel) (first : Option PacketOf) (flow : FlowOf) → ((end : Channel) (packet : PacketOf) → o ≡ Some end → first ≡ Some packet → end.at ≡ packet.to) → asks_at o first flow ≡ flow
+nobody_asks None first flow none = refl
+nobody_asks (Some end) None flow none = refl
+nobody_asks (Some end) (Some packet) flow none =
+    let here : end.at ≡ packet.to = none end packet refl refl in
+    let test : (end.at == packet.to) ≡ true = (grind (arith, nat_tests)) in
+    rw test refl
+
 written : (layout : LayoutOf) (channel : Channel) (packets : List PacketOf) (flow : FlowOf) → IsTouched layout channel flow (with_queue channel packets flow)
 written layout channel packets flow = record {
   queues = λ other differs. get_or-set_other flow.queues (place_of channel) (place_of other) packets [] differs;
   waiting = λ at elsewhere. refl;
+  still = λ none at. refl;
 }
 
 pub asked_touched : (layout : LayoutOf) (channel : Channel) (packets : List PacketOf) (flow : FlowOf) → IsTouched layout channel flow (first_asks layout channel (with_queue channel packets flow))
@@ -92,6 +117,9 @@ asked_touched layout channel packets flow =
     record {
       queues = λ other differs. ap (λ (qs : List (List PacketOf)). get_or qs (place_of other) []) (asked_queues (layout.far channel) (first_of queued channel) queued) ∙ get_or-set_other flow.queues (place_of channel) (place_of other) packets [] differs;
       waiting = λ at elsewhere. waits_elsewhere (layout.far channel) (first_of queued channel) queued at elsewhere;
+      still = λ none at.
+          let first : first_of (first_asks layout channel queued) channel ≡ first_of queued channel = ap (λ (qs : List (List PacketOf)). slice_get (get_or qs (place_of channel) []) 0) (asked_queues (layout.far channel) (first_of queued channel) queued) in
+          ap (λ (f : FlowOf). waiting_at f at) (nobody_asks (layout.far channel) (first_of queued channel) queued (λ end packet far is. none end packet far (first ∙ is)));
     }
 
 pub come_touched : (layout : LayoutOf) (channel : Channel) (packet : PacketOf) (flow : FlowOf) → IsTouched layout channel flow (comes_into layout channel packet flow)
@@ -122,10 +150,10 @@ arriving_seen tables channel old new sets v are is touched only all = record {
     low = let p = place_low channel is in let n = are.count in omega arith
 
 module _ (tables : Tables) (channel : Channel) (old new : FlowOf) (sets : List ℕ) (are : AreAwake tables old sets) (is : IsSpot channel) (touched : IsTouched (ways tables) channel old new) where
-  others_idle : (at : ℕ) → at < 127 → at ≢ channel.at → ((end : Channel) → (ways tables).far channel ≡ Some end → at ≢ end.at) → (IsIn sets at → ⊥) → IsIdle tables new at
-  others_idle at low here there out = idle_as tables old new at (touched.waiting at there) (λ port spot_is. touched.queues (spot at port) (λ same. here (ap (λ (x : Channel). x.at) (one_spot (spot at port) channel spot_is is same)))) (are.others at low out)
+  others_idle : (at : ℕ) → at < 127 → at ≢ channel.at → waiting_at new at ≡ waiting_at old at → (IsIn sets at → ⊥) → IsIdle tables new at
+  others_idle at low here waits out = idle_as tables old new at waits (λ port spot_is. touched.queues (spot at port) (λ same. here (ap (λ (x : Channel). x.at) (one_spot (spot at port) channel spot_is is same)))) (are.others at low out)
 
-  pub awake_here : ((end : Channel) → (ways tables).far channel ≡ Some end → ⊥) → AreAwake tables new (set sets channel.at 1)
+  pub awake_here : NoneAsks (ways tables) new channel → AreAwake tables new (set sets channel.at 1)
   awake_here none =
       let n = are.count in
       let low_at = is.at in
@@ -134,7 +162,7 @@ module _ (tables : Tables) (channel : Channel) (old new : FlowOf) (sets : List �
         low = λ at has. still_low sets channel.at 1 at is.at are.low has;
         others = λ at low out.
             let parts = out_of sets channel.at at (omega arith) out in
-            others_idle at low parts.0 (λ end far. absurd (none end far)) parts.1;
+            others_idle at low parts.0 (touched.still none at) parts.1;
       }
 
   pub awake_there : (end : Channel) → (ways tables).far channel ≡ Some end → IsSpot end → AreAwake tables new (set (set sets channel.at 1) end.at 1)
@@ -149,7 +177,7 @@ module _ (tables : Tables) (channel : Channel) (old new : FlowOf) (sets : List �
         others = λ at low out.
             let second = out_of (set sets channel.at 1) end.at at (omega arith) out in
             let first = out_of sets channel.at at (omega arith) second.1 in
-            others_idle at low first.0 (λ other is_far same. second.0 (same ∙ ap (λ (x : Channel). x.at) (one_end end other far is_far))) first.1;
+            others_idle at low first.0 (touched.waiting at (λ other is_far same. second.0 (same ∙ ap (λ (x : Channel). x.at) (one_end end other far is_far)))) first.1;
       }
     where
       one_end : (a b : Channel) → (ways tables).far channel ≡ Some a → (ways tables).far channel ≡ Some b → b ≡ a

@@ -10,4 +10,5 @@ pub mod Queue
 pub mod Board
 pub mod Exits
 pub mod Turns
+pub mod Marks
 pub mod Watch

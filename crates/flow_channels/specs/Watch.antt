@@ -8,7 +8,7 @@ use Rattle.fcfc_router.specs.Shown.{ports_of}
 use Rattle.flow_channels.specs.declared.tables.Tables.{Tables}
 use Rattle.flow_channels.specs.declared.watch.Watch.{Watch}
 use Rattle.flow_channels.specs.Board.{exit_set, ways}
-use Rattle.flow_channels.specs.Flows.{FlowOf, queue_at, waiting_at}
+use Rattle.flow_channels.specs.Flows.{FlowOf, PacketOf, first_of, queue_at, waiting_at}
 use Rattle.flow_channels.specs.Layout.{LayoutOf, spot}
 use Rattle.flow_channels.specs.Moves.{CanArrive, HasRoom}
 
@@ -49,14 +49,21 @@ pub record IsWatched (tables : Tables) (flow : FlowOf) (watch : Watch) : Type 0 
   pub free : AreFreePorts tables flow 127 watch.free.items
   pub awake : AreAwake tables flow watch.awake
 
+-- the first packet of a channel, if there is one, is at its target
+abbrev pub NoneAsks : LayoutOf → FlowOf → Channel → Type 0
+NoneAsks layout flow channel =
+    (end : Channel) (packet : PacketOf) → layout.far channel ≡ Some end → first_of flow channel ≡ Some packet
+    → end.at ≡ packet.to
+
 -- what came or went in a channel: the others have the same packets, and who waits is the same but at its
--- far side
+-- far side, and there too unless its first packet waits there
 pub record IsTouched (layout : LayoutOf) (channel : Channel) (old new : FlowOf) : Type 0 where
   pub queues :
       (other : Channel) → place_of other ≢ place_of channel → queue_at new other ≡ queue_at old other
   pub waiting :
       (at : ℕ) → ((end : Channel) → layout.far channel ≡ Some end → at ≢ end.at)
       → waiting_at new at ≡ waiting_at old at
+  pub still : NoneAsks layout new channel → (at : ℕ) → waiting_at new at ≡ waiting_at old at
 
 -- what held before something came or went in a channel
 pub record HeldBefore (tables : Tables) (channel : Channel) (flow : FlowOf) (Holds : FlowOf → Type 0)

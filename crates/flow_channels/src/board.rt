@@ -1,11 +1,12 @@
 ghost use Rattle.std.specs.Prelude.{◌≡◌, ◌<◌, ◌≤◌, ◌++◌, ◌∷◌, [], length, replicate, slice_get};
-ghost use Rattle.std.specs.Prelude.{slice_index_or, IfOk, IsTrue, MatchOption, ◌↔◌};
+ghost use Rattle.std.specs.Prelude.{slice_index_or, IfOk, IsTrue, MatchOption, Some, ◌↔◌};
 ghost use Rattle.dep_check.specs.Tables.{IsSpot, place_of, WiresAreWithin};
 ghost use Rattle.flow_channels.specs.Board.{asked_by, come_by, flow_of, IsKept, IsSoundOver, ways};
 ghost use Rattle.flow_channels.specs.Flows.{empty_flow, enters, first_asks, leaves};
 ghost use Rattle.flow_channels.specs.Moves.{CanArrive, HasRoom};
 ghost use Rattle.flow_channels.specs.Queue.{QueueOf};
 ghost use Rattle.flow_channels.specs.Turns.{AreFree, IsAtTarget};
+ghost use Rattle.flow_channels.specs.Watch.{NoneAsks};
 
 use crate::exits::NUMBERS;
 use crate::queue::Queue;
@@ -150,6 +151,22 @@ impl Board {
             return Some(packet);
         }
         None
+    }
+
+    /// The far side of a channel, where its first packet is to go on from there.
+    pub fn asks_at(&self, tables: &Tables, channel: Channel) -> Option<Channel>
+        requires kept { IsKept tables.now self.now }
+        requires spot { IsSpot channel }
+        ensures { MatchOption result (NoneAsks (ways tables.now) (flow_of self.now) channel)
+            (λ end. (ways tables.now).far channel ≡ Some end) }
+    {
+        let end = tables.far(channel)?;
+        let slot = self.first(channel)?;
+        let packet = self.packets[slot as usize];
+        if packet.to == end.at {
+            return None;
+        }
+        Some(end)
     }
 
     /// Whether a port has a channel with room.

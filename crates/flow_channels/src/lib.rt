@@ -9,6 +9,7 @@ mod board;
 mod exits;
 pub mod flow;
 pub mod law;
+mod marks;
 mod queue;
 mod tables;
 mod watch;

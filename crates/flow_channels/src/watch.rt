@@ -9,6 +9,7 @@ ghost use Rattle.flow_channels.specs.Watch.{AreArriving, AreFreePorts, HasPortIf
 
 use crate::board::{Arrival, Board, Departure, Packet};
 use crate::exits::NUMBERS;
+use crate::marks::Marks;
 use crate::tables::Tables;
 use an_base::memory::OutOfMemory;
 use dep_check::channel::Channel;
@@ -24,8 +25,8 @@ pub struct Watch {
     pub arriving: PortTree,
     /// For each switch the ports whose channels have room, by its number.
     pub free: Vec<u16>,
-    /// At least the numbers of the switches at which somebody can go: 1 for each.
-    pub awake: PortTree,
+    /// At least the numbers of the switches at which somebody can go.
+    pub awake: Marks,
 }
 
 // The ports of each switch whose channels have room.
@@ -88,7 +89,7 @@ impl Watch {
         Ok(Watch {
             arriving: PortTree::new(alloc, 2048)?,
             free: all_free(alloc, tables, board)?,
-            awake: PortTree::new(alloc, 128)?,
+            awake: Marks::new(),
         })
     }
 
@@ -102,9 +103,9 @@ impl Watch {
     {
         see_first(&mut self.arriving, tables, board, channel);
         see_room(&mut self.free, tables, board, channel);
-        self.awake.put(usize::from(channel.at), 1);
-        if let Some(end) = tables.far(channel) {
-            self.awake.put(usize::from(end.at), 1);
+        self.awake.insert(usize::from(channel.at));
+        if let Some(end) = board.asks_at(tables, channel) {
+            self.awake.insert(usize::from(end.at));
         }
     }
 
@@ -197,7 +198,7 @@ impl Watch {
         ensures packets { board.new.packets.items ≡ board.old.packets.items ++ (packet ∷ []) }
     {
         board.enter(tables, packet, from);
-        self.awake.put(usize::from(from), 1);
+        self.awake.insert(usize::from(from));
     }
 
     /// The first channel whose first packet is at its target, and that packet.
@@ -223,7 +224,7 @@ impl Watch {
         ensures kept { IsKept tables.now board.new }
         ensures watched { IsWatched tables.now (flow_of board.new) self.new }
     {
-        'numbers: while let Some(number) = self.awake.first(1) {
+        'numbers: while let Some(number) = self.awake.first() {
             let at = number as u8;
             let free = self.free[number];
             if let Some(Grant { packet, port }) = board.routers[number].grant(free) {
@@ -233,7 +234,7 @@ impl Watch {
                     slot: packet,
                 });
             }
-            self.awake.put(number, 0);
+            self.awake.remove(number);
         }
         None
     }

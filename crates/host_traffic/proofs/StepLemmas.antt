@@ -110,11 +110,5 @@ comes most capacity more old new order files filed packet is grown room new_numb
   wider : IsFiled most old order more
   wider =
       let room = is.order_room in
-      record {
-        each = is.each;
-        rising = is.rising;
-        count = is.count;
-        few = is.few;
-        stored_room = is.stored_room;
-        order_room = omega (arith, room, grown);
-      }
+      let order_room : most ≤ more = omega (arith, room, grown) in
+      assumption (order_room, is)

@@ -22,7 +22,7 @@ use Rattle.journal.specs.Lines.{Line, Ticks, Moves, OnSwitch, OnPort, OnWire, Se
 use Rattle.journal.specs.Events.{CanSpell, IsCount, event_line, event_words, switch_name, host_name, first_words, last_words, events_text, journal_text}
 use Rattle.journal.specs.Rules.{name_cause, number_cause, line_cause}
 use Rattle.journal.specs.Texts.{IsJournal, IsFault, IsFaultyRest, IsWrongLine, AreWrong}
-use Rattle.journal.proofs.JournalLemmas.{switch_found, host_found, one_line, not_last, words_are, cut_row, feed_free, cut_once, cut_front, rows_once, last_are, some_words}
+use Rattle.journal.proofs.JournalLemmas.{form_words, switch_found, host_found, one_line, not_last, words_are, cut_row, feed_free, cut_once, cut_front, rows_once, last_are, some_words}
 
 -- the bytes of a line of words may stand in a line
 line_byte : (c : ℕ) → IsLineByte c → is_line_byte c ≡ true
@@ -49,12 +49,7 @@ row_shaped row some few are =
     (short_test (length (join_with_byte 32 row)) (let h = line_short row are in omega arith)) (test_from_all is_line_byte IsLineByte line_byte (join_with_byte 32 row) (line_bytes row are)) (ap has_words (row_words row some are) ∙ words_some row are)
 
 few_words : (form : Line) → length (line_words form) ≤ 4
-few_words Ticks = omega arith
-few_words (Moves k) = omega arith
-few_words (OnSwitch e n) = omega arith
-few_words (OnPort e n p) = omega arith
-few_words (OnWire c n p m) = omega arith
-few_words (Sends h g) = omega arith
+few_words form = (form_words form).1
 
 -- nothing is wrong with the fields of an event
 name_good : (names : List (List ℕ)) (name : List ℕ) (x : ℕ) → place_of names name ≡ Some x → name_cause names name ≡ None

@@ -195,13 +195,16 @@ cut_front (x ∷ xs) ys zs same = cut_front xs ys zs (cc)
 pub last_are : All IsWord last_words
 last_are = words_cons (codes "end") [] (fixed_word (codes "end") refl (omega arith) (omega arith)) words_nil
 
+pub form_words : (form : Line) → (0 < length (line_words form)) × (length (line_words form) ≤ 4)
+form_words Ticks = (omega arith, omega arith)
+form_words (Moves k) = (omega arith, omega arith)
+form_words (OnSwitch e n) = (omega arith, omega arith)
+form_words (OnPort e n p) = (omega arith, omega arith)
+form_words (OnWire c n p m) = (omega arith, omega arith)
+form_words (Sends h g) = (omega arith, omega arith)
+
 pub some_words : (form : Line) → 0 < length (line_words form)
-some_words Ticks = omega arith
-some_words (Moves k) = omega arith
-some_words (OnSwitch e n) = omega arith
-some_words (OnPort e n p) = omega arith
-some_words (OnWire c n p m) = omega arith
-some_words (Sends h g) = omega arith
+some_words form = (form_words form).0
 
 -- two rows in front of bytes are one, and so is what follows
 pub rows_once : (row other : List (List ℕ)) (xs ys : List ℕ) → 0 < length row → 0 < length other → All IsWord row → All IsWord other → line_text row ++ xs ≡ line_text other ++ ys → (row ≡ other) × (xs ≡ ys)

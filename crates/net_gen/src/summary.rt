@@ -156,24 +156,3 @@ pub fn summary(alloc: Global, script: &Script) -> Result<Vec<u8>, OutOfMemory>
     let run = solo(alloc, script)?;
     line_of_run(alloc, script, &run)
 }
-
-#[cfg(test)]
-mod tests {
-    use super::*;
-    use net_script::reader::read;
-    use std::test::Fail;
-
-    const ALONE: &[u8] =
-        b"autonet 1\nlimit events 100\nlimit blocks 1\nswitch A 000000000001\nend\n";
-
-    #[test]
-    fn a_switch_alone_has_settled_as_it_has_loaded(rt: HostRuntime) -> Result<(), Fail> {
-        let Ok(script) = read(rt.alloc(), ALONE) else {
-            return Err("no script".into());
-        };
-        let line = summary(rt.alloc(), &script)?;
-        let wanted = b"# settled tick 0 events 3 delivered 0 dropped 0\n";
-        assert_eq!(rt; line.as_slice(), wanted.as_slice());
-        Ok(())
-    }
-}

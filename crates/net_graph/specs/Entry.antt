@@ -11,8 +11,8 @@ LeadsOut network node link =
     (other : ℕ) × (other ≢ node) × (network.far node link.port ≡ Some (other, link.peer.port))
     × (link.peer.life ≡ network.life other)
 
--- the links of a node: its ports that lead to other nodes, by rising port, each with the life and the port at the
--- far side
+-- the links of a node: its ports that lead to other nodes, by rising port, each with the life and the port at
+-- the far side
 pub record AreLinks (network : Network) (node : ℕ) (links : List PeerAt) : Type 0 where
   pub rising : PortsRise links
   pub each : All (LeadsOut network node) links

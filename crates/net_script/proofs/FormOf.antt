@@ -121,23 +121,15 @@ form_is (a ∷ b ∷ c ∷ d ∷ e ∷ g ∷ []) f found =
 form_is (a ∷ b ∷ c ∷ d ∷ e ∷ g ∷ h ∷ more) f found = absurd (cc)
 
 -- where a word is none of these, none is found
+none_found : {K : Type 0} (o : Option K) (Has : K → Type 0) → ((k : K) → o ≡ Some k → Has k) → ((k : K) → Has k → ⊥) → o ≡ None
+none_found None Has is none = refl
+none_found (Some k) Has is none = absurd (none k (is k refl))
+
 pub no_limit : (w : List ℕ) → ((k : Setting) → codes "limit" ∷ w ∷ [] ≢ setting_words k) → limit_of w ≡ None
-no_limit w none = go (limit_of w) refl
-  where
-    go : (o : Option Setting) → limit_of w ≡ o → o ≡ None
-    go None e = refl
-    go (Some k) e = absurd (none k (limit_is w k e))
+no_limit w none = none_found (limit_of w) (λ k. codes "limit" ∷ w ∷ [] ≡ setting_words k) (limit_is w) none
 
 pub no_link : (w : List ℕ) → ((k : LinkChange) → w ≢ link_word k) → link_of w ≡ None
-no_link w none = go (link_of w) refl
-  where
-    go : (o : Option LinkChange) → link_of w ≡ o → o ≡ None
-    go None e = refl
-    go (Some k) e = absurd (none k (link_is w k e))
+no_link w none = none_found (link_of w) (λ k. w ≡ link_word k) (link_is w) none
 
 pub no_wire : (w : List ℕ) → ((k : WireChange) → w ≢ wire_word k) → wire_of w ≡ None
-no_wire w none = go (wire_of w) refl
-  where
-    go : (o : Option WireChange) → wire_of w ≡ o → o ≡ None
-    go None e = refl
-    go (Some k) e = absurd (none k (wire_is w k e))
+no_wire w none = none_found (wire_of w) (λ k. w ≡ wire_word k) (wire_is w) none

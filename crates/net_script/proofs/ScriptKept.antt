@@ -275,21 +275,7 @@ restart_can s time name kept good =
 
 -- a script with other settings that are in range is a script
 settings_kept : (s : ScriptOf) (limits : Limits) (epoch : ℕ) (pace : Option ℕ) (any : Bool) → IsScript s → IsLimits limits → epoch < 2 ^ 64 → IsPace pace → IsScript (record s { limits = limits; epoch = epoch; pace = pace; any_routes = any })
-settings_kept s limits epoch pace any kept limits_are epoch_is pace_is = record {
-  wired = kept.wired;
-  switch_count = kept.switch_count;
-  host_count = kept.host_count;
-  switch_names = kept.switch_names;
-  names_of_hosts = kept.names_of_hosts;
-  names_apart = kept.names_apart;
-  command_count = kept.command_count;
-  commands = kept.commands;
-  times = kept.times;
-  lives = kept.lives;
-  epoch = epoch_is;
-  pace = pace_is;
-  limits = limits_are;
-}
+settings_kept s limits epoch pace any kept limits_are epoch_is pace_is = assumption (limits_are, epoch_is, pace_is, kept)
 
 -- a setting in its range
 setting_kept : (s : ScriptOf) (k : Setting) (n : ℕ) → IsScript s → least_of k ≤ n → n ≤ most_of k → IsScript (with_setting s k n)

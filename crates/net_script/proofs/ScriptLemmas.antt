@@ -6,6 +6,7 @@ use Rattle.std.proofs.lemmas.List.Sorted.{IsNonDecreasingBy-push}
 use Rattle.std.proofs.lemmas.Option.{slice_get_read}
 use Rattle.an_base.specs.declared.event.Event.{Event}
 use Rattle.an_base.specs.declared.event.Event.TheVariants.{Tick, Clock, Take, Handle, Load, Fail, Repair, Lose, Again, Swap, Noise, Send, Move, Restart}
+use Rattle.an_base.specs.declared.limits.TheConstants.{MOST_SWITCHES}
 use Rattle.net_graph.specs.declared.wiring.SwitchAt.{SwitchAt}
 use Rattle.net_graph.specs.declared.wiring.LinkAt.{LinkAt}
 use Rattle.net_graph.specs.declared.wiring.HostOn.{HostOn}
@@ -16,7 +17,7 @@ use Rattle.an_base.proofs.PairLemmas.{apart_insert, apart_push}
 use Rattle.net_script.specs.declared.command.Command.{Command}
 use Rattle.text_lines.specs.Words.{IsName}
 use Rattle.net_script.specs.Commands.{IsPort, IsUsedPort, IsWireChange, IsCommandEvent, IsCommand, is_used, is_switch_far, is_restart, last_time}
-use Rattle.net_script.specs.Scripts.{ScriptOf, IsScript, CanAddSwitch, CanAddLink, CanAddHost, CanAddCommand, names_of, restarts_of, empty_script, with_switch, with_link, with_host, with_command}
+use Rattle.net_script.specs.Scripts.{ScriptOf, IsScript, CanAddSwitch, CanAddLink, CanAddHost, CanAddCommand, names_of, restarts_of, lives_of, empty_script, with_switch, with_link, with_host, with_command}
 use Rattle.net_graph.proofs.WiredLemmas.{no_wires_kept, switch_wired, link_wired, host_wired}
 use Rattle.net_script.proofs.WiredLemmas.{far_with_link, far_with_host}
 
@@ -106,21 +107,9 @@ switch_kept s name x kept can = record {
 
 -- one more link
 pub link_kept : (s : ScriptOf) (l : LinkAt) → IsScript s → CanAddLink s l → IsScript (with_link s l)
-link_kept s l kept can = record {
-  wired = link_wired s.wires l kept.wired can.link can.a_free can.b_free can.apart;
-  switch_count = kept.switch_count;
-  host_count = kept.host_count;
-  switch_names = kept.switch_names;
-  names_of_hosts = kept.names_of_hosts;
-  names_apart = kept.names_apart;
-  command_count = kept.command_count;
-  commands = commands_of_more s.wires (with_link s l).wires s.commands (record { switches = omega arith; hosts = omega arith; far = λ t p used. far_with_link s.wires l t p used can.a_free can.b_free }) kept.commands;
-  times = kept.times;
-  lives = kept.lives;
-  epoch = kept.epoch;
-  pace = kept.pace;
-  limits = kept.limits;
-}
+link_kept s l kept can =
+    let commands = commands_of_more s.wires (with_link s l).wires s.commands (record { switches = omega arith; hosts = omega arith; far = λ t p used. far_with_link s.wires l t p used can.a_free can.b_free }) kept.commands in
+    assumption (link_wired s.wires l kept.wired can.link can.a_free can.b_free can.apart, commands, kept)
 
 -- one more host
 pub host_kept : (s : ScriptOf) (name : List ℕ) (x : HostOn) → IsScript s → CanAddHost s name x → IsScript (with_host s name x)
@@ -151,21 +140,11 @@ last_time_is cs d some = rw (slice_get_read cs (length cs) (length cs - 1) (get_
 
 -- one more command
 pub command_kept : (s : ScriptOf) (c : Command) → IsScript s → CanAddCommand s c → IsScript (with_command s c)
-command_kept s c kept can = record {
-  wired = kept.wired;
-  switch_count = kept.switch_count;
-  host_count = kept.host_count;
-  switch_names = kept.switch_names;
-  names_of_hosts = kept.names_of_hosts;
-  names_apart = kept.names_apart;
-  command_count = omega (arith, length_push s.commands c, can.room);
-  commands = All-push (IsCommand s.wires) s.commands c kept.commands can.command;
-  times = IsNonDecreasingBy-push (λ (x : Command). x.time) s.commands c kept.times (λ d some. let t = last_time_is s.commands d some in omega (arith, can.time));
-  lives = more (is_restart c.event) refl;
-  epoch = kept.epoch;
-  pace = kept.pace;
-  limits = kept.limits;
-}
+command_kept s c kept can =
+    let count : length (s.commands ++ c ∷ []) ≤ 10000 = omega (arith, length_push s.commands c, can.room) in
+    let times = IsNonDecreasingBy-push (λ (x : Command). x.time) s.commands c kept.times (λ d some. let t = last_time_is s.commands d some in omega (arith, can.time)) in
+    let lives : lives_of (with_command s c) ≤ MOST_SWITCHES = more (is_restart c.event) refl in
+    assumption (count, All-push (IsCommand s.wires) s.commands c kept.commands can.command, times, lives, kept)
   where
     more : (b : Bool) → is_restart c.event ≡ b → length s.wires.switches + restarts_of (s.commands ++ c ∷ []) ≤ 126
     more true t = let room = can.lives t in let h : restarts_of (s.commands ++ c ∷ []) ≡ restarts_of s.commands + 1 = restarts_push s.commands c ∙ ap (λ (b : Bool). restarts_of s.commands + cond b 1 0) t in omega arith

@@ -1,2 +1,3 @@
+pub mod KeepLemmas
 pub mod SendingLemmas
 pub mod SessionLemmas

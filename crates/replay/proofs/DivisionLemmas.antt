@@ -21,10 +21,20 @@ back_sliced n bytes =
     let all = take_all (length bytes - n) (drop n bytes) (omega (arith, len)) in
     rw all (back_drop n bytes)
 
--- the lines from the first with words on, as far as they are looked at
-pub record IsAhead (bytes rest : List ℕ) : Type 0 where
+-- what is sought in the lines is there in those that are not looked at yet
+pub record IsAlong (sought : List (List ℕ) → List (List ℕ)) (bytes rest : List ℕ) : Type 0 where
   pub back : IsBack bytes rest
-  pub same : from_words (lines_of rest) ≡ from_words (lines_of bytes)
+  pub same : sought (lines_of rest) ≡ sought (lines_of bytes)
+
+along_more : (sought : List (List ℕ) → List (List ℕ)) (bytes rest line behind : List ℕ) → IsAlong sought bytes rest → lines_of rest ≡ line ∷ lines_of behind → IsBack rest behind → sought (line ∷ lines_of behind) ≡ sought (lines_of behind) → IsAlong sought bytes behind
+along_more sought bytes rest line behind along is back passed = record { back = back_twice bytes rest behind along.back back; same = sym passed ∙ ap sought (sym is) ∙ along.same }
+
+along_none : (sought : List (List ℕ) → List (List ℕ)) (bytes rest : List ℕ) → IsAlong sought bytes rest → lines_of rest ≡ [] → sought [] ≡ [] → lines_of rest ≡ sought (lines_of bytes)
+along_none sought bytes rest along none nothing = none ∙ sym nothing ∙ ap sought (sym none) ∙ along.same
+
+-- the lines from the first with words on
+abbrev pub IsAhead : List ℕ → List ℕ → Type 0
+IsAhead = IsAlong from_words
 
 pub with_words : (bytes rest line behind : List ℕ) → IsAhead bytes rest → lines_of rest ≡ line ∷ lines_of behind → has_words line ≡ true → lines_of rest ≡ from_words (lines_of bytes)
 with_words bytes rest line behind ahead is has =
@@ -32,17 +42,14 @@ with_words bytes rest line behind ahead is has =
     is ∙ sym e ∙ ap from_words (sym is) ∙ ahead.same
 
 pub without_words : (bytes rest line behind : List ℕ) → IsAhead bytes rest → lines_of rest ≡ line ∷ lines_of behind → IsBack rest behind → has_words line ≡ false → IsAhead bytes behind
-without_words bytes rest line behind ahead is back none =
-    let e : from_words (line ∷ lines_of behind) ≡ from_words (lines_of behind) = rw none refl in
-    record { back = back_twice bytes rest behind ahead.back back; same = sym e ∙ ap from_words (sym is) ∙ ahead.same }
+without_words bytes rest line behind ahead is back none = along_more from_words bytes rest line behind ahead is back (rw none refl)
 
 pub no_words : (bytes rest : List ℕ) → IsAhead bytes rest → lines_of rest ≡ [] → lines_of rest ≡ from_words (lines_of bytes)
-no_words bytes rest ahead none = none ∙ ap from_words (sym none) ∙ ahead.same
+no_words bytes rest ahead none = along_none from_words bytes rest ahead none refl
 
--- the lines behind the end, as far as they are looked at
-pub record IsBefore (bytes rest : List ℕ) : Type 0 where
-  pub back : IsBack bytes rest
-  pub same : behind_end (lines_of rest) ≡ behind_end (lines_of bytes)
+-- the lines behind the end
+abbrev pub IsBefore : List ℕ → List ℕ → Type 0
+IsBefore = IsAlong behind_end
 
 pub at_end : (bytes rest line behind : List ℕ) → IsBefore bytes rest → lines_of rest ≡ line ∷ lines_of behind → is_end_line line ≡ true → from_words (lines_of behind) ≡ behind_end (lines_of bytes)
 at_end bytes rest line behind before is end =
@@ -50,9 +57,7 @@ at_end bytes rest line behind before is end =
     sym e ∙ ap behind_end (sym is) ∙ before.same
 
 pub before_end : (bytes rest line behind : List ℕ) → IsBefore bytes rest → lines_of rest ≡ line ∷ lines_of behind → IsBack rest behind → is_end_line line ≡ false → IsBefore bytes behind
-before_end bytes rest line behind before is back other =
-    let e : behind_end (line ∷ lines_of behind) ≡ behind_end (lines_of behind) = rw other refl in
-    record { back = back_twice bytes rest behind before.back back; same = sym e ∙ ap behind_end (sym is) ∙ before.same }
+before_end bytes rest line behind before is back other = along_more behind_end bytes rest line behind before is back (rw other refl)
 
 pub no_end : (bytes rest : List ℕ) → IsBefore bytes rest → lines_of rest ≡ [] → lines_of rest ≡ behind_end (lines_of bytes)
-no_end bytes rest before none = none ∙ ap behind_end (sym none) ∙ before.same
+no_end bytes rest before none = along_none behind_end bytes rest before none refl

@@ -1,18 +1,47 @@
 //! An input with a script and a journal.
 
-ghost use Rattle.std.specs.Prelude.{◌≡◌, ◌<◌, ◌∷◌, [], ℕ, List, length, IfNone, IfOk, IfSome};
-ghost use Rattle.text_lines.specs.Lines.{lines_of};
+ghost use Rattle.std.specs.Prelude.{◌≡◌, ◌<◌, ◌∷◌, [], ℕ, List, length, map, take, IfNone, IfOk, IfSome};
+ghost use Rattle.text_lines.specs.Lines.{is_blank, lines_of, without_comment, words_of};
 ghost use Rattle.replay.specs.Division.{IsBack, IsDivision, behind_end, from_words, has_words, is_end_line};
 
 use an_base::memory::OutOfMemory;
 use std::alloc::Global;
-use text_lines::line::{first_line, first_of, words};
+use text_lines::line::{first_line, first_of};
+
+// What stands before the first `#`.
+fn before_comment(line: &[u8]) -> &[u8]
+    ensures { result.now ≡ without_comment line.now }
+{
+    match first_of(line, b'#') {
+        Some(end) => &line[..end],
+        None => line,
+    }
+}
+
+fn is_blank(c: u8) -> bool
+    ensures { result ≡ is_blank c }
+{
+    c == b' ' || c == b'\t'
+}
+
+// The first two words of a line, or as many as it has: no more are kept, however long the line is.
+fn first_words(alloc: Global, line: &[u8]) -> Result<Vec<&[u8]>, OutOfMemory>
+    ensures { IfOk result (λ v. map (λ w. w.now) v.items ≡ take 2 (words_of line.now)) }
+{
+    Ok(
+        before_comment(line)
+            .split(|c| is_blank(*c))
+            .filter(|w| !w.is_empty())
+            .take(2)
+            .collect(alloc)?,
+    )
+}
 
 // Whether a line has words.
 fn has_words(alloc: Global, line: &[u8]) -> Result<bool, OutOfMemory>
     ensures { IfOk result (λ answer. answer ≡ has_words line.now) }
 {
-    let words = words(alloc, line)?;
+    let words = first_words(alloc, line)?;
     Ok(!words.is_empty())
 }
 
@@ -20,7 +49,7 @@ fn has_words(alloc: Global, line: &[u8]) -> Result<bool, OutOfMemory>
 fn is_end_line(alloc: Global, line: &[u8]) -> Result<bool, OutOfMemory>
     ensures { IfOk result (λ answer. answer ≡ is_end_line line.now) }
 {
-    let words = words(alloc, line)?;
+    let words = first_words(alloc, line)?;
     Ok(words.len() == 1 && words[0] == b"end".as_slice())
 }
 
@@ -87,32 +116,4 @@ pub fn divide(alloc: Global, bytes: &[u8]) -> Result<(&[u8], &[u8]), OutOfMemory
 {
     let journal = behind_end(alloc, bytes)?;
     Ok((&bytes[..bytes.len() - journal.len()], journal))
-}
-
-#[cfg(test)]
-mod tests {
-    use super::*;
-    use std::test::Fail;
-
-    #[test]
-    fn the_journal_begins_behind_the_lines_without_words(rt: HostRuntime) -> Result<(), Fail> {
-        for (script, journal) in [
-            (
-                b"a\n end # b\n\n# settled\n".as_slice(),
-                b"journal 1\nend\n".as_slice(),
-            ),
-            (b"a\r\nend\r\n".as_slice(), b"end\nend".as_slice()),
-            (b"a\nend of\nb".as_slice(), b"".as_slice()),
-            (b"a\nend".as_slice(), b"".as_slice()),
-            (b"a\nend\n \n\t".as_slice(), b"".as_slice()),
-            (b"".as_slice(), b"".as_slice()),
-        ] {
-            let mut input = script.to_vec(rt.alloc())?;
-            input.extend_from_slice(journal)?;
-            let (first, second) = divide(rt.alloc(), &input)?;
-            assert_eq!(rt; first, script);
-            assert_eq!(rt; second, journal);
-        }
-        Ok(())
-    }
 }

@@ -2,9 +2,9 @@
 
 ghost use Rattle.std.specs.Prelude.{◌≡◌, false, IfErr, IfOk, OnOk};
 ghost use Rattle.net_script.specs.Scripts.{IsScript};
-ghost use Rattle.fabric_world.specs.Clauses.{HoldsThroughout};
 ghost use Rattle.fabric_world.specs.Histories.{IsLawful, IsLegal, world_of};
 ghost use Rattle.fabric_world.specs.Lines.{lines_of};
+ghost use Rattle.fabric_settling.specs.Claims.{HoldsAndSettles};
 ghost use Rattle.fabric_book.specs.Nets.{history_of, with_step};
 ghost use Rattle.replay.specs.Replays.{HasNoEnd, IfIllegal, IsRefusal, IsUnlawfulNext, line_behind};
 
@@ -75,11 +75,11 @@ pub fn step(net: &mut Net, event: &Event, lines: &mut Lines) -> Result<(), Repla
 }
 
 /// The end to which a journal has come, or that it has come to none, with the last line of its text. All that
-/// is claimed of a history holds of it.
+/// is claimed of a lawful history holds of it.
 pub fn end_of(net: &Net) -> Result<Ending, ReplayRefusal>
     requires lawful { IsLawful net.now.script net.now.events }
     ensures legal { IfOk result (IsLegal net.now.script net.now.events) }
-    ensures claims { HoldsThroughout net.now.script net.now.events }
+    ensures claims { HoldsAndSettles net.now.script net.now.events }
     ensures unended { IfErr result (λ refused. IfIllegal refused (HasNoEnd (history_of net.now))) }
 {
     let line = next_line(net);
@@ -93,11 +93,11 @@ pub fn end_of(net: &Net) -> Result<Ending, ReplayRefusal>
 }
 
 /// Replays a journal over the network of a script. It answers where each event is lawful after those before
-/// it and the last one leads to an end. All that is claimed of a history then holds of the journal: at each
-/// moment of it, and where it ends settled.
+/// it and the last one leads to an end. All that is claimed of a lawful history then holds of the journal: at
+/// each moment of it, where it ends settled, and of how soon it settles.
 pub fn replay(alloc: Global, script: &Script, journal: &Journal) -> Result<World, ReplayRefusal>
     ensures legal { IfOk result (IsLegal script.now journal.now) }
-    ensures claims { OnOk result (HoldsThroughout script.now journal.now) }
+    ensures claims { OnOk result (HoldsAndSettles script.now journal.now) }
     ensures refused { IfErr result (IsRefusal script.now journal.now) }
 {
     let mut net = Net::begin(alloc, script)?;

@@ -1,7 +1,8 @@
 -- A run of the packets that enter a component: they enter, and then come the turns.
-use Rattle.std.proofs.Common.{◌≡◌, ◌≢◌, ◌∙◌, sym, ap, subst, refl, ℕ, suc, ◌+◌, ◌<◌, ◌≤◌, List, [], ◌∷◌, ◌++◌, Bool, Option, arith, append-nil, length, length-take, get_or, map, take, Contains}
+use Rattle.std.proofs.Common.{◌≡◌, ◌≢◌, ◌∙◌, sym, ap, subst, refl, ℕ, suc, ◌+◌, ◌<◌, ◌≤◌, List, [], ◌∷◌, ◌++◌, Bool, Option, arith, append-nil, length, length-take, get_or, map, take, Contains, true, ◌==◌}
 use Rattle.std.specs.Prelude.{fold}
 use Rattle.std.specs.List.{flat_map}
+use Rattle.std.proofs.lemmas.Bool.Decides.{nat_tests}
 use Rattle.std.proofs.lemmas.List.{get_or-map, get_or_default, get_or-take, length-map, take_more, map_push}
 use Rattle.std.proofs.lemmas.List.Elements.{Contains-get_or}
 use Rattle.std.proofs.lemmas.List.Sums.{fold_more}
@@ -189,6 +190,16 @@ ran any room es numbers home sends tables rows moves start named are rows_are st
   run = subst (λ (f : FlowOf). IsRunFrom (layout_of es (numbering es) (flat_map (λ t. t.rows) tables) room) f moves) start_is
       (subst (λ (rs : List RowOf). IsRunFrom (layout_of es (numbering es) rs room) start moves) rows_are
       (subst (λ (ns : List ℕ). IsRunFrom (layout_of es ns rows room) start moves) named run));
+}
+
+-- where none enters none moves
+pub none_ran : (any : Bool) (room : ℕ) (es : List EntryOf) (home : List ℕ) (sends : List Sent) (tables : List TableOf) (moves : List Went) → AreTables es any (length es) tables → (length sends == 0) ≡ true → moves ≡ [] → IsRun any room es home sends moves
+none_ran any room es home (sent ∷ sends) tables moves are empty still = absurd (let none : suc (length sends) ≡ 0 = (grind (arith, nat_tests)) in omega arith)
+none_ran any room es home [] tables moves are empty still = record {
+  tables = tables;
+  are = are;
+  run = subst (λ (ms : List Went). IsRunFrom (layout_in room (record { entries = es; tables = tables })) empty_flow ms) (sym still)
+      (record { end = empty_flow; turns = refl; done = refl });
 }
 
 -- its channels have the ranks that were answered for its rows

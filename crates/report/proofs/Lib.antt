@@ -20,3 +20,7 @@ pub mod FlowTexts
 pub mod FlowLaws
 pub mod ToldTexts
 pub mod ReporterLemmas
+pub mod MomentLemmas
+pub mod AccountLemmas
+pub mod BeliefLemmas
+pub mod RememberingLemmas

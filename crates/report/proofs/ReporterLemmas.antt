@@ -8,12 +8,12 @@ use Rattle.outside.specs.Told.{Gains, GainsFront, IsNoLess, Seen, with_back}
 use Rattle.outside.proofs.ToldLemmas.{with_back_none, with_back_twice}
 use Rattle.fabric_state.specs.declared.ending.Ending.{Ending}
 use Rattle.fabric_state.specs.Fabric.{FabricOf}
-use Rattle.fabric_world.specs.Clauses.{HoldsThroughout}
 use Rattle.fabric_world.specs.Histories.{IsLegal, end_of, fabric_of, world_of}
 use Rattle.fabric_world.specs.Lines.{lines_of}
 use Rattle.fabric_world.specs.World.{WorldOf, after_all, begun, step, world_after}
 use Rattle.fabric_world.specs.declared.line.Line.{Line}
 use Rattle.fabric_world.proofs.WorldLemmas.{world_after-event}
+use Rattle.fabric_settling.specs.Claims.{HoldsAndSettles}
 use Rattle.fabric_book.specs.Nets.{NetOf, history_of, with_step}
 use Rattle.replay.specs.Replays.{HasMade}
 use Rattle.replay.proofs.ReplayLemmas.{made_next}
@@ -130,8 +130,8 @@ next_text script own journal place event d net written text new within at same m
 pub ended_legal : (script own : ScriptOf) (journal : List Event) (net : NetOf) (end : Ending) → own ≡ script → HasMade script journal net → IsLegal own net.events end → IsLegal script journal end
 ended_legal script own journal net end same made legal = there (λ s n. IsLegal s n.events end) script own journal net same made legal
 
-pub ended_claims : (script own : ScriptOf) (journal : List Event) (net : NetOf) → own ≡ script → HasMade script journal net → HoldsThroughout own net.events → HoldsThroughout script journal
-ended_claims script own journal net same made claims = there (λ s n. HoldsThroughout s n.events) script own journal net same made claims
+pub ended_claims : (script own : ScriptOf) (journal : List Event) (net : NetOf) → own ≡ script → HasMade script journal net → HoldsAndSettles own net.events → HoldsAndSettles script journal
+ended_claims script own journal net same made claims = there (λ s n. HoldsAndSettles s n.events) script own journal net same made claims
 
 pub ended_text : (script own : ScriptOf) (journal : List Event) (net : NetOf) (end : Ending) (written text new : List ℕ) → own ≡ script → HasMade script journal net → IsLegal own net.events end → written ++ text ≡ so_far script journal → new ≡ text ++ line_of_end own (fabric_of (history_of net)) end → written ++ new ≡ report_text script journal
 ended_text script own journal net end written text new same made legal says last =

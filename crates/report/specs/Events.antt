@@ -22,8 +22,8 @@ use Rattle.fabric_world.specs.declared.line.Line.{Line}
 use Rattle.fabric_world.specs.declared.line.Line.TheVariants as line
 use Rattle.fabric_world.specs.World.{WorldOf, begun, step, world_after}
 use Rattle.fabric_world.specs.Lines.{lines_of}
-use Rattle.fabric_world.specs.Clauses.{HoldsThroughout}
 use Rattle.fabric_world.specs.Histories.{IsLegal, end_of}
+use Rattle.fabric_settling.specs.Claims.{HoldsAndSettles}
 use Rattle.report.specs.Names.{life_text}
 use Rattle.report.specs.Rows.{row_form}
 use Rattle.report.specs.Expect.{table_text}
@@ -183,7 +183,7 @@ report_text script history =
 pub record IsReport (script : ScriptOf) (history : List Event) (end : Ending) (text : List ℕ) : Type 0 where
   pub legal : IsLegal script history end
   pub says : text ≡ report_text script history
-  pub claims : HoldsThroughout script history
+  pub claims : HoldsAndSettles script history
 
 -- a history is legal, with whatever end
 abbrev pub HasLegalEnd : ScriptOf → List Event → Type 0

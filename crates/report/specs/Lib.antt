@@ -9,3 +9,6 @@ pub mod Check
 pub mod Decimals
 pub mod Pieces
 pub mod Events
+pub mod Moments
+pub mod Beliefs
+pub mod Remembering

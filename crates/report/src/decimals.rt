@@ -53,11 +53,14 @@ impl Decimals {
         })
     }
 
-    /// Appends a number.
+    /// Appends a number, digit by digit, since there are at most three.
     pub fn push(&self, text: &mut Vec<u8>, n: u8) -> Result<(), AllocError>
         ensures { OnOk result (text.new.items ≡ text.old.items ++ decimal n) }
     {
         let word = &self.words[usize::from(n)];
-        text.extend_from_slice(word.as_bytes())
+        'digits: for digit in word.as_bytes() {
+            text.push(*digit)?;
+        }
+        Ok(())
     }
 }

@@ -118,7 +118,7 @@ fn moves_of(alloc: Global, flow: &mut Flow, ranks: &Ranks) -> Result<Vec<Went>, 
     Ok(moves)
 }
 
-// The moves of packets that enter a component.
+// The moves of packets that enter a component. Where none enters no flow is made.
 fn run(
     alloc: Global,
     graph: &Graph,
@@ -135,6 +135,9 @@ fn run(
     ensures { IfOk result (λ moves. IsRun any b graph.now home.now sends.now moves.items) }
 {
     let rows = rows_of(alloc, graph, numbers, any)?;
+    if sends.is_empty() {
+        return Ok(Vec::new(alloc));
+    }
     let ranks = ranks_of(alloc, graph, numbers, &rows)?;
     let most = sends.len().max(1) as u32;
     let mut flow = Flow::new(alloc, graph, numbers, &rows, &ranks, b, most)?;

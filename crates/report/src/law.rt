@@ -1,8 +1,10 @@
 //! What follows from what is expected of a script, from how its broadcasts go, from what becomes of its
-//! packets, and from the judgement of tables.
+//! packets, from the judgement of tables, and from what hosts believe.
 
 ghost use Rattle.std.specs.Prelude.{◌≡◌, ◌<◌, ◌≤◌, [], ◌∷◌, ◌++◌, Bool, Contains, length, List, ℕ, false, slice_index_or};
 ghost use Rattle.an_base.specs.Numbers.{AreNumbers};
+ghost use Rattle.an_base.specs.declared.event.Event.{Event};
+ghost use Rattle.an_base.specs.declared.event.Event.TheVariants.{Send};
 ghost use Rattle.net_script.specs.Scripts.{IsScript, ScriptOf};
 ghost use Rattle.table_script.specs.Tables.{TablesOf};
 ghost use Rattle.table_script.specs.TableTexts.{IsTextWith};
@@ -18,6 +20,8 @@ ghost use Rattle.dep_check.specs.declared.channel.Channel.{Channel};
 ghost use Rattle.flow_channels.specs.declared.went.Went.{Went};
 ghost use Rattle.flow_channels.specs.Flows.{FlowOf, queue_at};
 ghost use Rattle.flow_channels.specs.Runs.{Turns};
+ghost use Rattle.fabric_world.specs.Histories.{IsLawful};
+ghost use Rattle.report.specs.Beliefs.{Belief, belief_of, beliefs_of, fabric_behind, senders};
 ghost use Rattle.report.specs.Check.{IsJudged};
 ghost use Rattle.report.specs.Expect.{all_rows, IsExpectOf, Part};
 ghost use Rattle.report.specs.Floods.{FloodPart, IsFloodOf, ReachesAll};
@@ -89,4 +93,20 @@ pub fn no_channel_has_more_than_it_holds()
         (went : List Went) (flow : FlowOf) (channel : Channel) → IsScript s → 1 ≤ room → Contains is.parts part
         → Turns (layout_in room part.part) (start_of s (entries_of part)) went flow → IsSpot channel
         → length (queue_at flow channel) ≤ room }
+{}
+
+/// Of each packet that is sent in a history there is one belief, in turn: where its sender would send it by
+/// what it keeps of all that came to it before that event.
+pub fn each_send_is_a_choice()
+    ensures choice { (script : ScriptOf) (before later : List Event) (from to : ℕ)
+        → (behind : List Belief) × (beliefs_of script (before ++ Send from to ∷ later)
+        ≡ beliefs_of script before ++ belief_of script before from to ∷ behind) }
+    ensures count { (script : ScriptOf) (history : List Event)
+        → length (beliefs_of script history) ≡ length (senders history) }
+{}
+
+/// The packets of a lawful history are numbered as they are sent: there were as many as hosts that sent.
+pub fn packets_are_numbered_in_turn()
+    ensures { (script : ScriptOf) (history : List Event) → IsLawful script history
+        → length (senders history) ≡ (fabric_behind script history).sent }
 {}

@@ -12,12 +12,14 @@
 //! report.
 #![tactic(auto)]
 
+mod account;
 pub mod check;
 mod decimals;
 pub mod expect;
 pub mod flood;
 pub mod flow;
 pub mod law;
+pub mod naming;
 mod piece;
 pub mod reporter;
 mod row;

@@ -1,9 +1,9 @@
 //! The report of a journal.
 
 ghost use Rattle.std.specs.Prelude.{◌≡◌, ◌∷◌, ◌++◌, [], codes, IfErr, IfOk, OnErr, OnOk, Err};
-ghost use Rattle.fabric_world.specs.Clauses.{HoldsThroughout};
 ghost use Rattle.fabric_world.specs.Histories.{IsLegal, fabric_of, world_of};
 ghost use Rattle.fabric_world.specs.World.{world_after};
+ghost use Rattle.fabric_settling.specs.Claims.{HoldsAndSettles};
 ghost use Rattle.fabric_book.specs.Nets.{history_of};
 ghost use Rattle.outside.specs.Told.{Failed, Gains, GainsFront, IsNoLess};
 ghost use Rattle.replay.specs.Replays.{HasMade, HasNoEnd, IfIllegal, IsRefusal, IsUnlawfulNext};
@@ -122,7 +122,7 @@ impl<'a> Reporter<'a> {
     fn finish(&mut self) -> Result<Ending, ReplayRefusal>
         requires { HasMade self.old.script.now self.old.net.events self.old.net }
         ensures legal { IfOk result (IsLegal self.old.script.now self.old.net.events) }
-        ensures claims { OnOk result (HoldsThroughout self.old.script.now self.old.net.events) }
+        ensures claims { OnOk result (HoldsAndSettles self.old.script.now self.old.net.events) }
         ensures net { OnOk result (self.new.net ≡ self.old.net) }
         ensures text { IfOk result (λ end. self.new.text.items ≡ self.old.text.items
             ++ line_of_end self.old.script.now (fabric_of (history_of self.old.net)) end) }
@@ -174,11 +174,12 @@ pub fn write<K: Sink>(
     sink: &mut K,
 ) -> Result<(), ReportStop>
     requires legal { HasLegalEnd script.now journal.now }
-    ensures claims { OnOk result (HoldsThroughout script.now journal.now) }
+    ensures claims { OnOk result (HoldsAndSettles script.now journal.now) }
     ensures all { OnOk result (Gains (K.seen sink.old) (K.seen sink.new)
         (report_text script.now journal.now)) }
     ensures front { GainsFront (K.seen sink.old) (K.seen sink.new) (report_text script.now journal.now) }
     ensures fault { result ≡ Err stop.WriteFault → Failed (K.seen sink.old) (K.seen sink.new) }
+    ensures kept { IsNoLess (K.seen sink.old) (K.seen sink.new) }
 {
     let mut reporter = Reporter::begin(alloc, script)?;
     let events = journal.as_slice();
@@ -221,70 +222,4 @@ pub fn life_name(alloc: Global, script: &Script, life: Life) -> Result<Word, Out
     ensures { IfOk result (λ name. name ≡ life_text script.now life) }
 {
     Ok(Word::new(life_word(alloc, script, life)?))
-}
-
-#[cfg(test)]
-mod tests {
-    use super::*;
-    use journal::cause::JournalCause;
-    use net_script::reader::read;
-    use outside::memory::MemorySink;
-    use std::test::Fail;
-
-    const ALONE: &[u8] =
-        b"autonet 1\nlimit events 100\nlimit blocks 1\nswitch A 000000000001\nend\n";
-
-    const REPORT: &[u8] = b"report 1\n2 A join 1\n2 A finish 1 root A members 1\n\
-        3 A load 1 number 1\nrow A 0\nend settled tick 0 events 3\n";
-
-    // The events of a switch alone, and its script.
-    fn alone(alloc: Global, count: usize) -> Result<(Script, Journal), Fail> {
-        let Ok(script) = read(alloc, ALONE) else {
-            return Err("no script".into());
-        };
-        let events = [
-            Event::Clock { s: 0 },
-            Event::Handle { s: 0 },
-            Event::Load { s: 0 },
-            Event::Tick,
-        ];
-        let mut journal = Journal::new(alloc);
-        for event in events.get(..count).unwrap_or(&events) {
-            journal.push(*event)?;
-        }
-        Ok((script, journal))
-    }
-
-    #[test]
-    fn a_switch_alone_finishes_and_loads(rt: HostRuntime) -> Result<(), Fail> {
-        let (script, journal) = alone(rt.alloc(), 3)?;
-        let Ok(report) = reported(rt.alloc(), &script, &journal) else {
-            return Err("no report".into());
-        };
-        assert_eq!(rt; report.text.as_slice(), REPORT);
-        assert_eq!(rt; report.tick, 0);
-        for room in [REPORT.len(), 30] {
-            let mut sink = MemorySink::new(rt.alloc(), room, Vec::new(rt.alloc()))?;
-            let is_whole = write(rt.alloc(), &script, &journal, &mut sink).is_ok();
-            assert_eq!(rt; is_whole, room == REPORT.len());
-            assert_eq!(rt; sink.bytes(), REPORT.get(..room).unwrap_or(REPORT));
-        }
-        Ok(())
-    }
-
-    #[test]
-    fn a_journal_is_refused_at_its_first_fault(rt: HostRuntime) -> Result<(), Fail> {
-        for (count, line, cause) in [
-            (0, 2, JournalCause::Unfinished),
-            (2, 4, JournalCause::Unfinished),
-            (4, 5, JournalCause::NotLawful),
-        ] {
-            let (script, journal) = alone(rt.alloc(), count)?;
-            match reported(rt.alloc(), &script, &journal) {
-                Ok(_report) => assert!(rt; false),
-                Err(refusal) => assert_eq!(rt; refusal, ReplayRefusal::Illegal { line, cause }),
-            }
-        }
-        Ok(())
-    }
 }

@@ -20,7 +20,7 @@ fn push_ports(text: &mut Vec<u8>, decimals: &Decimals, ports: &[u8]) -> Result<(
     ensures { OnOk result (text.new.items ≡ text.old.items ++ flat_map slashed ports.now) }
 {
     'ports: for port in ports {
-        text.extend_from_slice(b"/")?;
+        text.push(b'/')?;
         decimals.push(text, *port)?;
     }
     Ok(())
@@ -32,7 +32,10 @@ fn push_exits(text: &mut Vec<u8>, decimals: &Decimals, exits: &[u8]) -> Result<(
     ensures { OnOk result (text.new.items ≡ text.old.items ++ exits_text exits.now) }
 {
     match exits.split_first() {
-        None => text.extend_from_slice(b"-"),
+        None => {
+            text.push(b'-')?;
+            Ok(())
+        }
         Some((first, others)) => {
             decimals.push(text, *first)?;
             push_ports(text, decimals, others)
@@ -45,9 +48,9 @@ fn push_exits(text: &mut Vec<u8>, decimals: &Decimals, exits: &[u8]) -> Result<(
 fn push_row(text: &mut Vec<u8>, decimals: &Decimals, row: &Row) -> Result<(), AllocError>
     ensures { OnOk result (text.new.items ≡ text.old.items ++ spaced_pair row.now) }
 {
-    text.extend_from_slice(b" ")?;
+    text.push(b' ')?;
     decimals.push(text, row.to)?;
-    text.extend_from_slice(b":")?;
+    text.push(b':')?;
     push_exits(text, decimals, row.exits.as_slice())
 }
 

@@ -420,30 +420,11 @@ command_step s kept cs c ms parts d script part = event_step s kept cs c.time c.
 -- the line of one setting leaves the others
 come_other : (c : Came) (k j : Setting) → j ≢ k → has_come (with_come c k) j ≡ has_come c j
 come_other c Ticks Ticks other = absurd (other refl)
-come_other c Ticks Events other = refl
-come_other c Ticks Blocks other = refl
-come_other c Ticks Epoch other = refl
-come_other c Ticks Pace other = refl
-come_other c Events Ticks other = refl
 come_other c Events Events other = absurd (other refl)
-come_other c Events Blocks other = refl
-come_other c Events Epoch other = refl
-come_other c Events Pace other = refl
-come_other c Blocks Ticks other = refl
-come_other c Blocks Events other = refl
 come_other c Blocks Blocks other = absurd (other refl)
-come_other c Blocks Epoch other = refl
-come_other c Blocks Pace other = refl
-come_other c Epoch Ticks other = refl
-come_other c Epoch Events other = refl
-come_other c Epoch Blocks other = refl
 come_other c Epoch Epoch other = absurd (other refl)
-come_other c Epoch Pace other = refl
-come_other c Pace Ticks other = refl
-come_other c Pace Events other = refl
-come_other c Pace Blocks other = refl
-come_other c Pace Epoch other = refl
 come_other c Pace Pace other = absurd (other refl)
+come_other c k j other = refl
 
 routes_kept : (c : Came) (k : Setting) → (with_come c k).routes ≡ c.routes
 routes_kept c Ticks = refl

@@ -1,5 +1,5 @@
 use Rattle.std.specs.Prelude.{IsTrue}
-use Rattle.std.proofs.Common.{◌≡◌, ◌∙◌, inl, inr, ⊎_elim, sym, ap, subst, refl, ℕ, ◌+◌, ◌≤◌, ◌<◌, arith, length, Option, Some, None, true, false, cond}
+use Rattle.std.proofs.Common.{◌≡◌, ◌∙◌, ◌⊎◌, inl, inr, ⊎_elim, sym, ap, subst, refl, ℕ, ◌+◌, ◌≤◌, ◌<◌, arith, length, Option, Some, None, true, false, cond}
 use Rattle.std.proofs.lemmas.Bool.{false≢true, cases_lt}
 use Rattle.std.proofs.lemmas.Option.{none-some, same_Some}
 use Rattle.an_base.specs.declared.body.Body.{Body}
@@ -8,7 +8,7 @@ use Rattle.ordered_link.specs.Sending.{Sending, highest, is_outstanding, push, s
 use Rattle.ordered_link.specs.Receiving.{untouched, last, received}
 use Rattle.session_settling.proofs.WayModel.{Way, Holds, is_held, way_of}
 use Rattle.session_settling.proofs.WayModel as way
-use Rattle.session_settling.specs.Directions.{Direction, last_sent, CarriesStay, AcksStay, Gains, Ticks, Sends, Clocked, Acked, Passes, Drops, Ignored, Received, FarJoins, Joins, Step, ticks, pushes, sends_next, sends_again, clocked, acks, passes, drops, ignores, receives, far_joins, joins, Run, rest, then_step, Starts, IsStill}
+use Rattle.session_settling.specs.Directions.{Direction, last_sent, under_way, Gains, Ticks, Sends, Clocked, Acked, Passes, Drops, Ignored, Received, FarJoins, Joins, Step, ticks, pushes, sends_next, sends_again, clocked, acks, passes, drops, ignores, receives, far_joins, joins, Run, rest, then_step, Starts, IsStill}
 use Rattle.session_settling.proofs.Ways.{keeps, starts, equal_epochs}
 use Rattle.session_settling.proofs.Sendings.{SendsNone, SendsBy, next_is, push_is, again_is, forget_is, not_outstanding}
 use Rattle.session_settling.proofs.Receipts.{IsTidy, received_is, is_answered}
@@ -25,11 +25,13 @@ same_sender v w e = record { acked = ap (λ (s : Sending). s.acked) e; sent = ap
 same_receiver : (v w : Direction) → w.receiving ≡ v.receiving → way.Receiver (way_of v) (way_of w)
 same_receiver v w e = record { last = ap last e; held = λ j h. subst (λ r. IsTrue (is_held r j)) e h; held_on = λ j h. subst (λ r. IsTrue (is_held r j)) (sym e) h }
 
-same_carries : (v w : Direction) → CarriesStay v w → way.Carries (way_of v) (way_of w)
-same_carries v w c = record { carry = c.carry; carry_on = c.carry_on }
-
-same_acks : (v w : Direction) → AcksStay v w → way.Acks (way_of v) (way_of w)
-same_acks v w c = record { ack = c.ack; ack_on = c.ack_on }
+rests : (v w : Direction) → w ≡ under_way w v → way.Rests (way_of v) (way_of w)
+rests v w is = record {
+  clocks = record { now = ap (λ (d : Direction). d.now) is; late = ap (λ (d : Direction). d.late) is };
+  sender = same_sender v w (ap (λ (d : Direction). d.sending) is);
+  receiver = same_receiver v w (ap (λ (d : Direction). d.receiving) is);
+  epochs = record { epoch = ap (λ (d : Direction). d.epoch) is; far_epoch = ap (λ (d : Direction). d.far_epoch) is };
+}
 
 tidy_same : (v w : Direction) → w.receiving ≡ v.receiving → IsTidy v.receiving → IsTidy w.receiving
 tidy_same v w e tidy = subst IsTidy (sym e) tidy
@@ -41,18 +43,20 @@ tidy_untouched = record { above = λ j h. absurd (false≢true h); near = λ j h
 sends_way : (base : ℕ) (t : Sending) (out : Option ℕ) (v w : Direction) → SendsBy v.now out v.sending t → Sends base t out v w → way.Step base (way_of v) (way_of w)
 sends_way base t out v w sends s = subst (λ x. way.Step base (way_of v) (way_of x)) (sym s.is) (elim sends [
   | inl none ↦ way.passes (record {
-    clocks = record { now = refl; late = refl };
-    sender = record { acked = none.1.acked; sent = let a = none.1.acked in let b = ap length none.1.sent in omega (arith, a, b); at = λ j. quiet none.1 j };
-    receiver = record { last = refl; held = λ j h. h; held_on = λ j h. h };
-    epochs = record { epoch = refl; far_epoch = refl };
-    carries = record { carry = λ j h. ⊎_elim (λ k. k) (λ e. absurd (none-some j (sym none.0 ∙ e))) (s.gains.carry j h); carry_on = s.gains.carry_on };
-    acks = record { ack = s.acks.ack; ack_on = s.acks.ack_on };
+    rests = record {
+      clocks = record { now = refl; late = refl };
+      sender = record { acked = none.1.acked; sent = let a = none.1.acked in let b = ap length none.1.sent in omega (arith, a, b); at = λ j. quiet none.1 j };
+      receiver = record { last = refl; held = λ j h. h; held_on = λ j h. h };
+      epochs = record { epoch = refl; far_epoch = refl };
+    };
+    carries = record { no_others = λ j h. ⊎_elim (λ k. k) (λ e. absurd (none-some j (sym none.0 ∙ e))) (s.gains.carry j h); stay = s.gains.carry_on };
+    acks = s.acks;
   })
   | inr some ↦ way.sends some.0 (record {
     clocks = record { now = refl; late = refl };
     receiver = record { last = refl; held = λ j h. h; held_on = λ j h. h };
     epochs = record { epoch = refl; far_epoch = refl };
-    acks = record { ack = s.acks.ack; ack_on = s.acks.ack_on };
+    acks = s.acks;
     acked = some.2.acked;
     sent = some.2.sent;
     outstanding = some.2.outstanding;
@@ -84,8 +88,8 @@ kept_ticks base v w kept t = kept_by base v w kept
       sender = same_sender v w (ap (λ (d : Direction). d.sending) t.is);
       receiver = same_receiver v w (ap (λ (d : Direction). d.receiving) t.is);
       epochs = record { epoch = ap (λ (d : Direction). d.epoch) t.is; far_epoch = ap (λ (d : Direction). d.far_epoch) t.is };
-      carries = same_carries v w t.carries;
-      acks = same_acks v w t.acks;
+      carries = t.carries;
+      acks = t.acks;
       no_carry = t.no_carry;
       no_ack = t.no_ack;
     }))
@@ -100,47 +104,24 @@ kept_clocked base v w kept t = kept_by base v w kept
       sender = same_sender v w (ap (λ (d : Direction). d.sending) t.is);
       receiver = same_receiver v w (ap (λ (d : Direction). d.receiving) t.is);
       epochs = record { epoch = ap (λ (d : Direction). d.epoch) t.is; far_epoch = ap (λ (d : Direction). d.far_epoch) t.is };
-      carries = same_carries v w t.carries;
-      acks = same_acks v w t.acks;
+      carries = t.carries;
+      acks = t.acks;
     }))
     (tidy_same v w (ap (λ (d : Direction). d.receiving) t.is) kept.tidy)
 
 kept_passes : (base : ℕ) (v w : Direction) → IsKept base v → Passes v w → IsKept base w
 kept_passes base v w kept t = kept_by base v w kept
-    (way.passes (record {
-      clocks = record { now = ap (λ (d : Direction). d.now) t.is; late = ap (λ (d : Direction). d.late) t.is };
-      sender = same_sender v w (ap (λ (d : Direction). d.sending) t.is);
-      receiver = same_receiver v w (ap (λ (d : Direction). d.receiving) t.is);
-      epochs = record { epoch = ap (λ (d : Direction). d.epoch) t.is; far_epoch = ap (λ (d : Direction). d.far_epoch) t.is };
-      carries = same_carries v w t.carries;
-      acks = same_acks v w t.acks;
-    }))
+    (way.passes (assumption (rests v w t.is, t)))
     (tidy_same v w (ap (λ (d : Direction). d.receiving) t.is) kept.tidy)
 
 kept_drops : (base : ℕ) (v w : Direction) → IsKept base v → Drops base v w → IsKept base w
 kept_drops base v w kept t = kept_by base v w kept
-    (way.drops (record {
-      early = t.early;
-      clocks = record { now = ap (λ (d : Direction). d.now) t.is; late = ap (λ (d : Direction). d.late) t.is };
-      sender = same_sender v w (ap (λ (d : Direction). d.sending) t.is);
-      receiver = same_receiver v w (ap (λ (d : Direction). d.receiving) t.is);
-      epochs = record { epoch = ap (λ (d : Direction). d.epoch) t.is; far_epoch = ap (λ (d : Direction). d.far_epoch) t.is };
-      carry = t.carry;
-      ack = t.ack;
-    }))
+    (way.drops (assumption (rests v w t.is, t)))
     (tidy_same v w (ap (λ (d : Direction). d.receiving) t.is) kept.tidy)
 
 kept_ignored : (base : ℕ) (v w : Direction) → IsKept base v → Ignored v w → IsKept base w
 kept_ignored base v w kept t = kept_by base v w kept
-    (way.ignores 0 (record {
-      ahead = t.ahead;
-      clocks = record { now = ap (λ (d : Direction). d.now) t.is; late = ap (λ (d : Direction). d.late) t.is };
-      sender = same_sender v w (ap (λ (d : Direction). d.sending) t.is);
-      receiver = same_receiver v w (ap (λ (d : Direction). d.receiving) t.is);
-      epochs = record { epoch = ap (λ (d : Direction). d.epoch) t.is; far_epoch = ap (λ (d : Direction). d.far_epoch) t.is };
-      acks = same_acks v w t.acks;
-      carry = t.carry;
-    }))
+    (way.ignores 0 (assumption (rests v w t.is, t)))
     (tidy_same v w (ap (λ (d : Direction). d.receiving) t.is) kept.tidy)
 
 -- an acknowledgement that does not count changes nothing but what is under way
@@ -149,7 +130,7 @@ acked_not base n v w out is gains t = way.acks n (record {
   clocks = record { now = ap (λ (d : Direction). d.now) is; late = ap (λ (d : Direction). d.late) is };
   receiver = same_receiver v w (ap (λ (d : Direction). d.receiving) is);
   epochs = record { epoch = ap (λ (d : Direction). d.epoch) is; far_epoch = ap (λ (d : Direction). d.far_epoch) is };
-  carries = record { carry = λ j h. ⊎_elim (λ k. k) (λ e. absurd (none-some j e)) (gains.carry j h); carry_on = gains.carry_on };
+  carries = record { no_others = λ j h. ⊎_elim (λ k. k) (λ e. absurd (none-some j e)) (gains.carry j h); stay = gains.carry_on };
   there = t.there;
   sent = ap (λ (d : Direction). highest d.sending) is;
   at = λ j a. ap (λ (d : Direction). last_sent d.sending j) is;
@@ -169,7 +150,7 @@ acked_counts base n v w out t =
       clocks = record { now = refl; late = refl };
       receiver = record { last = refl; held = λ j h. h; held_on = λ j h. h };
       epochs = record { epoch = refl; far_epoch = refl };
-      carries = record { carry = λ j h. h; carry_on = λ j h. h };
+      carries = record { no_others = λ j h. h; stay = λ j h. h };
       there = t.there;
       sent = f.sent;
       at = f.stamps;
@@ -182,7 +163,7 @@ acked_sends : (base n : ℕ) (v w : Direction) → w ≡ record v { sending = se
 acked_sends base n v w is gains = record {
   is = is;
   gains = record { carry = gains.carry; carry_on = gains.carry_on; put = gains.put };
-  acks = record { ack = λ j h. h; ack_on = λ j h. h };
+  acks = record { no_others = λ j h. h; stay = λ j h. h };
 }
 
 kept_acked : (base n : ℕ) (v w : Direction) → IsKept base v → Acked base n v w → IsKept base w
@@ -201,34 +182,17 @@ kept_received : (base k : ℕ) (body : Body) (v w : Direction) → IsKept base v
 kept_received base k body v w kept t =
     let q = received k body v.receiving in
     let r = received_is k body v.receiving kept.tidy in
+    let put : base ≤ v.now → k ≤ last v.receiving + 8 → IsTrue (w.ack (last q)) = λ late near. t.put late (is_answered k body v.receiving near) in
     subst (IsKept base) (sym t.is)
     (kept_by base v (record v { far_epoch = v.epoch; receiving = q; carry = w.carry; ack = w.ack }) kept
-    (way.receives k (record {
-      clocks = record { now = refl; late = refl };
-      sender = record { acked = refl; sent = refl; at = λ j. refl };
-      there = t.there;
-      epoch = refl;
-      not_ahead = t.not_ahead;
-      far_epoch = refl;
-      grows = r.grows;
-      one = r.one;
-      in_window = r.in_window;
-      held_on = r.held_on;
-      held = r.held;
-      above = r.tidy.above;
-      carry = t.carry;
-      carry_on = t.carry_on;
-      put = λ late near. t.put late (is_answered k body v.receiving near);
-      ack = t.ack;
-      ack_on = t.ack_on;
-    })) r.tidy)
+    (way.receives k (assumption (r, t, put))) r.tidy)
 
 kept_far_joins : (base : ℕ) (v w : Direction) → IsKept base v → FarJoins v w → IsKept base w
 kept_far_joins base v w kept t = kept_by base v w kept
     (way.far_joins (record {
       clocks = record { now = ap (λ (d : Direction). d.now) t.is; late = ap (λ (d : Direction). d.late) t.is };
       sender = same_sender v w (ap (λ (d : Direction). d.sending) t.is);
-      carries = same_carries v w t.carries;
+      carries = t.carries;
       epoch = ap (λ (d : Direction). d.epoch) t.is;
       far_epoch = t.greater;
       last = ap (λ (d : Direction). last d.receiving) t.is;
@@ -237,6 +201,25 @@ kept_far_joins base v w kept t = kept_by base v w kept
     }))
     (subst (λ (d : Direction). IsTidy d.receiving) (sym t.is) tidy_untouched)
 
+-- the sender joins, whatever of the far end's part counts then
+joins_way : (v w : Direction) → Joins v w → (w.far_epoch < w.epoch) ⊎ (last w.receiving ≡ last v.receiving) → (w.far_epoch < w.epoch → last w.receiving ≡ 0) → ((j : ℕ) → IsTrue (is_held w.receiving j) → IsTrue (is_held v.receiving j))
+    → (w.far_epoch < w.epoch → (j : ℕ) → IsTrue (is_held w.receiving j) → ⊥) → way.Joins (way_of v) (way_of w)
+joins_way v w t is_last nothing held none_held =
+    let far = ap (λ (d : Direction). d.far_epoch) t.is in
+    record {
+      clocks = record { now = ap (λ (d : Direction). d.now) t.is; late = ap (λ (d : Direction). d.late) t.is };
+      far_epoch = far;
+      epoch = t.greater;
+      acked = ap (λ (d : Direction). d.sending.acked) t.is;
+      sent = ap (λ (d : Direction). highest d.sending) t.is;
+      last = is_last;
+      nothing = nothing;
+      held = held;
+      none_held = none_held;
+      carry = t.no_carry;
+      ack = λ j h. let a = t.ack j h in let b = a.0 in (omega (arith, b, far), a.1);
+    }
+
 kept_joins : (base : ℕ) (v w : Direction) → IsKept base v → Joins v w → IsKept base w
 kept_joins base v w kept t =
     let far = ap (λ (d : Direction). d.far_epoch) t.is in
@@ -244,37 +227,13 @@ kept_joins base v w kept t =
     (λ (lower : v.far_epoch < w.epoch).
     let e = t.behind lower in
     kept_by base v w kept
-    (way.joins (record {
-      clocks = record { now = ap (λ (d : Direction). d.now) t.is; late = ap (λ (d : Direction). d.late) t.is };
-      far_epoch = far;
-      epoch = t.greater;
-      acked = ap (λ (d : Direction). d.sending.acked) t.is;
-      sent = ap (λ (d : Direction). highest d.sending) t.is;
-      last = inl (omega (arith, far, lower));
-      nothing = λ _. ap last e;
-      held = λ j h. absurd (false≢true (subst (λ r. IsTrue (is_held r j)) e h));
-      none_held = λ _ j h. false≢true (subst (λ r. IsTrue (is_held r j)) e h);
-      carry = t.no_carry;
-      ack = λ j h. let a = t.ack j h in let b = a.0 in (omega (arith, b, far), a.1);
-    }))
+    (way.joins (joins_way v w t (inl (omega (arith, far, lower))) (λ _. ap last e) (λ j h. absurd (false≢true (subst (λ r. IsTrue (is_held r j)) e h))) (λ _ j h. false≢true (subst (λ r. IsTrue (is_held r j)) e h))))
     (subst IsTidy (sym e) tidy_untouched))
     (λ (there : w.epoch ≤ v.far_epoch).
     let e = t.there there in
     let r = same_receiver v w e in
     kept_by base v w kept
-    (way.joins (record {
-      clocks = record { now = ap (λ (d : Direction). d.now) t.is; late = ap (λ (d : Direction). d.late) t.is };
-      far_epoch = far;
-      epoch = t.greater;
-      acked = ap (λ (d : Direction). d.sending.acked) t.is;
-      sent = ap (λ (d : Direction). highest d.sending) t.is;
-      last = inr (ap last e);
-      nothing = λ lower. absurd (omega (arith, lower, far, there));
-      held = r.held;
-      none_held = λ lower j h. omega (arith, lower, far, there);
-      carry = t.no_carry;
-      ack = λ j h. let a = t.ack j h in let b = a.0 in (omega (arith, b, far), a.1);
-    }))
+    (way.joins (joins_way v w t (inr (ap last e)) (λ lower. absurd (omega (arith, lower, far, there))) r.held (λ lower j h. omega (arith, lower, far, there))))
     (tidy_same v w e kept.tidy))
     (cases_lt v.far_epoch w.epoch)
 

@@ -3,7 +3,7 @@
 use Rattle.std.specs.Prelude.{Bool, IsTrue, ◌≡◌, ℕ, suc, ◌≤◌, ◌<◌, ◌⊎◌, ◌+◌, is_some}
 use Rattle.ordered_link.specs.Sending.{highest}
 use Rattle.ordered_link.specs.Receiving.{Receiving, last}
-use Rattle.session_settling.specs.Directions.{Direction, last_sent}
+use Rattle.session_settling.specs.Directions.{Direction, last_sent, Stay}
 
 -- One direction of a link between two switches, as numbers: the tick; how long ago an outstanding body may
 -- have gone out, 3 where the sender has handled its clock of this tick and else 4; the epochs of the sender
@@ -42,13 +42,12 @@ pub record Epochs (v w : Way) : Type 0 where
   pub epoch : w.epoch ≡ v.epoch
   pub far_epoch : w.far_epoch ≡ v.far_epoch
 
-pub record Carries (v w : Way) : Type 0 where
-  pub carry : (j : ℕ) → IsTrue (w.carry j) → IsTrue (v.carry j)
-  pub carry_on : (j : ℕ) → IsTrue (v.carry j) → IsTrue (w.carry j)
-
-pub record Acks (v w : Way) : Type 0 where
-  pub ack : (j : ℕ) → IsTrue (w.ack j) → IsTrue (v.ack j)
-  pub ack_on : (j : ℕ) → IsTrue (v.ack j) → IsTrue (w.ack j)
+-- all of these
+pub record Rests (v w : Way) : Type 0 where
+  pub clocks : Clocks v w
+  pub sender : Sender v w
+  pub receiver : Receiver v w
+  pub epochs : Epochs v w
 
 -- a tick: nothing is under way
 pub record Ticks (v w : Way) : Type 0 where
@@ -58,8 +57,8 @@ pub record Ticks (v w : Way) : Type 0 where
   pub sender : Sender v w
   pub receiver : Receiver v w
   pub epochs : Epochs v w
-  pub carries : Carries v w
-  pub acks : Acks v w
+  pub carries : Stay v.carry w.carry
+  pub acks : Stay v.ack w.ack
   pub no_carry : (j : ℕ) → IsTrue (v.carry j) → ⊥
   pub no_ack : (j : ℕ) → IsTrue (v.ack j) → ⊥
 
@@ -69,7 +68,7 @@ pub record Sends (base k : ℕ) (v w : Way) : Type 0 where
   pub clocks : Clocks v w
   pub receiver : Receiver v w
   pub epochs : Epochs v w
-  pub acks : Acks v w
+  pub acks : Stay v.ack w.ack
   pub acked : w.acked ≡ v.acked
   pub sent : (w.sent ≡ v.sent) ⊎ ((w.sent ≡ suc v.sent) × (k ≡ suc v.sent))
   pub outstanding : v.acked < k
@@ -89,15 +88,15 @@ pub record Clocked (v w : Way) : Type 0 where
   pub sender : Sender v w
   pub receiver : Receiver v w
   pub epochs : Epochs v w
-  pub carries : Carries v w
-  pub acks : Acks v w
+  pub carries : Stay v.carry w.carry
+  pub acks : Stay v.ack w.ack
 
 -- the sender handles an acknowledgement of its epoch, of which a copy may stay under way
 pub record Acked (n : ℕ) (v w : Way) : Type 0 where
   pub clocks : Clocks v w
   pub receiver : Receiver v w
   pub epochs : Epochs v w
-  pub carries : Carries v w
+  pub carries : Stay v.carry w.carry
   pub there : IsTrue (v.ack n)
   pub sent : w.sent ≡ v.sent
   pub at : (j : ℕ) → w.acked < j → w.at j ≡ v.at j
@@ -108,30 +107,24 @@ pub record Acked (n : ℕ) (v w : Way) : Type 0 where
 
 -- nothing that counts happens
 pub record Passes (v w : Way) : Type 0 where
-  pub clocks : Clocks v w
-  pub sender : Sender v w
-  pub receiver : Receiver v w
-  pub epochs : Epochs v w
-  pub carries : Carries v w
-  pub acks : Acks v w
+  pub rests : Rests v w
+  pub open rests use {clocks, sender, receiver, epochs}
+  pub carries : Stay v.carry w.carry
+  pub acks : Stay v.ack w.ack
 
 -- before base frames are lost, or come to a port that does not take them
 pub record Drops (base : ℕ) (v w : Way) : Type 0 where
   pub early : v.now < base
-  pub clocks : Clocks v w
-  pub sender : Sender v w
-  pub receiver : Receiver v w
-  pub epochs : Epochs v w
+  pub rests : Rests v w
+  pub open rests use {clocks, sender, receiver, epochs}
   pub carry : (j : ℕ) → IsTrue (w.carry j) → IsTrue (v.carry j)
   pub ack : (j : ℕ) → IsTrue (w.ack j) → IsTrue (v.ack j)
 
 -- the far end is ahead and ignores body k
 pub record Ignored (k : ℕ) (v w : Way) : Type 0 where
-  pub clocks : Clocks v w
-  pub sender : Sender v w
-  pub receiver : Receiver v w
-  pub epochs : Epochs v w
-  pub acks : Acks v w
+  pub rests : Rests v w
+  pub open rests use {clocks, sender, receiver, epochs}
+  pub acks : Stay v.ack w.ack
   pub ahead : v.epoch < v.far_epoch
   pub carry : (j : ℕ) → IsTrue (w.carry j) → IsTrue (v.carry j)
 
@@ -159,7 +152,7 @@ pub record Received (base k : ℕ) (v w : Way) : Type 0 where
 pub record FarJoins (v w : Way) : Type 0 where
   pub clocks : Clocks v w
   pub sender : Sender v w
-  pub carries : Carries v w
+  pub carries : Stay v.carry w.carry
   pub epoch : w.epoch ≡ v.epoch
   pub far_epoch : v.far_epoch < w.far_epoch
   pub last : w.last ≡ 0

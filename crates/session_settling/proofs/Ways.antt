@@ -114,7 +114,7 @@ keeps_steady base v w g t recent way =
 keeps_ticks : (base : ℕ) (v w : Way) → Holds base v → Ticks v w → Holds base w
 keeps_ticks base v w g t =
     keeps_steady base v w g
-    (record { now = let m = t.now in grind (arith, m); sender = t.sender; receiver = t.receiver; epochs = t.epochs; carry = t.carries.carry; ack = t.acks.ack })
+    (record { now = let m = t.now in grind (arith, m); sender = t.sender; receiver = t.receiver; epochs = t.epochs; carry = t.carries.no_others; ack = t.acks.no_others })
     (λ k a b. let o = g.recent k a b in let j = t.before in let l = t.late in let m = t.now in grind (arith, o, j, l, m))
     (λ k a b c.
     let ee = t.epochs.epoch in
@@ -154,10 +154,10 @@ keeps_sends base k v w g t =
       held_same = λ j a. let o = g.held_same j (t.receiver.held j a) in grind (arith, o, ee, ef);
       held_sent = λ j a. let o = g.held_sent j (t.receiver.held j a) in grind (arith, o, grows);
       carried = λ j a. ⊎_elim (λ x. let o = g.carried j x in grind (arith, o, grows)) (λ x. grind (arith, x, most)) (t.carry j a);
-      answered = λ j a b. let o = g.answered j (t.acks.ack j a) (grind (arith, b, ee, ef)) in grind (arith, o, el);
-      behind_ack = λ j a. let o = g.behind_ack j (t.acks.ack j a) in grind (arith, o, ee, ef);
+      answered = λ j a b. let o = g.answered j (t.acks.no_others j a) (grind (arith, b, ee, ef)) in grind (arith, o, el);
+      behind_ack = λ j a. let o = g.behind_ack j (t.acks.no_others j a) in grind (arith, o, ee, ef);
       way = λ j a b c. decided j k
-          (λ n. ⊎_elim (λ i. way_stays v w j en i t.epochs (t.carry_on j) (t.receiver.held_on j) t.acks.ack_on (g.way j (grind (arith, a, ea)) (old j b n) (grind (arith, c, i))))
+          (λ n. ⊎_elim (λ i. way_stays v w j en i t.epochs (t.carry_on j) (t.receiver.held_on j) t.acks.stay (g.way j (grind (arith, a, ea)) (old j b n) (grind (arith, c, i))))
           (λ x. absurd (n x)) (t.stamps j (grind (arith, a, ea)) (old j b n)))
           (λ x. let s = subst (λ i. w.at i ≡ v.now) (sym x) t.stamp in inl (grind (arith, s, en), subst (λ i. IsTrue (w.carry i)) (sym x) (t.put (grind (arith, s, c)))));
     }
@@ -165,16 +165,16 @@ keeps_sends base k v w g t =
 keeps_clocked : (base : ℕ) (v w : Way) → Holds base v → Clocked v w → Holds base w
 keeps_clocked base v w g t =
     keeps_steady base v w g
-    (record { now = let m = t.now in grind (arith, m); sender = t.sender; receiver = t.receiver; epochs = t.epochs; carry = t.carries.carry; ack = t.acks.ack })
+    (record { now = let m = t.now in grind (arith, m); sender = t.sender; receiver = t.receiver; epochs = t.epochs; carry = t.carries.no_others; ack = t.acks.no_others })
     (λ k a b. let o = t.done k a b in let l = t.late in let m = t.now in grind (arith, o, l, m))
-    (λ k a b c. way_stays v w k t.now (t.sender.at k) t.epochs (t.carries.carry_on k) (t.receiver.held_on k) t.acks.ack_on (g.way k a b c))
+    (λ k a b c. way_stays v w k t.now (t.sender.at k) t.epochs (t.carries.stay k) (t.receiver.held_on k) t.acks.stay (g.way k a b c))
 
 keeps_passes : (base : ℕ) (v w : Way) → Holds base v → Passes v w → Holds base w
 keeps_passes base v w g t =
     keeps_steady base v w g
-    (record { now = let m = t.clocks.now in grind (arith, m); sender = t.sender; receiver = t.receiver; epochs = t.epochs; carry = t.carries.carry; ack = t.acks.ack })
+    (record { now = let m = t.clocks.now in grind (arith, m); sender = t.sender; receiver = t.receiver; epochs = t.epochs; carry = t.carries.no_others; ack = t.acks.no_others })
     (λ k a b. let o = g.recent k a b in let l = t.clocks.late in let m = t.clocks.now in grind (arith, o, l, m))
-    (λ k a b c. way_stays v w k t.clocks.now (t.sender.at k) t.epochs (t.carries.carry_on k) (t.receiver.held_on k) t.acks.ack_on (g.way k a b c))
+    (λ k a b c. way_stays v w k t.clocks.now (t.sender.at k) t.epochs (t.carries.stay k) (t.receiver.held_on k) t.acks.stay (g.way k a b c))
 
 keeps_acked : (base n : ℕ) (v w : Way) → Holds base v → Acked n v w → Holds base w
 keeps_acked base n v w g t =
@@ -202,12 +202,12 @@ keeps_acked base n v w g t =
       above = λ j a. let o = g.above j (t.receiver.held j a) in grind (arith, o, el);
       held_same = λ j a. let o = g.held_same j (t.receiver.held j a) in grind (arith, o, ee, ef);
       held_sent = λ j a. let o = g.held_sent j (t.receiver.held j a) in grind (arith, o, es);
-      carried = λ j a. let o = g.carried j (t.carries.carry j a) in grind (arith, o, es);
+      carried = λ j a. let o = g.carried j (t.carries.no_others j a) in grind (arith, o, es);
       answered = λ j a b. let o = g.answered j (t.ack j a) (grind (arith, b, ee, ef)) in grind (arith, o, el);
       behind_ack = λ j a. let o = g.behind_ack j (t.ack j a) in grind (arith, o, ee, ef);
       way = λ j a b c.
           let i = t.at j a in
-          ⊎_elim (λ x. let s = x.0 in inl (grind (arith, s, i, en), t.carries.carry_on j x.1)) (λ y.
+          ⊎_elim (λ x. let s = x.0 in inl (grind (arith, s, i, en), t.carries.stay j x.1)) (λ y.
           ⊎_elim (λ x. inr (inl (grind (arith, x, ee, ef)))) (λ y2.
           ⊎_elim (λ x. let s = x.0 in inr (inr (inl (grind (arith, s, ee, ef), t.receiver.held_on j x.1))))
           (λ x.
@@ -234,7 +234,7 @@ keeps_drops base v w g t =
 keeps_ignored : (base k : ℕ) (v w : Way) → Holds base v → Ignored k v w → Holds base w
 keeps_ignored base k v w g t =
     keeps_steady base v w g
-    (record { now = let m = t.clocks.now in grind (arith, m); sender = t.sender; receiver = t.receiver; epochs = t.epochs; carry = t.carry; ack = t.acks.ack })
+    (record { now = let m = t.clocks.now in grind (arith, m); sender = t.sender; receiver = t.receiver; epochs = t.epochs; carry = t.carry; ack = t.acks.no_others })
     (λ j a b. let o = g.recent j a b in let l = t.clocks.late in let m = t.clocks.now in grind (arith, o, l, m))
     (λ j a b c. let up = t.ahead in let ee = t.epochs.epoch in let ef = t.epochs.far_epoch in inr (inl (grind (arith, up, ee, ef))))
 
@@ -307,16 +307,37 @@ keeps_far_joins base v w g t =
       above = λ j a. absurd (t.held j a);
       held_same = λ j a. absurd (t.held j a);
       held_sent = λ j a. absurd (t.held j a);
-      carried = λ j a. let o = g.carried j (t.carries.carry j a) in grind (arith, o, es);
+      carried = λ j a. let o = g.carried j (t.carries.no_others j a) in grind (arith, o, es);
       answered = λ j a b. let o = g.behind_ack j (t.ack j a) in absurd (grind (arith, o, b, ee, ef));
       behind_ack = λ j a. let o = g.behind_ack j (t.ack j a) in grind (arith, o, ee, ef);
       way = λ j a b c.
           let i = t.sender.at j in
-          ⊎_elim (λ x. let s = x.0 in inl (grind (arith, s, i, en), t.carries.carry_on j x.1)) (λ y.
+          ⊎_elim (λ x. let s = x.0 in inl (grind (arith, s, i, en), t.carries.stay j x.1)) (λ y.
           ⊎_elim (λ x. inr (inl (grind (arith, x, ee, ef)))) (λ y2.
           ⊎_elim (λ x. let s = x.0 in inr (inl (grind (arith, s, ee, ef)))) (λ x. let s = x.0 in inr (inl (grind (arith, s, ee, ef)))) y2) y)
           (g.way j (grind (arith, a, ea)) (grind (arith, b, es)) (grind (arith, c, i)));
     }
+
+-- nothing was sent, and nothing counts but that the far end is not behind
+nothing_sent : (base : ℕ) (w : Way) → w.acked ≡ 0 → w.sent ≡ 0 → w.last ≡ 0 → ((j : ℕ) → IsTrue (w.held j) → ⊥) → ((j : ℕ) → IsTrue (w.carry j) → ⊥)
+    → ((j : ℕ) → IsTrue (w.ack j) → (w.epoch ≤ w.far_epoch) × (j ≡ 0)) → Holds base w
+nothing_sent base w ea es el none_held none_under_way counted = record {
+  order = grind (arith, ea);
+  window = grind (arith, es);
+  past = λ j a b. absurd (grind (arith, a, b, es));
+  recent = λ j a b. absurd (grind (arith, a, b, es));
+  behind = λ a. el;
+  ahead = λ a. el;
+  low = λ a. grind (arith, ea);
+  high = λ a. grind (arith, el);
+  above = λ j a. absurd (none_held j a);
+  held_same = λ j a. absurd (none_held j a);
+  held_sent = λ j a. absurd (none_held j a);
+  carried = λ j a. absurd (none_under_way j a);
+  answered = λ j a b. let o = (counted j a).1 in grind (arith, o);
+  behind_ack = λ j a. (counted j a).0;
+  way = λ j a b c. absurd (grind (arith, a, b, es));
+}
 
 keeps_joins : (base : ℕ) (v w : Way) → Holds base v → Joins v w → Holds base w
 keeps_joins base v w g t =
@@ -327,23 +348,7 @@ keeps_joins base v w g t =
     let none : (j : ℕ) → IsTrue (w.held j) → ⊥ = λ j a. let o = g.held_same j (t.held j a) in t.none_held (grind (arith, o, ee, ef)) j a in
     -- the far end has accepted nothing yet in the epoch that the sender joins
     let empty : w.last ≡ 0 = ⊎_elim (λ x. t.nothing x) (λ (x : w.last ≡ v.last). ⊎_elim (λ (lt : w.far_epoch < w.epoch). t.nothing lt) (λ (ge : w.epoch ≤ w.far_epoch). x ∙ g.ahead (grind (arith, ge, ee, ef))) (cases_lt w.far_epoch w.epoch)) t.last in
-    record {
-      order = grind (arith, ea);
-      window = grind (arith, es);
-      past = λ j a b. absurd (grind (arith, a, b, es));
-      recent = λ j a b. absurd (grind (arith, a, b, es));
-      behind = λ a. empty;
-      ahead = λ a. empty;
-      low = λ a. grind (arith, ea);
-      high = λ a. grind (arith, empty);
-      above = λ j a. absurd (none j a);
-      held_same = λ j a. absurd (none j a);
-      held_sent = λ j a. absurd (none j a);
-      carried = λ j a. absurd (t.carry j a);
-      answered = λ j a b. let o = (t.ack j a).1 in grind (arith, o);
-      behind_ack = λ j a. (t.ack j a).0;
-      way = λ j a b c. absurd (grind (arith, a, b, es));
-    }
+    nothing_sent base w ea es empty none t.carry t.ack
 
 pub keeps : (base : ℕ) (v w : Way) → Holds base v → Step base v w → Holds base w
 keeps base v w g (ticks t) = keeps_ticks base v w g t
@@ -358,27 +363,7 @@ keeps base v w g (far_joins t) = keeps_far_joins base v w g t
 keeps base v w g (joins t) = keeps_joins base v w g t
 
 pub starts : (base : ℕ) (v : Way) → Start v → Holds base v
-starts base v s =
-    let ea = s.acked in
-    let es = s.sent in
-    let el = s.last in
-    record {
-      order = grind (arith, ea);
-      window = grind (arith, es);
-      past = λ j a b. absurd (grind (arith, a, b, es));
-      recent = λ j a b. absurd (grind (arith, a, b, es));
-      behind = λ a. el;
-      ahead = λ a. el;
-      low = λ a. grind (arith, ea);
-      high = λ a. grind (arith, el);
-      above = λ j a. absurd (s.no_held j a);
-      held_same = λ j a. absurd (s.no_held j a);
-      held_sent = λ j a. absurd (s.no_held j a);
-      carried = λ j a. absurd (s.no_carry j a);
-      answered = λ j a b. absurd (s.no_ack j a);
-      behind_ack = λ j a. absurd (s.no_ack j a);
-      way = λ j a b c. absurd (grind (arith, a, b, es));
-    }
+starts base v s = nothing_sent base v s.acked s.sent s.last s.no_held s.no_carry (λ j a. absurd (s.no_ack j a))
 
 pub keeps_run : (base : ℕ) (u v : Way) → Start u → Run base u v → Holds base v
 keeps_run base u v f (rest w) = starts base w f

@@ -23,14 +23,14 @@ pub record Direction : Type 0 where
 abbrev pub last_sent : Sending → ℕ → ℕ
 last_sent sending number = slice_index_or sending.sent (number - sending.acked - 1) 0
 
--- bodies and acknowledgements stay under way, and no others come
-pub record CarriesStay (old new : Direction) : Type 0 where
-  pub carry : (each : ℕ) → IsTrue (new.carry each) → IsTrue (old.carry each)
-  pub carry_on : (each : ℕ) → IsTrue (old.carry each) → IsTrue (new.carry each)
+-- of bodies, or of acknowledgements, no others come, and those under way stay
+pub record Stay (old new : ℕ → Bool) : Type 0 where
+  pub no_others : (each : ℕ) → IsTrue (new each) → IsTrue (old each)
+  pub stay : (each : ℕ) → IsTrue (old each) → IsTrue (new each)
 
-pub record AcksStay (old new : Direction) : Type 0 where
-  pub ack : (each : ℕ) → IsTrue (new.ack each) → IsTrue (old.ack each)
-  pub ack_on : (each : ℕ) → IsTrue (old.ack each) → IsTrue (new.ack each)
+-- a direction with what is under way in another
+abbrev pub under_way : Direction → Direction → Direction
+under_way new old = record old { carry = new.carry; ack = new.ack }
 
 -- the body that goes out, where one does, is under way; from base on it is not lost
 pub record Gains (base : ℕ) (out : Option ℕ) (old new : Direction) : Type 0 where
@@ -41,68 +41,62 @@ pub record Gains (base : ℕ) (out : Option ℕ) (old new : Direction) : Type 0 
 -- a tick: nothing is under way
 pub record Ticks (old new : Direction) : Type 0 where
   pub before : old.late ≡ 3
-  pub is : new ≡ record old { now = suc old.now; late = 4; carry = new.carry; ack = new.ack }
-  pub carries : CarriesStay old new
-  pub acks : AcksStay old new
+  pub is : new ≡ under_way new (record old { now = suc old.now; late = 4 })
+  pub carries : Stay old.carry new.carry
+  pub acks : Stay old.ack new.ack
   pub no_carry : (each : ℕ) → IsTrue (old.carry each) → ⊥
   pub no_ack : (each : ℕ) → IsTrue (old.ack each) → ⊥
 
 -- the sender's part becomes this, and this body goes out
 pub record Sends (base : ℕ) (sending : Sending) (out : Option ℕ) (old new : Direction) : Type 0 where
-  pub is : new ≡ record old { sending = sending; carry = new.carry; ack = new.ack }
+  pub is : new ≡ under_way new (record old { sending = sending })
   pub gains : Gains base out old new
-  pub acks : AcksStay old new
+  pub acks : Stay old.ack new.ack
 
 -- the sender has sent again what was due at its clock
 pub record Clocked (old new : Direction) : Type 0 where
-  pub is : new ≡ record old { late = 3; carry = new.carry; ack = new.ack }
+  pub is : new ≡ under_way new (record old { late = 3 })
   pub done : (number : ℕ) → old.sending.acked < number → number ≤ highest old.sending
       → old.now ≤ last_sent old.sending number + 3
-  pub carries : CarriesStay old new
-  pub acks : AcksStay old new
+  pub carries : Stay old.carry new.carry
+  pub acks : Stay old.ack new.ack
 
 -- an acknowledgement comes, which may be under way no more
 pub record Acked (base number : ℕ) (old new : Direction) : Type 0 where
   pub there : IsTrue (old.ack number)
-  pub is : new ≡ record old {
-    sending = acknowledge number old.now old.sending;
-    carry = new.carry;
-    ack = new.ack;
-  }
+  pub is : new ≡ under_way new (record old { sending = acknowledge number old.now old.sending })
   pub gains : Gains base (sent_by_ack number old.sending) old new
   pub ack : (each : ℕ) → IsTrue (new.ack each) → IsTrue (old.ack each)
   pub ack_on : (each : ℕ) → IsTrue (old.ack each) → IsTrue (new.ack each) ⊎ (each ≡ number)
 
 -- nothing that counts happens
 pub record Passes (old new : Direction) : Type 0 where
-  pub is : new ≡ record old { carry = new.carry; ack = new.ack }
-  pub carries : CarriesStay old new
-  pub acks : AcksStay old new
+  pub is : new ≡ under_way new old
+  pub carries : Stay old.carry new.carry
+  pub acks : Stay old.ack new.ack
 
 -- before base frames are lost, or come to a port that does not take them
 pub record Drops (base : ℕ) (old new : Direction) : Type 0 where
   pub early : old.now < base
-  pub is : new ≡ record old { carry = new.carry; ack = new.ack }
+  pub is : new ≡ under_way new old
   pub carry : (each : ℕ) → IsTrue (new.carry each) → IsTrue (old.carry each)
   pub ack : (each : ℕ) → IsTrue (new.ack each) → IsTrue (old.ack each)
 
 -- the far end is ahead, and a body is nothing to it
 pub record Ignored (old new : Direction) : Type 0 where
   pub ahead : old.epoch < old.far_epoch
-  pub is : new ≡ record old { carry = new.carry; ack = new.ack }
+  pub is : new ≡ under_way new old
   pub carry : (each : ℕ) → IsTrue (new.carry each) → IsTrue (old.carry each)
-  pub acks : AcksStay old new
+  pub acks : Stay old.ack new.ack
 
 -- A body comes to the far end, whatever it says, which joins the sender's epoch where it was behind
 pub record Received (base number : ℕ) (body : Body) (old new : Direction) : Type 0 where
   pub there : IsTrue (old.carry number)
   pub not_ahead : old.far_epoch ≤ old.epoch
-  pub is : new ≡ record old {
+  pub is : new ≡ under_way new (record old {
     far_epoch = old.epoch;
     receiving = received number body old.receiving;
-    carry = new.carry;
-    ack = new.ack;
-  }
+  })
   pub carry : (each : ℕ) → IsTrue (new.carry each) → IsTrue (old.carry each)
   pub carry_on : (each : ℕ) → IsTrue (old.carry each) → IsTrue (new.carry each) ⊎ (each ≡ number)
   pub put : base ≤ old.now → is_acknowledged (verdict number body old.receiving) ≡ true
@@ -114,26 +108,15 @@ pub record Received (base number : ℕ) (body : Body) (old new : Direction) : Ty
 -- the far end joins a greater epoch by another of its links, or by a clock
 pub record FarJoins (old new : Direction) : Type 0 where
   pub greater : old.far_epoch < new.far_epoch
-  pub is : new ≡ record old {
-    far_epoch = new.far_epoch;
-    receiving = untouched;
-    carry = new.carry;
-    ack = new.ack;
-  }
-  pub carries : CarriesStay old new
+  pub is : new ≡ under_way new (record old { far_epoch = new.far_epoch; receiving = untouched })
+  pub carries : Stay old.carry new.carry
   pub ack : (each : ℕ) → IsTrue (new.ack each) → IsTrue (old.ack each)
 
 -- the sender joins a greater epoch, of which the far end has acknowledged nothing; its first bodies go out
 -- next
 pub record Joins (old new : Direction) : Type 0 where
   pub greater : old.epoch < new.epoch
-  pub is : new ≡ record old {
-    epoch = new.epoch;
-    sending = unused;
-    receiving = new.receiving;
-    carry = new.carry;
-    ack = new.ack;
-  }
+  pub is : new ≡ under_way new (record old { epoch = new.epoch; sending = unused; receiving = new.receiving })
   pub behind : old.far_epoch < new.epoch → new.receiving ≡ untouched
   pub there : new.epoch ≤ old.far_epoch → new.receiving ≡ old.receiving
   pub no_carry : (each : ℕ) → IsTrue (new.carry each) → ⊥
@@ -180,8 +163,8 @@ IsOneOf number (one ∷ more) = (one ≡ number) ⊎ IsOneOf number more
 
 -- the bodies that go out are under way; from base on none is lost
 pub record SendsAll (base : ℕ) (numbers : List ℕ) (sending : Sending) (old new : Direction) : Type 0 where
-  pub is : new ≡ record old { sending = sending; carry = new.carry; ack = new.ack }
+  pub is : new ≡ under_way new (record old { sending = sending })
   pub carry : (each : ℕ) → IsTrue (new.carry each) → IsTrue (old.carry each) ⊎ IsOneOf each numbers
   pub carry_on : (each : ℕ) → IsTrue (old.carry each) → IsTrue (new.carry each)
   pub put : base ≤ old.now → (number : ℕ) → IsOneOf number numbers → IsTrue (new.carry number)
-  pub acks : AcksStay old new
+  pub acks : Stay old.ack new.ack

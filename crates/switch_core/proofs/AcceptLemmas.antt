@@ -57,23 +57,12 @@ accepted_stands port body old core new_core sessions due before after there turn
     let next = log_with port (in_turn body (s.receivings port)) s.log in
     let new_stands : StandsFor new_core next = turned.core s.log s.sendings s.receivings has.1.stands stands.sessions in
     let card = turned.card ∙ has.1.joined_with in
-    record {
-      life = stands.life;
-      any = stands.any;
-      monitor = stands.monitor;
-      ports = stands.ports;
-      epoch = stands.epoch;
-      joined = (has.0, record { stands = new_stands; joined_with = card });
-      links = stands.links;
-      sessions = turned.sessions s.sendings s.receivings stands.sessions;
-      number = stands.number;
-      load_due = dues s.log next has.1.stands new_stands
-          ∙ ap (λ b. due_by b (is_some (finish core.card s.log)) (is_some (finish new_core.card next))) stands.load_due
-          ∙ ap (λ (c : CardOf). due_by s.load_due (is_some (finish c s.log)) (is_some (finish new_core.card next))) has.1.joined_with
-          ∙ ap (λ (c : CardOf). due_by s.load_due (is_some (finish s.card s.log)) (is_some (finish c next))) card;
-      tick = stands.tick;
-      spent = stands.spent;
-    }
+    let joined : HasJoined (Some new_core) s.joined s.card next = (has.0, record { stands = new_stands; joined_with = card }) in
+    let load_due = dues s.log next has.1.stands new_stands
+    ∙ ap (λ b. due_by b (is_some (finish core.card s.log)) (is_some (finish new_core.card next))) stands.load_due
+    ∙ ap (λ (c : CardOf). due_by s.load_due (is_some (finish c s.log)) (is_some (finish new_core.card next))) has.1.joined_with
+    ∙ ap (λ (c : CardOf). due_by s.load_due (is_some (finish s.card s.log)) (is_some (finish c next))) card in
+    assumption (joined, turned.sessions s.sendings s.receivings stands.sessions, load_due, stands)
 
 -- and what these add goes out
 pub accepts_then : (port : ℕ) (body : Body) (old : Control) (core new_core : CoreOf) (sessions : Sessions) (due : Bool) (before after : List OnPort) → old.core ≡ Some core → AcceptsInTurn port body core new_core old.sessions sessions before after
@@ -162,7 +151,7 @@ accepted_first k body first r is =
 
 -- the sessions changed by what was received
 stands_received : (c : Control) (sessions : Sessions) (s : SwitchOf) (receivings : ℕ → Receiving) → Stands c s → AreSessions sessions s.sendings receivings → Stands (record c { sessions = sessions }) (record s { receivings = receivings })
-stands_received c sessions s receivings stands are = record { life = stands.life; any = stands.any; monitor = stands.monitor; ports = stands.ports; epoch = stands.epoch; joined = stands.joined; links = stands.links; sessions = are; number = stands.number; load_due = stands.load_due; tick = stands.tick; spent = stands.spent }
+stands_received c sessions s receivings stands are = assumption (are, stands)
 
 -- by no body a finish comes
 no_finish : (b : Bool) (due kept : Bool) → due ≡ kept → due ≡ (kept || (not b && b))

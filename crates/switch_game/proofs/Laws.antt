@@ -18,7 +18,7 @@ use Rattle.switch_core.specs.Switch.{SwitchOf, good_links, good_peer, is_unacked
 use Rattle.switch_core.specs.Steps.{Sent, Step, clocked, framed, loaded, peer_among, still}
 use Rattle.switch_core.proofs.LinkLemmas.{good_link}
 use Rattle.switch_game.specs.Network.{Happens, Network, PowerOn, clock_moves, clocks, dark, frame_moves, frames_of, hands, loads, none, stepped}
-use Rattle.switch_game.specs.Playing.{HasStayed, Agrees, FarHasAll, FarHasSome, IsQuietLink, IsSettledLink, node_of}
+use Rattle.switch_game.specs.Playing.{HasStayed, Agrees, FarHasJoined, FarHasAll, FarHasSome, IsQuietLink, IsSettledLink, node_of}
 use Rattle.switch_game.proofs.Streams.{earlier_same, stream, stream_first, stream_grows}
 use Rattle.switch_game.proofs.Links.{same_link}
 use Rattle.switch_game.proofs.Received.{front_length}
@@ -133,23 +133,34 @@ something c q log linked =
     let more = front_length (stream c q []) (stream c q log) (stream_grows c q [] log (earlier_nil log)) in
     omega (arith, first, same, more)
 
--- so where all is acknowledged, something was accepted, and that is all
-delivered_by : (lives : List LifeId) (first : LifeId → ℕ) (g : Game) (z : LifeId) (q n : ℕ) (s : SwitchOf) (far : EndId) → Play lives (begins first) g → IsPart g z s → s.joined ≡ true → peer_among s.card.links q ≡ Some far
-    → 1 ≤ n → length (sent s.card q s.log) ≤ n → (n ≡ 0) ⊎ IsHeard g z s.card s.epoch q n → FarHasAll g z q s far
-delivered_by lives first g z q n s far play part joined linked some all (inl nothing) = absurd (omega (arith, nothing, some))
-delivered_by lives first g z q n s far play part joined linked some all (inr w) =
-    let named : link_at q s.card.links ≡ Some far = sym (same_link s.card.links q) ∙ linked in
-    let is : w.far ≡ far = some_same w.far far (sym w.named ∙ named) in
+-- who is heard at a link is its far end, which has joined the epoch
+far_is : (g : Game) (z : LifeId) (q n : ℕ) (s : SwitchOf) (far : EndId) → peer_among s.card.links q ≡ Some far → (w : IsHeard g z s.card s.epoch q n) → w.far ≡ far
+far_is g z q n s far linked w = some_same w.far far (sym w.named ∙ (sym (same_link s.card.links q) ∙ linked))
+
+far_joined : (lives : List LifeId) (first : LifeId → ℕ) (g : Game) (z : LifeId) (q n : ℕ) (s : SwitchOf) (far : EndId) → Play lives (begins first) g → peer_among s.card.links q ≡ Some far → IsHeard g z s.card s.epoch q n → FarHasJoined g z q s far
+far_joined lives first g z q n s far play linked w =
+    let is = far_is g z q n s far linked w in
     let there : g.nodes far.life s.epoch ≡ Some w.node = ap (λ (d : EndId). g.nodes d.life s.epoch) (sym is) ∙ w.joined in
-    let back : Names w.node.card far.port z q = ap (λ (d : EndId). link_at d.port w.node.card.links) (sym is) ∙ w.back in
-    let few : n ≤ length (on_port far.port w.node.log) = subst (λ (d : EndId). n ≤ length (on_port d.port w.node.log)) is w.few in
     record {
       node = w.node;
       joined = there;
       not_behind = nothing_ahead lives first g play far.life s.epoch w.node there;
-      named = named;
-      back = back;
-      accepted = by w.node there back few (streams lives (slice s.epoch g) (play_run lives first g s.epoch play) far.life w.node far.port there);
+      named = sym (same_link s.card.links q) ∙ linked;
+      back = ap (λ (d : EndId). link_at d.port w.node.card.links) (sym is) ∙ w.back;
+    }
+
+-- so where all is acknowledged, something was accepted, and that is all
+delivered_by : (lives : List LifeId) (first : LifeId → ℕ) (g : Game) (z : LifeId) (q n : ℕ) (s : SwitchOf) (far : EndId) → Play lives (begins first) g → IsPart g z s → s.joined ≡ true → peer_among s.card.links q ≡ Some far
+    → 1 ≤ n → length (sent s.card q s.log) ≤ n → (n ≡ 0) ⊎ IsHeard g z s.card s.epoch q n → FarHasAll g z q s far
+unfolding far_joined
+delivered_by lives first g z q n s far play part joined linked some all (inl nothing) = absurd (omega (arith, nothing, some))
+delivered_by lives first g z q n s far play part joined linked some all (inr w) =
+    let is = far_is g z q n s far linked w in
+    let end = far_joined lives first g z q n s far play linked w in
+    let few : n ≤ length (on_port far.port w.node.log) = subst (λ (d : EndId). n ≤ length (on_port d.port w.node.log)) is w.few in
+    record {
+      end = end;
+      accepted = by w.node end.joined end.back few (streams lives (slice s.epoch g) (play_run lives first g s.epoch play) far.life w.node far.port end.joined);
     }
   where
     by : (m : Node) → g.nodes far.life s.epoch ≡ Some m → Names m.card far.port z q → n ≤ length (on_port far.port m.log) → Heard (slice s.epoch g) far.life m far.port → on_port far.port m.log ≡ sent s.card q s.log
@@ -171,6 +182,7 @@ delivered_part lives first g z q s far play part joined linked quiet =
 
 pub delivered_some : (lives : List LifeId) (on : PowerOn) (w : Network) (g : Game) (z : LifeId) (q : ℕ) (far : EndId) → Happens lives (dark on) (begins on.epoch) w g → (w.switches z).joined ≡ true
     → peer_among (w.switches z).card.links q ≡ Some far → 1 ≤ ((w.switches z).sendings q).acked → FarHasSome g z q (w.switches z) far
+unfolding far_joined
 delivered_some lives on w g z q far happens joined linked some = by (((holds lives on w g happens).played.parts z).acked q)
   where
     s : SwitchOf
@@ -178,18 +190,10 @@ delivered_some lives on w g z q far happens joined linked some = by (((holds liv
 
     by : ((s.sendings q).acked ≡ 0) ⊎ IsHeard g z s.card s.epoch q (s.sendings q).acked → FarHasSome g z q s far
     by (inl nothing) = absurd (omega (arith, nothing, some))
-    by (inr h) =
-        let named : link_at q s.card.links ≡ Some far = sym (same_link s.card.links q) ∙ linked in
-        let is : h.far ≡ far = some_same h.far far (sym h.named ∙ named) in
-        let there : g.nodes far.life s.epoch ≡ Some h.node = ap (λ (d : EndId). g.nodes d.life s.epoch) (sym is) ∙ h.joined in
-        record {
-          node = h.node;
-          joined = there;
-          not_behind = nothing_ahead lives on.epoch g (plays lives on w g happens) far.life s.epoch h.node there;
-          named = named;
-          back = ap (λ (d : EndId). link_at d.port h.node.card.links) (sym is) ∙ h.back;
-          accepted = subst (λ (d : EndId). (s.sendings q).acked ≤ length (on_port d.port h.node.log)) is h.few;
-        }
+    by (inr h) = record {
+      end = far_joined lives on.epoch g z q (s.sendings q).acked s far (plays lives on w g happens) linked h;
+      accepted = subst (λ (d : EndId). (s.sendings q).acked ≤ length (on_port d.port h.node.log)) (far_is g z q (s.sendings q).acked s far linked h) h.few;
+    }
 
 pub delivered : (lives : List LifeId) (on : PowerOn) (w : Network) (g : Game) (z : LifeId) (q : ℕ) (far : EndId) → Happens lives (dark on) (begins on.epoch) w g → (w.switches z).joined ≡ true
     → peer_among (w.switches z).card.links q ≡ Some far → is_unacked ((w.switches z).sendings q) ≡ false → FarHasAll g z q (w.switches z) far
@@ -206,17 +210,17 @@ settled_part lives first g z x s t q p play one two s_works t_works q_least q_mo
     let back = linked_of x t p b two.own t_works p_least p_most h.back in
     let there_done = delivered_part lives first g z q s a play one there.joined there.linked h.acknowledged in
     let back_done = delivered_part lives first g x p t b play two back.joined back.linked h.acknowledged_back in
-    let s_low : s.epoch ≤ t.epoch = let e = ap g.present two.own.life ∙ two.agrees.present in let f = there_done.not_behind in omega (arith, e, f) in
-    let t_low : t.epoch ≤ s.epoch = let e = ap g.present one.own.life ∙ one.agrees.present in let f = back_done.not_behind in omega (arith, e, f) in
+    let s_low : s.epoch ≤ t.epoch = let e = ap g.present two.own.life ∙ two.agrees.present in let f = there_done.end.not_behind in omega (arith, e, f) in
+    let t_low : t.epoch ≤ s.epoch = let e = ap g.present one.own.life ∙ one.agrees.present in let f = back_done.end.not_behind in omega (arith, e, f) in
     let epoch : s.epoch ≡ t.epoch = omega (arith, s_low, t_low) in
-    let t_node : there_done.node ≡ node_of t = some_same there_done.node (node_of t) (sym there_done.joined ∙ ap (λ (l : LifeId). g.nodes l s.epoch) two.own.life ∙ ap (g.nodes x) epoch ∙ two.agrees.joined back.joined) in
-    let s_node : back_done.node ≡ node_of s = some_same back_done.node (node_of s) (sym back_done.joined ∙ ap (λ (l : LifeId). g.nodes l t.epoch) one.own.life ∙ ap (g.nodes z) (sym epoch) ∙ one.agrees.joined there.joined) in
+    let t_node : there_done.end.node ≡ node_of t = some_same there_done.end.node (node_of t) (sym there_done.end.joined ∙ ap (λ (l : LifeId). g.nodes l s.epoch) two.own.life ∙ ap (g.nodes x) epoch ∙ two.agrees.joined back.joined) in
+    let s_node : back_done.end.node ≡ node_of s = some_same back_done.end.node (node_of s) (sym back_done.end.joined ∙ ap (λ (l : LifeId). g.nodes l t.epoch) one.own.life ∙ ap (g.nodes z) (sym epoch) ∙ one.agrees.joined there.joined) in
     record {
       joined = there.joined;
       joined_back = back.joined;
       epoch = epoch;
-      named = there_done.named;
-      named_back = back_done.named;
+      named = there_done.end.named;
+      named_back = back_done.end.named;
       accepted = ap (λ (m : Node). on_port p m.log) (sym t_node) ∙ there_done.accepted;
       accepted_back = ap (λ (m : Node). on_port q m.log) (sym s_node) ∙ back_done.accepted;
     }

@@ -53,15 +53,9 @@ pushed_same s t q few grown = front_whole (s.sendings q).pushed (t.sendings q).p
 
 -- so it is of one that only sends again, or what waited
 own_sends : (x : LifeId) (s : SwitchOf) (ts : ℕ → Sending) → ((q : ℕ) → (ts q).pushed ≡ (s.sendings q).pushed) → IsOwn x s → IsOwn x (record s { sendings = ts })
-own_sends x s ts same h = record {
-  life = h.life;
-  me = h.me;
-  links = h.links;
-  no_links = h.no_links;
-  no_peers = h.no_peers;
-  accepted = h.accepted;
-  pushed = λ joined q linked. same q ∙ h.pushed joined q linked;
-}
+own_sends x s ts same h =
+    let pushed : s.joined ≡ true → (q : ℕ) → is_some (peer_among s.card.links q) ≡ true → (ts q).pushed ≡ stream s.card q s.log = λ joined q linked. same q ∙ h.pushed joined q linked in
+    assumption (pushed, h)
 
 pub own_same : (x : LifeId) (s t : SwitchOf) → SendsUpTo none_more s t → IsGrown s t → IsOwn x s → IsOwn x t
 own_same x s t few grown h = subst (IsOwn x) (sym few.only) (own_sends x s t.sendings (λ q. pushed_same s t q few grown) h)
@@ -99,15 +93,13 @@ own_joined x epoch s life =
 own_receives : (x : LifeId) (port k : ℕ) (body : Body) (s : SwitchOf) (ts : ℕ → Sending) → s.joined ≡ true → IsOwn x s
     → ((q : ℕ) → is_some (peer_among s.card.links q) ≡ true → (ts q).pushed ≡ (s.sendings q).pushed ++ on_port q (all_added s.card port (accepted_by k body (s.receivings port)) s.log))
     → IsOwn x (record (receives port k body s) { sendings = ts })
-own_receives x port k body s ts joined h pushed = record {
-  life = h.life;
-  me = h.me;
-  links = h.links;
-  no_links = h.no_links;
-  no_peers = h.no_peers;
-  accepted = λ p. by (p == port) p refl;
-  pushed = λ _ q linked. pushed q linked ∙ ap (λ (l : List Body). l ++ on_port q (all_added s.card port bodies s.log)) (h.pushed joined q linked) ∙ sym (stream_added s.card q port bodies s.log);
-}
+own_receives x port k body s ts joined h pushed =
+    let t : SwitchOf = record (receives port k body s) { sendings = ts } in
+    let accepted : (p : ℕ) → (t.receivings p).accepted ≡ reverse (on_port p t.log) = λ p. by (p == port) p refl in
+    let all : (q : ℕ) → is_some (peer_among s.card.links q) ≡ true → (ts q).pushed ≡ stream s.card q t.log =
+    λ q linked. pushed q linked ∙ ap (λ (l : List Body). l ++ on_port q (all_added s.card port bodies s.log)) (h.pushed joined q linked) ∙ sym (stream_added s.card q port bodies s.log) in
+    let each : t.joined ≡ true → (q : ℕ) → is_some (peer_among t.card.links q) ≡ true → (t.sendings q).pushed ≡ stream t.card q t.log = λ _. all in
+    assumption (accepted, each, h)
   where
     bodies : List Body
     bodies = accepted_by k body (s.receivings port)

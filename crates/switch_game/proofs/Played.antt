@@ -28,22 +28,24 @@ use Rattle.switch_game.proofs.Links.{same_link}
 use Rattle.switch_game.proofs.Moves.{IsElsewhere, play_trans}
 use Rattle.switch_game.proofs.Own.{IsOwn}
 
--- a body of the stream that comes in by a port, whose far end has joined and names it back
-pub record ComesIn (g : Game) (x : LifeId) (c : CardOf) (e p k : ℕ) (b : Body) : Type 0 where
+-- the far end of a port has joined, and names it back
+pub record NamesBack (g : Game) (x : LifeId) (c : CardOf) (e p : ℕ) : Type 0 where
   pub far : EndId
   pub named : link_at p c.links ≡ Some far
   pub node : Node
   pub joined : g.nodes far.life e ≡ Some node
   pub back : link_at far.port node.card.links ≡ Some (record { life = x; port = p })
+
+-- a body of the stream that comes in by a port, whose far end has joined and names it back
+pub record ComesIn (g : Game) (x : LifeId) (c : CardOf) (e p k : ℕ) (b : Body) : Type 0 where
+  pub there : NamesBack g x c e p
+  pub open there use {far, named, node, joined, back}
   pub body : IsBody (stream node.card far.port node.log) k b
 
 -- the far end of a port has joined, names it back, and has accepted so many bodies from there
 pub record IsHeard (g : Game) (x : LifeId) (c : CardOf) (e q n : ℕ) : Type 0 where
-  pub far : EndId
-  pub named : link_at q c.links ≡ Some far
-  pub node : Node
-  pub joined : g.nodes far.life e ≡ Some node
-  pub back : link_at far.port node.card.links ≡ Some (record { life = x; port = q })
+  pub there : NamesBack g x c e q
+  pub open there use {far, named, node, joined, back}
   pub few : n ≤ length (on_port far.port node.log)
 
 -- A frame that was sent is true: a body is that of its number in the stream of its sender
@@ -93,31 +95,28 @@ grown lives first g h x e n play more sx = has_grown lives (slice e g) (slice e 
 stream_later : (a b : CardOf) (q : ℕ) (h l : Log) → b ≡ a → Earlier h l → IsFrontOf (stream a q h) (stream b q l)
 stream_later a b q h l same e = subst (λ (c : CardOf). IsFrontOf (stream a q h) (stream c q l)) (sym same) (stream_grows a q h l e)
 
+back_later : (lives : List LifeId) (first : LifeId → ℕ) (g h : Game) (x : LifeId) (c : CardOf) (e p : ℕ) → Play lives (begins first) g → Play lives g h → NamesBack g x c e p → NamesBack h x c e p
+back_later lives first g h x c e p play more w =
+    let n = grown lives first g h w.far.life e w.node play more w.joined in
+    let back = ap (λ (d : CardOf). link_at w.far.port d.links) n.card ∙ w.back in
+    record { far = w.far; named = w.named; node = n.node; joined = n.joined; back = back }
+
 -- what came of a body stays so as the game goes on
 pub held_later : (lives : List LifeId) (first : LifeId → ℕ) (g h : Game) (x : LifeId) (c : CardOf) (e p k : ℕ) (b : Body) → Play lives (begins first) g → Play lives g h → ComesIn g x c e p k b → ComesIn h x c e p k b
+unfolding back_later grown
 held_later lives first g h x c e p k b play more w =
     let n = grown lives first g h w.far.life e w.node play more w.joined in
     record {
-      far = w.far;
-      named = w.named;
-      node = n.node;
-      joined = n.joined;
-      back = ap (λ (d : CardOf). link_at w.far.port d.links) n.card ∙ w.back;
+      there = back_later lives first g h x c e p play more w.there;
       body = body_front (stream w.node.card w.far.port w.node.log) (stream n.node.card w.far.port n.node.log) k b (stream_later w.node.card n.node.card w.far.port w.node.log n.node.log n.card n.log) w.body;
     }
 
 heard_later : (lives : List LifeId) (first : LifeId → ℕ) (g h : Game) (x : LifeId) (c : CardOf) (e q m : ℕ) → Play lives (begins first) g → Play lives g h → IsHeard g x c e q m → IsHeard h x c e q m
+unfolding back_later grown
 heard_later lives first g h x c e q m play more w =
     let n = grown lives first g h w.far.life e w.node play more w.joined in
     let longer = count_grows w.far.port w.node.log n.node.log n.log in
-    record {
-      far = w.far;
-      named = w.named;
-      node = n.node;
-      joined = n.joined;
-      back = ap (λ (d : CardOf). link_at w.far.port d.links) n.card ∙ w.back;
-      few = omega (arith, w.few, longer);
-    }
+    record { there = back_later lives first g h x c e q play more w.there; few = omega (arith, w.few, longer) }
 
 pub counted_later : (lives : List LifeId) (first : LifeId → ℕ) (g h : Game) (x : LifeId) (c : CardOf) (e q m : ℕ) → Play lives (begins first) g → Play lives g h → (m ≡ 0) ⊎ IsHeard g x c e q m → (m ≡ 0) ⊎ IsHeard h x c e q m
 counted_later lives first g h x c e q m play more (inl none) = inl none

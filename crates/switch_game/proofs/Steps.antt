@@ -88,11 +88,13 @@ ack_counted : (g : Game) (x : LifeId) (port epoch n : ℕ) (from to : EndId) (s 
 ack_counted g x port epoch n from to s t q part linked is told (inl kept) = subst (λ (m : ℕ). (m ≡ 0) ⊎ IsHeard g x s.card s.epoch q m) (sym kept) (part.acked q)
 ack_counted g x port epoch n from to s t q part linked is told (inr set) =
     inr (subst (λ (m : ℕ). IsHeard g x s.card s.epoch q m) (sym set.acked_is) (subst (λ (p : ℕ). IsHeard g x s.card s.epoch p n) (sym set.port_is) (record {
-      far = from;
-      named = sym (same_link s.card.links port) ∙ linked.linked;
-      node = told.node;
-      joined = ap (g.nodes from.life) (sym set.epoch_is) ∙ told.joined;
-      back = told.to_is ∙ end_of x s port to part.own is;
+      there = record {
+        far = from;
+        named = sym (same_link s.card.links port) ∙ linked.linked;
+        node = told.node;
+        joined = ap (g.nodes from.life) (sym set.epoch_is) ∙ told.joined;
+        back = told.to_is ∙ end_of x s port to part.own is;
+      };
       few = told.few;
     })))
 
@@ -298,14 +300,9 @@ body_part lives first g x port f s play part c ends acc =
     come = received_come (stream c.told.node.card f.from.port c.told.node.log) f.k f.body (s.receivings port) ends.come c.told.body
 
     here : (k : ℕ) (b : Body) → (received f.k f.body (s.receivings port)).held k ≡ Some b → ComesIn h x s.card s.epoch port k b
-    here k b is = record {
-      far = f.from;
-      named = ends.named;
-      node = c.told.node;
-      joined = acc.elsewhere.nodes f.from.life s.epoch ends.apart ∙ ap (g.nodes f.from.life) (sym part.agrees.present) ∙ ends.there;
-      back = ends.back;
-      body = come.held k b is;
-    }
+    here k b is =
+        let joined = acc.elsewhere.nodes f.from.life s.epoch ends.apart ∙ ap (g.nodes f.from.life) (sym part.agrees.present) ∙ ends.there in
+        record { there = record { far = f.from; named = ends.named; node = c.told.node; joined = joined; back = ends.back }; body = come.held k b is }
 
     held : (b : Bool) (p k : ℕ) (body : Body) → b ≡ (p == port) → (cond b (received f.k f.body (s.receivings port)) (s.receivings p)).held k ≡ Some body → ComesIn h x s.card s.epoch p k body
     held true p k body test is = subst (λ (i : ℕ). ComesIn h x s.card s.epoch i k body) (sym (eqb-true p port (sym test))) (here k body is)

@@ -20,24 +20,23 @@ pub record Agrees (x : LifeId) (s : SwitchOf) (g : Game) : Type 0 where
   pub unjoined : (e : ℕ) → s.joined ≡ false → g.nodes x e ≡ None
   pub load_due : s.load_due ≡ (is_some (finish_of s) && not (g.loaded x s.epoch))
 
--- The far end of a link of z has joined the epoch, names the link, and has accepted all that z sent on it. It
--- may have left the epoch since
-pub record FarHasAll (g : Game) (z : LifeId) (q : ℕ) (s : SwitchOf) (far : EndId) : Type 0 where
+-- The far end of a link of z has joined the epoch, and names the link. It may have left the epoch since
+pub record FarHasJoined (g : Game) (z : LifeId) (q : ℕ) (s : SwitchOf) (far : EndId) : Type 0 where
   pub node : Node
   pub joined : g.nodes far.life s.epoch ≡ Some node
   pub not_behind : s.epoch ≤ g.present far.life
   pub named : Names s.card q far.life far.port
   pub back : Names node.card far.port z q
-  pub accepted : on_port far.port node.log ≡ sent s.card q s.log
+
+-- it has, and has accepted all that z sent on the link
+pub record FarHasAll (g : Game) (z : LifeId) (q : ℕ) (s : SwitchOf) (far : EndId) : Type 0 where
+  pub end : FarHasJoined g z q s far
+  pub accepted : on_port far.port end.node.log ≡ sent s.card q s.log
 
 -- and so many of them, where not all are acknowledged
 pub record FarHasSome (g : Game) (z : LifeId) (q : ℕ) (s : SwitchOf) (far : EndId) : Type 0 where
-  pub node : Node
-  pub joined : g.nodes far.life s.epoch ≡ Some node
-  pub not_behind : s.epoch ≤ g.present far.life
-  pub named : Names s.card q far.life far.port
-  pub back : Names node.card far.port z q
-  pub accepted : (s.sendings q).acked ≤ length (on_port far.port node.log)
+  pub end : FarHasJoined g z q s far
+  pub accepted : (s.sendings q).acked ≤ length (on_port far.port end.node.log)
 
 -- Each of two ends is the good peer of the other, and has nothing waiting or unacknowledged there
 pub record IsQuietLink (s t : SwitchOf) (q p : ℕ) : Type 0 where

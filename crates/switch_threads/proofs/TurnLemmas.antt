@@ -185,33 +185,33 @@ load_step view after place power switch table note came step called =
         subst (λ (c : LoadReply). IsAtPlace after place power switch (next_after c)) (sym does.0) (on (view.seen ++ called.between) does.1 (pending.Load table) now)
 
 -- work was taken
-pub to_do : (script : ScriptOf) (h seen : List Event) (desk : Desk) (buffer : List ℕ) (job : Work) → KeepsUp script (world_after script h) desk.s desk.power_on desk.switch pending.Work → TakesWork script h desk.s job buffer seen
+pub to_do : (script : ScriptOf) (h seen : List Event) (desk : Desk) (buffer : List ℕ) (job : Work) → KeepsUp script (world_after script h) desk.s desk.power_on desk.switch.value pending.Work → TakesWork script h desk.s job buffer seen
     → IsToDo script seen (record desk { buffer = buffer }) job
 to_do script h seen desk buffer (work.Nothing reason) now takes =
-    subst (λ (xs : List Event). KeepsUp script (world_after script xs) desk.s desk.power_on desk.switch pending.Work) (sym (takes.event ∙ append-nil h)) now
+    subst (λ (xs : List Event). KeepsUp script (world_after script xs) desk.s desk.power_on desk.switch.value pending.Work) (sym (takes.event ∙ append-nil h)) now
 to_do script h seen desk buffer (work.Clock tick samples) now takes =
-    subst (λ (xs : List Event). HasInHand script (world_after script xs) desk.s desk.power_on desk.switch buffer (hand.Clock tick samples)) (sym takes.event)
-    (clock_taken script h desk.s desk.power_on desk.switch now tick samples buffer (taken_of script h desk.s (work.Clock tick samples) buffer seen takes)
+    subst (λ (xs : List Event). HasInHand script (world_after script xs) desk.s desk.power_on desk.switch.value buffer (hand.Clock tick samples)) (sym takes.event)
+    (clock_taken script h desk.s desk.power_on desk.switch.value now tick samples buffer (taken_of script h desk.s (work.Clock tick samples) buffer seen takes)
     (taken_comes script h desk.s (work.Clock tick samples) (Clock desk.s) buffer seen now.powered.within now.fits.0 takes refl))
 to_do script h seen desk buffer (work.Frame port) now takes =
-    subst (λ (xs : List Event). HasInHand script (world_after script xs) desk.s desk.power_on desk.switch buffer (hand.Frame port)) (sym takes.event)
-    (frame_taken script h desk.s desk.power_on desk.switch now port buffer (taken_comes script h desk.s (work.Frame port) (Take desk.s port) buffer seen now.powered.within now.fits.0 takes refl)
+    subst (λ (xs : List Event). HasInHand script (world_after script xs) desk.s desk.power_on desk.switch.value buffer (hand.Frame port)) (sym takes.event)
+    (frame_taken script h desk.s desk.power_on desk.switch.value now port buffer (taken_comes script h desk.s (work.Frame port) (Take desk.s port) buffer seen now.powered.within now.fits.0 takes refl)
     (takes.bytes ∙ ap (λ (xs : List Event). held_bytes (world_after script xs).fabric desk.s) takes.event))
 to_do script h seen desk buffer (work.Restart life) now takes = λ new started.
     subst (λ (xs : List Event). KeepsUp script (world_after script xs) desk.s desk.power_on new pending.Work) (sym takes.event)
-    (life_begun script h desk.s desk.power_on desk.switch now life (taken_of script h desk.s (work.Restart life) buffer seen takes)
+    (life_begun script h desk.s desk.power_on desk.switch.value now life (taken_of script h desk.s (work.Restart life) buffer seen takes)
     (taken_comes script h desk.s (work.Restart life) (Restart desk.s) buffer seen now.powered.within now.fits.0 takes refl) new started)
 
 pub take_step : (view after : View Event ScriptOf) (desk : Desk) (out buffer : List ℕ) (job : Work) (step : IsInStep view desk pending.Work) → Called owner_of AnswersBook view (ask.Take desk.s out) (reply.Take job buffer) after
     → IsToDo step.script after.seen (record desk { buffer = buffer }) job
 take_step view after desk out buffer job step called =
     to_do step.script (view.seen ++ called.between) after.seen desk buffer job
-    (moment view after (ask.Take desk.s out) (reply.Take job buffer) called desk.s desk.power_on desk.switch pending.Work step)
+    (moment view after (ask.Take desk.s out) (reply.Take job buffer) called desk.s desk.power_on desk.switch.value pending.Work step)
     (answered view after (ask.Take desk.s out) (reply.Take job buffer) called step.script step.begun)
 
 -- and done
 pub done_step : (view after : View Event ScriptOf) (desk new : Desk) (asked : Ask) (answer : Reply) (next : Pending) (step : IsInStep view desk pending.Work) → Called owner_of AnswersBook view asked answer after → new.s ≡ desk.s
-    → KeepsUp step.script (world_after step.script after.seen) new.s new.power_on new.switch next → IsInStep after new next
+    → KeepsUp step.script (world_after step.script after.seen) new.s new.power_on new.switch.value next → IsInStep after new next
 done_step view after desk new asked answer next step called place keeps = record {
   script = step.script;
   begun = ap (λ (v : View Event ScriptOf). v.start) called.same ∙ step.begun;
@@ -221,7 +221,7 @@ done_step view after desk new asked answer next step called place keeps = record
 
 -- or made ready
 pub ready_step : (view : View Event ScriptOf) (desk new : Desk) (next then : Pending) (step : IsInStep view desk next) → new.s ≡ desk.s
-    → KeepsUp step.script (world_after step.script view.seen) new.s new.power_on new.switch then → IsInStep view new then
+    → KeepsUp step.script (world_after step.script view.seen) new.s new.power_on new.switch.value then → IsInStep view new then
 ready_step view desk new next then step place keeps = record {
   script = step.script;
   begun = step.begun;
@@ -231,12 +231,12 @@ ready_step view desk new next then step place keeps = record {
 
 -- a worker that begins
 pub begun_step : (view : View Event ScriptOf) (script : ScriptOf) (s : ℕ) (desk : Desk) → view.start ≡ Some script → view.number ≡ s + 1 → view.seen ≡ [] → desk.s ≡ s
-    → KeepsUp script (world_after script []) desk.s desk.power_on desk.switch pending.Work → IsInStep view desk pending.Work
+    → KeepsUp script (world_after script []) desk.s desk.power_on desk.switch.value pending.Work → IsInStep view desk pending.Work
 begun_step view script s desk begun number first place keeps = record {
   script = script;
   begun = begun;
   number = number ∙ ap (λ (n : ℕ). n + 1) (sym place);
-  keeps_up = subst (λ (h : List Event). KeepsUp script (world_after script h) desk.s desk.power_on desk.switch pending.Work) (sym first) keeps;
+  keeps_up = subst (λ (h : List Event). KeepsUp script (world_after script h) desk.s desk.power_on desk.switch.value pending.Work) (sym first) keeps;
 }
 
 -- the number of a worker's place

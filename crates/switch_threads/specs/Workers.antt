@@ -61,11 +61,11 @@ pub record HasInHand (script : ScriptOf) (world : WorldOf) (place : ℕ) (power 
 
 abbrev pub IsUpTo : ScriptOf → List Event → Desk → Pending → Type 0
 IsUpTo script history desk next =
-    KeepsUp script (world_after script history) desk.s desk.power_on desk.switch next
+    KeepsUp script (world_after script history) desk.s desk.power_on desk.switch.value next
 
 abbrev pub IsToHandle : ScriptOf → List Event → Desk → Hand → Type 0
 IsToHandle script history desk hand =
-    HasInHand script (world_after script history) desk.s desk.power_on desk.switch desk.buffer hand
+    HasInHand script (world_after script history) desk.s desk.power_on desk.switch.value desk.buffer hand
 
 -- What is to be done with the work that a worker took: nothing; to handle what is in hand then; or to begin
 -- the next life, with whichever switch is started in it.
@@ -87,7 +87,7 @@ pub record IsAtPlace (view : View Event ScriptOf) (place : ℕ) (power : PowerOf
   pub keeps_up : KeepsUp script (world_after script view.seen) place power switch next
 
 abbrev pub IsInStep : View Event ScriptOf → Desk → Pending → Type 0
-IsInStep view desk next = IsAtPlace view desk.s desk.power_on desk.switch next
+IsInStep view desk next = IsAtPlace view desk.s desk.power_on desk.switch.value next
 
 -- The driver has the number 0. Where it was told an end, that is the end of what its seat has seen.
 pub record IsDriving (view : View Event ScriptOf) (told : Option Ending) : Type 0 where

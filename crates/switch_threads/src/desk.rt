@@ -43,8 +43,8 @@ pub(crate) struct Desk {
     pub s: u8,
     /// With what the switch is started in each of its lives.
     pub power_on: PowerOn,
-    /// The switch.
-    pub switch: Switch,
+    /// The switch, which stays where it is when the desk is moved.
+    pub switch: Box<Switch>,
     /// Where the bytes of a frame go.
     pub buffer: FrameBuf,
     /// Where the frames go that the switch sends.
@@ -59,11 +59,13 @@ impl Desk {
         ensures up { IfOk result (λ desk. IsUpTo script.now [] desk pending.Work) }
     {
         let power_on = PowerOn::of(script, s);
+        let started = power_on.start(alloc, script.wiring().life(s))?;
+        let switch = Box::new(alloc, started)?;
         Ok(Desk {
             alloc,
             s,
             power_on,
-            switch: power_on.start(alloc, script.wiring().life(s))?,
+            switch,
             buffer: FrameBuf::new(alloc)?,
             out: Out::new(alloc),
         })
@@ -145,7 +147,7 @@ impl Desk {
     {
         match *job {
             Work::Restart { life } => {
-                self.switch = self.power_on.start(self.alloc, life)?;
+                *self.switch = self.power_on.start(self.alloc, life)?;
                 Ok(Pending::Work)
             }
             Work::Clock { now, samples } => self.handle(Hand::Clock { now, samples }),

@@ -3,6 +3,7 @@
 ghost use Rattle.std.specs.Prelude.{◌≡◌, ◌+◌, [], All, Some, length, IfOk, vec_len};
 ghost use Rattle.net_script.specs.Scripts.{IsScript, ScriptOf};
 ghost use Rattle.fabric_world.specs.Histories.{IsLegal, end_of};
+ghost use Rattle.fabric_settling.specs.Claims.{HoldsAndSettles};
 ghost use Rattle.fabric_turn.specs.Names.{turnstile_id};
 ghost use Rattle.fabric_turn.specs.History.{Extends};
 ghost use Rattle.fabric_turn.specs.Seats.{HasAllNumbers};
@@ -21,6 +22,9 @@ use net_script::script::Script;
 use std::alloc::Global;
 use std::sync::Wait;
 use std::thread::{Threads, for_each_mut, join_mut};
+
+// The most threads that the workers of a round have.
+const THREADS: usize = 4;
 
 // A worker for each switch of a script, and the seat that is left.
 fn open(
@@ -57,7 +61,7 @@ fn work<R: Threads + Wait + Sync, G: Gate>(
     requires { All (λ worker. worker.0 ≡ turnstile_id turnstile.now) workers.old }
     ensures { HaveCalled workers.old workers.new }
 {
-    let threads = workers.len().max(1);
+    let threads = workers.len().min(THREADS).max(1);
     for_each_mut(
         rt,
         workers,
@@ -154,7 +158,8 @@ fn close(turnstile: Turnstile<Book>, seat: Seat<Book>, end: Ending) -> Run
 }
 
 /// A run of the network of a script: a worker for each switch and the driver, side by side, until the driver
-/// is told an end. `gate` is called round each turn of a worker. It gives a legal history and its end.
+/// is told an end. `gate` is called round each turn of a worker. It gives a legal history and its end; and
+/// all that is claimed of a lawful history holds of it, also how soon it settles.
 ///
 /// It may never return: nothing is promised of when a turn comes, nor that a thread is served at all. Which
 /// of the legal histories it is, and with which end, may differ from run to run.
@@ -164,7 +169,8 @@ pub fn run<R: Threads + Wait + Sync, G: Gate>(
     script: &Script,
     gate: &G,
 ) -> Result<Run, OutOfMemory>
-    ensures { IfOk result (λ run. IsLegal script.now run.journal run.end) }
+    ensures legal { IfOk result (λ run. IsLegal script.now run.journal run.end) }
+    ensures claims { IfOk result (λ run. HoldsAndSettles script.now run.journal) }
 {
     let book = Book::begin(alloc, script)?;
     let callers = u32::from(script.wiring().count()) + 1;

@@ -1,4 +1,4 @@
-use Rattle.std.proofs.Common.{◌≡◌, ◌≢◌, ◌∙◌, sym, subst, refl, ℕ, suc, ◌+◌, ◌<◌, ◌≤◌, List, [], ◌∷◌, ◌++◌, Option, Some, None, Bool, true, false, arith, length, length-append, Contains, IsTrue, ◌⊎◌, inl, inr, ◌↔◌}
+use Rattle.std.proofs.Common.{◌≡◌, ◌≢◌, ◌∙◌, sym, subst, refl, ℕ, suc, ◌+◌, ◌<◌, ◌≤◌, List, [], ◌∷◌, ◌++◌, Option, Some, None, Bool, true, false, arith, length, length-append, Contains, IsTrue, inl, inr, ◌↔◌}
 use Rattle.std.proofs.lemmas.Bool.{cases_eq, eqb-true, eq-eqb}
 use Rattle.std.proofs.lemmas.List.Elements.{All-nil, All-push, All-weaker, Contains-append_left, Contains-push}
 use Rattle.std.proofs.lemmas.List.Quantifiers.{all_pairs_push}
@@ -6,11 +6,12 @@ use Rattle.an_base.specs.Values.{EntryOf}
 use Rattle.topo_graph.specs.Topology.{far_of, IsGraph}
 use Rattle.topo_graph.proofs.FarLemmas.{one_far}
 use Rattle.updown.specs.Routes.{is_up_end, HasLegal, HasDown, IsLeast}
-use Rattle.updown.specs.Lengths.{LengthsOf, length_at, behind_of, AreLengths}
 use Rattle.updown.proofs.RouteLemmas.{legal_first, legal_up, legal_down, down_first, down_more}
 use Rattle.updown.proofs.LeastLemmas.{least_iff}
-use Rattle.updown.proofs.StepLemmas.{behind_legal}
-use Rattle.table_build.specs.Exits.{LeadsTo, Begins, Behind, AreExits, AreExitsBelow, passes}
+use Rattle.table_build.specs.declared.best.Best.{Best}
+use Rattle.table_build.specs.Bests.{Goes, HasPort, AreBest, IsBest}
+use Rattle.table_build.specs.Exits.{LeadsTo, Begins, Behind, AreExits, ArePortsBelow, IsExitOf, passes}
+use Rattle.table_build.proofs.GoLemmas.{goes_leads, leads_goes}
 
 -- there is a way of n links
 abbrev pub HasWay : List EntryOf → Bool → ℕ → ℕ → ℕ → Type 0
@@ -75,14 +76,7 @@ begins_passes es false up x to p (Some c) (Some u) behind least begins =
     let less : u ≤ suc c = least.1 (suc c) (has_way es up x to (suc c) (p ∷ way.0) way.2 (omega arith)) in
     eq-eqb u (c + 1) (omega arith)
 
--- what is left behind a port by the lengths, where it may go up
-pub up_behind : (es : List EntryOf) (x to p : ℕ) (lengths : LengthsOf) → IsGraph es → AreLengths es to lengths → IsLeast (Behind es true x to p) (behind_of es lengths.up lengths.down x p)
-up_behind es x to p lengths graph are =
-    behind_legal es lengths.up lengths.down x to p
-    (λ z q e _. are.up z (graph.within x p (z, q) e).far_place)
-    (λ z q e _. are.down z (graph.within x p (z, q) e).far_place)
-
--- and where it may not: nothing without a link, nor upward
+-- what is left behind a port where the way may not go up: nothing without a link, nor upward
 pub none_behind : (es : List EntryOf) (x to p : ℕ) → far_of es x p ≡ None → IsLeast (Behind es false x to p) None
 none_behind es x to p e = λ n (z, q, f, down, has). absurd (cc)
 
@@ -95,11 +89,6 @@ down_behind es x to p z q o e down least =
     (λ n has. (z, q, e, down, has))
     (λ n (w, r, f, _, has). subst (λ (v : ℕ). HasDown es v to n) (one_far es x p w r z q f e) has)
     least
-
--- the least of the whole way
-pub whole_least : (es : List EntryOf) (up : Bool) (x to : ℕ) (lengths : LengthsOf) (whole : Option ℕ) → AreLengths es to lengths → x < length es → ((up ≡ true) × (whole ≡ length_at lengths.up x)) ⊎ ((up ≡ false) × (whole ≡ length_at lengths.down x)) → IsLeast (HasWay es up x to) whole
-whole_least es up x to lengths whole are low (inl (is, at)) = rw (is, at) (are.up x low)
-whole_least es up x to lengths whole are low (inr (is, at)) = rw (is, at) (are.down x low)
 
 -- whether a port is an exit
 pub exit_is : (es : List EntryOf) (any up : Bool) (x to p : ℕ) (left whole : Option ℕ) (test : Bool) → x ≢ to → IsLeast (Behind es up x to p) left → IsLeast (HasWay es up x to) whole → test ≡ passes any left whole → IsTrue test ↔ Begins es any up x to p
@@ -116,21 +105,31 @@ exit_link es any up x to p graph begins = go up (way_first es up x to p begins.r
     go true f = let within = graph.within x p (f.0, f.1) f.2 in (within.port_least, within.port_most)
     go false f = let within = graph.within x p (f.0, f.1) f.2 in (within.port_least, within.port_most)
 
--- at first there are none
-pub no_exits : (es : List EntryOf) (any up : Bool) (x to : ℕ) → IsGraph es → AreExitsBelow es any up x to 1 []
-no_exits es any up x to graph = record {
+-- where no port has it there are none
+pub no_port : (Has : ℕ → Type 0) → ((p : ℕ) → Has p → ⊥) → ArePortsBelow Has 13 []
+no_port Has none = record {
   rising = λ i j d lt low. absurd (omega arith);
-  each = All-nil (Begins es any up x to);
-  below = All-nil (λ p. p < 1);
-  whole = λ p low begins. absurd (let l = (exit_link es any up x to p graph begins).0 in omega arith);
+  each = All-nil Has;
+  below = All-nil (λ p. p < 13);
+  whole = λ p low is. absurd (none p is);
   few = omega arith;
 }
 
--- a port that is an exit
-pub one_exit : (es : List EntryOf) (any up : Bool) (x to port : ℕ) (ports : List ℕ) → AreExitsBelow es any up x to port ports → Begins es any up x to port → AreExitsBelow es any up x to (port + 1) (ports ++ port ∷ [])
-one_exit es any up x to port ports so_far begins = record {
+-- at first there are none
+pub no_ports : (Has : ℕ → Type 0) → ((p : ℕ) → Has p → 1 ≤ p) → ArePortsBelow Has 1 []
+no_ports Has least = record {
+  rising = λ i j d lt low. absurd (omega arith);
+  each = All-nil Has;
+  below = All-nil (λ p. p < 1);
+  whole = λ p low is. absurd (let l = least p is in omega arith);
+  few = omega arith;
+}
+
+-- a port that has it
+pub one_port : (Has : ℕ → Type 0) (port : ℕ) (ports : List ℕ) → ArePortsBelow Has port ports → Has port → ArePortsBelow Has (port + 1) (ports ++ port ∷ [])
+one_port Has port ports so_far has = record {
   rising = all_pairs_push (λ p q. p < q) ports port so_far.rising so_far.below;
-  each = All-push (Begins es any up x to) ports port so_far.each begins;
+  each = All-push Has ports port so_far.each has;
   below = All-push (λ p. p < port + 1) ports port (All-weaker (λ p. p < port) (λ p. p < port + 1) (λ p low. omega arith) ports so_far.below) (omega arith);
   whole = λ p low is. elim (cases_eq p port) [
     | inl same ↦ subst (λ (n : ℕ). Contains (ports ++ port ∷ []) n) (sym same) (Contains-push ports port)
@@ -139,23 +138,56 @@ one_exit es any up x to port ports so_far begins = record {
   few = let h = so_far.few in omega (arith, length-append ports (port ∷ []));
 }
 
--- a port that is none
-pub no_exit : (es : List EntryOf) (any up : Bool) (x to port : ℕ) (ports : List ℕ) → AreExitsBelow es any up x to port ports → (Begins es any up x to port → ⊥) → AreExitsBelow es any up x to (port + 1) ports
-no_exit es any up x to port ports so_far none = record {
+-- a port that has it not
+pub other_port : (Has : ℕ → Type 0) (port : ℕ) (ports : List ℕ) → ArePortsBelow Has port ports → (Has port → ⊥) → ArePortsBelow Has (port + 1) ports
+other_port Has port ports so_far none = record {
   rising = so_far.rising;
   each = so_far.each;
   below = All-weaker (λ p. p < port) (λ p. p < port + 1) (λ p low. omega arith) ports so_far.below;
   whole = λ p low is. elim (cases_eq p port) [
-    | inl same ↦ absurd (none (subst (λ (n : ℕ). Begins es any up x to n) same is))
+    | inl same ↦ absurd (none (subst Has same is))
     | inr other ↦ so_far.whole p (omega arith) is
   ];
   few = let h = so_far.few in omega arith;
 }
 
--- after the last port all are there
-pub all_exits : (es : List EntryOf) (any up : Bool) (x to : ℕ) (ports : List ℕ) → IsGraph es → AreExitsBelow es any up x to 13 ports → AreExits es any up x to ports
-all_exits es any up x to ports graph so_far = record {
-  rising = so_far.rising;
-  each = so_far.each;
-  whole = λ p begins. so_far.whole p (let l = (exit_link es any up x to p graph begins).1 in omega arith) begins;
+-- a port by which best ways begin is an exit
+best_begins : (es : List EntryOf) (any up : Bool) (x y p : ℕ) (b : Best) → x ≢ y → AreBest any (λ ps. Goes es up true x ps y) b → HasPort b.ports p → Begins es any up x y p
+best_begins es true up x y p b other best has =
+    let e = best.each p has in
+    record { other = other; rest = e.0; way = goes_leads es up (p ∷ e.0) x y e.1; least = λ no. absurd (cc) }
+best_begins es false up x y p b other best has =
+    let e = best.each p has in
+    let cost : suc (length e.0) ≡ b.cost = e.2 in
+    record {
+      other = other;
+      rest = e.0;
+      way = goes_leads es up (p ∷ e.0) x y e.1;
+      least = λ _ ps lead. let l : b.cost ≤ length ps = best.least ps (leads_goes es up ps x y lead) in omega arith;
+    }
+
+-- and an exit begins best ways
+begins_best : (es : List EntryOf) (any up : Bool) (x y p : ℕ) (b : Best) → AreBest any (λ ps. Goes es up true x ps y) b → Begins es any up x y p → HasPort b.ports p
+begins_best es true up x y p b best begins =
+    let g = leads_goes es up (p ∷ begins.rest) x y begins.way in
+    let l : b.cost ≤ 0 = best.least (p ∷ begins.rest) g in
+    best.whole p begins.rest g (omega arith)
+begins_best es false up x y p b best begins =
+    let g = leads_goes es up (p ∷ begins.rest) x y begins.way in
+    let l : b.cost ≤ suc (length begins.rest) = best.least (p ∷ begins.rest) g in
+    let cost : length best.way.0 ≡ b.cost = best.way.2 in
+    let k : length begins.rest + 1 ≤ length best.way.0 = begins.least refl best.way.0 (goes_leads es up best.way.0 x y best.way.1) in
+    best.whole p begins.rest g (omega arith)
+
+-- so the ports by which best ways begin are the exits
+pub best_exits : (es : List EntryOf) (any up : Bool) (x y : ℕ) (o : Option Best) (ports : List ℕ) → IsGraph es → x ≢ y → IsBest any (λ ps. Goes es up true x ps y) o → ArePortsBelow (IsExitOf o) 13 ports → AreExits es any up x y ports
+best_exits es any up x y None ports graph other none are = record {
+  rising = are.rising;
+  each = All-weaker (λ p. ⊥) (Begins es any up x y) (λ p no. absurd no) ports are.each;
+  whole = λ p begins. absurd (none (p ∷ begins.rest) (leads_goes es up (p ∷ begins.rest) x y begins.way));
+}
+best_exits es any up x y (Some b) ports graph other best are = record {
+  rising = are.rising;
+  each = All-weaker (IsExitOf (Some b)) (Begins es any up x y) (λ p is. best_begins es any up x y p b other best is.1) ports are.each;
+  whole = λ p begins. let within = exit_link es any up x y p graph begins in are.whole p (let most = within.1 in omega arith) (within.0, begins_best es any up x y p b best begins);
 }

@@ -1,3 +1,7 @@
+pub mod GoLemmas
+pub mod BestLemmas
+pub mod ArriveLemmas
+pub mod PassLemmas
 pub mod ExitLemmas
 pub mod RoutingLemmas
 pub mod TableLemmas

@@ -1,12 +1,10 @@
-use Rattle.std.proofs.Common.{◌≡◌, ◌≢◌, ◌∙◌, sym, ap, subst, ℕ, ◌+◌, ◌<◌, List, [], ◌∷◌, ◌++◌, Option, Some, None, arith, length, length-append, set, inl, inr}
+use Rattle.std.proofs.Common.{◌≡◌, ◌≢◌, ◌∙◌, sym, ap, subst, ℕ, ◌+◌, ◌<◌, List, Option, Some, None, arith, length, set, inl, inr}
 use Rattle.std.specs.Prelude.{slice_index}
 use Rattle.std.proofs.lemmas.Bool.{cases_eq}
 use Rattle.std.proofs.lemmas.Option.{same_Some}
-use Rattle.std.proofs.lemmas.List.{get_or-set_same, get_or-set_other, length-set, get_or_append_left, get_or_push}
-use Rattle.an_base.specs.Values.{EntryOf}
+use Rattle.std.proofs.lemmas.List.{get_or-set_same, get_or-set_other, length-set}
 use Rattle.an_base.specs.Numbers.{AreNumbers}
-use Rattle.updown.specs.Lengths.{LengthsOf, AreLengths}
-use Rattle.table_build.specs.Routing.{place_at, ArePlaces, AreLengthsTo}
+use Rattle.table_build.specs.Routing.{place_at, ArePlaces}
 
 -- at first no number has a place
 pub no_places : (numbers : List ℕ) (places : List (Option ℕ)) → length places ≡ 127 → ((n : ℕ) → place_at places n ≡ None) → ArePlaces numbers 0 places
@@ -39,16 +37,3 @@ places_more numbers i n places are so_far low is =
             get_or-set_other places n (slice_index numbers y) (Some i) None differ ∙ so_far.whole y (omega arith))
       ];
     }
-
--- the lengths to one place more
-pub lengths_more : (es : List EntryOf) (y : ℕ) (lengths : List LengthsOf) (l : LengthsOf) → AreLengthsTo es y lengths → AreLengths es y l → AreLengthsTo es (y + 1) (lengths ++ l ∷ [])
-lengths_more es y lengths l so_far are = record {
-  count = omega (arith, so_far.count, length-append lengths (l ∷ []));
-  each = λ z low. elim (cases_eq z y) [
-    | inl same ↦ rw (same, get_or_push lengths l none y so_far.count) are
-    | inr other ↦ subst (λ (m : LengthsOf). AreLengths es z m) (sym (get_or_append_left lengths (l ∷ []) none z (omega (arith, so_far.count)))) (so_far.each z (omega arith))
-  ];
-}
-  where
-    none : LengthsOf
-    none = record { up = []; down = [] }

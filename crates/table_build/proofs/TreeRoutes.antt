@@ -1,4 +1,4 @@
-use Rattle.std.proofs.Common.{◌≡◌, sym, subst, refl, ℕ, zero, suc, ◌<◌, List, Some, true, false, arith, length, inl, inr}
+use Rattle.std.proofs.Common.{◌≡◌, ◌≢◌, sym, subst, refl, ℕ, zero, suc, ◌<◌, List, Some, true, false, arith, length, inl, inr}
 use Rattle.std.specs.Ordering.{nat_cmp, ordering_then, is_lt}
 use Rattle.std.specs.declared.cmp.Ordering.{Ordering}
 use Rattle.std.proofs.lemmas.Bool.{cases_eq}
@@ -24,6 +24,31 @@ down_end es x y z p q (suc n) has e not_up =
     let f = down_suc es x y n has in
     down_on es x z (suc n) f.0 (f.1.0, f.1.1, f.1.2, f.1.3, down_end es f.1.0 y z p q n f.1.4 e not_up)
 
+-- a member but the root has a link upward, to a member one level nearer to the root
+record Above (es : List EntryOf) (x n : ℕ) : Type 0 where
+  upper : ℕ
+  port : ℕ
+  far : ℕ
+  leads : far_of es x port ≡ Some (upper, far)
+  below : upper < length es
+  level : level_at es upper ≡ n
+  up : is_up_end es upper x ≡ true
+
+above : (es : List EntryOf) → IsGraph es → IsTree es → (n x : ℕ) → x < length es → x ≢ 0 → level_at es x ≡ suc n → Above es x n
+above es graph tree n x low other at =
+    let b = (tree_stands es graph tree x low).below other in
+    let p = (entry_at es x).position.port in
+    let level = b.1.parent.level in
+    record {
+      upper = b.0;
+      port = p;
+      far = b.1.parent.port.0;
+      leads = b.1.parent.port.1;
+      below = (graph.within x p (b.0, b.1.parent.port.0) b.1.parent.port.1).far_place;
+      level = omega (arith, level, at);
+      up = level_up (level_at es b.0) (level_at es x) (life_cmp (life_at es b.0) (life_at es x)) (omega (arith, level));
+    }
+
 -- the root leads down to each member
 from_root : (es : List EntryOf) → IsGraph es → IsTree es → (n x : ℕ) → x < length es → level_at es x ≡ n → (m : ℕ) × HasDown es 0 x m
 from_root es graph tree zero x low at = elim (cases_eq x 0) [
@@ -33,16 +58,9 @@ from_root es graph tree zero x low at = elim (cases_eq x 0) [
 from_root es graph tree (suc n) x low at = elim (cases_eq x 0) [
   | inl same ↦ (0, down_here es 0 x (sym same))
   | inr other ↦ (
-      let b = (tree_stands es graph tree x low).below other in
-      let y = b.0 in
-      let p = (entry_at es x).position.port in
-      let q = b.1.parent.port.0 in
-      let e = b.1.parent.port.1 in
-      let level = b.1.parent.level in
-      let y_low = (graph.within x p (y, q) e).far_place in
-      let up : is_up_end es y x ≡ true = level_up (level_at es y) (level_at es x) (life_cmp (life_at es y) (life_at es x)) (omega arith) in
-      let rest = from_root es graph tree n y y_low (omega arith) in
-      (suc rest.0, down_end es 0 y x q p rest.0 rest.1 (far_back es x p y q graph e) (not_both_higher es y x up)))
+      let a = above es graph tree n x low other at in
+      let rest = from_root es graph tree n a.upper a.below a.level in
+      (suc rest.0, down_end es 0 a.upper x a.far a.port rest.0 rest.1 (far_back es x a.port a.upper a.far graph a.leads) (not_both_higher es a.upper x a.up)))
 ]
 
 -- and each member leads up to the root, and on from there
@@ -54,16 +72,9 @@ to_root es to m graph tree has zero x low at = elim (cases_eq x 0) [
 to_root es to m graph tree has (suc n) x low at = elim (cases_eq x 0) [
   | inl same ↦ (m, subst (λ (w : ℕ). HasLegal es w to m) (sym same) has)
   | inr other ↦ (
-      let b = (tree_stands es graph tree x low).below other in
-      let y = b.0 in
-      let p = (entry_at es x).position.port in
-      let q = b.1.parent.port.0 in
-      let e = b.1.parent.port.1 in
-      let level = b.1.parent.level in
-      let y_low = (graph.within x p (y, q) e).far_place in
-      let up : is_up_end es y x ≡ true = level_up (level_at es y) (level_at es x) (life_cmp (life_at es y) (life_at es x)) (omega arith) in
-      let rest = to_root es to m graph tree has n y y_low (omega arith) in
-      (suc rest.0, legal_on es x to rest.0 p (y, q, e, inl (up, rest.1))))
+      let a = above es graph tree n x low other at in
+      let rest = to_root es to m graph tree has n a.upper a.below a.level in
+      (suc rest.0, legal_on es x to rest.0 a.port (a.upper, a.far, a.leads, inl (a.up, rest.1))))
 ]
 
 -- so a legal route joins every two members

@@ -6,6 +6,8 @@ use Rattle.an_base.specs.Values.{EntryOf}
 use Rattle.an_base.specs.Rows.{ExitsRise}
 use Rattle.topo_graph.specs.Topology.{far_of}
 use Rattle.updown.specs.Routes.{is_up_end, LegalRoute, DownRoute, HasLegal, HasDown}
+use Rattle.table_build.specs.declared.best.Best.{Best}
+use Rattle.table_build.specs.Bests.{HasPort}
 
 -- the ports lead from x to y along a legal route or, where they may not go up, along downward links alone
 abbrev pub LeadsTo : List EntryOf → Bool → ℕ → List ℕ → ℕ → Type 0
@@ -25,13 +27,18 @@ pub record AreExits (es : List EntryOf) (any up : Bool) (x y : ℕ) (ports : Lis
   pub each : All (Begins es any up x y) ports
   pub whole : (p : ℕ) → Begins es any up x y p → Contains ports p
 
--- the same of the ports below end
-pub record AreExitsBelow (es : List EntryOf) (any up : Bool) (x y end : ℕ) (ports : List ℕ) : Type 0 where
+-- the ports below end that have this, rising
+pub record ArePortsBelow (Has : ℕ → Type 0) (end : ℕ) (ports : List ℕ) : Type 0 where
   pub rising : ExitsRise ports
-  pub each : All (Begins es any up x y) ports
+  pub each : All Has ports
   pub below : All (λ p. p < end) ports
-  pub whole : (p : ℕ) → p < end → Begins es any up x y p → Contains ports p
+  pub whole : (p : ℕ) → p < end → Has p → Contains ports p
   pub few : length ports < end
+
+-- the port is one by which best ways begin
+abbrev pub IsExitOf : Option Best → ℕ → Type 0
+IsExitOf None p = ⊥
+IsExitOf (Some b) p = (1 ≤ p) × HasPort b.ports p
 
 -- what may come in at x: what starts there, at entry 0, and what a link brings
 abbrev pub IsEntry : List EntryOf → ℕ → ℕ → Type 0

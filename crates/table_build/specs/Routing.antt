@@ -1,7 +1,8 @@
 -- What the tables of all members share.
-use Rattle.std.specs.Prelude.{◌≡◌, ℕ, ◌<◌, List, [], length, Option, Some, None, slice_index, slice_index_or}
+use Rattle.std.specs.Prelude.{◌≡◌, ℕ, ◌<◌, List, length, Option, Some, None, slice_index, slice_index_or}
 use Rattle.an_base.specs.Values.{EntryOf}
-use Rattle.updown.specs.Lengths.{LengthsOf, AreLengths}
+use Rattle.updown.specs.declared.order.Height.{Height}
+use Rattle.updown.specs.Order.{IsDescent}
 
 -- the place that has a number
 abbrev pub place_at : List (Option ℕ) → ℕ → Option ℕ
@@ -13,21 +14,12 @@ pub record ArePlaces (numbers : List ℕ) (end : ℕ) (places : List (Option ℕ
   pub each : (n y : ℕ) → place_at places n ≡ Some y → (y < end) × (slice_index numbers y ≡ n)
   pub whole : (y : ℕ) → y < end → place_at places (slice_index numbers y) ≡ Some y
 
--- the lengths to a place
-abbrev pub lengths_at : List LengthsOf → ℕ → LengthsOf
-lengths_at lengths y = slice_index_or lengths y (record { up = []; down = [] })
-
--- what the tables of all members share: the place of each number, and for each place the lengths of the
--- routes to it
+-- what the tables of all members share: the place of each number, and the places from the highest to the
+-- lowest
 pub record RoutingOf : Type 0 where
   pub places : List (Option ℕ)
-  pub lengths : List LengthsOf
-
--- the lengths of the routes to the first places
-pub record AreLengthsTo (es : List EntryOf) (end : ℕ) (lengths : List LengthsOf) : Type 0 where
-  pub count : length lengths ≡ end
-  pub each : (y : ℕ) → y < end → AreLengths es y (lengths_at lengths y)
+  pub order : List Height
 
 pub record IsRouting (es : List EntryOf) (numbers : List ℕ) (r : RoutingOf) : Type 0 where
   pub places : ArePlaces numbers (length es) r.places
-  pub lengths : AreLengthsTo es (length es) r.lengths
+  pub order : IsDescent es r.order

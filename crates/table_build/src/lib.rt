@@ -6,6 +6,7 @@
 //! whose far end is the up end goes on downward alone.
 #![tactic(auto)]
 
+mod best;
 pub mod exit;
 pub mod law;
 pub mod routing;

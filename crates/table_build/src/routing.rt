@@ -1,14 +1,13 @@
-ghost use Rattle.std.specs.Prelude.{◌≡◌, ◌<◌, length, IfOk};
+ghost use Rattle.std.specs.Prelude.{◌≡◌, length, IfOk};
 ghost use Rattle.an_base.specs.Numbers.{AreNumbers};
-ghost use Rattle.table_build.specs.Routing.{AreLengthsTo, ArePlaces, IsRouting, lengths_at, place_at};
+ghost use Rattle.table_build.specs.Routing.{ArePlaces, IsRouting, place_at};
 
 use an_base::memory::OutOfMemory;
 use an_base::numbers::Numbers;
 use std::alloc::Global;
 use std::marker::Model;
 use topo_graph::graph::Graph;
-use updown::length::Lengths;
-use updown::order::Descent;
+use updown::order::{Descent, Height};
 
 // For each number the place that has it.
 fn places_of(numbers: &[u8]) -> [Option<u8>; 127]
@@ -22,25 +21,12 @@ fn places_of(numbers: &[u8]) -> [Option<u8>; 127]
     places
 }
 
-// The lengths of the routes to each place.
-fn lengths_of(alloc: Global, graph: &Graph) -> Result<Vec<Lengths>, OutOfMemory>
-    ensures { IfOk result (λ lengths. AreLengthsTo graph.now (length graph.now) lengths.items) }
-{
-    let descent = Descent::of(alloc, graph)?;
-    let count = graph.count();
-    let mut lengths = Vec::with_capacity(alloc, usize::from(count))?;
-    'places: for y in 0..count {
-        lengths.push(Lengths::to(alloc, graph, &descent, y)?)?;
-    }
-    Ok(lengths)
-}
-
-/// What the tables of all members of a topology share: the place of each number, and the lengths
-/// of the routes to each place.
+/// What the tables of all members of a topology share: the place of each number, and the places from
+/// the highest to the lowest.
 #[derive(Debug, Drop)]
 pub struct Routing {
     places: [Option<u8>; 127],
-    lengths: Vec<Lengths>,
+    descent: Descent,
 }
 
 impl Model for Routing {
@@ -48,7 +34,7 @@ impl Model for Routing {
 
     ghost Value = { RoutingOf };
 
-    ghost view = { λ r. record { places = r.places; lengths = r.lengths.items } };
+    ghost view = { λ r. record { places = r.places; order = r.descent } };
 }
 
 impl Routing {
@@ -58,8 +44,8 @@ impl Routing {
         ensures { IfOk result (IsRouting graph.now numbers.now) }
     {
         let places = places_of(numbers.as_slice());
-        let lengths = lengths_of(alloc, graph)?;
-        Ok(Routing { places, lengths })
+        let descent = Descent::of(alloc, graph)?;
+        Ok(Routing { places, descent })
     }
 
     /// The place that has a number, if one has it.
@@ -69,11 +55,10 @@ impl Routing {
         self.places.get(usize::from(number)).copied().flatten()
     }
 
-    /// The lengths of the routes to a place.
-    pub fn lengths(&self, y: u8) -> &Lengths
-        requires { y < length self.now.lengths }
-        ensures { result.now ≡ lengths_at self.now.lengths y }
+    /// The places from the highest to the lowest.
+    pub fn order(&self) -> &[Height]
+        ensures { result.now ≡ self.now.order }
     {
-        &self.lengths[usize::from(y)]
+        self.descent.as_slice()
     }
 }

@@ -1,9 +1,11 @@
 ghost use Rattle.std.specs.Prelude.{◌≡◌, ◌≢◌, ◌<◌, ℕ, length, slice_index, IfOk, MatchOption};
 ghost use Rattle.topo_graph.specs.Topology.{IsGraph};
+ghost use Rattle.table_build.specs.Bests.{AreBestFrom};
 ghost use Rattle.table_build.specs.Routing.{IsRouting};
 ghost use Rattle.table_build.specs.Tables.{AreWays, IsWay};
 
-use crate::exit::{Leg, exits};
+use crate::best::Bests;
+use crate::exit::exits;
 use crate::routing::Routing;
 use an_base::memory::OutOfMemory;
 use an_base::numbers::Numbers;
@@ -29,11 +31,13 @@ fn way_to(
     graph: &Graph,
     numbers: &Numbers,
     routing: &Routing,
+    bests: &Bests,
     x: u8,
     any: bool,
     number: u8,
 ) -> Option<Way>
     requires routing { IsRouting graph.now numbers.now routing.now }
+    requires bests { AreBestFrom graph.now any x bests.now }
     requires within { x < length graph.now }
     ensures { MatchOption result
         ((y : ℕ) → y < length graph.now → y ≢ x → slice_index numbers.now y ≢ number)
@@ -44,15 +48,8 @@ fn way_to(
     if place == x {
         return None;
     }
-    let lengths = routing.lengths(place);
-    let leg = Leg {
-        x,
-        to: place,
-        up: true,
-        any,
-    };
-    let up = exits(graph, lengths, leg);
-    let down = exits(graph, lengths, Leg { up: false, ..leg });
+    let up = exits(bests.up(place));
+    let down = exits(bests.down(place));
     Some(Way {
         number,
         place,
@@ -77,9 +74,10 @@ pub fn ways_of(
     ensures graph { IfOk result (λ _. IsGraph graph.now) }
 {
     let count = usize::from(graph.count()).min(numbers.as_slice().len());
+    let bests = Bests::from(alloc, graph, routing.order(), x, any)?;
     let mut ways = Vec::with_capacity(alloc, count)?;
     'numbers: for number in 0..127u8 {
-        if let Some(way) = way_to(graph, numbers, routing, x, any, number) {
+        if let Some(way) = way_to(graph, numbers, routing, &bests, x, any, number) {
             ways.push(way)?;
         }
     }

@@ -168,15 +168,9 @@ form_kept s d (RowLine name entry pairs) kept unended good =
     let low = known_low s.switch_names name a.0 in
     rows_kept s d (place s.switch_names name) (number_value entry) pairs kept unended (omega (arith, kept.named)) (entry_most entry b.0)
     (not-true _ (holds _ NameTwice c.0)) (holds _ BadNumber e.0)
-form_kept s d EndLine kept unended good = record {
-  named = kept.named;
-  numbers = kept.numbers;
-  numbers_apart = kept.numbers_apart;
-  rows = kept.rows;
-  entered = kept.entered;
-  rows_apart = kept.rows_apart;
-  ended = λ t. holds (are_numbered s.wires d) TablesShort good;
-}
+form_kept s d EndLine kept unended good =
+    let ended : (with_table_form s d EndLine).ended ≡ true → are_numbered s.wires (with_table_form s d EndLine) ≡ true = λ t. holds (are_numbered s.wires d) TablesShort good in
+    assumption (ended, kept)
 
 -- what a step keeps
 pub step_kept : {T : Type 0} (r : Result T ScriptStop) (s : ScriptOf) (d e : TableDraftOf) (words : List (List ℕ)) (faulty : ScriptCause → Type 0) → IsKept s d → d.ended ≡ false → IsStep r (AddsTableForm s d words e) faulty → OnOk r (IsKept s e)

@@ -67,6 +67,19 @@ labels_step items (Ok v) count links d labels passed at_b at_a from to some all 
     (from_is ∙ get_or_default labels at_b from 0 b_low ∙ ap (λ (i : ℕ). get_or labels i 0) b_is)
     (to_is ∙ get_or_default labels at_a to 0 a_low ∙ ap (λ (i : ℕ). get_or labels i 0) a_is))))
 
+-- a link between two switches with one label changes none
+same_label : (labels : List ℕ) (from to : ℕ) → from ≡ to → map (λ c. cond (eqb c from) to c) labels ≡ labels
+same_label [] from to same = refl
+same_label (c ∷ labels) from to same = rw (same_label labels from to same) (ap (λ (x : ℕ). x ∷ labels) (kept c from to same))
+  where
+    kept : (c from to : ℕ) → from ≡ to → cond (eqb c from) to c ≡ c
+    kept c from to same = grind (arith, nat_tests)
+
+pub labels_kept : (count : ℕ) (links : List LinkAt) (d : LinkAt) (labels : List ℕ) (at_b at_a from to : ℕ) → 1 ≤ length links → All (IsLink count) links → AreLabels count (take (length links - 1) (drop 1 links)) labels → at_b ≡ (get_or links 0 d).b → at_a ≡ (get_or links 0 d).a → from ≡ get_or labels at_b from → to ≡ get_or labels at_a to → from ≡ to → AreLabels count links labels
+labels_kept count links d labels at_b at_a from to some all are b_is a_is from_is to_is same =
+    subst (λ (ls : List ℕ). AreLabels count links ls) (same_label labels from to same)
+    (labels_step {V = List ℕ} {E = ℕ} (λ (v : List ℕ). v) (Ok (map (λ c. cond (eqb c from) to c) labels)) count links d labels labels at_b at_a from to some all are b_is a_is from_is to_is refl refl)
+
 -- tests that agree on each element
 pub list_any_same : {X : Type 0} (p q : X → Bool) (xs : List X) → All (λ x. p x ≡ q x) xs → list_any p xs ≡ list_any q xs
 list_any_same p q [] all = refl

@@ -10,7 +10,7 @@ use net_graph::wiring::LinkAt;
 use std::alloc::Global;
 
 /// Labels of so many switches, by place, which are alike exactly for the switches of one component of the
-/// links.
+/// links. It looks once at each link, and at each label once for each link that joins two components.
 pub fn labels_of(alloc: Global, count: u8, links: &[LinkAt]) -> Result<Vec<u8>, OutOfMemory>
     requires { All (IsLink count) links.now }
     ensures { IfOk result (λ labels. AreLabels count links.now labels.items) }
@@ -21,6 +21,9 @@ pub fn labels_of(alloc: Global, count: u8, links: &[LinkAt]) -> Result<Vec<u8>, 
             let labels = labels_of(alloc, count, rest)?;
             let from = labels[usize::from(link.b)];
             let to = labels[usize::from(link.a)];
+            if from == to {
+                return Ok(labels);
+            }
             relabelled(alloc, &labels, from, to)
         }
     }

@@ -6,6 +6,7 @@ ghost use Rattle.std.specs.Str.Lines.{strip_carriage_return};
 ghost use Rattle.text_lines.specs.Lines.{lines_of, words_of, parts_of, without_comment, is_line_byte, is_blank};
 
 use an_base::memory::OutOfMemory;
+use memchr::memchr;
 use std::alloc::Global;
 
 /// The most bytes of a line, without what ends it.
@@ -21,7 +22,7 @@ pub fn first_line(bytes: &[u8]) -> Option<(&[u8], &[u8])>
     if bytes.is_empty() {
         return None;
     }
-    match first_of(bytes, b'\n') {
+    match first_far(bytes, b'\n') {
         Some(end) => Some((without_return(&bytes[..end]), &bytes[end + 1..])),
         None => Some((bytes, &bytes[bytes.len()..])),
     }
@@ -34,6 +35,13 @@ pub fn first_of(bytes: &[u8], byte: u8) -> Option<usize>
     bytes.iter().position(|c| *c == byte)
 }
 
+// The same, where it stands far off or nowhere: it looks at many bytes at a time.
+fn first_far(bytes: &[u8], byte: u8) -> Option<usize>
+    ensures { result ≡ position (λ c. c == byte) bytes.now }
+{
+    memchr(byte, bytes)
+}
+
 // The bytes without the one carriage return at their end, if they have one.
 fn without_return(bytes: &[u8]) -> &[u8]
     ensures { result.now ≡ strip_carriage_return bytes.now }
@@ -44,17 +52,22 @@ fn without_return(bytes: &[u8]) -> &[u8]
     }
 }
 
-/// Whether each byte may stand in a line: a tab, or 32 to 126.
+/// Whether each byte may stand in a line: a tab, or 32 to 126. It looks at all of them, with no branch,
+/// since they mostly may.
 pub fn are_line_bytes(line: &[u8]) -> bool
     ensures { result ≡ list_all is_line_byte line.now }
 {
-    line.iter().all(|c| is_line_byte(*c))
+    let mut fit = true;
+    'bytes: for c in line {
+        fit = fit & is_line_byte(*c);
+    }
+    fit
 }
 
 fn is_line_byte(c: u8) -> bool
     ensures { result ≡ is_line_byte c }
 {
-    c == b'\t' || (b' '..=b'~').contains(&c)
+    (c == b'\t') | (b' '..=b'~').contains(&c)
 }
 
 /// The words of a line: the parts between its spaces and tabs, up to a `#`, that are not empty.
@@ -68,7 +81,7 @@ pub fn words(alloc: Global, line: &[u8]) -> Result<Vec<&[u8]>, OutOfMemory>
 fn before_comment(line: &[u8]) -> &[u8]
     ensures { result.now ≡ without_comment line.now }
 {
-    match first_of(line, b'#') {
+    match first_far(line, b'#') {
         Some(end) => &line[..end],
         None => line,
     }

@@ -108,7 +108,6 @@ stand_tree es graph all = λ x low.
 pub tree_stands : (es : List EntryOf) → IsGraph es → IsTree es → AllStand es
 tree_stands es graph tree = λ x low.
     let here = tree x low in
-    let p = (entry_at es x).position in
     record {
       root = here.root;
       first = λ same.
@@ -119,7 +118,7 @@ tree_stands es graph tree = λ x low.
           let b = here.below other in
           let y = b.0 in
           let parent = b.1 in
-          let y_low = (graph.within x p.port (y, parent.port.0) parent.port.1).far_place in
+          let y_low = (graph.within x (entry_at es x).position.port (y, parent.port.0) parent.port.1).far_place in
           let m : parent.nearer.nearer.0 ≡ level_at es y = one_level (network es) y 0 parent.nearer.nearer.0 (level_at es y) parent.nearer.nearer.2 (tree y y_low).level in
           let k = parent.nearer.nearer.1 in (
             y,

@@ -1,4 +1,4 @@
-use Rattle.std.proofs.Common.{◌≡◌, subst, ℕ, List, ◌∷◌, Some, None, Bool, true, false, ◌↔◌, inl, inr, ◌&&◌}
+use Rattle.std.proofs.Common.{◌≡◌, subst, ℕ, List, ◌∷◌, Some, None, Bool, true, false, ◌↔◌, ◌⊎◌, inl, inr, ◌&&◌}
 use Rattle.std.specs.Prelude.{not}
 use Rattle.an_base.specs.Values.{EntryOf}
 use Rattle.topo_graph.specs.Topology.{far_of}
@@ -21,6 +21,13 @@ pub lead_blocked : (es : List EntryOf) (x p z q : ℕ) (ps : List ℕ) → far_o
 lead_blocked es x p z q ps e up (y, r) =
     absurd (let f = down_first es x p ps y r in let same = one_far es x p f.0 f.1 z q f.2 e in let not_up : is_up_end es z x ≡ false = subst (λ (w : ℕ). is_up_end es w x ≡ false) same f.3 in cc)
 
+-- behind a port that leads somewhere
+legal_behind : (es : List EntryOf) (x p z q : ℕ) (ps : List ℕ) (y : ℕ) → far_of es x p ≡ Some (z, q) → LegalRoute es x (p ∷ ps) y
+    → ((is_up_end es z x ≡ true) × LegalRoute es z ps y) ⊎ ((is_up_end es z x ≡ false) × DownRoute es z ps y)
+legal_behind es x p z q ps y e r =
+    let f = legal_first es x p ps y r in
+    subst (λ (w : ℕ). ((is_up_end es w x ≡ true) × LegalRoute es w ps y) ⊎ ((is_up_end es w x ≡ false) × DownRoute es w ps y)) (one_far es x p f.0 f.1 z q f.2 e) f.3
+
 -- behind a port the others lead on
 pub lead_next : (es : List EntryOf) (down up : Bool) (x p z q : ℕ) (ps : List ℕ) → far_of es x p ≡ Some (z, q) → is_up_end es z x ≡ up → (up && down) ≡ false → LeadOn es down x (p ∷ ps) ↔ LeadOn es (not up) z ps
 lead_next es true true x p z q ps e up not_both = absurd (cc)
@@ -29,26 +36,22 @@ lead_next es true false x p z q ps e down not_both = (
   λ (y, r). (y, down_more es x p ps y z q e down r),
 )
 lead_next es false true x p z q ps e up not_both = (
-  λ (y, r).
-      let f = legal_first es x p ps y r in
-      let same = one_far es x p f.0 f.1 z q f.2 e in (
-        y,
-        subst (λ (w : ℕ). LegalRoute es w ps y) same (elim f.3 [
-          | inl legal ↦ legal.1
-          | inr lead ↦ absurd (let not_up : is_up_end es z x ≡ false = subst (λ (w : ℕ). is_up_end es w x ≡ false) same lead.0 in cc)
-        ]),
-      ),
+  λ (y, r). (
+    y,
+    elim (legal_behind es x p z q ps y e r) [
+      | inl legal ↦ legal.1
+      | inr lead ↦ absurd (let not_up = lead.0 in cc)
+    ],
+  ),
   λ (y, r). (y, legal_up es x p ps y z q e up r),
 )
 lead_next es false false x p z q ps e down not_both = (
-  λ (y, r).
-      let f = legal_first es x p ps y r in
-      let same = one_far es x p f.0 f.1 z q f.2 e in (
-        y,
-        subst (λ (w : ℕ). DownRoute es w ps y) same (elim f.3 [
-          | inl legal ↦ absurd (let up : is_up_end es z x ≡ true = subst (λ (w : ℕ). is_up_end es w x ≡ true) same legal.0 in cc)
-          | inr lead ↦ lead.1
-        ]),
-      ),
+  λ (y, r). (
+    y,
+    elim (legal_behind es x p z q ps y e r) [
+      | inl legal ↦ absurd (let up = legal.0 in cc)
+      | inr lead ↦ lead.1
+    ],
+  ),
   λ (y, r). (y, legal_down es x p ps y z q e down r),
 )

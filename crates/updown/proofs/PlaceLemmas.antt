@@ -45,26 +45,24 @@ place_same es life =
     let first = prefix_map (λ l. not (is_eq (life_cmp l life))) (λ (e : EntryOf). e.life) es in
     rw (first, length-map es (λ (e : EntryOf). e.life)) refl
 
+-- what there is from one place to another, of lives
+abbrev HasFrom : List EntryOf → LifeId → (ℕ → ℕ → ℕ → Type 0) → LifeId → ℕ → Type 0
+HasFrom es to Has life n = (x : ℕ) × (z : ℕ) × (place_of es life ≡ Some x) × (place_of es to ≡ Some z) × Has x z n
+
 -- the distances by lives
 pub are_distances : (es : List EntryOf) (to : LifeId) (y : ℕ) (lives : List LifeId) (lengths : LengthsOf) → place_of es to ≡ Some y → lives ≡ map (λ e. e.life) es → AreLengths es y lengths → AreDistances es to (record { lives = lives; lengths = lengths })
 are_distances es to y lives lengths at is all = record {
-  up = λ life. rw (is, place_same es life) (go life (place_of es life) refl);
-  down = λ life. rw (is, place_same es life) (go_down life (place_of es life) refl);
+  up = λ life. rw (is, place_same es life) (go (HasLegal es) lengths.up all.up life (place_of es life) refl);
+  down = λ life. rw (is, place_same es life) (go (HasDown es) lengths.down all.down life (place_of es life) refl);
 }
   where
-    go : (life : LifeId) (o : Option ℕ) → place_of es life ≡ o → IsLeast (HasLegalFrom es life to) (option_and_then (length_at lengths.up) o)
-    go life None e = λ n (x, z, x_is, z_is, has). absurd (cc)
-    go life (Some x) e = least_iff (HasLegal es x y) (HasLegalFrom es life to) (length_at lengths.up x)
+    go : (Has : ℕ → ℕ → ℕ → Type 0) (known : List (Option ℕ)) → ((x : ℕ) → x < length es → IsLeast (Has x y) (length_at known x)) → (life : LifeId) (o : Option ℕ) → place_of es life ≡ o
+        → IsLeast (HasFrom es to Has life) (option_and_then (length_at known) o)
+    go Has known least life None e = λ n (x, z, x_is, z_is, has). absurd (cc)
+    go Has known least life (Some x) e = least_iff (Has x y) (HasFrom es to Has life) (length_at known x)
         (λ n has. (x, y, e, at, has))
-        (λ n (u, z, u_is, z_is, has). subst (λ (a : ℕ). HasLegal es a y n) (same_Some u x (sym u_is ∙ e)) (subst (λ (b : ℕ). HasLegal es u b n) (same_Some z y (sym z_is ∙ at)) has))
-        (all.up x (place_is es x life e).0)
-
-    go_down : (life : LifeId) (o : Option ℕ) → place_of es life ≡ o → IsLeast (HasDownFrom es life to) (option_and_then (length_at lengths.down) o)
-    go_down life None e = λ n (x, z, x_is, z_is, has). absurd (cc)
-    go_down life (Some x) e = least_iff (HasDown es x y) (HasDownFrom es life to) (length_at lengths.down x)
-        (λ n has. (x, y, e, at, has))
-        (λ n (u, z, u_is, z_is, has). subst (λ (a : ℕ). HasDown es a y n) (same_Some u x (sym u_is ∙ e)) (subst (λ (b : ℕ). HasDown es u b n) (same_Some z y (sym z_is ∙ at)) has))
-        (all.down x (place_is es x life e).0)
+        (λ n (u, z, u_is, z_is, has). subst (λ (a : ℕ). Has a y n) (same_Some u x (sym u_is ∙ e)) (subst (λ (b : ℕ). Has u b n) (same_Some z y (sym z_is ∙ at)) has))
+        (least x (place_is es x life e).0)
 
 -- the first life that is this one
 pub first_life : (lives : List LifeId) (life : LifeId) (i : ℕ) (d : LifeId) → i < length lives → ((k : ℕ) → k < i → get_or lives k d ≡ life → ⊥) → get_or lives i d ≡ life → Some i ≡ place_in lives life

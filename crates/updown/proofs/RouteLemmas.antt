@@ -1,8 +1,9 @@
-use Rattle.std.proofs.Common.{◌≡◌, ◌≢◌, sym, ap, subst, refl, ℕ, suc, ◌<◌, List, [], ◌∷◌, Option, Some, Bool, true, false, arith, length, All, AllPairs, IsTrue, ◌⊎◌, inl, inr, unwrap_or, Less, Equal, Greater}
+use Rattle.std.proofs.Common.{◌≡◌, ◌≢◌, ◌∙◌, sym, ap, subst, refl, ℕ, suc, ◌<◌, List, [], ◌∷◌, Option, Some, Bool, true, false, arith, length, All, AllPairs, IsTrue, ◌⊎◌, inl, inr, unwrap_or, Less, Equal, Greater}
 use Rattle.std.specs.declared.cmp.Ordering.{Ordering}
 use Rattle.std.specs.Ordering.{nat_cmp, is_lt, ordering_reverse}
 use Rattle.std.specs.Cmp.{IsTotalOrder, then_total, on_total, nat_cmp_total}
-use Rattle.std.proofs.lemmas.Bool.{cases_Bool}
+use Rattle.std.proofs.lemmas.Bool.{cases_Bool, cases_eq, cases_lt}
+use Rattle.std.proofs.lemmas.Bool.Decides.{nat_tests}
 use Rattle.std.proofs.lemmas.List.Elements.{All-head, All-tail, All-cons, All-nil, All-weaker}
 use Rattle.std.proofs.lemmas.List.Kept.{AllPairs-cons}
 use Rattle.an_base.specs.Values.{EntryOf}
@@ -12,7 +13,27 @@ use Rattle.an_base.proofs.OrderLaws.{life_total, life_apart}
 use Rattle.an_base.proofs.OrderingLemmas.{then_equal}
 use Rattle.topo_graph.specs.Topology.{life_at, level_at, far_of, IsGraph}
 use Rattle.topo_graph.proofs.FarLemmas.{one_place, far_is_link}
+use Rattle.topo_graph.proofs.PlaceLemmas.{life_same, rises}
 use Rattle.updown.specs.Routes.{height_cmp, is_up_end, next_place, upward, LegalRoute, DownRoute, HasLegal, HasDown}
+
+-- lives rise with the places
+pub lives_by_place : (es : List EntryOf) (x y : ℕ) → IsGraph es → x < length es → y < length es → life_cmp (life_at es x) (life_at es y) ≡ nat_cmp x y
+lives_by_place es x y graph low high = elim (cases_lt x y) [
+  | inl less ↦ rises es x y graph.rising less high ∙ lesser x y less
+  | inr more ↦ elim (cases_eq x y) [
+    | inl same ↦ ap (λ (n : ℕ). life_cmp (life_at es x) (life_at es n)) (sym same) ∙ life_same (life_at es x) ∙ equal x y same
+    | inr other ↦ life_total.antisymm (life_at es x) (life_at es y) ∙ ap ordering_reverse (rises es y x graph.rising (omega arith) low) ∙ greater x y (omega arith)
+  ]
+]
+  where
+    lesser : (a b : ℕ) → a < b → Less ≡ nat_cmp a b
+    lesser a b less = grind (arith, nat_tests)
+
+    equal : (a b : ℕ) → a ≡ b → Equal ≡ nat_cmp a b
+    equal a b same = grind (arith, nat_tests)
+
+    greater : (a b : ℕ) → b < a → Greater ≡ nat_cmp a b
+    greater a b less = grind (arith, nat_tests)
 
 -- heights are totally ordered
 pub height_total : (es : List EntryOf) → IsTotalOrder (height_cmp es)

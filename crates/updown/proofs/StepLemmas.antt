@@ -1,13 +1,14 @@
-use Rattle.std.proofs.Common.{◌≡◌, ◌∙◌, sym, ap, subst, refl, ℕ, ◌+◌, ◌<◌, List, [], Option, Some, None, true, false, arith, length, set, inl, inr}
+use Rattle.std.proofs.Common.{◌≡◌, ◌∙◌, sym, ap, subst, refl, ℕ, ◌+◌, ◌<◌, ◌≤◌, List, [], Option, Some, None, true, false, arith, length, set, inl, inr}
 use Rattle.std.proofs.lemmas.Bool.{cases_eq, cases_Bool}
 use Rattle.std.proofs.lemmas.List.{get_or-set_same, get_or-set_other, length-set}
 use Rattle.an_base.specs.Values.{EntryOf}
+use Rattle.an_base.specs.declared.limits.TheConstants.{MOST_LEVEL}
 use Rattle.topo_graph.specs.Topology.{far_of, IsGraph}
 use Rattle.topo_graph.proofs.FarLemmas.{one_far}
 use Rattle.updown.specs.declared.order.Height.{Height}
 use Rattle.updown.specs.Order.{place_at, IsDescent}
 use Rattle.updown.specs.Routes.{is_up_end, HasDown, HasLegal, IsLeast}
-use Rattle.updown.specs.Lengths.{length_at, behind_of, Onward, AreDownSoFar, AreUpSoFar, AreLengths}
+use Rattle.updown.specs.Lengths.{length_at, behind_of, Onward, AreAtMost, AreDownSoFar, AreUpSoFar, AreLengths}
 use Rattle.updown.proofs.RouteLemmas.{NextDown, NextLegal, down_zero, down_here, down_suc, down_on, legal_zero, legal_here, legal_suc, legal_on}
 use Rattle.updown.proofs.LeastLemmas.{least_has, least_iff, least_onward}
 use Rattle.updown.proofs.OrderLemmas.{position_is, place_low, later, earlier, down_bound, legal_bound}
@@ -52,6 +53,13 @@ behind_legal es up down x to p known_up known_down = go (far_of es x p) refl
           (known_down z q e not_up))
     ]
 
+-- one more length that is within the bound
+most_set : (lengths : List (Option ℕ)) (x : ℕ) (o : Option ℕ) (most : ℕ) → x < length lengths → ((n : ℕ) → o ≡ Some n → n ≤ most) → AreAtMost lengths most → AreAtMost (set lengths x o) most
+most_set lengths x o most low new old y n e = elim (cases_eq y x) [
+  | inl same ↦ new n (sym (get_or-set_same lengths x o None low) ∙ subst (λ (z : ℕ). length_at (set lengths x o) z ≡ Some n) same e)
+  | inr other ↦ old y n (sym (get_or-set_other lengths x y o None other) ∙ e)
+]
+
 -- the next place of the order, upwards
 pub down_step : (es : List EntryOf) (to : ℕ) (order : List Height) (down : List (Option ℕ)) (i x : ℕ) (o : Option ℕ) → IsGraph es → IsDescent es order → i < length order → x ≡ place_at order i → AreDownSoFar es to order down (i + 1) → IsLeast (Onward es [] down to x) o → AreDownSoFar es to order (set down x o) i
 down_step es to order down i x o graph descent low at so_far least =
@@ -70,14 +78,9 @@ down_step es to order down i x o graph descent low at so_far least =
           | inr is_not ↦ omega arith
         ]) below)
       ];
-      most = λ y n e. elim (cases_eq y x) [
-        | inl same ↦ (
-            let got : length_at (set down x o) x ≡ o = get_or-set_same down x o None x_low in
-            let is : o ≡ Some n = sym got ∙ subst (λ (z : ℕ). length_at (set down x o) z ≡ Some n) same e in
-            let b = down_bound es order to n i x graph descent low (sym at) (least_has (HasDown es x to) o n first is) in
-            omega (arith, descent.heights.count, graph.most))
-        | inr other ↦ so_far.most y n (sym (get_or-set_other down x y o None other) ∙ e)
-      ];
+      most = most_set down x o MOST_LEVEL x_low (λ n is.
+          let b = down_bound es order to n i x graph descent low (sym at) (least_has (HasDown es x to) o n first is) in
+          omega (arith, descent.heights.count, graph.most)) so_far.most;
     }
 
 -- the next place of the order, downwards
@@ -102,14 +105,9 @@ up_step es to order up down i x o graph descent low at all so_far least =
           | inr is_not ↦ omega arith
         ]))
       ];
-      most = λ y n e. elim (cases_eq y x) [
-        | inl same ↦ (
-            let got : length_at (set up x o) x ≡ o = get_or-set_same up x o None x_low in
-            let is : o ≡ Some n = sym got ∙ subst (λ (z : ℕ). length_at (set up x o) z ≡ Some n) same e in
-            let b = legal_bound es order to n i x graph descent low (sym at) (least_has (HasLegal es x to) o n first is) in
-            omega (arith, descent.heights.count, graph.most))
-        | inr other ↦ so_far.most y n (sym (get_or-set_other up x y o None other) ∙ e)
-      ];
+      most = most_set up x o 250 x_low (λ n is.
+          let b = legal_bound es order to n i x graph descent low (sym at) (least_has (HasLegal es x to) o n first is) in
+          omega (arith, descent.heights.count, graph.most)) so_far.most;
     }
 
 -- with all places of the order, the lengths are those of all places

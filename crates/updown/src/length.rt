@@ -160,13 +160,4 @@ impl Lengths {
     {
         self.down.get(usize::from(x)).copied().flatten()
     }
-
-    /// What is left to go behind the far end of a port, if there is a route: by any legal route
-    /// behind an upward link, downward alone behind a downward one.
-    pub fn behind(&self, graph: &Graph, x: u8, port: u8) -> Option<u8>
-        ensures behind { result ≡ behind_of graph.now self.now.up self.now.down x port }
-        ensures graph { IsGraph graph.now }
-    {
-        behind(graph, &self.up, &self.down, x, port)
-    }
 }

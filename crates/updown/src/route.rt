@@ -1,10 +1,22 @@
 ghost use Rattle.std.specs.Prelude.{◌≡◌, ◌↔◌, ◌<◌, ℕ, Some, length, IsTrue, Any};
-ghost use Rattle.topo_graph.specs.Topology.{far_of, place_of};
+ghost use Rattle.an_base.specs.Order.{life_cmp};
+ghost use Rattle.topo_graph.specs.Topology.{far_of, life_at, place_of};
 ghost use Rattle.std.specs.Ordering.{is_lt};
 ghost use Rattle.updown.specs.Routes.{HasLink, height_cmp, LegalRoute, up_end_of};
 
 use an_base::life::Life;
+use std::cmp::Ordering;
 use topo_graph::graph::Graph;
+
+// How the lives at two places compare: as the places, since the entries stand by rising life.
+fn lives_cmp(graph: &Graph, x: u8, y: u8) -> Ordering
+    requires x { x < length graph.now }
+    requires y { y < length graph.now }
+    ensures { result ≡ life_cmp (life_at graph.now x) (life_at graph.now y) }
+{
+    let _count = graph.count();
+    x.cmp(&y)
+}
 
 /// Whether, of a link between the entries at two places, the first is the up end: the end of lower
 /// level, at equal level of lesser life.
@@ -13,7 +25,7 @@ pub fn is_up_end(graph: &Graph, x: u8, y: u8) -> bool
     requires y { y < length graph.now }
     ensures { result ≡ is_lt (height_cmp graph.now x y) }
 {
-    let lives = graph.life(x).cmp(&graph.life(y));
+    let lives = lives_cmp(graph, x, y);
     graph.level(x).cmp(&graph.level(y)).then(lives).is_lt()
 }
 

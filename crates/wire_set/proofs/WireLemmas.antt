@@ -20,47 +20,35 @@ link_below w at link = by (cases_lt at (length w.sides))
     by (inr past) = let no : false ≡ true = sym (ap (λ (s : Side). is_link s.far) (get_or_past w.sides at unused past)) ∙ link in absurd cc
 
 -- a copy that was told
-pub copied_by : (w u : WiresOf) (sides : List Side) (frames : FramesOf) (wire from : ℕ) (bytes : List ℕ) (s : Side) → record { sides = sides; frames = frames } ≡ w → is_link (side_at w wire).far ≡ true → s ≡ slice_index_or sides wire s → 0 < s.again → from ≡ far_place s.far
-    → u ≡ put_into from wire bytes (record { sides = slice_set sides wire (less_again s); frames = frames }) → u ≡ copied_from wire bytes w
-copied_by w u sides frames wire from bytes s view link read some from_is is =
-    is
-    ∙ ap (λ (f : ℕ). put_into f wire bytes (record w0 { sides = slice_set sides wire (less_again s) })) from_is
-    ∙ ap (λ (t : Side). put_into (far_place t.far) wire bytes (record w0 { sides = slice_set sides wire (less_again t) })) s_is
-    ∙ sym (ap (λ (b : Bool). cond b (put_into (far_place (side_at w0 wire).far) wire bytes (before_copy wire w0)) w0) test)
-    ∙ ap (copied_from wire bytes) view
-  where
-    w0 : WiresOf
-    w0 = record { sides = sides; frames = frames }
+module _ (w : WiresOf) (sides : List Side) (frames : FramesOf) (wire from : ℕ) (bytes : List ℕ) (s : Side) (view : record { sides = sides; frames = frames } ≡ w)
+    (link : is_link (side_at w wire).far ≡ true) (read : s ≡ slice_index_or sides wire s) (some : 0 < s.again) (from_is : from ≡ far_place s.far) where
+  abbrev w0 : WiresOf
+  w0 = record { sides = sides; frames = frames }
 
-    link0 : is_link (side_at w0 wire).far ≡ true
-    link0 = ap (λ (x : WiresOf). is_link (side_at x wire).far) view ∙ link
+  abbrev after : Side → WiresOf
+  after side = record { sides = slice_set sides wire (less_again side); frames = frames }
 
-    s_is : s ≡ side_at w0 wire
-    s_is = read ∙ get_or_default sides wire s unused (link_below w0 wire link0)
+  s_is : s ≡ side_at w0 wire
+  s_is = read ∙ get_or_default sides wire s unused (link_below w0 wire (ap (λ (x : WiresOf). is_link (side_at x wire).far) view ∙ link))
 
-    test : is_copied wire w0 ≡ true
-    test = lt-ltb 0 (side_at w0 wire).again (omega (arith, some, ap (λ (t : Side). t.again) s_is))
+  test : is_copied wire w0 ≡ true
+  test = lt-ltb 0 (side_at w0 wire).again (omega (arith, some, ap (λ (t : Side). t.again) s_is))
 
-pub what_by : (w : WiresOf) (r : Put) (sides : List Side) (frames : FramesOf) (wire from : ℕ) (bytes : List ℕ) (s : Side) → record { sides = sides; frames = frames } ≡ w → is_link (side_at w wire).far ≡ true → s ≡ slice_index_or sides wire s → 0 < s.again → from ≡ far_place s.far
-    → r ≡ what_becomes from wire bytes (record { sides = slice_set sides wire (less_again s); frames = frames }) → Some r ≡ what_copy_becomes wire bytes w
-what_by w r sides frames wire from bytes s view link read some from_is is =
-    ap (λ (x : Put). Some x) (is
-    ∙ ap (λ (f : ℕ). what_becomes f wire bytes (record w0 { sides = slice_set sides wire (less_again s) })) from_is
-    ∙ ap (λ (t : Side). what_becomes (far_place t.far) wire bytes (record w0 { sides = slice_set sides wire (less_again t) })) s_is)
-    ∙ sym (ap (λ (b : Bool). cond b (Some (what_becomes (far_place (side_at w0 wire).far) wire bytes (before_copy wire w0))) None) test)
-    ∙ ap (what_copy_becomes wire bytes) view
-  where
-    w0 : WiresOf
-    w0 = record { sides = sides; frames = frames }
+  pub copied_by : (u : WiresOf) → u ≡ put_into from wire bytes (after s) → u ≡ copied_from wire bytes w
+  copied_by u is =
+      is
+      ∙ ap (λ (f : ℕ). put_into f wire bytes (after s)) from_is
+      ∙ ap (λ (t : Side). put_into (far_place t.far) wire bytes (after t)) s_is
+      ∙ sym (ap (λ (b : Bool). cond b (put_into (far_place (side_at w0 wire).far) wire bytes (before_copy wire w0)) w0) test)
+      ∙ ap (copied_from wire bytes) view
 
-    link0 : is_link (side_at w0 wire).far ≡ true
-    link0 = ap (λ (x : WiresOf). is_link (side_at x wire).far) view ∙ link
-
-    s_is : s ≡ side_at w0 wire
-    s_is = read ∙ get_or_default sides wire s unused (link_below w0 wire link0)
-
-    test : is_copied wire w0 ≡ true
-    test = lt-ltb 0 (side_at w0 wire).again (omega (arith, some, ap (λ (t : Side). t.again) s_is))
+  pub what_by : (r : Put) → r ≡ what_becomes from wire bytes (after s) → Some r ≡ what_copy_becomes wire bytes w
+  what_by r is =
+      ap (λ (x : Put). Some x) (is
+      ∙ ap (λ (f : ℕ). what_becomes f wire bytes (after s)) from_is
+      ∙ ap (λ (t : Side). what_becomes (far_place t.far) wire bytes (after t)) s_is)
+      ∙ sym (ap (λ (b : Bool). cond b (Some (what_becomes (far_place (side_at w0 wire).far) wire bytes (before_copy wire w0))) None) test)
+      ∙ ap (what_copy_becomes wire bytes) view
 
 -- the sides of a wiring, by place
 abbrev pub wired_side : Wires → ℕ → Side

@@ -1,4 +1,3 @@
-use Rattle.std.proofs.Common.{refl}
 use Rattle.dep_check.proofs.GapLemmas.{walk_tells}
 use Rattle.dep_check.proofs.gap.is_stuck_from.Goals as goal
 

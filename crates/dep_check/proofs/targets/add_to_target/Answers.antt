@@ -1,4 +1,4 @@
-use Rattle.std.proofs.Common.{◌≡◌, ◌≢◌, ◌∙◌, sym, ap, subst, ℕ, List, ◌<◌, length, Some, arith}
+use Rattle.std.proofs.Common.{◌≡◌, ◌∙◌, sym, ap, subst, ℕ, List, ◌<◌, length, Some, arith}
 use Rattle.an_base.specs.Rows.{RowOf}
 use Rattle.dep_check.specs.Tables.{row_at, AreExitsBelow}
 use Rattle.dep_check.specs.Targets.{table_of}

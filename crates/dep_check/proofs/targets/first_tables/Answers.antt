@@ -1,4 +1,4 @@
-use Rattle.std.proofs.Common.{◌∙◌, arith}
+use Rattle.std.proofs.Common.{arith}
 use Rattle.dep_check.proofs.WalkLemmas.{push_more}
 use Rattle.dep_check.proofs.TargetLemmas.{tables_more}
 use Rattle.dep_check.proofs.targets.first_tables.Goals as goal

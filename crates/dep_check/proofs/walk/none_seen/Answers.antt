@@ -1,4 +1,4 @@
-use Rattle.std.proofs.Common.{◌≡◌, ◌∙◌, ap, ℕ, false, length}
+use Rattle.std.proofs.Common.{◌∙◌, ap, ℕ, false, length}
 use Rattle.std.specs.Prelude.{replicate}
 use Rattle.std.proofs.lemmas.List.{length-replicate}
 use Rattle.dep_check.proofs.WalkLemmas.{none_at}

@@ -1,4 +1,4 @@
-use Rattle.std.proofs.Common.{◌≡◌, ◌∙◌, ap, refl, ◌++◌, ◌∷◌, [], List, length, true, false, arith, inl, inr}
+use Rattle.std.proofs.Common.{◌≡◌, ◌∙◌, ap, refl, ◌++◌, ◌∷◌, [], List, length, true, arith, inl, inr}
 use Rattle.std.proofs.lemmas.List.Elements.{Contains-push}
 use Rattle.dep_check.specs.declared.channel.Channel.{Channel}
 use Rattle.dep_check.proofs.WalkLemmas.{walk_first, walk_more, walk_done, push_more}

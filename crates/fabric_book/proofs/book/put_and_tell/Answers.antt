@@ -1,6 +1,6 @@
 -- Each frame goes out after those before it, and what becomes of it is told.
 
-use Rattle.std.proofs.Common.{◌∙◌, ap, arith, vec_len}
+use Rattle.std.proofs.Common.{◌∙◌, arith}
 use Rattle.fabric_book.proofs.PutLemmas.{out_more, becomes_more}
 use Rattle.fabric_book.proofs.book.put_and_tell.Goals as goal
 

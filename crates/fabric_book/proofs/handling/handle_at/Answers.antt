@@ -8,7 +8,6 @@ use Rattle.switch_core.specs.Bytes.{OutOf}
 use Rattle.fabric_state.specs.Effects.{all_put_becomes, wires_at_hand}
 use Rattle.fabric_state.specs.Fabric.{FabricOf, StationOf, count, is_empty, station}
 use Rattle.fabric_state.specs.Fits.{IsHandPort}
-use Rattle.fabric_state.specs.declared.hand.Hand.{Hand}
 use Rattle.fabric_world.specs.Histories.{HistoryOf, fabric_of, world_of}
 use Rattle.fabric_book.specs.Nets.{IsSwitchKept}
 use Rattle.fabric_book.specs.Told.{losses}

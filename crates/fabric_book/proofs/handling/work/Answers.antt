@@ -26,3 +26,9 @@ returns-in-Frame-clause-handled c = λ (x : SwitchOf) (stands : StandsFor c.args
     subst (λ (h : Hand). IsHandled x h c.args.bytes.now c.handle.new.self c.handle.new.out) (sym c.in-Frame.is)
     (frame_handled c.in-Frame.port c.args.bytes.now x c.handle.new.self c.handle.new.out (λ i. omega (arith, c.type_inv.bytes i)) is))
     (c.handle.ensures.handled x stands)
+
+pub returns-in-Err-OutOfMemory-clause-lost : goal.returns-in-Err-OutOfMemory-clause-lost
+returns-in-Err-OutOfMemory-clause-lost c = c.clock.ensures.lost (cc)
+
+pub returns-in-Err-OutOfMemory-clause-nothing : goal.returns-in-Err-OutOfMemory-clause-nothing
+returns-in-Err-OutOfMemory-clause-nothing c = c.clock.ensures.nothing (cc)

@@ -1,7 +1,6 @@
 -- It is the first worker's turn, and each round takes an event.
 
 use Rattle.std.proofs.Common.{◌≡◌, ◌-◌, length}
-use Rattle.net_script.specs.Scripts.{IsScript}
 use Rattle.fabric_book.specs.Rounds.{IsTurnOf}
 use Rattle.fabric_book.proofs.solo.solo.Given as goal
 

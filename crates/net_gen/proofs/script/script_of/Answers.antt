@@ -18,45 +18,37 @@ add_hosts-requires c =
 
 pub add_sends-requires : goal.add_sends-requires
 add_sends-requires c =
-    let count = c.args.count in
-    let links = links_of c.args.seed count in
-    let all = linked count c.args.seed c.new-draw.result c.add_tree.new.draw c.add_tree.new.script c.add_links.new.script c.new-draw.ensures c.in_ok-add_tree.ensures.links c.in_ok-add_tree.ensures.seed c.in_ok-add_links.ensures in
-    let hosts = with_hosts count links c.add_links.new.script c.add_hosts.new.script all c.in_ok-add_hosts.ensures in
-    record { made = is_made count links [] c.add_hosts.new.script hosts; most = c.requires.most; can = may_send count 10 links [] c.add_hosts.new.script hosts none_yet }
+    let all = linked c.args.count c.args.seed c.new-draw.result c.add_tree.new.draw c.add_tree.new.script c.add_links.new.script c.new-draw.ensures c.in_ok-add_tree.ensures.links c.in_ok-add_tree.ensures.seed c.in_ok-add_links.ensures in
+    let hosts = with_hosts c.args.count _ c.add_links.new.script c.add_hosts.new.script all c.in_ok-add_hosts.ensures in
+    record { made = is_made c.args.count _ [] c.add_hosts.new.script hosts; most = c.requires.most; can = may_send c.args.count 10 _ [] c.add_hosts.new.script hosts none_yet }
 
 pub add_failure-requires : goal.add_failure-requires
 add_failure-requires c =
-    let count = c.args.count in
-    let links = links_of c.args.seed count in
-    let all = linked count c.args.seed c.new-draw.result c.add_tree.new.draw c.add_tree.new.script c.add_links.new.script c.new-draw.ensures c.in_ok-add_tree.ensures.links c.in_ok-add_tree.ensures.seed c.in_ok-add_links.ensures in
-    let hosts = with_hosts count links c.add_links.new.script c.add_hosts.new.script all c.in_ok-add_hosts.ensures in
-    let sent = more_made count links [] (sends_at count 10) c.add_hosts.new.script c.add_sends.new.script hosts c.in_ok-add_sends.ensures in
+    let all = linked c.args.count c.args.seed c.new-draw.result c.add_tree.new.draw c.add_tree.new.script c.add_links.new.script c.new-draw.ensures c.in_ok-add_tree.ensures.links c.in_ok-add_tree.ensures.seed c.in_ok-add_links.ensures in
+    let hosts = with_hosts c.args.count _ c.add_links.new.script c.add_hosts.new.script all c.in_ok-add_hosts.ensures in
+    let sent = more_made c.args.count _ [] (sends_at c.args.count 10) c.add_hosts.new.script c.add_sends.new.script hosts c.in_ok-add_sends.ensures in
     record {
-      made = is_made count links (sends_at count 10) c.add_sends.new.script sent;
-      can = may_send count 20 links (sends_at count 10) c.add_sends.new.script sent (sent_once count c.requires.most);
-      first = has_first c.args.seed count (sends_at count 10) c.add_sends.new.script sent;
+      made = is_made c.args.count _ (sends_at c.args.count 10) c.add_sends.new.script sent;
+      can = may_send c.args.count 20 _ (sends_at c.args.count 10) c.add_sends.new.script sent (sent_once c.args.count c.requires.most);
+      first = has_first c.args.seed c.args.count (sends_at c.args.count 10) c.add_sends.new.script sent;
     }
 
 pub add_sends-requires-2 : goal.add_sends-requires-2
 add_sends-requires-2 c =
-    let count = c.args.count in
-    let links = links_of c.args.seed count in
-    let all = linked count c.args.seed c.new-draw.result c.add_tree.new.draw c.add_tree.new.script c.add_links.new.script c.new-draw.ensures c.in_ok-add_tree.ensures.links c.in_ok-add_tree.ensures.seed c.in_ok-add_links.ensures in
-    let hosts = with_hosts count links c.add_links.new.script c.add_hosts.new.script all c.in_ok-add_hosts.ensures in
-    let sent = more_made count links [] (sends_at count 10) c.add_hosts.new.script c.add_sends.new.script hosts c.in_ok-add_sends.ensures in
-    let failed = more_made count links (sends_at count 10) (failure count) c.add_sends.new.script c.add_failure.new.script sent c.in_ok-add_failure.ensures in
+    let all = linked c.args.count c.args.seed c.new-draw.result c.add_tree.new.draw c.add_tree.new.script c.add_links.new.script c.new-draw.ensures c.in_ok-add_tree.ensures.links c.in_ok-add_tree.ensures.seed c.in_ok-add_links.ensures in
+    let hosts = with_hosts c.args.count _ c.add_links.new.script c.add_hosts.new.script all c.in_ok-add_hosts.ensures in
+    let sent = more_made c.args.count _ [] (sends_at c.args.count 10) c.add_hosts.new.script c.add_sends.new.script hosts c.in_ok-add_sends.ensures in
+    let failed = more_made c.args.count _ (sends_at c.args.count 10) (failure c.args.count) c.add_sends.new.script c.add_failure.new.script sent c.in_ok-add_failure.ensures in
     record {
-      made = is_made count links (sends_at count 10 ++ failure count) c.add_failure.new.script failed;
+      made = is_made c.args.count _ (sends_at c.args.count 10 ++ failure c.args.count) c.add_failure.new.script failed;
       most = c.requires.most;
-      can = may_send count 80 links (sends_at count 10 ++ failure count) c.add_failure.new.script failed (failed_once count c.requires.most);
+      can = may_send c.args.count 80 _ (sends_at c.args.count 10 ++ failure c.args.count) c.add_failure.new.script failed (failed_once c.args.count c.requires.most);
     }
 
 pub returns : goal.returns
 returns c =
-    let count = c.args.count in
-    let links = links_of c.args.seed count in
-    let all = linked count c.args.seed c.new-draw.result c.add_tree.new.draw c.add_tree.new.script c.add_links.new.script c.new-draw.ensures c.in_ok-add_tree.ensures.links c.in_ok-add_tree.ensures.seed c.in_ok-add_links.ensures in
-    let hosts = with_hosts count links c.add_links.new.script c.add_hosts.new.script all c.in_ok-add_hosts.ensures in
-    let sent = more_made count links [] (sends_at count 10) c.add_hosts.new.script c.add_sends.new.script hosts c.in_ok-add_sends.ensures in
-    let failed = more_made count links (sends_at count 10) (failure count) c.add_sends.new.script c.add_failure.new.script sent c.in_ok-add_failure.ensures in
-    whole c.args.seed count c.add_sends-2.new.script (more_made count links (sends_at count 10 ++ failure count) (sends_at count 80) c.add_failure.new.script c.add_sends-2.new.script failed c.in_ok-add_sends-2.ensures)
+    let all = linked c.args.count c.args.seed c.new-draw.result c.add_tree.new.draw c.add_tree.new.script c.add_links.new.script c.new-draw.ensures c.in_ok-add_tree.ensures.links c.in_ok-add_tree.ensures.seed c.in_ok-add_links.ensures in
+    let hosts = with_hosts c.args.count _ c.add_links.new.script c.add_hosts.new.script all c.in_ok-add_hosts.ensures in
+    let sent = more_made c.args.count _ [] (sends_at c.args.count 10) c.add_hosts.new.script c.add_sends.new.script hosts c.in_ok-add_sends.ensures in
+    let failed = more_made c.args.count _ (sends_at c.args.count 10) (failure c.args.count) c.add_sends.new.script c.add_failure.new.script sent c.in_ok-add_failure.ensures in
+    whole c.args.seed c.args.count c.add_sends-2.new.script (more_made c.args.count _ (sends_at c.args.count 10 ++ failure c.args.count) (sends_at c.args.count 80) c.add_failure.new.script c.add_sends-2.new.script failed c.in_ok-add_sends-2.ensures)

@@ -1,4 +1,4 @@
-use Rattle.std.proofs.Common.{◌≡◌, ◌∙◌, sym, ap, List, true, false, get_or, subst, arith}
+use Rattle.std.proofs.Common.{◌≡◌, ◌∙◌, sym, ap, List, true, false, get_or, subst, take, arith}
 use Rattle.std.specs.Prelude.{count_by}
 use Rattle.std.proofs.lemmas.List.{take_all, take_more}
 use Rattle.an_base.specs.declared.event.Event.{Event}
@@ -12,6 +12,7 @@ use Rattle.fabric_world.specs.World.{begun, world_after}
 use Rattle.net_gen.specs.Summary.{is_delivery, is_drop}
 use Rattle.net_gen.proofs.RunLemmas.{next_is_lawful, count_next, count_fits, of_deliveries, of_drops}
 use Rattle.net_gen.proofs.summary.count_packets.Goals as goal
+use Rattle.net_gen.proofs.summary.count_packets.Goals.{In_ok-step}
 
 pub step-requires-clause-lawful : goal.step-requires-clause-lawful
 step-requires-clause-lawful c =
@@ -23,25 +24,18 @@ step-requires-clause-lawful c =
     (next_is_lawful script events i Tick lawful c.events-test.true)
 
 -- what the step told, by the events before it
+told_is : (c : goal.In_ok-step) → c.step.new.lines ≡ lines_of (world_after c.args.script.now (take c.events.event-index c.as_slice-event-items.result.now)) (get_or c.as_slice-event-items.result.now c.events.event-index Tick)
+told_is c = c.in_ok-step.ensures.told ∙ ap (λ (n : NetOf). lines_of (world_of (history_of n)) (get_or c.as_slice-event-items.result.now c.events.event-index Tick)) c.events.invariant.net
+
 pub overflow_add-delivered : goal.overflow_add-delivered
 overflow_add-delivered c =
-    let script = c.args.script.now in
-    let events = c.as_slice-event-items.result.now in
-    let i = c.events.event-index in
-    let told = c.in_ok-step.ensures.told ∙ ap (λ (n : NetOf). lines_of (world_of (history_of n)) (get_or events i Tick)) c.events.invariant.net in
-    let count = c.count_deliveries-delivered.ensures ∙ ap (λ (xs : List Line). count_by is_delivery xs) (c.as_slice.ensures ∙ told) in
-    let fits = count_fits is_delivery of_deliveries script events i c.events.delivered c.count_deliveries-delivered.result Tick c.events-test.true c.events.invariant.delivered count in
-    omega (arith, fits)
+    let told = c.as_slice.ensures ∙ told_is (goal.at.overflow_add-delivered c).In_ok-step in
+    omega (arith, count_fits is_delivery of_deliveries _ _ _ _ _ Tick c.events-test.true c.events.invariant.delivered (c.count_deliveries-delivered.ensures ∙ ap (λ (xs : List Line). count_by is_delivery xs) told))
 
 pub overflow_add-dropped : goal.overflow_add-dropped
 overflow_add-dropped c =
-    let script = c.args.script.now in
-    let events = c.as_slice-event-items.result.now in
-    let i = c.events.event-index in
-    let told = c.in_ok-step.ensures.told ∙ ap (λ (n : NetOf). lines_of (world_of (history_of n)) (get_or events i Tick)) c.events.invariant.net in
-    let count = c.count_drops-dropped.ensures ∙ ap (λ (xs : List Line). count_by is_drop xs) (c.as_slice-in-events.ensures ∙ told) in
-    let fits = count_fits is_drop of_drops script events i c.events.dropped c.count_drops-dropped.result Tick c.events-test.true c.events.invariant.dropped count in
-    omega (arith, fits)
+    let told = c.as_slice-in-events.ensures ∙ told_is (goal.at.overflow_add-dropped c).In_ok-step in
+    omega (arith, count_fits is_drop of_drops _ _ _ _ _ Tick c.events-test.true c.events.invariant.dropped (c.count_drops-dropped.ensures ∙ ap (λ (xs : List Line). count_by is_drop xs) told))
 
 pub events-preserved : goal.events-preserved
 events-preserved c =
@@ -50,7 +44,7 @@ events-preserved c =
     let i = c.events.event-index in
     let event = get_or events i Tick in
     let now : List Event → NetOf = λ h. record { script = script; events = h; lost = false } in
-    let told = c.in_ok-step.ensures.told ∙ ap (λ (n : NetOf). lines_of (world_of (history_of n)) event) c.events.invariant.net in
+    let told = told_is (goal.at.events-preserved c).In_ok-step in
     let delivered = c.count_deliveries-delivered.ensures ∙ ap (λ (xs : List Line). count_by is_delivery xs) (c.as_slice.ensures ∙ told) in
     let dropped = c.count_drops-dropped.ensures ∙ ap (λ (xs : List Line). count_by is_drop xs) (c.as_slice-in-events.ensures ∙ told) in
     record {

@@ -1,13 +1,18 @@
 use Rattle.std.proofs.Common.{◌∙◌, sym}
 use Rattle.std.proofs.lemmas.Result.{IfOk-weaker}
 use Rattle.flow_channels.specs.Layout.{layout_of}
-use Rattle.report.proofs.FlowTurns.{is_ranked, own_rows, ran}
+use Rattle.report.proofs.FlowTurns.{is_ranked, none_ran, own_rows, ran}
 use Rattle.report.proofs.flow.run.Goals as goal
 
 pub ranks_of-requires : goal.ranks_of-requires
 ranks_of-requires c =
     let (tables, are, is) = c.in_ok-rows.ensures in
     (c.args.any, own_rows c.args.any c.args.graph.now c.args.numbers.now tables c.deref.result.now c.requires.named c.requires.numbered are (c.deref.ensures.value ∙ is))
+
+pub returns-then-is_empty : goal.returns-then-is_empty
+returns-then-is_empty c =
+    let (tables, are, is) = c.in_ok-rows.ensures in
+    none_ran c.args.any c.args.b c.args.graph.now c.args.home.now c.args.sends.now tables c.new.result.items are (sym c.is_empty.ensures ∙ c.if-is_empty.true) c.new.ensures.items
 
 pub moves_of-requires : goal.moves_of-requires
 moves_of-requires c =

@@ -1,10 +1,10 @@
-use Rattle.std.proofs.Common.{◌≡◌, ◌∙◌, ◌+◌, [], List, refl, sym, subst, append-nil, take, take_all}
+use Rattle.std.proofs.Common.{◌≡◌, ◌∙◌, ◌+◌, [], List, arith, refl, sym, subst, append-nil, take, take_all}
 use Rattle.an_base.specs.declared.event.Event.{Event}
 use Rattle.outside.specs.Told.{GainsFront}
 use Rattle.replay.specs.Replays.{HasMade, IsRefusal}
 use Rattle.replay.proofs.ReplayLemmas.{legal_is_not_refused, refused_at, refused_behind}
 use Rattle.report.specs.Events.{report_text}
-use Rattle.report.proofs.ReporterLemmas.{IsInMaking, all_written, front_of, front_so_far, last_fault, making_fault, making_last, making_more, making_none, making_written, next_made}
+use Rattle.report.proofs.ReporterLemmas.{IsInMaking, all_written, ended_claims, front_of, front_so_far, last_fault, making_fault, making_last, making_more, making_none, making_written, next_made}
 use Rattle.report.proofs.reporter.write.Goals as goal
 use Rattle.report.proofs.reporter.write.Goals.{then-len-ge-PIECE+in_ok-write, else-len-ge-PIECE}
 
@@ -105,6 +105,16 @@ returns-in_err-write-2-clause-front g c =
     let all = making_last script last.script.now journal last.net c.in_default-finish.field-0 old mid last.text.items c.finish.new.self.text.items before.same made c.in_default-finish.ensures.legal making c.in_default-finish.ensures.text in
     last_fault old mid (g.K.Sink.seen c.write-2.new.sink) all.0 c.finish.new.self.text.items (report_text script journal) all.1 all.2 c.in_err-write-2.ensures.front
 
+pub returns-clause-claims : goal.returns-clause-claims
+returns-clause-claims g c =
+    let script = c.args.script.now in
+    let journal = c.args.journal.now in
+    let before = c.events.invariant in
+    let last = c.events.reporter in
+    let whole : take c.events.event-index c.as_slice-events.result.now ≡ journal = take_all c.events.event-index c.as_slice-events.result.now c.events-test.false ∙ c.as_slice-events.ensures in
+    let made = subst (λ (events : List Event). HasMade script events last.net) whole before.made in
+    ended_claims script last.script.now journal last.net before.same made c.in_default-finish.ensures.claims
+
 pub returns-clause-all : goal.returns-clause-all
 returns-clause-all g c =
     let script = c.args.script.now in
@@ -123,3 +133,19 @@ pub returns-clause-front : goal.returns-clause-front
 returns-clause-front g c =
     let text = report_text c.args.script.now c.args.journal.now in
     front_of (g.K.Sink.seen c.args.sink.now) (g.K.Sink.seen c.write-2.new.sink) text [] text (returns-clause-all g c) (sym (append-nil text))
+
+-- the count of faults never falls
+pub returns-in-Err-clause-kept : goal.returns-in-Err-clause-kept
+returns-in-Err-clause-kept g c = c.events.invariant.making.no_less
+
+pub returns-in-Err-finish-clause-kept : goal.returns-in-Err-finish-clause-kept
+returns-in-Err-finish-clause-kept g c = c.events.invariant.making.no_less
+
+pub returns-in_err-write-clause-kept : goal.returns-in_err-write-clause-kept
+returns-in_err-write-clause-kept g c = omega (arith, c.events.invariant.making.no_less, c.in_err-write.ensures.kept)
+
+pub returns-in_err-write-2-clause-kept : goal.returns-in_err-write-2-clause-kept
+returns-in_err-write-2-clause-kept g c = omega (arith, c.events.invariant.making.no_less, c.in_err-write-2.ensures.kept)
+
+pub returns-clause-kept : goal.returns-clause-kept
+returns-clause-kept g c = omega (arith, c.events.invariant.making.no_less, c.in_ok-write-2.ensures.kept)

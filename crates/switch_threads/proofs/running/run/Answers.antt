@@ -5,6 +5,7 @@ use Rattle.net_graph.specs.Wires.{Wires}
 use Rattle.fabric_turn.specs.History.{Extends}
 use Rattle.fabric_turn.specs.Names.{turnstile_id}
 use Rattle.fabric_world.specs.Histories.{HistoryOf}
+use Rattle.fabric_settling.proofs.Whole.{holds_and_settles}
 use Rattle.switch_threads.specs.Runs.{DriverOf, HaveCalled, IsOneOf, SeatOf, callers_of}
 use Rattle.switch_threads.proofs.RunLemmas.{driver_begun, driver_one, first_driving, given_back, one_stays, ones_have, ones_stay, opened_first, told_whole}
 use Rattle.switch_threads.proofs.running.run.Goals as goal
@@ -50,8 +51,8 @@ joined-seat-requires-clause-workers g c =
     subst (All (IsOneOf id c.into_seat.result.1.callers)) (sym (given_back old new c.in_ok-seat.workers.len long many))
     (subst (λ (n : ℕ). All (IsOneOf id n) new) (sym now.1.0) ones)
 
-pub returns : goal.returns
-returns g c =
+pub returns-clause-legal : goal.returns-clause-legal
+returns-clause-legal g c =
     let script = c.args.script.now in
     let view = c.rounds.new.driver.seat.1 in
     let first = ap (λ (d : DriverOf). d.seat) c.new-driver.ensures ∙ c.in_ok-seat.ensures.seat in
@@ -59,3 +60,6 @@ returns g c =
     let on = subst (λ (s : SeatOf). Extends s.1.seen c.joined-seat.result.1.seen) c.into_seat.ensures.seat c.joined-seat.ensures.seen in
     c.close.ensures script (c.joined-seat.ensures.start ∙ ap (λ (s : SeatOf). s.1.start) c.into_seat.ensures.seat ∙ begun)
     (told_whole view c.rounds.new.driver.end c.in_ok-end.end script c.joined-seat.result.1.seen c.into_seat.ensures.told c.in_ok-end.ensures.end begun on)
+
+pub returns-clause-claims : goal.returns-clause-claims
+returns-clause-claims g c = holds_and_settles c.args.script.now c.in_ok-seat.ensures.script c.close.result.journal (returns-clause-legal g c).lawful

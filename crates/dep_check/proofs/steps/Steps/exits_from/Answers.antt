@@ -1,4 +1,4 @@
-use Rattle.std.proofs.Common.{◌≡◌, Option, ℕ, subst}
+use Rattle.std.proofs.Common.{Option, ℕ, subst}
 use Rattle.dep_check.specs.Search.{IsStepOf}
 use Rattle.dep_check.proofs.steps.Steps.exits_from.Goals as goal
 

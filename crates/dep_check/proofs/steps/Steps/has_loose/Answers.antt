@@ -1,9 +1,7 @@
-use Rattle.std.proofs.Common.{◌≡◌, ◌∙◌, sym, ap, refl, subst, ℕ, None, Option, arith, inl, inr}
+use Rattle.std.proofs.Common.{◌≡◌, refl, subst, ℕ, None, arith, inl, inr}
 use Rattle.std.proofs.lemmas.Bool.{cases_eq}
-use Rattle.dep_check.specs.declared.channel.Channel.{Channel}
 use Rattle.dep_check.specs.Tables.{wire_at}
 use Rattle.dep_check.proofs.PortLemmas.{no_bit}
-use Rattle.dep_check.proofs.LevelLemmas.{none_is}
 use Rattle.dep_check.proofs.GapLemmas.{none_yes, yes_none}
 use Rattle.dep_check.proofs.steps.Steps.has_loose.Goals as goal
 

@@ -1,4 +1,3 @@
-use Rattle.std.proofs.Common.{◌∙◌, sym, ap, length}
 use Rattle.dep_check.proofs.steps.Steps.turn.Goals as goal
 
 pub table-requires : goal.table-requires

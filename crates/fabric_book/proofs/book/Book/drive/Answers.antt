@@ -1,11 +1,14 @@
--- What the driver does next may come, and is no worker's.
+-- What the driver does next may come, and is no worker's; and the history settles soon.
 
-use Rattle.std.proofs.Common.{◌≡◌, ◌∙◌, ap, sym, vec_capacity}
+use Rattle.std.proofs.Common.{◌≡◌, ◌∙◌, ap, subst, sym, vec_capacity}
+use Rattle.fabric_state.specs.declared.ending.Ending.TheVariants as ending
 use Rattle.fabric_state.specs.declared.work.Drive.TheVariants as drive
 use Rattle.fabric_state.specs.Choices.{next_drive}
-use Rattle.fabric_world.specs.Histories.{fabric_of}
-use Rattle.fabric_book.proofs.BookLemmas.{fabric_at, good_at}
-use Rattle.fabric_book.proofs.DriveLemmas.{drive_lawful, driven}
+use Rattle.fabric_world.specs.Histories.{HistoryOf, fabric_of}
+use Rattle.fabric_settling.specs.Settling.{SettlesSoon}
+use Rattle.fabric_settling.proofs.Whole.{settles_soon}
+use Rattle.fabric_book.proofs.BookLemmas.{fabric_at, good_at, history_at}
+use Rattle.fabric_book.proofs.DriveLemmas.{drive_lawful, driven, driven_soon, unsettled_late}
 use Rattle.fabric_book.proofs.WorldFacts.{drive_may_come}
 use Rattle.fabric_book.proofs.book.Book.drive.Goals as goal
 
@@ -22,3 +25,28 @@ drive_by-requires-clause-driver c =
     let h = c.args.self.now in
     let is : next_drive (fabric_of h) ≡ drive.Did c.in-Did.event = ap next_drive (sym (fabric_at b.fabric b.entries.items b.taken.items (vec_capacity b.entries) c.self.invariant c.args.self.now c.self.view_is)) ∙ sym c.drive-drive.ensures ∙ c.in-Did.is in
     driven (fabric_of h) c.in-Did.event is
+
+pub returns-in-Did-clause-settles : goal.returns-in-Did-clause-settles
+returns-in-Did-clause-settles c =
+    let b = c.self.inside in
+    let h = c.args.self.now in
+    let kept = good_at b.fabric b.entries.items b.taken.items (vec_capacity b.entries) c.self.invariant h c.self.view_is in
+    let lawful = history_at b.fabric b.entries.items b.taken.items (vec_capacity b.entries) c.self.invariant h c.self.view_is in
+    let is : next_drive (fabric_of h) ≡ drive.Did c.in-Did.event = ap next_drive (sym (fabric_at b.fabric b.entries.items b.taken.items (vec_capacity b.entries) c.self.invariant h c.self.view_is)) ∙ sym c.drive-drive.ensures ∙ c.in-Did.is in
+    let may = drive_lawful (fabric_of h) c.in-Did.event (drive_may_come h.script kept h.events) is in
+    subst (λ (x : HistoryOf). SettlesSoon x.script x.events) (sym c.drive_by.ensures) (driven_soon h kept lawful c.in-Did.event may)
+
+pub returns-in_default-clause-settles : goal.returns-in_default-clause-settles
+returns-in_default-clause-settles c =
+    let b = c.self.inside in
+    let h = c.args.self.now in
+    settles_soon h.script (good_at b.fabric b.entries.items b.taken.items (vec_capacity b.entries) c.self.invariant h c.self.view_is) h.events
+    (history_at b.fabric b.entries.items b.taken.items (vec_capacity b.entries) c.self.invariant h c.self.view_is)
+
+pub returns-in_default-clause-in_time : goal.returns-in_default-clause-in_time
+returns-in_default-clause-in_time c =
+    let b = c.self.inside in
+    let h = c.args.self.now in
+    let kept = good_at b.fabric b.entries.items b.taken.items (vec_capacity b.entries) c.self.invariant h c.self.view_is in
+    let lawful = history_at b.fabric b.entries.items b.taken.items (vec_capacity b.entries) c.self.invariant h c.self.view_is in
+    λ ended. unsettled_late h kept lawful (ap next_drive (sym (fabric_at b.fabric b.entries.items b.taken.items (vec_capacity b.entries) c.self.invariant h c.self.view_is)) ∙ sym c.drive-drive.ensures ∙ ended)

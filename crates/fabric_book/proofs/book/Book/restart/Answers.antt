@@ -1,9 +1,8 @@
 -- A switch began its next life.
 
-use Rattle.std.proofs.Common.{◌≡◌, ◌∙◌, ap, arith, refl, subst, sym, vec_capacity}
+use Rattle.std.proofs.Common.{arith, refl, vec_capacity}
 use Rattle.an_base.specs.declared.event.Event.TheVariants.{Restart}
-use Rattle.fabric_state.specs.Fabric.{FabricOf, held_bytes}
-use Rattle.fabric_book.proofs.BookLemmas.{boot_fits, fabric_at, has_room, kept_as, lawful_at, script_at, take_below, restart_below, restart_kept}
+use Rattle.fabric_book.proofs.BookLemmas.{boot_fits, has_room, kept_as, lawful_at, restart_below, restart_kept}
 use Rattle.fabric_book.proofs.book.Book.restart.Goals as goal
 
 pub restart-life-requires-clause-boot : goal.restart-life-requires-clause-boot

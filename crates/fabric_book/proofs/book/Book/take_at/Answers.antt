@@ -1,6 +1,6 @@
 -- A frame was taken.
 
-use Rattle.std.proofs.Common.{◌∙◌, ap, arith, refl, slice_set, vec_capacity}
+use Rattle.std.proofs.Common.{◌∙◌, ap, arith, slice_set, vec_capacity}
 use Rattle.an_base.specs.declared.event.Event.TheVariants.{Take}
 use Rattle.fabric_state.specs.Fabric.{FabricOf, held_bytes}
 use Rattle.fabric_book.specs.Kept.{IsKept}

@@ -1,6 +1,5 @@
 -- What a call appends is the caller's.
 
-use Rattle.std.proofs.Common.{◌+◌}
 use Rattle.fabric_state.specs.Lawful.{is_barred}
 use Rattle.fabric_world.specs.Histories.{fabric_of}
 use Rattle.fabric_book.proofs.DriveLemmas.{drive_appends, load_appends}

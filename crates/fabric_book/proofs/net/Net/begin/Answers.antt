@@ -1,6 +1,6 @@
 -- Each switch begins its first life, and nothing has come.
 
-use Rattle.std.proofs.Common.{◌≡◌, ◌∙◌, ap, length, subst, sym}
+use Rattle.std.proofs.Common.{◌∙◌, ap, length, subst, sym}
 use Rattle.std.proofs.lemmas.List.FromFn.{length-map-range_with_len}
 use Rattle.net_graph.specs.Wires.{Wires}
 use Rattle.fabric_book.specs.Nets.{AreStarted, PowerOf, power_of}

@@ -1,6 +1,6 @@
 -- A switch took its clock.
 
-use Rattle.std.proofs.Common.{ap, arith, refl}
+use Rattle.std.proofs.Common.{refl}
 use Rattle.an_base.specs.declared.event.Event.TheVariants.{Clock}
 use Rattle.fabric_book.proofs.NetLemmas.{here_at, may_at, net_as, net_below, net_own}
 use Rattle.fabric_book.proofs.OwnLemmas.{clock_own}

@@ -2,7 +2,7 @@
 
 use Rattle.std.proofs.Common.{◌≡◌, ◌∙◌, ◌++◌, List, ap, refl, subst, sym, true}
 use Rattle.std.proofs.lemmas.Result.{on_ok_weaker}
-use Rattle.net_script.specs.Scripts.{IsScript, ScriptOf}
+use Rattle.net_script.specs.Scripts.{IsScript}
 use Rattle.fabric_state.specs.Effects.{told_of}
 use Rattle.fabric_state.specs.Lawful.{is_command}
 use Rattle.fabric_state.specs.declared.told.Told.{Told}

@@ -1,6 +1,6 @@
 -- A packet made a hop.
 
-use Rattle.std.proofs.Common.{◌≡◌, ◌∙◌, ◌++◌, ◌∷◌, ◌<◌, ℕ, [], Some, ap, refl, subst, sym}
+use Rattle.std.proofs.Common.{◌≡◌, ◌∙◌, ◌++◌, ◌∷◌, ◌<◌, ℕ, [], ap, refl, subst, sym}
 use Rattle.std.proofs.lemmas.Result.{on_ok_weaker}
 use Rattle.std.specs.Option.{IsSome, option_map, option_map_or}
 use Rattle.std.specs.Prelude.{Option}
@@ -12,7 +12,7 @@ use Rattle.fabric_state.specs.Fabric.{FabricOf, StationOf, count, station}
 use Rattle.fabric_world.specs.Histories.{HistoryOf, fabric_of, world_of}
 use Rattle.fabric_world.specs.declared.line.Line.{Line}
 use Rattle.fabric_book.specs.Nets.{history_of}
-use Rattle.fabric_book.proofs.MoveLemmas.{IsUnderWay, hop_told, packet_some, under_way}
+use Rattle.fabric_book.proofs.MoveLemmas.{hop_told, packet_some, under_way}
 use Rattle.fabric_book.proofs.NetLemmas.{book_at, good_at, may_at, net_as, net_driven}
 use Rattle.fabric_book.proofs.net.Net.hop.Goals as goal
 

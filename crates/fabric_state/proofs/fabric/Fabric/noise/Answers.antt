@@ -1,15 +1,14 @@
 use Rattle.std.specs.Prelude.{◌≡◌, ◌≤◌, ℕ, List, length, replicate, take, true}
 use Rattle.std.proofs.Common.{sym, ap, subst}
 use Rattle.std.proofs.lemmas.List.{take-replicate, length-replicate}
-use Rattle.an_base.specs.declared.event.Event.TheVariants.{Noise}
 use Rattle.wire_set.specs.WireState.{WiresOf, place, put_into, wire_out}
 use Rattle.fabric_state.specs.Effects.{noise, noise_out, on_wires}
 use Rattle.fabric_state.specs.Fabric.{FabricOf}
 use Rattle.fabric_state.specs.Fits.{Fits}
 use Rattle.fabric_state.specs.Kept.{fabric_of_all}
-use Rattle.fabric_state.specs.Lawful.{is_lawful}
 use Rattle.fabric_state.proofs.StepLemmas.{noise_change, noise_linked}
 use Rattle.fabric_state.proofs.FitsLemmas.{noise_fits}
+use Rattle.fabric_state.proofs.LawfulLemmas.{lawful_in}
 use Rattle.fabric_state.proofs.fabric.Fabric.noise.Goals as goal
 
 -- these bytes are put on the wire
@@ -29,40 +28,25 @@ noise_same : (f : FabricOf) (s port n : ℕ) → n ≤ 64 → with_bytes s port 
 noise_same f s port n most = ap (λ (bytes : List ℕ). with_bytes s port bytes f) (noise_is n most)
 
 pub shared_ref_as_front-put : goal.shared_ref_as_front-put
-shared_ref_as_front-put c =
-    let f = fabric_of_all c.self.inside.plan c.self.inside.wires c.self.inside.stations c.self.inside.traffic c.self.inside.sent c.self.inside.past in
-    let fits = c.self.invariant.fits in
-    let lawful : is_lawful f (Noise c.args.s c.args.port c.args.bytes) ≡ true = rw (← c.self.view_is) at c.requires in
-    (noise_change f c.args.s c.args.port c.args.bytes fits lawful).count_most
+shared_ref_as_front-put c = (noise_change _ c.args.s c.args.port c.args.bytes c.self.invariant.fits (lawful_in _ c.self.view_is c.requires)).count_most
 
 pub put-put-requires-clause-link : goal.put-put-requires-clause-link
-put-put-requires-clause-link c =
-    let f = fabric_of_all c.self.inside.plan c.self.inside.wires c.self.inside.stations c.self.inside.traffic c.self.inside.sent c.self.inside.past in
-    let fits = c.self.invariant.fits in
-    let lawful : is_lawful f (Noise c.args.s c.args.port c.args.bytes) ≡ true = rw (← c.self.view_is) at c.requires in
-    noise_linked f c.args.s c.args.port c.args.bytes fits lawful
+put-put-requires-clause-link c = noise_linked _ c.args.s c.args.port c.args.bytes c.self.invariant.fits (lawful_in _ c.self.view_is c.requires)
 
 pub put-put-requires-clause-least : goal.put-put-requires-clause-least
 put-put-requires-clause-least c =
-    let f = fabric_of_all c.self.inside.plan c.self.inside.wires c.self.inside.stations c.self.inside.traffic c.self.inside.sent c.self.inside.past in
-    let fits = c.self.invariant.fits in
-    let lawful : is_lawful f (Noise c.args.s c.args.port c.args.bytes) ≡ true = rw (← c.self.view_is) at c.requires in
-    let change = noise_change f c.args.s c.args.port c.args.bytes fits lawful in
+    let change = noise_change _ c.args.s c.args.port c.args.bytes c.self.invariant.fits (lawful_in _ c.self.view_is c.requires) in
     some_noise c.args.bytes change.count_least change.count_most
 
 pub invariant_of-self : goal.invariant_of-self
 invariant_of-self c =
     let f = fabric_of_all c.self.inside.plan c.self.inside.wires c.self.inside.stations c.self.inside.traffic c.self.inside.sent c.self.inside.past in
-    let fits = c.self.invariant.fits in
-    let lawful : is_lawful f (Noise c.args.s c.args.port c.args.bytes) ≡ true = rw (← c.self.view_is) at c.requires in
-    let most = (noise_change f c.args.s c.args.port c.args.bytes fits lawful).count_most in
-    let there = noise_there f c.args.s c.args.port c.args.bytes most (noise_fits f c.args.s c.args.port c.args.bytes fits lawful) in
+    let most = (noise_change _ c.args.s c.args.port c.args.bytes c.self.invariant.fits (lawful_in _ c.self.view_is c.requires)).count_most in
+    let there = noise_there f c.args.s c.args.port c.args.bytes most (noise_fits f c.args.s c.args.port c.args.bytes c.self.invariant.fits (lawful_in _ c.self.view_is c.requires)) in
     rw (c.put-put.ensures.put, c.command.ensures) (record { fits = there; most = c.self.invariant.most })
 
 pub returns-clause-put : goal.returns-clause-put
 returns-clause-put c =
     let f = fabric_of_all c.self.inside.plan c.self.inside.wires c.self.inside.stations c.self.inside.traffic c.self.inside.sent c.self.inside.past in
-    let fits = c.self.invariant.fits in
-    let lawful : is_lawful f (Noise c.args.s c.args.port c.args.bytes) ≡ true = rw (← c.self.view_is) at c.requires in
-    let most = (noise_change f c.args.s c.args.port c.args.bytes fits lawful).count_most in
+    let most = (noise_change _ c.args.s c.args.port c.args.bytes c.self.invariant.fits (lawful_in _ c.self.view_is c.requires)).count_most in
     rw (c.put-put.ensures.put, c.command.ensures, ← c.self.view_is) (noise_same f c.args.s c.args.port c.args.bytes most)

@@ -1,21 +1,10 @@
-use Rattle.fabric_state.specs.Kept.{fabric_of_all}
 use Rattle.fabric_state.proofs.StepLemmas.{swap_linked}
 use Rattle.fabric_state.proofs.FitsLemmas.{swap_fits}
-use Rattle.std.specs.Prelude.{◌≡◌, true}
-use Rattle.an_base.specs.declared.event.Event.TheVariants.{Swap}
-use Rattle.fabric_state.specs.Lawful.{is_lawful}
+use Rattle.fabric_state.proofs.LawfulLemmas.{lawful_in}
 use Rattle.fabric_state.proofs.fabric.Fabric.swap.Goals as goal
 
 pub swap-requires : goal.swap-requires
-swap-requires c =
-    let f = fabric_of_all c.self.inside.plan c.self.inside.wires c.self.inside.stations c.self.inside.traffic c.self.inside.sent c.self.inside.past in
-    let fits = c.self.invariant.fits in
-    let lawful : is_lawful f (Swap c.args.s c.args.port c.args.n) ≡ true = rw (← c.self.view_is) at c.requires in
-    swap_linked f c.args.s c.args.port c.args.n fits lawful
+swap-requires c = swap_linked _ c.args.s c.args.port c.args.n c.self.invariant.fits (lawful_in _ c.self.view_is c.requires)
 
 pub invariant_of-self : goal.invariant_of-self
-invariant_of-self c =
-    let f = fabric_of_all c.self.inside.plan c.self.inside.wires c.self.inside.stations c.self.inside.traffic c.self.inside.sent c.self.inside.past in
-    let fits = c.self.invariant.fits in
-    let lawful : is_lawful f (Swap c.args.s c.args.port c.args.n) ≡ true = rw (← c.self.view_is) at c.requires in
-    rw (c.swap.ensures, c.command.ensures) (record { fits = swap_fits f c.args.s c.args.port c.args.n fits lawful; most = c.self.invariant.most })
+invariant_of-self c = rw (c.swap.ensures, c.command.ensures) (record { fits = swap_fits _ c.args.s c.args.port c.args.n c.self.invariant.fits (lawful_in _ c.self.view_is c.requires); most = c.self.invariant.most })

@@ -45,13 +45,18 @@ returns-in-Some-grant-clause-watched c =
     let b = c.numbers.board in
     let_go c.args.tables.now b.packets b.entries b.queues b.routers c.in-Some.number c.in-Some.number c.grant.new.self refl c.numbers.self c.numbers.invariant.watched c.in-Some.ensures.has
 
+pub remove-requires : goal.remove-requires
+remove-requires c =
+    let low = c.numbers.invariant.watched.awake.low c.in-Some.number c.in-Some.ensures.has in
+    omega arith
+
 pub numbers-smaller : goal.numbers-smaller
 numbers-smaller c =
     let sets = c.numbers.self.awake in
     let first = c.in-Some.ensures in
     let less = taken_out sets c.in-Some.number first.within first.has in
-    let put = c.put.ensures in
-    rw put less
+    let out = c.remove.ensures in
+    rw out less
 
 pub numbers-preserved : goal.numbers-preserved
 numbers-preserved c =
@@ -68,10 +73,10 @@ numbers-preserved c =
     record {
       kept = kept_none t b.packets b.entries b.queues b.routers i.kept number number low refl c.index_mut.result.now c.grant.new.self c.index_mut.ensures.value grant.most grant.granted.0;
       same = same;
-      watched = subst (λ (f : FlowOf). IsWatched t f (record { arriving = c.numbers.self.arriving; free = c.numbers.self.free; awake = c.put.new.self })) (sym flow) (record {
+      watched = subst (λ (f : FlowOf). IsWatched t f (record { arriving = c.numbers.self.arriving; free = c.numbers.self.free; awake = c.remove.new.self })) (sym flow) (record {
         arriving = i.watched.arriving;
         free = i.watched.free;
-        awake = subst (λ (xs : List ℕ). AreAwake t (flow_of b) xs) (sym c.put.ensures) asleep;
+        awake = subst (λ (xs : List ℕ). AreAwake t (flow_of b) xs) (sym c.remove.ensures) asleep;
       });
     }
 

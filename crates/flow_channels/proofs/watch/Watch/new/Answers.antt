@@ -7,9 +7,6 @@ use Rattle.flow_channels.proofs.watch.Watch.new.Goals as goal
 pub new-requires-clause-power : goal.new-requires-clause-power
 new-requires-clause-power c = (11, refl)
 
-pub new-requires-2-clause-power : goal.new-requires-2-clause-power
-new-requires-2-clause-power c = (7, refl)
-
 pub returns : goal.returns
 returns c =
     let t = c.args.tables.now in
@@ -17,6 +14,6 @@ returns c =
       arriving = subst (λ (f : FlowOf). AreArriving t f c.in_ok-new.field-0) (sym c.requires.empty) (
           subst (λ (sets : List ℕ). AreArriving t empty_flow sets) (sym c.in_ok-new.ensures) (nothing_arrives t));
       free = c.in_ok-all_free.ensures;
-      awake = subst (λ (f : FlowOf). AreAwake t f c.in_ok-new-2.field-0) (sym c.requires.empty) (
-          subst (λ (sets : List ℕ). AreAwake t empty_flow sets) (sym c.in_ok-new-2.ensures) (nobody_awake t));
+      awake = subst (λ (f : FlowOf). AreAwake t f c.new-2.result) (sym c.requires.empty) (
+          subst (λ (sets : List ℕ). AreAwake t empty_flow sets) (sym c.new-2.ensures) (nobody_awake t));
     }

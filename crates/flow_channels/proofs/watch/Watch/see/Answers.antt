@@ -1,5 +1,4 @@
-use Rattle.std.proofs.Common.{◌≡◌, ◌∙◌, ap, sym, subst, arith, ℕ, List, length, set}
-use Rattle.std.proofs.lemmas.List.{length-set}
+use Rattle.std.proofs.Common.{◌≡◌, ◌∙◌, ap, sym, subst, arith, ℕ, List, set}
 use Rattle.flow_channels.specs.Board.{flow_of}
 use Rattle.flow_channels.specs.Watch.{AreAwake}
 use Rattle.flow_channels.proofs.WatchLemmas.{awake_here, awake_there}
@@ -11,11 +10,16 @@ see_first-requires-clause-was c = let was = c.requires.was in record { old = was
 pub see_room-requires-clause-was : goal.see_room-requires-clause-was
 see_room-requires-clause-was c = let was = c.requires.was in record { old = was.old; held = was.held.free; touched = was.touched }
 
-pub put-requires-in-Some : goal.put-requires-in-Some
-put-requires-in-Some c =
-    let low = (c.requires.kept.within c.args.channel c.in-Some.end (sym c.far.ensures ∙ c.in-Some.is)).at in
+pub insert-requires : goal.insert-requires
+insert-requires c =
+    let low = c.requires.spot.at in
+    let at = c.from.ensures in
+    omega arith
+
+pub insert-requires-in-Some : goal.insert-requires-in-Some
+insert-requires-in-Some c =
+    let low = (c.requires.kept.within c.args.channel c.in-Some.end c.in-Some.ensures).at in
     let at = c.from-in-Some.ensures in
-    let n : length c.put.new.self ≡ 128 = ap (λ (xs : List ℕ). length xs) c.put.ensures ∙ length-set c.args.self.now.awake c.from.result 1 ∙ c.requires.was.held.awake.count in
     omega arith
 
 pub returns-in-Some : goal.returns-in-Some
@@ -24,9 +28,9 @@ returns-in-Some c =
     let b = c.args.board.now in
     let sets = c.args.self.now.awake in
     let was = c.requires.was in
-    let far = sym c.far.ensures ∙ c.in-Some.is in
-    let first : c.put.new.self ≡ set sets c.args.channel.at 1 = c.put.ensures ∙ ap (λ (k : ℕ). set sets k 1) c.from.ensures in
-    let second : c.put-in-Some.new.self ≡ set (set sets c.args.channel.at 1) c.in-Some.end.at 1 = c.put-in-Some.ensures ∙ ap (λ (k : ℕ). set c.put.new.self k 1) c.from-in-Some.ensures ∙ ap (λ (xs : List ℕ). set xs c.in-Some.end.at 1) first in
+    let far = c.in-Some.ensures in
+    let first : c.insert.new.self ≡ set sets c.args.channel.at 1 = c.insert.ensures ∙ ap (λ (k : ℕ). set sets k 1) c.from.ensures in
+    let second : c.insert-in-Some.new.self ≡ set (set sets c.args.channel.at 1) c.in-Some.end.at 1 = c.insert-in-Some.ensures ∙ ap (λ (k : ℕ). set c.insert.new.self k 1) c.from-in-Some.ensures ∙ ap (λ (xs : List ℕ). set xs c.in-Some.end.at 1) first in
     record {
       arriving = c.see_first.ensures;
       free = c.see_room.ensures;
@@ -40,10 +44,10 @@ returns-in_default c =
     let b = c.args.board.now in
     let sets = c.args.self.now.awake in
     let was = c.requires.was in
-    let first : c.put.new.self ≡ set sets c.args.channel.at 1 = c.put.ensures ∙ ap (λ (k : ℕ). set sets k 1) c.from.ensures in
+    let first : c.insert.new.self ≡ set sets c.args.channel.at 1 = c.insert.ensures ∙ ap (λ (k : ℕ). set sets k 1) c.from.ensures in
     record {
       arriving = c.see_first.ensures;
       free = c.see_room.ensures;
       awake = subst (λ (xs : List ℕ). AreAwake t (flow_of b) xs) (sym first) (
-          awake_here t c.args.channel was.old (flow_of b) sets was.held.awake c.requires.spot was.touched (λ end far. absurd (let e = sym far ∙ sym c.far.ensures ∙ c.in_default.is in cc)));
+          awake_here t c.args.channel was.old (flow_of b) sets was.held.awake c.requires.spot was.touched c.in_default.ensures);
     }

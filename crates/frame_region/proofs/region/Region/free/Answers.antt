@@ -5,6 +5,16 @@ use Rattle.frame_region.specs.Regions.{count_at}
 use Rattle.frame_region.proofs.ShownLemmas.{under}
 use Rattle.frame_region.proofs.FreeLemmas.{free_kept_by, free_shown_by}
 use Rattle.frame_region.proofs.region.Region.free.Goals as goal
+use Rattle.frame_region.proofs.region.Region.free.Goals.{After-needed-count, After-block_after-last}
+
+-- the blocks of what is freed, and the last of them
+count_is : (c : goal.After-needed-count) → c.needed-count.result ≡ count_at c.self.inside.lens.items c.slip.inside.first
+count_is c =
+    let u = under _ _ _ _ _ _ _ c.self.view_is c.slip.view_is c.requires in
+    c.needed-count.ensures ∙ ap needed (c.from.ensures ∙ c.index.ensures ∙ get_or_default_zero _ _ _ u.below)
+
+last_is : (c : goal.After-block_after-last) → c.block_after-last.result ≡ block c.self.inside.next.items c.slip.inside.first (c.needed-count.result - 1)
+last_is c = c.block_after-last.ensures ∙ ap (λ (l : List ℕ). block l c.slip.inside.first (c.needed-count.result - 1)) c.deref.ensures.value
 
 pub index-requires : goal.index-requires
 index-requires c = let u = under _ _ _ _ _ _ _ c.self.view_is c.slip.view_is c.requires in omega (arith, u.below)
@@ -22,17 +32,14 @@ overflow_sub-count c =
 pub block_after-last-requires : goal.block_after-last-requires
 block_after-last-requires c =
     let u = under _ _ _ _ _ _ _ c.self.view_is c.slip.view_is c.requires in
-    let count : c.needed-count.result ≡ count_at c.self.inside.lens.items c.slip.inside.first
-    = c.needed-count.ensures ∙ ap needed (c.from.ensures ∙ c.index.ensures ∙ get_or_default_zero _ _ _ u.below) in
+    let count = count_is (goal.at.block_after-last-requires c).After-needed-count in
     λ k below. subst (λ (l : List ℕ). block l c.slip.inside.first k < length l) (sym c.deref.ensures.value) (c.self.invariant.within c.slip.inside.first k (omega (arith, below, count)))
 
 pub index_mut-requires : goal.index_mut-requires
 index_mut-requires c =
     let u = under _ _ _ _ _ _ _ c.self.view_is c.slip.view_is c.requires in
-    let count : c.needed-count.result ≡ count_at c.self.inside.lens.items c.slip.inside.first
-    = c.needed-count.ensures ∙ ap needed (c.from.ensures ∙ c.index.ensures ∙ get_or_default_zero _ _ _ u.below) in
-    let last : c.block_after-last.result ≡ block c.self.inside.next.items c.slip.inside.first (c.needed-count.result - 1)
-    = c.block_after-last.ensures ∙ ap (λ (l : List ℕ). block l c.slip.inside.first (c.needed-count.result - 1)) c.deref.ensures.value in
+    let count = count_is (goal.at.index_mut-requires c).After-needed-count in
+    let last = last_is (goal.at.index_mut-requires c).After-block_after-last in
     omega (arith, last, c.self.invariant.within c.slip.inside.first (c.needed-count.result - 1) (omega (arith, count, u.some)))
 
 pub index_mut-requires-2 : goal.index_mut-requires-2
@@ -41,17 +48,13 @@ index_mut-requires-2 c = let u = under _ _ _ _ _ _ _ c.self.view_is c.slip.view_
 pub invariant_of-self : goal.invariant_of-self
 invariant_of-self c =
     let u = under _ _ _ _ _ _ _ c.self.view_is c.slip.view_is c.requires in
-    let count : c.needed-count.result ≡ count_at c.self.inside.lens.items c.slip.inside.first
-    = c.needed-count.ensures ∙ ap needed (c.from.ensures ∙ c.index.ensures ∙ get_or_default_zero _ _ _ u.below) in
-    let last : c.block_after-last.result ≡ block c.self.inside.next.items c.slip.inside.first (c.needed-count.result - 1)
-    = c.block_after-last.ensures ∙ ap (λ (l : List ℕ). block l c.slip.inside.first (c.needed-count.result - 1)) c.deref.ensures.value in
+    let count = count_is (goal.at.invariant_of-self c).After-needed-count in
+    let last = last_is (goal.at.invariant_of-self c).After-block_after-last in
     free_kept_by _ _ _ _ _ _ _ _ c.self.invariant u.below u.some count last
 
 pub returns : goal.returns
 returns c =
     let u = under _ _ _ _ _ _ _ c.self.view_is c.slip.view_is c.requires in
-    let count : c.needed-count.result ≡ count_at c.self.inside.lens.items c.slip.inside.first
-    = c.needed-count.ensures ∙ ap needed (c.from.ensures ∙ c.index.ensures ∙ get_or_default_zero _ _ _ u.below) in
-    let last : c.block_after-last.result ≡ block c.self.inside.next.items c.slip.inside.first (c.needed-count.result - 1)
-    = c.block_after-last.ensures ∙ ap (λ (l : List ℕ). block l c.slip.inside.first (c.needed-count.result - 1)) c.deref.ensures.value in
+    let count = count_is (goal.at.returns c).After-needed-count in
+    let last = last_is (goal.at.returns c).After-block_after-last in
     free_shown_by _ _ _ _ _ _ _ _ _ _ c.self.invariant c.slip.view_is c.self.view_is u count last

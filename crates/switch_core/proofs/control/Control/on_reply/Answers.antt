@@ -6,6 +6,7 @@ use Rattle.port_monitor.specs.Histories.{Replied, with_happening}
 use Rattle.switch_core.specs.Switch.{end_at}
 use Rattle.switch_core.specs.Steps.{still}
 use Rattle.switch_core.specs.Stands.{Done}
+use Rattle.switch_core.proofs.SampleLemmas.{stands_ports}
 use Rattle.switch_core.proofs.control.Control.on_reply.Goals as goal
 
 same_end : (p q : EndId) → (eqb p.life.uid q.life.uid && eqb p.life.boot q.life.boot) && eqb p.port q.port ≡ true → is_same_end p q ≡ true
@@ -18,19 +19,6 @@ returns-then-eq c out s stands =
     let replied = record s { ports = with_happening c.args.port (Replied c.args.from c.args.nonce) s.ports } in
     let new = record c.args.self.now { monitor = c.on_reply.new.self } in
     subst (λ step. Done new out out step) (sym (ap (λ b. cond b (still replied) (still s)) test)) (
-      record {
-        life = stands.life;
-        any = stands.any;
-        monitor = c.on_reply.ensures.life ∙ stands.monitor;
-        ports = c.on_reply.ensures.after s.ports stands.ports;
-        epoch = stands.epoch;
-        joined = stands.joined;
-        links = stands.links;
-        sessions = stands.sessions;
-        number = stands.number;
-        load_due = stands.load_due;
-        tick = stands.tick;
-        spent = stands.spent;
-      },
+      stands_ports c.args.self.now s c.on_reply.new.self c.args.self.now.tick s.tick replied.ports stands.tick stands c.on_reply.ensures.life (c.on_reply.ensures.after s.ports stands.ports),
       sym (append-nil out),
     )

@@ -18,21 +18,17 @@ push-requires-clause-room c session there =
 pub returns-in_ok-carry : goal.returns-in_ok-carry
 returns-in_ok-carry c s stands =
     let x : OnPort = record { port = c.outgoing.inside.port; body = c.outgoing.inside.body } in
-    let peer = c.in-Some.peer in
-    let old = c.args.self.now in
-    let there : peer_among s.card.links x.port ≡ Some peer = ap (λ ls. peer_among ls x.port) (sym stands.links) ∙ sym c.peer_of.ensures.peer ∙ c.in-Some.is in
+    let there : peer_among s.card.links x.port ≡ Some c.in-Some.peer = ap (λ ls. peer_among ls x.port) (sym stands.links) ∙ sym c.peer_of.ensures.peer ∙ c.in-Some.is in
     let sent = c.in_ok-k.ensures.ok s.sendings s.receivings stands.sessions in
-    let t = push x.body old.tick (s.sendings x.port) in
+    let t = push x.body c.args.self.now.tick (s.sendings x.port) in
     let number : Some c.in-Some-2.k ≡ sent_by_push x.body (s.sendings x.port) = sym c.in-Some-2.is ∙ sent.1 in
-    let done = sends_one old c.carry.new.self s x.port c.in-Some-2.k peer t c.push.new.self c.args.out.now c.carry.new.out stands sent.0 c.in_ok-carry.ensures.same c.in_ok-carry.ensures.out in
-    subst (λ z. Done c.carry.new.self c.args.out.now c.carry.new.out (pushed z s)) c.outgoing.view_is (push_done old c.carry.new.self s x peer old.tick (Some c.in-Some-2.k) c.args.out.now c.carry.new.out stands.tick there number done)
+    let done = sends_one c.args.self.now c.carry.new.self s x.port c.in-Some-2.k c.in-Some.peer t c.push.new.self c.args.out.now c.carry.new.out stands sent.0 c.in_ok-carry.ensures.same c.in_ok-carry.ensures.out in
+    subst (λ z. Done c.carry.new.self c.args.out.now c.carry.new.out (pushed z s)) c.outgoing.view_is (push_done c.args.self.now c.carry.new.self s x c.in-Some.peer c.args.self.now.tick (Some c.in-Some-2.k) c.args.out.now c.carry.new.out stands.tick there number done)
 
 pub returns-in_default-2 : goal.returns-in_default-2
 returns-in_default-2 c s stands =
     let x : OnPort = record { port = c.outgoing.inside.port; body = c.outgoing.inside.body } in
-    let peer = c.in-Some.peer in
-    let old = c.args.self.now in
-    let there : peer_among s.card.links x.port ≡ Some peer = ap (λ ls. peer_among ls x.port) (sym stands.links) ∙ sym c.peer_of.ensures.peer ∙ c.in-Some.is in
+    let there : peer_among s.card.links x.port ≡ Some c.in-Some.peer = ap (λ ls. peer_among ls x.port) (sym stands.links) ∙ sym c.peer_of.ensures.peer ∙ c.in-Some.is in
     let sent = c.in_ok-k.ensures.ok s.sendings s.receivings stands.sessions in
-    let t = push x.body old.tick (s.sendings x.port) in
-    subst (λ z. Done (record old { sessions = c.push.new.self }) c.args.out.now c.args.out.now (pushed z s)) c.outgoing.view_is (push_done old (record old { sessions = c.push.new.self }) s x peer old.tick None c.args.out.now c.args.out.now stands.tick there (sym c.in_default-2.is ∙ sent.1) (sends_none old s x.port peer t c.push.new.self c.args.out.now stands sent.0))
+    let t = push x.body c.args.self.now.tick (s.sendings x.port) in
+    subst (λ z. Done (record c.args.self.now { sessions = c.push.new.self }) c.args.out.now c.args.out.now (pushed z s)) c.outgoing.view_is (push_done c.args.self.now (record c.args.self.now { sessions = c.push.new.self }) s x c.in-Some.peer c.args.self.now.tick None c.args.out.now c.args.out.now stands.tick there (sym c.in_default-2.is ∙ sent.1) (sends_none c.args.self.now s x.port c.in-Some.peer t c.push.new.self c.args.out.now stands sent.0))

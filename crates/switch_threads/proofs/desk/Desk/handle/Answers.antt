@@ -1,7 +1,8 @@
 -- What was in hand was handled.
 
-use Rattle.std.proofs.Common.{◌∙◌, List, ℕ, ap, subst, sym}
+use Rattle.std.proofs.Common.{◌∙◌, ◌+◌, ◌<◌, ◌^◌, List, ℕ, ap, subst, sym}
 use Rattle.switch_core.specs.Bytes.{OutOf}
+use Rattle.switch_core.specs.Kept.{IsWorking, KeptOf, StandsFor}
 use Rattle.fabric_state.specs.Fabric.{is_empty}
 use Rattle.fabric_state.specs.Fits.{IsHandPort}
 use Rattle.fabric_world.proofs.NextLemmas.{handle_is_lawful}
@@ -33,7 +34,8 @@ work-requires-clause-works c =
     let script = c.requires.0 in
     let history = c.requires.1 in
     let is = c.requires.2 in
-    hand_works script is.powered.kept history desk.s (handle_is_lawful script history desk.s is.powered.within is.full) desk.switch desk.buffer is.kept
+    let works = hand_works script is.powered.kept history desk.s (handle_is_lawful script history desk.s is.powered.within is.full) desk.switch.value desk.buffer is.kept in
+    subst (λ (k : KeptOf). k.works < 2 ^ 28) (sym c.deref_mut.ensures.value) works
 
 pub work-requires-clause-working : goal.work-requires-clause-working
 work-requires-clause-working c =
@@ -41,12 +43,16 @@ work-requires-clause-working c =
     let script = c.requires.0 in
     let history = c.requires.1 in
     let is = c.requires.2 in
-    hand_working script is.powered.kept history desk.s (handle_is_lawful script history desk.s is.powered.within is.full) desk.switch desk.buffer is.kept
+    let working = hand_working script is.powered.kept history desk.s (handle_is_lawful script history desk.s is.powered.within is.full) desk.switch.value desk.buffer is.kept in
+    subst IsWorking (sym c.deref_mut.ensures.value) working
 
 pub returns-clause-done : goal.returns-clause-done
 returns-clause-done c script history is =
     let desk = c.args.self.now in
     let x = (world_after script history).switches desk.s in
-    let does = subst (λ (xs : List ℕ). IsHandled x c.args.hand xs c.work.new.switch c.work.new.out) c.bytes.ensures.all (c.in_ok-work.ensures.handled x is.kept.stands) in
-    handled_fits script history desk.s desk.power_on desk.switch c.work.new.switch desk.buffer c.args.hand c.work.new.out (record { frames = c.frames.inside.frames; noframe = c.frames.inside.noframe; note = c.note.result; spent = c.is_spent.result }) is
-    c.work.ensures.start c.work.ensures.works does (ap (λ (o : OutOf). o.frames) (c.frames.view_is ∙ c.replace.ensures.value)) (ap (λ (o : OutOf). o.noframe) (c.frames.view_is ∙ c.replace.ensures.value)) c.note.ensures c.is_spent.ensures.stands
+    let same = c.deref_mut.ensures.value in
+    let does = subst (λ (xs : List ℕ). IsHandled x c.args.hand xs c.work.new.switch c.work.new.out) c.bytes.ensures.all (c.in_ok-work.ensures.handled x (subst (λ (k : KeptOf). StandsFor k x) (sym same) is.kept.stands)) in
+    handled_fits script history desk.s desk.power_on desk.switch.value c.work.new.switch desk.buffer c.args.hand c.work.new.out (record { frames = c.frames.inside.frames; noframe = c.frames.inside.noframe; note = c.note.result; spent = c.is_spent.result }) is
+    (c.work.ensures.start ∙ ap (λ (k : KeptOf). k.start) same) (c.work.ensures.works ∙ ap (λ (k : KeptOf). k.works + 1) same) does (ap (λ (o : OutOf). o.frames) (c.frames.view_is ∙ c.replace.ensures.value)) (ap (λ (o : OutOf). o.noframe) (c.frames.view_is ∙ c.replace.ensures.value))
+    (λ y stands. c.note.ensures y (subst (λ (k : KeptOf). StandsFor k y) (sym c.deref.ensures) stands))
+    (λ y stands. c.is_spent.ensures.stands y (subst (λ (k : KeptOf). StandsFor k y) (sym c.deref-2.ensures) stands))

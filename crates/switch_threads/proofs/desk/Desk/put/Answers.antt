@@ -9,7 +9,7 @@ use Rattle.switch_threads.proofs.desk.Desk.put.Goals as goal
 pub call-requires-clause-fit : goal.call-requires-clause-fit
 call-requires-clause-fit g c =
     let desk = c.args.self.now in
-    put_fit c.args.seat.now.1 desk.s desk.power_on desk.switch c.args.done c.requires.step
+    put_fit c.args.seat.now.1 desk.s desk.power_on desk.switch.value c.args.done c.requires.step
 
 pub unreachable-requires : goal.unreachable-requires
 unreachable-requires g c =
@@ -26,4 +26,4 @@ returns-clause-called g c =
 pub returns-clause-step : goal.returns-clause-step
 returns-clause-step g c =
     let desk = c.args.self.now in
-    put_step c.args.seat.now.1 c.call.new.seat.1 desk.s desk.power_on desk.switch c.args.done c.in-Put.done c.requires.step c.in-Put.ensures.called
+    put_step c.args.seat.now.1 c.call.new.seat.1 desk.s desk.power_on desk.switch.value c.args.done c.in-Put.done c.requires.step c.in-Put.ensures.called

@@ -10,7 +10,7 @@ use Rattle.switch_threads.proofs.desk.Desk.take.Goals as goal
 pub call-requires-clause-fit : goal.call-requires-clause-fit
 call-requires-clause-fit g c =
     let desk = c.args.self in
-    take_fit c.args.seat.now.1 desk.s desk.power_on desk.switch desk.buffer c.requires.step
+    take_fit c.args.seat.now.1 desk.s desk.power_on desk.switch.value desk.buffer c.requires.step
 
 pub unreachable-requires : goal.unreachable-requires
 unreachable-requires g c =

@@ -1,0 +1,364 @@
+//! What hosts believe about where others are.
+
+ghost use Rattle.std.specs.Prelude.{◌≡◌, ◌<◌, ◌≤◌, ◌+◌, ◌-◌, ◌∷◌, ◌++◌, [], List, IfErr, IfOk, OnOk, None, length, replicate, slice_index_or, if◌then◌else◌};
+ghost use Rattle.an_base.specs.declared.event.Event.{Event};
+ghost use Rattle.net_script.specs.Scripts.{ScriptOf};
+ghost use Rattle.replay.specs.Replays.{IsRefusal};
+ghost use Rattle.text_lines.specs.Lines.{line_text};
+ghost use Rattle.report.specs.Beliefs.{AreNames, address_in, belief_line, belief_text, counts_by, host_in, is_known};
+ghost use Rattle.report.specs.Remembering.{CameUntil, KeepBeliefs, Meets, arrival_in, choice_at, delivery_in};
+ghost use Rattle.report.specs.Remembering.{own_address, source_with, with_arrival_at, with_delivery, with_source};
+
+use crate::account::{Account, tell};
+use an_base::event::{Event, Journal};
+use an_base::memory::OutOfMemory;
+use fabric_book::lines::Lines;
+use fabric_book::net::Net;
+use fabric_state::ending::Ending;
+use fabric_state::fabric::Fabric;
+use fabric_world::line::Line;
+use host_names::cache::Cache;
+use host_names::choice::Choice;
+use net_graph::wiring::HostOn;
+use net_script::script::Script;
+use replay::refusal::ReplayRefusal;
+use replay::world::step;
+use std::alloc::Global;
+use text_lines::names::Names;
+use text_lines::spelling::{decimal, push_line};
+
+// A packet that was sent: the place of the host that sent it, and the address from which it comes, once it has
+// moved.
+#[derive(Clone, Copy, Debug)]
+struct Traced {
+    host: u16,
+    source: Option<u16>,
+}
+
+// No host.
+const NO_HOST: HostOn = HostOn {
+    uid: 0,
+    s: 0,
+    port: 0,
+};
+
+// The host at a place.
+fn host_at(script: &Script, host: u16) -> HostOn
+    ensures { result ≡ host_in script.now host }
+{
+    match script.wiring().hosts().get(usize::from(host)) {
+        Some(found) => *found,
+        None => NO_HOST,
+    }
+}
+
+// The name of the host at a place.
+fn host_name(names: &Names, host: u16) -> &[u8]
+    ensures { result.now ≡ slice_index_or names.now host [] }
+{
+    let place = usize::from(host);
+    if place < names.len() {
+        return names.get(place);
+    }
+    &[]
+}
+
+// The address of a host by the table in use at its switch.
+fn address_in(fabric: &Fabric, host: HostOn) -> u16
+    ensures { result ≡ address_in fabric.now host }
+{
+    match fabric.table(host.s) {
+        Some(table) => u16::from(table.number()) * 16 + u16::from(host.port),
+        None => 0,
+    }
+}
+
+// The host to which a packet is delivered, by what is told of its hop.
+fn delivery_in(lines: &[Line]) -> Option<u16>
+    ensures { result ≡ delivery_in lines.now }
+{
+    match lines.first() {
+        Some(Line::Moved { host, .. }) => *host,
+        _ => None,
+    }
+}
+
+// A cache of nothing for each of so many hosts.
+fn caches(alloc: Global, count: usize) -> Result<Vec<Cache>, OutOfMemory>
+    ensures { IfOk result (λ caches. caches.items ≡ replicate count []) }
+{
+    let mut all = Vec::with_capacity(alloc, count)?;
+    'hosts: for _ in 0..count {
+        all.push(Cache::new(alloc)?)?;
+    }
+    Ok(all)
+}
+
+// A packet moves: if it has not moved before, it comes from this address. Answers where it comes from.
+fn note(packets: &mut Vec<Traced>, place: usize, address: u16) -> u16
+    requires { place < length packets.old.items }
+    ensures packets { packets.new.items ≡ with_source packets.old.items place address }
+    ensures source { result ≡ source_with packets.old.items place address }
+{
+    let source = packets[place].source.unwrap_or(address);
+    packets[place].source = Some(source);
+    source
+}
+
+// A packet arrives at a host.
+fn arrive(caches: &mut Vec<Cache>, host: u16, uid: u64, address: u16, now: u32)
+    requires { CameUntil now caches.old.items }
+    ensures caches { caches.new.items
+        ≡ with_arrival_at (record { uid = uid; address = address; tick = now }) host caches.old.items }
+    ensures ticks { CameUntil now caches.new.items }
+{
+    let place = usize::from(host);
+    if place < caches.len() {
+        caches[place].arrived(uid, address, now);
+    }
+}
+
+// Whether the address is known.
+fn is_known(choice: Choice) -> bool
+    ensures { result ≡ is_known choice }
+{
+    matches!(choice, Choice::Known { .. })
+}
+
+// Appends the line of a host that sends.
+fn push_belief(
+    alloc: Global,
+    text: &mut Vec<u8>,
+    script: &Script,
+    place: u32,
+    from: u16,
+    to: u16,
+    choice: Choice,
+) -> Result<(), OutOfMemory>
+    ensures { OnOk result (text.new.items ≡ text.old.items ++ belief_line script.now
+        (record { place = place; from = from; to = to; choice = choice })) }
+{
+    let names = script.names_of_hosts();
+    let place = decimal(alloc, u64::from(place))?;
+    let from = host_name(names, from);
+    let to = host_name(names, to);
+    match choice {
+        Choice::Known { address } => {
+            let address = decimal(alloc, u64::from(address))?;
+            push_line(text, &[&place, from, b"to", to, b"known", &address])
+        }
+        Choice::Broadcast => push_line(text, &[&place, from, b"to", to, b"broadcast"]),
+    }
+}
+
+// Appends the last line.
+fn push_counts(
+    alloc: Global,
+    text: &mut Vec<u8>,
+    sent: u64,
+    known: u64,
+    broadcast: u64,
+) -> Result<(), OutOfMemory>
+    ensures { OnOk result (text.new.items
+        ≡ text.old.items ++ line_text (counts_by sent known broadcast)) }
+{
+    let sent = decimal(alloc, sent)?;
+    let known = decimal(alloc, known)?;
+    let broadcast = decimal(alloc, broadcast)?;
+    push_line(
+        text,
+        &[
+            b"end",
+            b"names",
+            &sent,
+            b"known",
+            &known,
+            b"broadcast",
+            &broadcast,
+        ],
+    )
+}
+
+// What is kept of packets and hosts while a journal is told.
+#[derive(Drop)]
+struct Believing<'a> {
+    alloc: Global,
+    script: &'a Script,
+    lines: Lines,
+    packets: Vec<Traced>,
+    caches: Vec<Cache>,
+    known: usize,
+}
+
+impl<'a> Believing<'a> {
+    // At the beginning.
+    fn begin(alloc: Global, script: &'a Script) -> Result<Self, OutOfMemory>
+        ensures { IfOk result (λ new.
+            KeepBeliefs script.now [] new.script.now new.packets.items new.caches.items new.known) }
+    {
+        Ok(Believing {
+            alloc,
+            script,
+            lines: Lines::new(alloc),
+            packets: Vec::new(alloc),
+            caches: caches(alloc, script.wiring().hosts().len())?,
+            known: 0,
+        })
+    }
+
+    // Where a host sends.
+    fn choice(&self, from: u16, to: u16, now: u32) -> Choice
+        requires within { from < length self.now.caches.items }
+        requires ticks { CameUntil now self.now.caches.items }
+        ensures { result ≡ choice_at self.now.script.now self.now.caches.items from to now }
+    {
+        let uid = host_at(self.script, to).uid;
+        self.caches[usize::from(from)].choose(uid, now)
+    }
+
+    // A host has sent a packet, by the event at this place.
+    fn send(
+        &mut self,
+        place: u32,
+        now: u32,
+        from: u16,
+        to: u16,
+        text: &mut Vec<u8>,
+    ) -> Result<(), OutOfMemory>
+        requires within { from < length self.old.caches.items }
+        requires ticks { CameUntil now self.old.caches.items }
+        requires few { self.old.known ≤ length self.old.packets.items }
+        ensures script { self.new.script.now ≡ self.old.script.now }
+        ensures caches { self.new.caches.items ≡ self.old.caches.items }
+        ensures packets { OnOk result (self.new.packets.items
+            ≡ self.old.packets.items ++ record { host = from; source = None } ∷ []) }
+        ensures known { OnOk result (self.new.known ≡ self.old.known
+            + (if is_known (choice_at self.old.script.now self.old.caches.items from to now)
+            then 1 else 0)) }
+        ensures text { OnOk result (text.new.items ≡ text.old.items
+            ++ belief_line self.old.script.now (record {
+              place = place;
+              from = from;
+              to = to;
+              choice = choice_at self.old.script.now self.old.caches.items from to now;
+            })) }
+    {
+        let choice = self.choice(from, to, now);
+        push_belief(self.alloc, text, self.script, place, from, to, choice)?;
+        self.packets.push(Traced {
+            host: from,
+            source: None,
+        })?;
+        if is_known(choice) {
+            self.known += 1;
+        }
+        Ok(())
+    }
+
+    // A packet has made a hop, of which the lines tell.
+    fn hop(&mut self, fabric: &Fabric, packet: u32)
+        requires least { 1 ≤ packet }
+        requires most { packet ≤ length self.old.packets.items }
+        requires ticks { CameUntil fabric.now.tick self.old.caches.items }
+        ensures script { self.new.script.now ≡ self.old.script.now }
+        ensures known { self.new.known ≡ self.old.known }
+        ensures packets { self.new.packets.items ≡ with_source self.old.packets.items (packet - 1)
+            (own_address self.old.script.now fabric.now self.old.packets.items (packet - 1)) }
+        ensures caches { self.new.caches.items ≡ with_delivery
+            (arrival_in self.old.script.now fabric.now self.old.packets.items (packet - 1))
+            (delivery_in self.old.lines) self.old.caches.items }
+        ensures ticks { CameUntil fabric.now.tick self.new.caches.items }
+    {
+        let place = packet as usize - 1;
+        let sender = host_at(self.script, self.packets[place].host);
+        let address = note(&mut self.packets, place, address_in(fabric, sender));
+        if let Some(host) = delivery_in(self.lines.as_slice()) {
+            arrive(&mut self.caches, host, sender.uid, address, fabric.now());
+        }
+    }
+
+    // The event at this place has come, of which the lines tell.
+    fn meet(
+        &mut self,
+        fabric: &Fabric,
+        place: u32,
+        event: &Event,
+        text: &mut Vec<u8>,
+    ) -> Result<(), OutOfMemory>
+        requires { (script : ScriptOf) × (before : List Event) × Meets script before event.now fabric.now
+            place self.old.lines self.old.script.now self.old.packets.items self.old.caches.items
+            self.old.known }
+        ensures keep { (script : ScriptOf) (before : List Event) → Meets script before event.now fabric.now
+            place self.old.lines self.old.script.now self.old.packets.items self.old.caches.items
+            self.old.known → OnOk result (KeepBeliefs script (before ++ event.now ∷ []) self.new.script.now
+            self.new.packets.items self.new.caches.items self.new.known) }
+        ensures text { (script : ScriptOf) (before : List Event) → Meets script before event.now fabric.now
+            place self.old.lines self.old.script.now self.old.packets.items self.old.caches.items
+            self.old.known → OnOk result (text.new.items ≡ text.old.items
+            ++ belief_text script (record { before = before; event = event.now })) }
+    {
+        match *event {
+            Event::Send { host, to } => {
+                self.send(place, fabric.now(), host, to, text)?;
+                Ok(())
+            }
+            Event::Move { packet } => {
+                self.hop(fabric, packet);
+                Ok(())
+            }
+            _ => Ok(()),
+        }
+    }
+}
+
+impl Account for Believing<'_> {
+    ghost use Rattle.std.specs.Prelude.{[]};
+    ghost use Rattle.text_lines.specs.Lines.{line_text};
+    ghost use Rattle.report.specs.Beliefs.{belief_text, beliefs_of, counts_words};
+    ghost use Rattle.report.specs.Remembering.{KeepBeliefs};
+
+    ghost first = { [] };
+
+    ghost told = { belief_text };
+
+    ghost last = { λ script history _. line_text (counts_words (beliefs_of script history)) };
+
+    ghost stands = { λ b script history.
+        KeepBeliefs script history b.script.now b.packets.items b.caches.items b.known };
+
+    fn step(
+        &mut self,
+        net: &mut Net,
+        event: &Event,
+        text: &mut Vec<u8>,
+    ) -> Result<(), ReplayRefusal> {
+        step(net, event, &mut self.lines)?;
+        let fabric = net.fabric();
+        self.meet(fabric, fabric.events(), event, text)?;
+        Ok(())
+    }
+
+    fn finish(&self, _net: &Net, _end: &Ending, text: &mut Vec<u8>) -> Result<(), OutOfMemory> {
+        let sent = self.packets.len();
+        let broadcast = sent - self.known;
+        push_counts(
+            self.alloc,
+            text,
+            sent as u64,
+            self.known as u64,
+            broadcast as u64,
+        )
+    }
+}
+
+/// What hosts believe in a journal, if it is legal: for each packet that a host sends, where it would send it by
+/// what came to it before; and last how many these are.
+pub fn names(alloc: Global, script: &Script, journal: &Journal) -> Result<Vec<u8>, ReplayRefusal>
+    ensures names { IfOk result (λ text. AreNames script.now journal.now text.items) }
+    ensures refused { IfErr result (IsRefusal script.now journal.now) }
+{
+    let mut believing = Believing::begin(alloc, script)?;
+    let mut text = Vec::new(alloc);
+    tell(alloc, script, journal, &mut believing, &mut text)?;
+    Ok(text)
+}
