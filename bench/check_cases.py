@@ -84,8 +84,17 @@ def many_components():
     return text(lines, rows)
 
 
+def single_switches():
+    """126 components of one switch each, with a row at each of 13 entries towards each number, all without exits."""
+    lines = ["autonet 1"] + [f"switch S{s} {s + 1:012x}" for s in range(LAST)] + ["end"]
+    lines += [f"number S{s} {s + 1}" for s in range(LAST)]
+    words = " ".join(f"{to}:-" for to in range(1, LAST + 1))
+    return text(lines, [(s, entry, words) for s in range(LAST) for entry in range(13)])
+
+
 CASES = {case.__name__: case for case in (cycle_at_the_end, gap_at_the_end, round_trip, wide_round_trip,
-                                          every_target_gets_stuck, many_components)}
+                                          every_target_gets_stuck, many_components,
+                                          single_switches)}
 
 
 def main():

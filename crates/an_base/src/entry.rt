@@ -1,5 +1,5 @@
 ghost use Rattle.std.specs.Prelude.{◌≡◌, ◌<◌, ◌≤◌, [], ◌∷◌, ◌++◌, length, All, IfOk, OnOk, OnErr};
-ghost use Rattle.an_base.specs.declared.limits.TheConstants.{LAST_PORT, MOST_NUMBER, MOST_SWITCHES};
+ghost use Rattle.an_base.specs.declared.limits.TheConstants.{MOST_NUMBER, MOST_SWITCHES};
 
 use crate::life::Life;
 use crate::links::Links;
@@ -158,60 +158,6 @@ impl Entries {
         ensures err { OnErr result (self.new ≡ self.old) }
     {
         self.items.push(entry)?;
-        Ok(())
-    }
-}
-
-#[cfg(test)]
-mod tests {
-    use super::*;
-    use crate::life::End;
-    use crate::links::PortLink;
-    use std::test::Fail;
-
-    // An entry at the root, with a link at this port.
-    fn entry_of(uid: u64, proposed: u8, port: u8) -> Entry
-        requires uid { uid < 100 }
-        requires least { 1 ≤ proposed }
-        requires most { proposed ≤ MOST_NUMBER }
-        requires port_least { 1 ≤ port }
-        requires port_most { port ≤ LAST_PORT }
-        ensures { result.life ≡ record { uid = uid; boot = 1 } }
-    {
-        let life = Life::new(uid, 1);
-        let mut links = Links::new();
-        links.push(PortLink::new(port, End::new(Life::new(9, 1), 1)));
-        Entry {
-            life,
-            position: Position::new(Life::new(1, 1), 0, Life::new(1, 1), 0),
-            proposed,
-            links,
-        }
-    }
-
-    #[test]
-    fn entries_are_ordered_by_position_number_and_links(rt: HostRuntime) {
-        let least = entry_of(1, 1, 1);
-        assert_eq!(rt; least.compare(&entry_of(2, 1, 1)), Ordering::Equal);
-        assert_eq!(rt; least.compare(&entry_of(1, 2, 1)), Ordering::Less);
-        assert_eq!(rt; entry_of(1, 1, 2).compare(&least), Ordering::Greater);
-        assert_eq!(rt;
-            entry_of(1, 1, 2).compare(&entry_of(1, 2, 1)),
-            Ordering::Less
-        );
-    }
-
-    #[test]
-    fn entries_stand_by_rising_life(rt: HostRuntime) -> Result<(), Fail> {
-        let mut entries = Entries::of(rt.alloc(), entry_of(1, 1, 1)).map_err(|_error| "memory")?;
-        entries.push(entry_of(2, 5, 1)).map_err(|_error| "memory")?;
-        assert_eq!(rt; entries.len(), 2);
-        let last = &entries.as_slice()[1];
-        assert_eq!(rt; last.proposed, 5);
-        assert_eq!(rt; entries.into_vec().len(), 2);
-        let mut items = Vec::new(rt.alloc());
-        items.push(entry_of(3, 1, 1))?;
-        assert_eq!(rt; Entries::new(items).len(), 1);
         Ok(())
     }
 }

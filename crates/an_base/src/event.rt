@@ -170,22 +170,3 @@ impl Journal {
         Ok(())
     }
 }
-
-#[cfg(test)]
-mod tests {
-    use super::*;
-    use std::test::Fail;
-
-    #[test]
-    fn a_journal_keeps_its_events_in_order(rt: HostRuntime) -> Result<(), Fail> {
-        let mut journal = Journal::new(rt.alloc());
-        assert!(rt; journal.is_empty());
-        journal.push(Event::Clock { s: 3 })?;
-        journal.push(Event::Handle { s: 3 })?;
-        assert_eq!(rt; journal.len(), 2);
-        assert!(rt; journal.as_slice()[0] == Event::Clock { s: 3 });
-        let journal = Journal::of(journal.into_vec());
-        assert!(rt; journal.as_slice()[1] == Event::Handle { s: 3 });
-        Ok(())
-    }
-}

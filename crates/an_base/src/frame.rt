@@ -94,19 +94,3 @@ pub enum Frame {
         nonce: u64,
     },
 }
-
-#[cfg(test)]
-mod tests {
-    use super::*;
-    use crate::body::AnswerBody;
-    use crate::life::Life;
-
-    #[test]
-    fn a_frame_carries_its_body(rt: HostRuntime) {
-        let from = End::new(Life::new(1, 1), 1);
-        let to = End::new(Life::new(2, 1), 12);
-        let frame = CarryFrame::new(9, from, to, 4, Body::Answer(AnswerBody::new(3, true)));
-        assert_eq!(rt; frame.k(), 4);
-        assert!(rt; matches!(frame.into_body(), Body::Answer(_)));
-    }
-}

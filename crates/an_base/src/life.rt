@@ -102,19 +102,3 @@ impl End {
         self.port
     }
 }
-
-#[cfg(test)]
-mod tests {
-    use super::*;
-
-    #[test]
-    fn lives_are_ordered_by_identifier_and_then_by_boot(rt: HostRuntime) {
-        assert!(rt; Life::new(1, 9) < Life::new(2, 1));
-        assert!(rt; Life::new(2, 1) < Life::new(2, 2));
-        assert_eq!(rt; Life::new(2, 2).uid(), 2);
-        assert_eq!(rt; Life::new(1, 2).boot(), 2);
-        let end = End::new(Life::new(7, 1), 12);
-        assert_eq!(rt; end.port(), 12);
-        assert_eq!(rt; end.life(), Life::new(7, 1));
-    }
-}

@@ -134,22 +134,3 @@ impl Links {
         self.len += 1;
     }
 }
-
-#[cfg(test)]
-mod tests {
-    use super::*;
-
-    #[test]
-    fn links_stand_by_rising_port(rt: HostRuntime) {
-        let peer = End::new(Life::new(2, 1), 5);
-        let mut links = Links::new();
-        assert!(rt; links.is_empty());
-        links.push(PortLink::new(1, peer));
-        links.push(PortLink::new(12, peer));
-        assert_eq!(rt; links.len(), 2);
-        let last = &links.as_slice()[1];
-        assert_eq!(rt; last.port(), 12);
-        assert_eq!(rt; last.peer(), peer);
-        assert!(rt; links.as_slice()[0] < links.as_slice()[1]);
-    }
-}

@@ -1,4 +1,4 @@
-ghost use Rattle.std.specs.Prelude.{◌≡◌, ◌≢◌, ◌≤◌, length, All, AllPairs, IfOk};
+ghost use Rattle.std.specs.Prelude.{◌≡◌, length, IfOk};
 
 use crate::memory::OutOfMemory;
 use std::alloc::Global;
@@ -55,21 +55,5 @@ impl Numbers {
         Ok(Numbers {
             items: Vec::from_slice(alloc, self.as_slice())?,
         })
-    }
-}
-
-#[cfg(test)]
-mod tests {
-    use super::*;
-    use std::test::Fail;
-
-    #[test]
-    fn a_copy_has_the_same_numbers(rt: HostRuntime) -> Result<(), Fail> {
-        let mut items = Vec::new(rt.alloc());
-        items.push(126)?;
-        let numbers = Numbers::new(items).copy(rt.alloc())?;
-        assert_eq!(rt; numbers.as_slice(), [126].as_slice());
-        assert_eq!(rt; numbers.len(), 1);
-        Ok(())
     }
 }

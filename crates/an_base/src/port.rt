@@ -156,32 +156,3 @@ impl Note {
         }
     }
 }
-
-#[cfg(test)]
-mod tests {
-    use super::*;
-
-    #[test]
-    fn a_note_shows_the_ports_that_were_set(rt: HostRuntime) {
-        let life = Life::new(2, 1);
-        let mut ports = Ports::new();
-        let unseen = ports.get(12);
-        assert!(rt; unseen.state == PortState::Dead);
-        assert!(rt; unseen.peer == None);
-        let good = PortView {
-            state: PortState::Good,
-            peer: Some(End::new(life, 3)),
-        };
-        ports.set(12, good);
-        let note = Note {
-            life,
-            epoch: 7,
-            ports,
-            load_due: false,
-            unacked: true,
-        };
-        let copy = note.copy();
-        assert!(rt; copy.ports.get(12) == good);
-        assert!(rt; copy.unacked);
-    }
-}

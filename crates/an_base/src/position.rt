@@ -76,22 +76,3 @@ impl Position {
         self.port
     }
 }
-
-#[cfg(test)]
-mod tests {
-    use super::*;
-
-    #[test]
-    fn positions_are_ordered_by_root_level_parent_and_port(rt: HostRuntime) {
-        let a = Life::new(1, 1);
-        let b = Life::new(2, 1);
-        let first = Position::new(a, 1, b, 2);
-        let last = Position::new(b, 0, b, 0);
-        assert!(rt; first < Position::new(a, 1, b, 3));
-        assert!(rt; Position::new(a, 1, b, 3) < Position::new(a, 2, a, 1));
-        assert!(rt; Position::new(a, 2, a, 1) < last);
-        assert_eq!(rt; last.root(), b);
-        assert_eq!(rt; first.parent(), b);
-        assert_eq!(rt; (first.level(), first.port()), (1, 2));
-    }
-}

@@ -8,7 +8,7 @@ use std::marker::Model;
 #[derive(Debug, Drop)]
 pub struct Exits {
     ports: [u8; PORTS],
-    len: usize,
+    len: u8,
 }
 
 impl Model for Exits {
@@ -59,7 +59,7 @@ impl Exits {
         ensures ports { ArePorts self.now }
         ensures rising { ExitsRise self.now }
     {
-        &self.ports[..self.len]
+        &self.ports[..usize::from(self.len)]
     }
 
     /// The same exits, without taking memory.
@@ -80,7 +80,7 @@ impl Exits {
         requires rising { All (λ p. p < port) self.old }
         ensures { self.new ≡ self.old ++ port ∷ [] }
     {
-        self.ports[self.len] = port;
+        self.ports[usize::from(self.len)] = port;
         self.len += 1;
     }
 }
@@ -105,25 +105,4 @@ impl Model for Row {
     ghost Value = { RowOf };
 
     ghost view = { λ r. record { at = r.at; entry = r.entry; to = r.to; exits = r.exits } };
-}
-
-#[cfg(test)]
-mod tests {
-    use super::*;
-
-    #[test]
-    fn exits_rise(rt: HostRuntime) {
-        let mut exits = Exits::new();
-        assert!(rt; exits.is_empty());
-        exits.push(1);
-        exits.push(12);
-        let row = Row {
-            at: 1,
-            entry: 0,
-            to: 2,
-            exits: exits.copy(),
-        };
-        assert_eq!(rt; row.exits.len(), 2);
-        assert_eq!(rt; row.exits.as_slice(), [1, 12].as_slice());
-    }
 }

@@ -111,32 +111,3 @@ impl Word {
         self.bytes
     }
 }
-
-#[cfg(test)]
-mod tests {
-    use super::*;
-    use std::test::Fail;
-
-    #[test]
-    fn a_number_is_appended_in_decimal(rt: HostRuntime) -> Result<(), Fail> {
-        let mut text = Vec::from_slice(rt.alloc(), b"S")?;
-        push_decimal(rt.alloc(), &mut text, 0)?;
-        push_decimal(rt.alloc(), &mut text, u64::MAX)?;
-        assert_eq!(rt; text.as_slice(), b"S018446744073709551615".as_slice());
-        Ok(())
-    }
-
-    #[test]
-    fn a_word_is_its_bytes(rt: HostRuntime) -> Result<(), Fail> {
-        let word = Word::of(rt.alloc(), b"S1").map_err(|_error| "memory")?;
-        assert_eq!(rt; word.as_bytes(), b"S1".as_slice());
-        assert_eq!(rt; word.len(), 2);
-        assert!(rt; !word.is_empty());
-        let again = Word::new(word.into_vec());
-        assert_eq!(rt; again.as_bytes(), b"S1".as_slice());
-        let bytes = Bytes::new(again.into_vec());
-        assert_eq!(rt; bytes.as_slice(), b"S1".as_slice());
-        assert_eq!(rt; bytes.into_vec().len(), 2);
-        Ok(())
-    }
-}

@@ -1,31 +1,13 @@
-//! The program: the calls that answer its words, and `main`, which makes one of them over the
-//! standard streams.
+//! The program: it reads its words and makes the one call of `commands` over the standard streams.
 //!
-//! It stands on all other crates. Its contract is the top call's: what each status means, what the
-//! source then has left, and what each sink gained.
+//! It has no contract of its own: what it prints, and its status, are those of the call.
 #![tactic(auto)]
-
-mod check;
-mod command;
-mod expect;
-mod flood;
-mod flow;
-#[cfg(test)]
-mod gates;
-mod generate;
-mod input;
-mod law;
-mod names;
-mod replaying;
-mod reported;
-mod run;
-mod status;
-mod top;
 
 use an_base::memory::OutOfMemory;
 use an_base::text::Word;
+use commands::status::{Status, finish};
+use commands::top::autonet;
 use outside::standard::{StdSink, StdSource};
-use status::{Status, finish};
 use std::alloc::Global;
 use std::env;
 use std::io::ErrorKind;
@@ -53,7 +35,7 @@ fn main(rt: HostRuntime) -> ExitCode {
     let mut out = StdSink::new(rt.stdout());
     let mut err = StdSink::new(rt.stderr());
     let code = match words(&rt) {
-        Ok(words) => top::autonet(
+        Ok(words) => autonet(
             &rt,
             rt.alloc(),
             &words,

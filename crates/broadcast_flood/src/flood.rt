@@ -1,4 +1,4 @@
-ghost use Rattle.std.specs.Prelude.{◌≡◌, ◌↔◌, ◌<◌, ◌≤◌, ◌++◌, ℕ};
+ghost use Rattle.std.specs.Prelude.{◌≡◌, ◌↔◌, ◌<◌, ◌++◌};
 ghost use Rattle.std.specs.Prelude.{Any, length, map, IfOk, IfSome, IsNone, OnOk};
 ghost use Rattle.topo_graph.specs.Topology.{IsGraph, IsTree, life_at};
 ghost use Rattle.broadcast_flood.specs.Kept.{AreChildren, AreHopsDown};
@@ -131,101 +131,5 @@ impl<'a> Flood<'a> {
         let mut hops = self.hops_up(alloc, x)?;
         hops.extend_from_slice(&self.downs)?;
         Ok(hops)
-    }
-}
-
-#[cfg(test)]
-mod tests {
-    use super::*;
-    use an_base::entry::Entries;
-    use std::test::Fail;
-    use topo_graph::sample::{entry, life_of, link, ring, two_links};
-
-    // Lives 1 and 2 with two links, which cross.
-    fn pair(rt: &HostRuntime) -> Result<Graph, Fail> {
-        let first = entry(1, 0, 1, 0, two_links(link(1, 2, 2), link(2, 2, 1)));
-        let mut entries = Entries::of(rt.alloc(), first)?;
-        entries.push(entry(2, 1, 1, 1, two_links(link(1, 1, 2), link(2, 1, 1))))?;
-        Ok(Graph::of(rt.alloc(), &entries)?)
-    }
-
-    // A hop up or down from a life by a port.
-    fn hop(up: bool, uid: u64, port: u8) -> FloodHop
-        requires { uid < 100 }
-    {
-        FloodHop {
-            up,
-            at: life_of(uid),
-            port,
-        }
-    }
-
-    // The hops of a broadcast from a life.
-    fn hops_from(rt: &HostRuntime, graph: &Graph, uid: u64) -> Result<Vec<FloodHop>, Fail>
-        requires { uid < 100 }
-    {
-        let life = life_of(uid);
-        let Some(_place) = graph.place(life) else {
-            return Err("no member".into());
-        };
-        if !graph.tree_ok() {
-            return Err("no tree".into());
-        }
-        let flood = Flood::of(rt.alloc(), graph)?;
-        Ok(flood.hops(rt.alloc(), life)?)
-    }
-
-    #[test]
-    fn a_parallel_link_is_no_tree_link(rt: HostRuntime) -> Result<(), Fail> {
-        let graph = pair(&rt)?;
-        let down = hop(false, 1, 2);
-        assert_eq!(rt; hops_from(&rt, &graph, 1)?.as_slice(), [down].as_slice());
-        assert_eq!(rt;
-            hops_from(&rt, &graph, 2)?.as_slice(),
-            [hop(true, 2, 1), down].as_slice()
-        );
-        Ok(())
-    }
-
-    #[test]
-    fn hops_go_up_to_the_root_and_down_by_level(rt: HostRuntime) -> Result<(), Fail> {
-        let graph = ring(rt.alloc())?;
-        let hops = [
-            hop(true, 4, 1),
-            hop(true, 2, 1),
-            hop(false, 1, 1),
-            hop(false, 1, 2),
-            hop(false, 2, 2),
-        ];
-        assert_eq!(rt; hops_from(&rt, &graph, 4)?.as_slice(), hops.as_slice());
-        Ok(())
-    }
-
-    // The port to the parent of a life, and those to its children.
-    fn ports_of(rt: &HostRuntime, graph: &Graph, uid: u64) -> Result<(Option<u8>, Vec<u8>), Fail>
-        requires { uid < 100 }
-    {
-        let life = life_of(uid);
-        let Some(_place) = graph.place(life) else {
-            return Err("no member".into());
-        };
-        if !graph.tree_ok() {
-            return Err("no tree".into());
-        }
-        let flood = Flood::of(rt.alloc(), graph)?;
-        let children = Vec::from_slice(rt.alloc(), flood.child_ports(life))?;
-        Ok((flood.parent_port(life), children))
-    }
-
-    #[test]
-    fn members_know_their_parents_and_children(rt: HostRuntime) -> Result<(), Fail> {
-        let graph = ring(rt.alloc())?;
-        let (parent, children) = ports_of(&rt, &graph, 1)?;
-        assert_eq!(rt; parent, None);
-        assert_eq!(rt; children.as_slice(), [1, 2].as_slice());
-        let (parent, children) = ports_of(&rt, &graph, 2)?;
-        assert_eq!(rt; parent, Some(1));
-        assert_eq!(rt; children.as_slice(), [2].as_slice());
-        Ok(())
     }
 }

@@ -1,7 +1,6 @@
 ghost use Rattle.std.specs.Prelude.{◌≡◌, ◌≢◌, ◌<◌, ◌^◌, false};
 ghost use Rattle.connectivity.specs.Connections.{unknown, probed, replied, judged, forgotten, is_end, asked, met, held_by, doubted};
 ghost use Rattle.connectivity.specs.declared.conn.Conn.TheVariants.{Who};
-ghost use Rattle.skeptic.specs.Skeptics.{cleared};
 
 use crate::conn::Conn;
 use an_base::life::End;
@@ -183,35 +182,5 @@ fn met(me: End, from: End) -> Conn
         Conn::Loop(from)
     } else {
         Conn::Good(from)
-    }
-}
-
-#[cfg(test)]
-mod tests {
-    use super::*;
-    use an_base::life::Life;
-
-    // Probes, lets this end reply, and judges.
-    fn probed(far: &mut Connectivity, from: End) -> Option<Conn> {
-        if far.nonce() > 1000 {
-            return None;
-        }
-        let nonce = far.probe();
-        far.on_reply(from, nonce);
-        Some(far.step())
-    }
-
-    #[test]
-    fn a_peer_is_kept_over_one_missed_probe_and_lost_over_two(rt: HostRuntime) {
-        let peer = End::new(Life::new(2, 1), 3);
-        let mut far = Connectivity::new(End::new(Life::new(1, 1), 1));
-        assert!(rt; probed(&mut far, peer) == Some(Conn::Good(peer)));
-        assert!(rt; far.step() == Conn::Good(peer));
-        far.clear();
-        assert!(rt; far.step() == Conn::Who);
-        assert!(rt; probed(&mut far, peer) == Some(Conn::Good(peer)));
-        assert_eq!(rt; far.nonce(), 2);
-        far.on_reply(End::new(Life::new(3, 1), 1), 2);
-        assert!(rt; far.conn() == Conn::Good(peer));
     }
 }

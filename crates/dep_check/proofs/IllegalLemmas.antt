@@ -7,7 +7,9 @@ use Rattle.std.specs.Cmp.{IsTotalOrder, then_total, on_total, nat_cmp_total}
 use Rattle.std.specs.BTreeMap.Comparable.{le_lt_trans}
 use Rattle.std.proofs.lemmas.Bool.{cases_eq, cases_lt}
 use Rattle.std.proofs.lemmas.Bool.Decides.{nat_tests}
+use Rattle.std.specs.List.{list_all}
 use Rattle.std.proofs.lemmas.List.{get_or_default}
+use Rattle.std.proofs.lemmas.List.Folds.{list_all_at}
 use Rattle.std.proofs.lemmas.Option.{same_Some}
 use Rattle.topo_graph.specs.Topology.{far_of}
 use Rattle.an_base.specs.Values.{EntryOf}
@@ -17,8 +19,8 @@ use Rattle.dep_check.specs.declared.illegal.RowExit.{RowExit}
 use Rattle.dep_check.specs.Channels.{by_number, far_at, place_in}
 use Rattle.dep_check.specs.Packets.{four_cmp}
 use Rattle.dep_check.specs.Illegal.{IsBad, IsIllegal, AllAreLegal, IsLeastIllegal, LeadsUp}
-use Rattle.dep_check.specs.Tables.{IsSpot, place_of, row_at, wire_at}
-use Rattle.dep_check.specs.Worst.{AreSides, AreUpBelow, IsBadExit, IsBadOf, FirstBad, IsNotAfter, LeadsUpAt, LeastBelow, up_at}
+use Rattle.dep_check.specs.Tables.{AreExitsBelow, HasBelow, IsSpot, is_spot, place_of, row_at, wire_at}
+use Rattle.dep_check.specs.Worst.{AreLegalBy, is_at_spot, AreSides, AreUpBelow, IsBadExit, IsBadOf, FirstBad, IsNotAfter, LeadsUpAt, LeastBelow, up_at}
 use Rattle.dep_check.proofs.SpotLemmas.{place_low, spot_cases, spot_true}
 use Rattle.dep_check.proofs.BridgeLemmas.{wire_spot}
 use Rattle.dep_check.proofs.PushLemmas.{push_count, pushed}
@@ -218,3 +220,19 @@ all_rows es numbers rows end (Some i) all so_far = record {
   };
   least = λ a e t p illegal. let j = index_of es numbers rows a e t p illegal in so_far.1 j.0 (record { at = a; entry = e; to = t; exit = p }) (let low = j.1 in omega arith) j.2;
 }
+
+-- no exit is illegal where none of a table of the exits of all rows is, and each row is for what came in at a spot
+pub none_illegal : (es : List EntryOf) (numbers : List ℕ) (rows : List RowOf) (wires : List (Option Channel)) (up : List Bool) (table : List ℕ) → AreSides es numbers wires up → AreExitsBelow rows None (length rows) table → AreLegalBy wires up table → list_all is_at_spot rows ≡ true → AllAreLegal es numbers rows
+none_illegal es numbers rows wires up table sides below legal all = λ at entry to exit illegal.
+    let i = index_of es numbers rows at entry to exit illegal in
+    let s : Channel = record { at = at; port = entry } in
+    let there : record { at = (row_at rows i.0).at; port = (row_at rows i.0).entry } ≡ s = ap (λ (n : ℕ). record { at = n; port = (row_at rows i.0).entry }) i.2.at ∙ ap (λ (n : ℕ). record { at = at; port = n }) i.2.entry in
+    elim (spot_cases s) [
+      | inl spot ↦ (
+          let here : HasBelow rows None (length rows) s exit = record { index = i.0; below = i.1; counts = refl; at = i.2.at; entry = i.2.entry; has = i.2.has } in
+          let low = below.ports s exit spot here in
+          legal s exit spot low ((below.each s exit spot low).1 here) ((bad_told es numbers wires up at entry exit (up_at up s) sides refl).1 i.2.bad))
+      | inr out ↦ absurd (
+          let f = list_all_at is_at_spot rows i.0 (record { at = 0; entry = 0; to = 0; exits = [] }) i.1 (ap is_spot there ∙ out) in
+          cc)
+    ]

@@ -24,6 +24,14 @@ IsRefusal entries numbers rows (IllegalExit at entry to exit) =
     × IsLeastIllegal entries numbers rows at entry to exit
 IsRefusal entries numbers rows OutOfMemory = Unit {0}
 
+-- no channels lead round, and these are the ranks
+pub record HasAllRanks (entries : List EntryOf) (numbers : List ℕ) (rows : List RowOf)
+    (ranks : List (Option ℕ))
+    : Type 0 where
+  pub no_cycle : HasNoCycle (LeadsTo (far_at entries numbers) rows)
+  pub ranked :
+      AreRanks (IsChannel (far_at entries numbers)) (LeadsTo (far_at entries numbers) rows) (rank_at ranks)
+
 -- the rows pass, with these ranks
 pub record Passes (entries : List EntryOf) (numbers : List ℕ) (rows : List RowOf) (ranks : List (Option ℕ))
     : Type 0 where

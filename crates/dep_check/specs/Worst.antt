@@ -8,7 +8,7 @@ use Rattle.dep_check.specs.declared.channel.Channel.{Channel}
 use Rattle.dep_check.specs.Channels.{far_at, place_in}
 use Rattle.dep_check.specs.Packets.{IsUpTo}
 use Rattle.dep_check.specs.Illegal.{IsBad, LeadsUp}
-use Rattle.dep_check.specs.Tables.{IsSpot, is_spot, place_of, row_at, wire_at}
+use Rattle.dep_check.specs.Tables.{IsSpot, has_at, is_spot, place_of, row_at, wire_at}
 
 -- a port of the switch that has a number has a link whose far end is its up end
 abbrev pub LeadsUpAt : List EntryOf → List ℕ → Channel → Type 0
@@ -36,6 +36,16 @@ abbrev pub IsBadExit : List (Option Channel) → List Bool → ℕ → Bool → 
 IsBadExit wires up at came_down exit =
     (wire_at wires (record { at = at; port = exit }) ≡ None)
     ⊎ ((came_down ≡ true) × (up_at up (record { at = at; port = exit }) ≡ true))
+
+-- a row is for what came in at a spot
+abbrev pub is_at_spot : RowOf → Bool
+is_at_spot r = is_spot (record { at = r.at; port = r.entry })
+
+-- by the tables of the sides no exit of a table of exits is illegal
+abbrev pub AreLegalBy : List (Option Channel) → List Bool → List ℕ → Type 0
+AreLegalBy wires up exits =
+    (s : Channel) (p : ℕ) → IsSpot s → p < 13 → has_at exits s p ≡ true
+    → IsBadExit wires up s.at (up_at up s) p → ⊥
 
 -- an illegal exit of one row
 pub record IsBadOf (es : List EntryOf) (numbers : List ℕ) (r : RowOf) (i : RowExit) : Type 0 where

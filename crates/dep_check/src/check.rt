@@ -1,7 +1,8 @@
 ghost use Rattle.std.specs.Prelude.{◌≡◌, ◌<◌, length, Some, None, IfOk, IfErr, MatchBool};
 ghost use Rattle.dep_check.specs.declared.channel.Channel.{Channel};
-ghost use Rattle.dep_check.specs.Tables.{IsSpot, level_at};
-ghost use Rattle.dep_check.specs.Answer.{IsRefusal, Passes};
+ghost use Rattle.dep_check.specs.Channels.{far_at};
+ghost use Rattle.dep_check.specs.Tables.{AreExitsBelow, AreWires, IsSpot, level_at};
+ghost use Rattle.dep_check.specs.Answer.{HasAllRanks, IsRefusal, Passes};
 ghost use Rattle.dep_check.specs.Search.{IsLinked};
 
 use crate::channel::Channel;
@@ -67,6 +68,59 @@ fn are_all_ranked(steps: &Steps, levels: &[Option<u16>]) -> bool
     true
 }
 
+// The far sides of the spots, the steps of channels between them, and the ranks of the channels.
+#[derive(Drop)]
+struct RankedSteps {
+    wires: Vec<Option<Channel>>,
+    steps: Steps,
+    levels: Vec<Option<u16>>,
+}
+
+// Those of rows, unless the rows let some channels lead round.
+fn ranked_by(
+    alloc: Global,
+    graph: &Graph,
+    numbers: &Numbers,
+    rows: &[Row],
+) -> Result<RankedSteps, CheckRefusal>
+    requires { length numbers.now ≡ length graph.now }
+    ensures wires { IfOk result (λ r. AreWires (far_at graph.now numbers.now) r.wires.items) }
+    ensures exits { IfOk result (λ r. AreExitsBelow rows.now None (length rows.now) r.steps.exits.items) }
+    ensures ranked { IfOk result (λ r. HasAllRanks graph.now numbers.now rows.now r.levels.items) }
+    ensures refused { IfErr result (IsRefusal graph.now numbers.now rows.now) }
+{
+    let wires = wires_of(alloc, graph, numbers)?;
+    let steps = Steps::of(alloc, &wires, rows)?;
+    let levels = ranks_of(alloc, &steps)?;
+    if !are_all_ranked(&steps, &levels) {
+        let channels = least_cycle(alloc, &steps)?.unwrap();
+        return Err(CheckRefusal::Cycle { channels });
+    }
+    Ok(RankedSteps {
+        wires,
+        steps,
+        levels,
+    })
+}
+
+/// The ranks of the channels, unless rows let some lead round: then it refuses the least cycle. It judges
+/// neither pairs nor exits.
+pub fn ranks_over(
+    alloc: Global,
+    graph: &Graph,
+    numbers: &Numbers,
+    rows: &[Row],
+) -> Result<Ranks, CheckRefusal>
+    requires { length numbers.now ≡ length graph.now }
+    ensures ranked { IfOk result (HasAllRanks graph.now numbers.now rows.now) }
+    ensures refused { IfErr result (IsRefusal graph.now numbers.now rows.now) }
+{
+    let ranked = ranked_by(alloc, graph, numbers, rows)?;
+    Ok(Ranks {
+        levels: ranked.levels,
+    })
+}
+
 /// Judges the rows of routing tables for a graph, with one number for each of its entries. A row
 /// names its switch and its target by number.
 ///
@@ -91,14 +145,8 @@ pub fn check(
     ensures passes { IfOk result (Passes graph.now numbers.now rows.now) }
     ensures refused { IfErr result (IsRefusal graph.now numbers.now rows.now) }
 {
-    let wires = wires_of(alloc, graph, numbers)?;
-    let steps = Steps::of(alloc, &wires, rows)?;
-    let levels = ranks_of(alloc, &steps)?;
-    if !are_all_ranked(&steps, &levels) {
-        let channels = least_cycle(alloc, &steps)?.unwrap();
-        return Err(CheckRefusal::Cycle { channels });
-    }
-    if let Some(gap) = least_gap(alloc, &wires, numbers, rows)? {
+    let ranked = ranked_by(alloc, graph, numbers, rows)?;
+    if let Some(gap) = least_gap(alloc, &ranked.wires, numbers, rows)? {
         return Err(CheckRefusal::NotJoined {
             from: gap.from,
             to: gap.to,
@@ -106,7 +154,14 @@ pub fn check(
             entry: gap.entry,
         });
     }
-    if let Some(illegal) = least_illegal(alloc, graph, numbers, &wires, rows)? {
+    if let Some(illegal) = least_illegal(
+        alloc,
+        graph,
+        numbers,
+        &ranked.wires,
+        &ranked.steps,
+        rows,
+    )? {
         return Err(CheckRefusal::IllegalExit {
             at: illegal.at,
             entry: illegal.entry,
@@ -114,5 +169,7 @@ pub fn check(
             exit: illegal.exit,
         });
     }
-    Ok(Ranks { levels })
+    Ok(Ranks {
+        levels: ranked.levels,
+    })
 }

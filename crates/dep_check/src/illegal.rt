@@ -1,13 +1,19 @@
-ghost use Rattle.std.specs.Prelude.{◌≡◌, ◌↔◌, ◌+◌, ℕ, List, Option, IsTrue, MatchOption, None, IfOk};
+ghost use Rattle.std.specs.Prelude.{◌≡◌, ◌↔◌, ◌+◌, ℕ, List, Option, IsTrue, MatchOption, None, IfOk, length, true};
+ghost use Rattle.std.specs.Int.{bit_at};
+ghost use Rattle.std.specs.List.{list_all};
 ghost use Rattle.an_base.specs.Rows.{RowOf};
 ghost use Rattle.an_base.specs.Values.{EntryOf};
 ghost use Rattle.dep_check.specs.Channels.{far_at};
 ghost use Rattle.dep_check.specs.Illegal.{AllAreLegal, IsLeastIllegal, LeadsUp};
-ghost use Rattle.dep_check.specs.Tables.{AreWires, row_at, wire_at};
-ghost use Rattle.dep_check.specs.Worst.{AreSides, AreUpBelow, FirstBad, IsBadExit, IsNotAfter, LeadsUpAt, LeastBelow, up_at};
+ghost use Rattle.dep_check.specs.Tables.{AreExitsBelow, AreWires, row_at, wire_at};
+ghost use Rattle.dep_check.specs.Worst.{AreLegalBy, AreSides, AreUpBelow, FirstBad, IsBadExit, IsNotAfter, LeadsUpAt, LeastBelow};
+ghost use Rattle.dep_check.specs.Worst.{is_at_spot, up_at};
 
 use crate::channel::Channel;
+use crate::exits::exits_at;
+use crate::ports::{lowest, without};
 use crate::spot::{SPOTS, place_of, spot_at};
+use crate::steps::Steps;
 use crate::wires::place_in;
 use an_base::limits::{LAST_PORT, MOST_NUMBER};
 use an_base::memory::OutOfMemory;
@@ -162,20 +168,82 @@ fn least_between(sides: &Sides<'_>, rows: &[Row]) -> Option<RowExit>
     best
 }
 
-/// The least illegal exit of the rows, where these are the far sides of the spots. It looks once at each
-/// exit.
+// Whether none of some exits is illegal for what came in at a spot.
+fn are_legal_at(sides: &Sides<'_>, spot: Channel, exits: u16) -> bool
+    ensures { result ≡ true → (p : ℕ) → bit_at exits p ≡ 1
+        → IsBadExit sides.now.wires.now sides.now.up.now spot.at (up_at sides.now.up.now spot) p → ⊥ }
+{
+    let came_down = sides.is_up(spot.at, spot.port);
+    let mut left = exits;
+    'exits: while left > 0 {
+        let exit = lowest(left);
+        left = without(left, exit);
+        if sides.is_illegal(spot.at, came_down, exit) {
+            return false;
+        }
+    }
+    true
+}
+
+// Whether no exit of a table is illegal.
+fn are_all_legal(sides: &Sides<'_>, exits: &[u16]) -> bool
+    ensures { result ≡ true → AreLegalBy sides.now.wires.now sides.now.up.now exits.now }
+{
+    'spots: for place in 0..SPOTS {
+        let spot = spot_at(place);
+        if !are_legal_at(sides, spot, exits_at(exits, spot)) {
+            return false;
+        }
+    }
+    true
+}
+
+// Whether a row is for what came in at a spot.
+fn is_at_spot(row: &Row) -> bool
+    ensures { result ≡ is_at_spot row.now }
+{
+    row.at < 127 && row.entry < 13
+}
+
+// The same of each row.
+fn are_at_spots(rows: &[Row]) -> bool
+    ensures { result ≡ list_all is_at_spot rows.now }
+{
+    rows.iter().all(|row| is_at_spot(row))
+}
+
+// Whether no exit is illegal, where the table has those of the rows. It looks once at each row, and at none
+// of their exits.
+fn are_legal(sides: &Sides<'_>, exits: &[u16], rows: &[Row]) -> bool
+    ensures { (es : List EntryOf) (numbers : List ℕ) → result ≡ true
+        → AreSides es numbers sides.now.wires.now sides.now.up.now
+        → AreExitsBelow rows.now None (length rows.now) exits.now → AllAreLegal es numbers rows.now }
+{
+    if !are_at_spots(rows) {
+        return false;
+    }
+    are_all_legal(sides, exits)
+}
+
+/// The least illegal exit of the rows, where these are the far sides of the spots, and the steps have the
+/// exits of all rows. Where there is one it looks once at each exit of the rows.
 pub fn least_illegal(
     alloc: Global,
     graph: &Graph,
     numbers: &Numbers,
     wires: &[Option<Channel>],
+    steps: &Steps,
     rows: &[Row],
 ) -> Result<Option<RowExit>, OutOfMemory>
-    requires { AreWires (far_at graph.now numbers.now) wires.now }
+    requires wires { AreWires (far_at graph.now numbers.now) wires.now }
+    requires exits { AreExitsBelow rows.now None (length rows.now) steps.now.exits.items }
     ensures { IfOk result (λ found. MatchOption found (AllAreLegal graph.now numbers.now rows.now)
         (λ i. IsLeastIllegal graph.now numbers.now rows.now i.at i.entry i.to i.exit)) }
 {
     let up = all_up(alloc, graph, numbers)?;
     let sides = Sides { wires, up: &up };
+    if are_legal(&sides, &steps.exits, rows) {
+        return Ok(None);
+    }
     Ok(least_between(&sides, rows))
 }

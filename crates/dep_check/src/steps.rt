@@ -1,7 +1,7 @@
-ghost use Rattle.std.specs.Prelude.{◌≡◌, ◌≢◌, ◌<◌, ◌↔◌, ℕ, length, Some, None, Contains, IsTrue, IfOk, IfSome};
+ghost use Rattle.std.specs.Prelude.{◌≡◌, ◌≢◌, ◌<◌, ◌↔◌, ℕ, true, length, Some, None, Contains, IsTrue, IfOk, IfSome};
 ghost use Rattle.std.specs.Int.{bit_at};
 ghost use Rattle.dep_check.specs.declared.channel.Channel.{Channel};
-ghost use Rattle.dep_check.specs.Tables.{AreLinks, IsSpot, wire_at};
+ghost use Rattle.dep_check.specs.Tables.{AreLinks, has_at, IsSpot, wire_at};
 ghost use Rattle.dep_check.specs.Ports.{HasOnlyPorts};
 ghost use Rattle.dep_check.specs.Targets.{AreByTarget};
 
@@ -99,6 +99,8 @@ impl Steps {
         ensures ports { HasOnlyPorts result }
         ensures steps { (e : ℕ) (b : Channel) → GoesBy self.now.wires.items self.now.exits.items to spot e b
             → bit_at result e ≡ 1 }
+        ensures all { (e : ℕ) → spot.at ≢ to → e < 13 → has_at self.now.exits.items spot e ≡ true
+            → bit_at result e ≡ 1 }
     {
         if spot.at == to {
             return 0;
@@ -111,6 +113,8 @@ impl Steps {
         requires { IsSpot spot }
         ensures ports { HasOnlyPorts result }
         ensures steps { (e : ℕ) (b : Channel) → IsStep self.now spot e b → bit_at result e ≡ 1 }
+        ensures all { (to e : ℕ) → self.now.to ≡ Some to → spot.at ≢ to → e < 13
+            → has_at self.now.exits.items spot e ≡ true → bit_at result e ≡ 1 }
     {
         match self.to {
             None => self.channel_exits(spot),

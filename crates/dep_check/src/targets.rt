@@ -1,4 +1,4 @@
-ghost use Rattle.std.specs.Prelude.{◌≡◌, ◌<◌, ◌+◌, ◌↔◌, ℕ, List, length, Contains, IfOk, IsTrue, Some};
+ghost use Rattle.std.specs.Prelude.{◌≡◌, ◌<◌, ◌+◌, ◌↔◌, ℕ, List, Option, length, Contains, IfOk, IsTrue, Some};
 ghost use Rattle.an_base.specs.Numbers.{AreNumbers};
 ghost use Rattle.an_base.specs.Rows.{RowOf};
 ghost use Rattle.dep_check.specs.Tables.{AreExitsBelow, row_at};
@@ -21,14 +21,20 @@ pub struct ByTarget {
     pub tables: Vec<Vec<u16>>,
 }
 
-// The table of a number before any row.
-fn first_table(alloc: Global, numbers: &Numbers, number: u8) -> Result<Vec<u16>, OutOfMemory>
+// The table of a number before any row, a copy of one without exits.
+fn first_table(
+    alloc: Global,
+    blank: &[u16],
+    numbers: &Numbers,
+    number: u8,
+) -> Result<Vec<u16>, OutOfMemory>
+    requires { (rows : List RowOf) (to : Option ℕ) → AreExitsBelow rows to 0 blank.now }
     ensures { IfOk result (λ table. (rows : List RowOf) → IsTableBelow rows numbers.now 0 number table.items) }
 {
     match place_in(numbers, number) {
         None => Ok(Vec::new(alloc)),
         Some(_place) => {
-            let table = no_exits(alloc)?;
+            let table = Vec::from_slice(alloc, blank)?;
             Ok(table)
         }
     }
@@ -38,9 +44,10 @@ fn first_table(alloc: Global, numbers: &Numbers, number: u8) -> Result<Vec<u16>,
 fn first_tables(alloc: Global, numbers: &Numbers) -> Result<Vec<Vec<u16>>, OutOfMemory>
     ensures { IfOk result (λ tables. (rows : List RowOf) → AreTablesBelow rows numbers.now 0 tables.items) }
 {
+    let blank = no_exits(alloc)?;
     let mut tables = Vec::with_capacity(alloc, 127)?;
     'numbers: for number in 0..127u8 {
-        let table = first_table(alloc, numbers, number)?;
+        let table = first_table(alloc, &blank, numbers, number)?;
         tables.push(table)?;
     }
     Ok(tables)

@@ -1,7 +1,7 @@
-ghost use Rattle.std.specs.Prelude.{◌≡◌, ◌<◌, length, false, Contains, IfOk, OnOk};
+ghost use Rattle.std.specs.Prelude.{◌≡◌, ◌<◌, ◌↔◌, length, true, false, Contains, IfOk, IsTrue, OnOk};
 ghost use Rattle.dep_check.specs.declared.channel.Channel.{Channel};
 ghost use Rattle.dep_check.specs.Tables.{IsSpot};
-ghost use Rattle.dep_check.specs.Search.{IsStep, Step};
+ghost use Rattle.dep_check.specs.Search.{IsStep, IsStuck, Step};
 ghost use Rattle.dep_check.specs.Walks.{IsWalked, seen_at, Sees};
 
 use crate::channel::Channel;
@@ -42,45 +42,64 @@ fn see(seen: &mut Vec<bool>, ahead: &mut Vec<Channel>, spot: Channel) -> Result<
     Ok(())
 }
 
-// The same of where the step by an exit leads, if there is one.
+// The same of where the step by an exit leads. Answers whether there is one.
 fn see_exit(
     steps: &Steps,
     seen: &mut Vec<bool>,
     ahead: &mut Vec<Channel>,
     spot: Channel,
     exit: u8,
-) -> Result<(), OutOfMemory>
+) -> Result<bool, OutOfMemory>
     requires count { length seen.old.items ≡ 1651 }
     requires spot { IsSpot spot }
     requires exit { exit < 13 }
-    ensures { OnOk result (Sees (IsStep steps.now spot exit) seen.old.items ahead.old.items
+    ensures sees { OnOk result (Sees (IsStep steps.now spot exit) seen.old.items ahead.old.items
         seen.new.items ahead.new.items) }
+    ensures leads { IfOk result (λ leads. leads ≡ true → (b : Channel) × IsStep steps.now spot exit b) }
 {
-    if let Some(next) = steps.next(spot, exit) {
-        see(seen, ahead, next)?;
-    }
-    Ok(())
+    let Some(next) = steps.next(spot, exit) else {
+        return Ok(false);
+    };
+    see(seen, ahead, next)?;
+    Ok(true)
 }
 
-// The same of all that the steps from a spot lead to.
+// The same of all that the steps from a spot lead to. Answers whether a step leads on by each exit there, and
+// there is some: then no packets get stuck there.
 fn see_next(
     steps: &Steps,
     seen: &mut Vec<bool>,
     ahead: &mut Vec<Channel>,
     spot: Channel,
-) -> Result<(), OutOfMemory>
+) -> Result<bool, OutOfMemory>
     requires count { length seen.old.items ≡ 1651 }
     requires spot { IsSpot spot }
-    ensures { OnOk result (Sees (Step steps.now spot) seen.old.items ahead.old.items
+    ensures sees { OnOk result (Sees (Step steps.now spot) seen.old.items ahead.old.items
         seen.new.items ahead.new.items) }
+    ensures clear { IfOk result (λ clear. clear ≡ true → IsStuck steps.now spot → ⊥) }
 {
-    let mut left = steps.exits_from(spot);
+    let exits = steps.exits_from(spot);
+    let mut left = exits;
+    let mut clear = exits > 0;
     'exits: while left > 0 {
         let exit = lowest(left);
         left = without(left, exit);
-        see_exit(steps, seen, ahead, spot, exit)?;
+        let leads = see_exit(steps, seen, ahead, spot, exit)?;
+        clear = clear & leads;
     }
-    Ok(())
+    Ok(clear)
+}
+
+// Whether packets get stuck at a spot, where they do not if it is clear.
+fn is_stuck_at(steps: &Steps, spot: Channel, clear: bool) -> bool
+    requires spot { IsSpot spot }
+    requires clear { clear ≡ true → IsStuck steps.now spot → ⊥ }
+    ensures { IsTrue result ↔ IsStuck steps.now spot }
+{
+    if clear {
+        return false;
+    }
+    steps.is_stuck(spot)
 }
 
 /// Adds to the spots that are seen all to which steps lead from one, and tells whether packets get
@@ -99,10 +118,10 @@ pub fn walk(
     see(seen, &mut ahead, start)?;
     let mut stuck = false;
     'ahead: while let Some(spot) = ahead.pop() {
-        if steps.is_stuck(spot) {
+        let clear = see_next(steps, seen, &mut ahead, spot)?;
+        if is_stuck_at(steps, spot, clear) {
             stuck = true;
         }
-        see_next(steps, seen, &mut ahead, spot)?;
     }
     Ok(stuck)
 }

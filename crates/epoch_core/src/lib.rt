@@ -10,7 +10,5 @@
 mod card;
 pub mod epoch;
 pub mod law;
-#[cfg(test)]
-mod networks;
 mod ports;
 pub mod sends;

@@ -8,13 +8,13 @@ use an_base::memory::OutOfMemory;
 use net_graph::forest::trees;
 use net_script::reader::read;
 use net_script::script::Script;
-use report::expect::expect;
 use std::alloc::Global;
 use std::io::{self, Read};
 use std::time::{Clock, Instant};
 use switch_numbering::numbering::number;
 use table_build::routing::Routing;
 use table_build::table::Table;
+use table_report::expect::expect;
 use topo_graph::graph::Graph;
 use updown::reach::distances;
 

@@ -12,3 +12,4 @@ pub mod MoveLemmas
 pub mod WaitLemmas
 pub mod RoundLemmas
 pub mod WorkLemmas
+pub mod DriverLemmas

@@ -3,7 +3,7 @@
 use Rattle.std.specs.Prelude.{◌≡◌, ◌≢◌, ◌⊎◌, ◌+◌, ◌<◌, ◌≤◌, ◌&&◌, ℕ, not, List, [], ◌∷◌, ◌++◌, length, slice_index_or, slice_set, Bool, true, false, refl}
 use Rattle.std.proofs.Common.{sym, ◌∙◌, ap, subst, arith, inl, inr, length-append, true≢false}
 use Rattle.std.proofs.lemmas.Bool.{and_parts, cases_eq, ltb-true}
-use Rattle.std.proofs.lemmas.List.{append-nil, get_or-set_other, get_or-set_same, get_or_default, length-set}
+use Rattle.std.proofs.lemmas.List.{get_or-set_other, get_or-set_same, get_or_default, length-set}
 use Rattle.std.proofs.lemmas.List.Elements.{All-nil, All-cons}
 use Rattle.std.proofs.lemmas.List.FromFn.{get_or-map-range_with_len, length-map-range_with_len}
 use Rattle.an_base.specs.declared.event.Event.{Event}
@@ -13,19 +13,15 @@ use Rattle.net_script.specs.Scripts.{ScriptOf, IsScript}
 use Rattle.switch_core.specs.Switch.{SwitchOf}
 use Rattle.switch_core.specs.Kept.{KeptOf, StandsFor}
 use Rattle.fabric_state.specs.Fabric.{FabricOf, StationOf, clock_due_at, count, is_full_at, is_switch, load_due_at, station, held_bytes, vacant}
-use Rattle.fabric_state.specs.Choices.{next_drive}
 use Rattle.fabric_state.specs.Lawful.{is_command, is_lawful}
-use Rattle.fabric_state.specs.declared.work.Drive.{Drive}
-use Rattle.fabric_state.specs.declared.work.Drive.TheVariants as drive
 use Rattle.fabric_world.specs.World.{WorldOf, begun, first_station, start_of, world_after}
 use Rattle.net_script.specs.Commands.{is_restart}
-use Rattle.fabric_world.specs.Turns.{Drives}
 use Rattle.fabric_world.specs.Histories.{HistoryOf, IsLawful, fabric_of, owner_of, with_event, world_of}
 use Rattle.fabric_book.specs.Kept.{IsPlainCommand, with_events as more_events}
 use Rattle.fabric_book.specs.Nets.{AreStarted, HasFrame, IsNetKept, IsSameOrNext, IsStarted, IsSwitchKept, NetOf, PowerOf, all_powers, history_of, power_of, start_with, with_events, with_step}
-use Rattle.fabric_book.proofs.DriveLemmas.{drive_lawful, driven, driver_owns, plain_is}
+use Rattle.fabric_book.proofs.DriveLemmas.{driver_owns, plain_is}
 use Rattle.fabric_world.proofs.CountLemmas.{world_counts}
-use Rattle.fabric_book.proofs.WorldFacts.{drive_may_come, fits_after, world_script, ready_is, station_stays, switch_stays, hand_stays}
+use Rattle.fabric_book.proofs.WorldFacts.{fits_after, world_script, ready_is, station_stays, switch_stays, hand_stays}
 use Rattle.fabric_book.proofs.BookLemmas.{is_lawful-more, restart_below, take_below, world_more}
 
 -- what a switch is started with stays
@@ -215,20 +211,6 @@ net_lost_either h g e lost power switches more buffers kept lawful (inl same) al
     net_as h g true true power more more buffers buffers (net_lost h lost power switches more buffers buffers kept all refl) same refl refl refl
 net_lost_either h g e lost power switches more buffers kept lawful (inr next) all =
     net_as (with_event e h) g true true power more more buffers buffers (net_lost_on h e lost power switches more buffers buffers kept lawful all refl) next refl refl refl
-
--- what the driver did
-pub net_drives : (h g : HistoryOf) (lost : Bool) (power : List PowerOf) (switches : List KeptOf) (buffers : List (List ℕ)) → IsNetKept h lost power switches buffers → (did : Drive) → g.script ≡ h.script → Drives h.script h.events did g.events
-    → IsNetKept g lost power switches buffers
-net_drives h g lost power switches buffers kept (drive.Did e) scripts drives =
-    let f = fabric_of h in
-    let is : next_drive f ≡ drive.Did e = sym drives.drive_is in
-    let lawful = drive_lawful f e (drive_may_come h.script kept.script h.events) is in
-    let owner = driver_owns f e (subst IsScript (sym (world_script h.script h.events)) kept.script) (driven f e is) in
-    net_as (with_event e h) g lost lost power switches switches buffers buffers (net_driven h e lost power switches buffers kept lawful owner) (λ i. record { script = scripts i; events = drives.event i }) refl refl refl
-net_drives h g lost power switches buffers kept drive.Waits scripts drives =
-    net_as h g lost lost power switches switches buffers buffers kept (λ i. record { script = scripts i; events = (drives.event ∙ append-nil h.events) i }) refl refl refl
-net_drives h g lost power switches buffers kept (drive.Ended end) scripts drives =
-    net_as h g lost lost power switches switches buffers buffers kept (λ i. record { script = scripts i; events = (drives.event ∙ append-nil h.events) i }) refl refl refl
 
 -- the driver's own commands
 pub command_owner : (f : FabricOf) (e : Event) → IsScript f.script → is_command f e ≡ true → is_restart e ≡ false → owner_of e ≡ 0

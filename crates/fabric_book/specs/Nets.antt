@@ -1,6 +1,6 @@
 -- What contracts see of a network on one thread, and how it is stored.
 
-use Rattle.std.specs.Prelude.{◌≡◌, ◌⊎◌, ◌++◌, ◌∷◌, ◌<◌, ◌≤◌, ℕ, List, [], map, length, slice_index_or, Bool, false}
+use Rattle.std.specs.Prelude.{◌≡◌, ◌⊎◌, ◌==◌, ◌++◌, ◌∷◌, ◌<◌, ◌≤◌, ℕ, List, [], map, length, slice_index_or, Bool, false, if◌then◌else◌}
 use Rattle.std.specs.List.{range_with_len}
 use Rattle.an_base.specs.Values.{LifeId}
 use Rattle.an_base.specs.declared.event.Event.{Event}
@@ -12,8 +12,10 @@ use Rattle.switch_core.specs.Kept.{KeptOf, StandsFor}
 use Rattle.fabric_state.specs.declared.hand.Hand.{Hand}
 use Rattle.fabric_state.specs.declared.hand.Hand.TheVariants as hand
 use Rattle.fabric_state.specs.Fabric.{station, held_bytes}
-use Rattle.fabric_world.specs.World.{WorldOf, handles, start_of}
-use Rattle.fabric_world.specs.Histories.{HistoryOf, IsLawful, fabric_of, with_event, world_of}
+use Rattle.fabric_world.specs.declared.line.Line.{Line}
+use Rattle.fabric_world.specs.Lines.{lines_of}
+use Rattle.fabric_world.specs.World.{WorldOf, handles, start_of, step}
+use Rattle.fabric_world.specs.Histories.{HistoryOf, IsLawful, fabric_of, owner_of, with_event, world_of}
 use Rattle.fabric_world.specs.Turns.{is_noise}
 
 -- a script and the events that came, and whether memory was wanting, after which nothing else is known
@@ -30,6 +32,15 @@ with_step event net = record net { events = net.events ++ event ∷ [] }
 
 abbrev pub with_events : List Event → NetOf → NetOf
 with_events events net = record net { events = net.events ++ events }
+
+-- what is told of an event where it is the driver's: a tick, a hop, or a command that is no restart
+abbrev pub driver_line : WorldOf → Event → List Line
+driver_line world event = if owner_of event == 0 then lines_of world event else []
+
+-- what is told of those of lawful events in turn that are the driver's
+abbrev pub driver_lines : WorldOf → List Event → List Line
+driver_lines world [] = []
+driver_lines world (event ∷ events) = driver_line world event ++ driver_lines (step world event) events
 
 -- With what a switch is started in each of its lives: an epoch, the number that it had before, and whether
 -- its tables have all legal routes.

@@ -5,9 +5,13 @@ use Rattle.an_base.specs.declared.event.Event.{Event}
 use Rattle.fabric_state.specs.declared.ending.Ending.{Ending}
 use Rattle.fabric_state.specs.declared.work.Drive.TheVariants as drive
 use Rattle.fabric_state.specs.Choices.{next_drive}
+use Rattle.fabric_state.specs.declared.work.Drive.{Drive}
+use Rattle.fabric_world.specs.declared.line.Line.{Line}
 use Rattle.fabric_world.specs.Histories.{fabric_of, last_taken, world_of}
+use Rattle.fabric_world.specs.Lines.{lines_of}
+use Rattle.fabric_world.specs.World.{WorldOf, begun}
 use Rattle.fabric_world.specs.Solo.{IsOneThread, worker_event}
-use Rattle.fabric_book.specs.Nets.{NetOf, history_of}
+use Rattle.fabric_book.specs.Nets.{NetOf, driver_lines, history_of}
 
 -- whose turn it is: that of the worker at a place, or that of the driver
 pub record IsTurnOf (turn : ℕ) (net : NetOf) : Type 0 where
@@ -37,3 +41,13 @@ AreIdleBefore limit before after =
 abbrev pub HasDriven : Option Ending → NetOf → Type 0
 HasDriven None net = IsTurnOf 0 net × (next_drive (fabric_of (history_of net)) ≡ drive.Waits)
 HasDriven (Some end) net = IsTurnOfDriver net × (next_drive (fabric_of (history_of net)) ≡ drive.Ended end)
+
+-- what was told of the driver's events
+abbrev pub told_of : NetOf → List Line
+told_of net = driver_lines (begun net.script) net.events
+
+-- what is told of what the driver did
+abbrev pub drive_lines : WorldOf → Drive → List Line
+drive_lines world (drive.Did event) = lines_of world event
+drive_lines world drive.Waits = []
+drive_lines world (drive.Ended end) = []

@@ -73,7 +73,7 @@ fn tell_epochs(
 }
 
 // A switch handles what it has in hand, before which it showed this; all lines of it are added but those of
-// frames. Answers what it shows now.
+// frames. Notes what it shows now.
 fn handle(
     switch: &mut Switch,
     s: u8,
@@ -81,8 +81,9 @@ fn handle(
     bytes: &[u8],
     before: &Note,
     out: &mut Out,
+    note: &mut Note,
     lines: &mut Lines,
-) -> Result<Note, OutOfMemory>
+) -> Result<(), OutOfMemory>
     requires full { is_empty hand ≡ false }
     requires port { IsHandPort hand }
     requires works { switch.old.works < 2 ^ 28 }
@@ -92,17 +93,17 @@ fn handle(
     ensures handled { (x : SwitchOf) → StandsFor switch.old x
         → OnOk result (IsHandled x hand bytes.now switch.new out.new) }
     ensures note { (x : SwitchOf) → StandsFor switch.old x
-        → IfOk result (λ note. note ≡ note_of (handles hand bytes.now x).switch) }
+        → OnOk result (note.new ≡ note_of (handles hand bytes.now x).switch) }
     ensures told { (x : SwitchOf) → StandsFor switch.old x → before.now ≡ note_of x
         → OnOk result (lines.new ≡ lines.old ++ hand_lines s hand bytes.now x (handles hand bytes.now x).switch) }
 {
     let had_finished = switch.finish().is_some();
     work(switch, hand, bytes, out)?;
-    let note = switch.note();
-    tell_ports(s, before, &note, lines)?;
+    *note = switch.note();
+    tell_ports(s, before, note, lines)?;
     tell_noise(s, hand, out.noframe, lines)?;
     tell_epochs(s, before.epoch, had_finished, note.epoch, switch, lines)?;
-    Ok(note)
+    Ok(())
 }
 
 /// The switch at a place handles what it has in hand, and the book takes what came of it; the lines are added.
@@ -112,6 +113,7 @@ pub(crate) fn handle_at(
     bytes: &[u8],
     s: u8,
     out: &mut Out,
+    shown: &mut Note,
     puts: &mut Vec<Option<Put>>,
     lines: &mut Lines,
 ) -> Result<(), OutOfMemory>
@@ -124,11 +126,20 @@ pub(crate) fn handle_at(
     ensures lost { OnErr result (IsSameOrNext (events.Handle s) book.old book.new) }
 {
     let station = book.fabric().station(s);
-    let note = handle(switch, s, station.hand(), bytes, station.note(), out, lines)?;
+    handle(
+        switch,
+        s,
+        station.hand(),
+        bytes,
+        station.note(),
+        out,
+        shown,
+        lines,
+    )?;
     let frames = out.frames.as_slice();
     puts.clear();
     puts.reserve(frames.len())?;
-    book.handle(s, frames, &note, switch.is_spent(), puts);
+    book.handle(s, frames, shown, switch.is_spent(), puts);
     tell_losses(s, frames, puts, lines)
 }
 

@@ -13,6 +13,7 @@ ghost use Rattle.fabric_world.specs.Lines.{lines_of};
 ghost use Rattle.fabric_world.specs.Solo.{worker_event};
 ghost use Rattle.fabric_book.specs.declared.net.StepRefusal.TheVariants as refusal;
 ghost use Rattle.fabric_book.specs.Nets.{AreStarted, all_powers, history_of, with_events, with_step};
+ghost use Rattle.fabric_book.specs.Rounds.{drive_lines};
 
 use crate::book::Book;
 use crate::handling::{handle_at, load_at};
@@ -22,8 +23,10 @@ use crate::telling::{epoch_of, hop_line, tell_command, tell_copy};
 use an_base::event::{Event, Journal};
 use an_base::life::Life;
 use an_base::memory::OutOfMemory;
+use an_base::port::Note;
 use fabric_state::ending::Ending;
 use fabric_state::fabric::Fabric;
+use fabric_state::station::started_note;
 use fabric_state::work::{Drive, Work};
 use fabric_world::line::Line;
 use frame_region::buffer::FrameBuf;
@@ -66,6 +69,7 @@ pub struct Net {
     switches: Vec<Switch>,
     bytes: Vec<FrameBuf>,
     out: Out,
+    note: Note,
     puts: Vec<Option<Put>>,
 }
 
@@ -131,6 +135,7 @@ impl Net {
             powers,
             bytes: buffers(alloc, wiring.count())?,
             out: Out::new(alloc),
+            note: started_note(Life::new(0, 1), 0),
             puts: Vec::new(alloc),
         })
     }
@@ -266,6 +271,7 @@ impl Net {
             self.bytes[place].bytes(),
             s,
             &mut self.out,
+            &mut self.note,
             &mut self.puts,
             lines,
         )?;
@@ -385,14 +391,21 @@ impl Net {
         self.take_work(s)
     }
 
-    // The driver does its next thing.
-    pub(crate) fn drive(&mut self) -> Drive
+    // The driver does its next thing, and adds what is told of it.
+    pub(crate) fn drive(&mut self, lines: &mut Lines) -> Result<Drive, OutOfMemory>
         requires { self.old.lost ≡ false }
-        ensures script { IsScript self.new.script }
-        ensures did { result ≡ next_drive (fabric_of (history_of self.old)) }
-        ensures driven { self.new ≡ with_events (event_of_drive result) self.old }
-        ensures room { length self.new.events ≤ self.new.script.limits.events }
+        ensures script { OnOk result (IsScript self.new.script) }
+        ensures did { IfOk result (λ did. did ≡ next_drive (fabric_of (history_of self.old))) }
+        ensures driven { IfOk result (λ did. self.new ≡ with_events (event_of_drive did) self.old) }
+        ensures room { OnOk result (length self.new.events ≤ self.new.script.limits.events) }
+        ensures told { IfOk result (λ did. lines.new
+            ≡ lines.old ++ drive_lines (world_of (history_of self.old)) did) }
     {
-        self.book.drive()
+        let drive = self.book.fabric().drive();
+        let Drive::Did(event) = drive else {
+            return Ok(drive);
+        };
+        self.make(event, lines)?;
+        Ok(drive)
     }
 }

@@ -1,10 +1,12 @@
 //! A run on one thread, in a fixed order.
 
-ghost use Rattle.std.specs.Prelude.{◌+◌, ◌<◌, length, IfOk, OnOk};
+ghost use Rattle.std.specs.Prelude.{◌≡◌, ◌+◌, ◌<◌, length, IfOk, OnOk};
 ghost use Rattle.net_script.specs.Scripts.{IsScript};
 ghost use Rattle.fabric_world.specs.Histories.{IsLegal};
 ghost use Rattle.fabric_world.specs.Solo.{IsSolo};
-ghost use Rattle.fabric_book.specs.Rounds.{AreIdleBefore, GoesOn, HasDriven, IsIdleAt, IsTurnOf, IsTurnOfDriver};
+ghost use Rattle.fabric_world.specs.World.{begun, world_after};
+ghost use Rattle.fabric_book.specs.Nets.{driver_lines};
+ghost use Rattle.fabric_book.specs.Rounds.{AreIdleBefore, GoesOn, HasDriven, IsIdleAt, IsTurnOf, IsTurnOfDriver, told_of};
 
 use crate::lines::Lines;
 use crate::net::Net;
@@ -24,6 +26,17 @@ pub struct Run {
     pub end: Ending,
 }
 
+/// A run, with what was told of the events of its driver, and the tick at its end.
+#[derive(Debug, Drop)]
+pub struct ToldRun {
+    /// The run.
+    pub run: Run,
+    /// What was told of the events of the driver, in order.
+    pub told: Lines,
+    /// The tick at the end.
+    pub tick: u32,
+}
+
 // A switch does all that it has to do.
 fn work_out(net: &mut Net, s: u8, lines: &mut Lines) -> Result<(), OutOfMemory>
     requires turn { IsTurnOf s net.old }
@@ -31,6 +44,7 @@ fn work_out(net: &mut Net, s: u8, lines: &mut Lines) -> Result<(), OutOfMemory>
     ensures turn { OnOk result (IsTurnOf (s + 1) net.new) }
     ensures on { OnOk result (GoesOn net.old net.new) }
     ensures idle { OnOk result (IsIdleAt net.new s) }
+    ensures told { OnOk result (told_of net.new ≡ told_of net.old) }
 {
     'turns: while net.turn(s, lines)? {
         lines.clear();
@@ -44,6 +58,7 @@ fn work_all(net: &mut Net, lines: &mut Lines) -> Result<(), OutOfMemory>
     ensures turn { OnOk result (IsTurnOfDriver net.new) }
     ensures on { OnOk result (GoesOn net.old net.new) }
     ensures idle { OnOk result (AreIdleBefore (length net.new.script.wires.switches) net.old net.new) }
+    ensures told { OnOk result (told_of net.new ≡ told_of net.old) }
 {
     let count = net.fabric().count();
     'switches: for s in 0..count {
@@ -52,37 +67,44 @@ fn work_all(net: &mut Net, lines: &mut Lines) -> Result<(), OutOfMemory>
     Ok(())
 }
 
-// The driver drives until it waits, or an end has come.
-fn drive_all(net: &mut Net) -> Option<Ending>
-    requires { IsTurnOfDriver net.old }
-    ensures script { IsScript net.new.script }
-    ensures on { GoesOn net.old net.new }
-    ensures driven { HasDriven result net.new }
+// The driver drives until it waits, or an end has come. What is told of it is added.
+fn drive_all(net: &mut Net, told: &mut Lines) -> Result<Option<Ending>, OutOfMemory>
+    requires turn { IsTurnOfDriver net.old }
+    requires told { told.old ≡ told_of net.old }
+    ensures script { OnOk result (IsScript net.new.script) }
+    ensures on { OnOk result (GoesOn net.old net.new) }
+    ensures driven { IfOk result (λ end. HasDriven end net.new) }
+    ensures told { OnOk result (told.new ≡ told_of net.new) }
 {
     'turns: loop {
-        match net.drive() {
+        match net.drive(told)? {
             Drive::Did(_event) => {}
-            Drive::Waits => return None,
-            Drive::Ended(end) => return Some(end),
+            Drive::Waits => return Ok(None),
+            Drive::Ended(end) => return Ok(Some(end)),
         }
     }
 }
 
 /// The run of a script on one thread: the switches in the order of the script, each while it has work; then
-/// the driver, until it waits; and again.
-pub fn solo(alloc: Global, script: &Script) -> Result<Run, OutOfMemory>
-    ensures solo { IfOk result (λ run. IsSolo script.now run.journal run.end) }
-    ensures legal { IfOk result (λ run. IsLegal script.now run.journal run.end) }
+/// the driver, until it waits; and again. With it what was told of the driver's events, and the tick at the end.
+pub fn solo(alloc: Global, script: &Script) -> Result<ToldRun, OutOfMemory>
+    ensures solo { IfOk result (λ all. IsSolo script.now all.run.journal all.run.end) }
+    ensures legal { IfOk result (λ all. IsLegal script.now all.run.journal all.run.end) }
+    ensures told { IfOk result (λ all. all.told ≡ driver_lines (begun script.now) all.run.journal) }
+    ensures tick { IfOk result (λ all. all.tick ≡ (world_after script.now all.run.journal).fabric.tick) }
 {
     let mut net = Net::begin(alloc, script)?;
     let mut lines = Lines::new(alloc);
+    let mut told = Lines::new(alloc);
     'rounds: loop {
         work_all(&mut net, &mut lines)?;
-        if let Some(end) = drive_all(&mut net) {
-            return Ok(Run {
+        if let Some(end) = drive_all(&mut net, &mut told)? {
+            let tick = net.now();
+            let run = Run {
                 journal: net.into_journal(),
                 end,
-            });
+            };
+            return Ok(ToldRun { run, told, tick });
         }
     }
 }

@@ -1,6 +1,6 @@
 //! What is told of what a switch does, and of packets.
 
-ghost use Rattle.std.specs.Prelude.{◌≡◌, ◌==◌, ◌++◌, length, OnOk, option_copied};
+ghost use Rattle.std.specs.Prelude.{◌≡◌, ◌==◌, ◌++◌, length, not, OnOk, option_copied};
 ghost use Rattle.std.specs.List.{flat_map};
 ghost use Rattle.std.specs.Option.{option_map_or};
 ghost use Rattle.port_monitor.specs.Histories.{externals};
@@ -8,14 +8,15 @@ ghost use Rattle.switch_core.specs.Switch.{SwitchOf, finish_of};
 ghost use Rattle.switch_core.specs.Kept.{StandsFor};
 ghost use Rattle.fabric_state.specs.PortStates.{state_code};
 ghost use Rattle.fabric_world.specs.Lines.{copy_line, finish_line, port_line};
-ghost use Rattle.fabric_book.specs.Told.{command_lines, cut_lines, loss_lines, losses, noise_lines};
+ghost use Rattle.fabric_world.specs.declared.line.Line.TheVariants as line;
+ghost use Rattle.fabric_book.specs.Told.{command_lines, cut_lines, line_if, loss_lines, losses, noise_lines};
 ghost use Rattle.fabric_book.specs.Told.{noise_put_lines, sent_lines, told_of_hop};
 
 use crate::lines::Lines;
 use an_base::event::Event;
 use an_base::limits::LAST_PORT;
 use an_base::memory::OutOfMemory;
-use an_base::port::{Note, PortState};
+use an_base::port::{Note, PortState, PortView};
 use fabric_state::hand::Hand;
 use fabric_state::told::Told;
 use fabric_world::line::Line;
@@ -31,6 +32,28 @@ fn is_same_state(one: PortState, other: PortState) -> bool
     one == other
 }
 
+// A line where the state of a port changed.
+fn tell_port(
+    s: u8,
+    port: u8,
+    old: PortView,
+    new: PortView,
+    lines: &mut Lines,
+) -> Result<(), OutOfMemory>
+    ensures { OnOk result (lines.new ≡ lines.old
+        ++ line_if (not (state_code old.state == state_code new.state)) (line.Port s port new.state new.peer)) }
+{
+    if is_same_state(old.state, new.state) {
+        return Ok(());
+    }
+    lines.push(Line::Port {
+        s,
+        port,
+        state: new.state,
+        peer: new.peer,
+    })
+}
+
 /// A line for each port whose state changed, by rising port.
 pub(crate) fn tell_ports(
     s: u8,
@@ -43,15 +66,7 @@ pub(crate) fn tell_ports(
     'ports: for port in 1..=LAST_PORT {
         let old = before.ports.get(port);
         let new = after.ports.get(port);
-        lines.push_if(
-            !is_same_state(old.state, new.state),
-            Line::Port {
-                s,
-                port,
-                state: new.state,
-                peer: new.peer,
-            },
-        )?;
+        tell_port(s, port, old, new, lines)?;
     }
     Ok(())
 }

@@ -11,8 +11,6 @@
 mod order;
 mod seat;
 mod staged;
-#[cfg(test)]
-mod tests;
 mod turnstile;
 mod view;
 mod waiting;

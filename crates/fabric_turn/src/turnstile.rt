@@ -1,8 +1,8 @@
 ghost use Rattle.std.specs.Prelude.{◌≡◌, ℕ, ◌<◌, ◌≤◌, List, [], ◌∷◌, ◌++◌, IfOk};
 ghost use mathlib.Core.Option.{some};
 ghost use lib.ListN.{get_elem?};
-ghost use Rattle.fabric_turn.specs.Calls.{Called, GivesBack, HasOut, IsAtRest, IsFitFor, IsInTurn, TurnComes};
-ghost use Rattle.fabric_turn.specs.History.{AppendsAtMostOne, Extends, NoneOf, own_entries};
+ghost use Rattle.fabric_turn.specs.Calls.{Called, GivesBack, IsAtRest, IsFitFor, IsInTurn, TurnComes};
+ghost use Rattle.fabric_turn.specs.History.{Extends, NoneOf, own_entries};
 ghost use Rattle.fabric_turn.specs.Rule.{first_view, HasNumber};
 ghost use Rattle.fabric_turn.specs.Seats.{HasAllNumbers, joined_view, new_view, remaining_view};
 
@@ -107,8 +107,7 @@ impl<B: Staged> Turnstile<B> {
             if serving == ticket {
                 return;
             }
-            let is_next = ticket.wrapping_sub(serving) == 1;
-            self.pause(rt, serving, self.patience.pause_after(looks, is_next));
+            self.pause(rt, serving, self.patience.pause_after(looks));
             looks = looks.saturating_add(1);
         }
         unreachable!()
@@ -128,19 +127,6 @@ impl<B: Staged> Turnstile<B> {
         self.sleepers.fetch_add(1, Ordering::SeqCst);
         self.table.shared.park(rt, SERVING, low_bits);
         self.sleepers.fetch_sub(1, Ordering::SeqCst);
-    }
-
-    // Runs one ask on the value, which is out with the seat.
-    fn act(&self, place: &mut Place<B>, number: u32, ask: B::Ask) -> B::Reply
-        requires turnstile { place.old.table_id ≡ self.now.table.shared.table_id }
-        requires held { (b : B) × HasOut b place.old.me × B.fit (B.start b) (B.history b) number ask }
-        ensures turnstile { place.new.table_id ≡ place.old.table_id }
-        ensures view { place.new.me.0 ≡ place.old.me.0 }
-        ensures held { (b : B) × (c : B) × HasOut b place.old.me × HasOut c place.new.me
-            × (B.start c ≡ B.start b) × AppendsAtMostOne B.owner number (B.history b) (B.history c)
-            × B.answers (B.start b) (B.history b) number ask result (B.history c) }
-    {
-        place.slot_mut(&self.table.shared, 0).act(number, ask)
     }
 
     // Gives the value back, passes the turn on, and wakes those who sleep.
@@ -173,7 +159,8 @@ impl<B: Staged> Turnstile<B> {
         ensures called { Called B.owner B.answers seat.old.1 ask result seat.new.1 }
     {
         self.wait_turn(rt, &mut seat.place);
-        let reply = self.act(&mut seat.place, seat.number, ask);
+        let book = seat.place.slot_mut(&self.table.shared, 0);
+        let reply = book.act(seat.number, ask);
         self.pass_turn(&mut seat.place);
         reply
     }

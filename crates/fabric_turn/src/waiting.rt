@@ -1,5 +1,5 @@
 //! How a caller waits for its turn, and whether it wakes others.
-ghost use Rattle.std.specs.Prelude.{◌≡◌, ◌%◌, ◌^◌, ◌&&◌, nat_lt, if◌then◌else◌};
+ghost use Rattle.std.specs.Prelude.{◌≡◌, ◌%◌, ◌^◌, nat_lt, if◌then◌else◌};
 ghost use Rattle.fabric_turn.specs.declared.waiting.Pause.TheVariants.{Sleep, Spin, Yield};
 
 /// What a caller does after it looked in vain.
@@ -16,7 +16,7 @@ pub enum Pause {
 /// How often a caller looks in vain before it sleeps.
 #[derive(Clone, Copy, Debug)]
 pub struct Patience {
-    /// How often one that is the next looks again at once.
+    /// How often it looks again at once.
     pub spins: u32,
     /// How often it looks in all.
     pub looks: u32,
@@ -29,13 +29,13 @@ pub const USUAL: Patience = Patience {
 };
 
 impl Patience {
-    /// What a caller does that looked in vain so often before: who is the next looks again at once
-    /// for a while, and nobody sleeps before it gave way for a while.
-    pub fn pause_after(self, looks: u32, is_next: bool) -> Pause
-        ensures { result ≡ (if nat_lt looks self.spins && is_next then Spin
+    /// What a caller does that looked in vain so often before: it looks again at once for a while,
+    /// then gives way for a while, and then sleeps.
+    pub fn pause_after(self, looks: u32) -> Pause
+        ensures { result ≡ (if nat_lt looks self.spins then Spin
             else if nat_lt looks self.looks then Yield else Sleep) }
     {
-        if looks < self.spins && is_next {
+        if looks < self.spins {
             Pause::Spin
         } else if looks < self.looks {
             Pause::Yield

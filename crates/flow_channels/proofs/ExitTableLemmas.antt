@@ -1,11 +1,12 @@
 -- The sets of exits, made row by row.
-use Rattle.std.proofs.Common.{◌≡◌, ◌∙◌, sym, subst, refl, ℕ, ◌+◌, ◌<◌, List, [], ◌∷◌, ◌++◌, arith, length, get_or, take, inl, inr, Bool, ◌==◌}
-use Rattle.std.specs.Prelude.{All, filter, ◌⊎◌}
+use Rattle.std.proofs.Common.{◌≡◌, ◌∙◌, sym, ap, subst, refl, ℕ, zero, suc, ◌+◌, ◌*◌, ◌<◌, List, [], ◌∷◌, ◌++◌, arith, length, get_or, take, inl, inr, Bool, ◌==◌}
+use Rattle.std.specs.Prelude.{All, filter, replicate, ◌⊎◌}
 use Rattle.std.specs.List.{list_any, range_with_len}
 use Rattle.std.proofs.lemmas.List.FromFn.{get_or-range_with_len, length-range_with_len}
 use Rattle.std.specs.Int.{bit_at}
 use Rattle.std.proofs.lemmas.Bool.{cases_eq, eq-eqb, eqb-true}
-use Rattle.std.proofs.lemmas.List.{get_or_append_left, get_or_push, length_push, take_more}
+use Rattle.std.proofs.lemmas.List.{get_or-replicate, get_or_append_left, get_or_push, length_push, take_more}
+use Rattle.std.proofs.lemmas.Nat.Bits.{bit_at-zero}
 use Rattle.std.proofs.lemmas.List.Elements.{All-filter}
 use Rattle.an_base.specs.Rows.{RowOf}
 use Rattle.an_base.specs.Rows.{ArePorts}
@@ -17,7 +18,8 @@ use Rattle.flow_channels.proofs.AskLaws.{range_rises}
 use Rattle.flow_channels.proofs.ExitLemmas.{exit_has, has_named}
 use Rattle.dep_check.specs.declared.channel.Channel.{Channel}
 use Rattle.dep_check.specs.Channels.{HasExit}
-use Rattle.dep_check.specs.Tables.{IsSpot}
+use Rattle.dep_check.specs.Tables.{IsSpot, place_of}
+use Rattle.dep_check.proofs.SpotLemmas.{place_low}
 use Rattle.flow_channels.specs.Board.{exit_set}
 use Rattle.flow_channels.specs.Exits.{AreAdded, AreSets, RowHas}
 
@@ -70,3 +72,23 @@ exits_are_set es numbers rows most sets are ports came to spot low =
         let port = row_ports named.0 p named.1 in
         let e = named.2 in
         omega arith
+
+-- empty sets, in two parts
+pub replicate_sum : (set m n : ℕ) → replicate m set ++ replicate n set ≡ replicate (m + n) set
+replicate_sum set zero n =
+    let same : n ≡ 0 + n = omega arith in
+    ap (λ (k : ℕ). replicate k set) same
+replicate_sum set (suc m) n =
+    let same : suc (m + n) ≡ suc m + n = omega arith in
+    ap (λ (sets : List ℕ). set ∷ sets) (replicate_sum set m n) ∙ ap (λ (k : ℕ). replicate k set) same
+
+-- and they have no exits
+pub no_sets : (n : ℕ) → n ≡ 1651 * 127 → AreSets [] (replicate n 0)
+no_sets n all came to port spot low = (
+  λ bit. absurd (
+      let place = place_low came spot in
+      let none : exit_set (replicate n 0) came to ≡ 0 = get_or-replicate n (place_of came * 127 + to) 0 0 (omega arith) in
+      let zero = ap (λ (set : ℕ). bit_at set port) none ∙ bit_at-zero port in
+      omega arith),
+  λ (k, row, below, is, rest). absurd (omega arith),
+)

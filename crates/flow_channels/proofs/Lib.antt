@@ -16,6 +16,8 @@ pub mod ComeLemmas
 pub mod TurnLemmas
 pub mod DepartLemmas
 pub mod MarkLemmas
+pub mod SpotMarkLemmas
+pub mod AheadLemmas
 pub mod WatchLemmas
 pub mod IdleLemmas
 pub mod ExitTableLemmas

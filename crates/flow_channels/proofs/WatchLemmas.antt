@@ -1,12 +1,11 @@
 -- Where something may happen next, after something came or went.
 use Rattle.std.proofs.Common.{◌≡◌, ◌≢◌, ◌∙◌, sym, ap, subst, refl, ℕ, zero, suc, ◌+◌, ◌*◌, ◌%◌, ◌^◌, ◌<◌, List, [], ◌∷◌, ◌++◌, Option, Some, None, arith, length, get_or, set, inl, inr, Bool, true, false, ◌==◌}
-use Rattle.std.specs.Prelude.{All, bit_and, is_some, IsTrue, ◌↔◌, MatchOption, replicate, slice_get}
-use Rattle.std.specs.Int.{bit_at, bit_not, from_bool, w16}
+use Rattle.std.specs.Prelude.{All, bit_and, IsTrue, ◌↔◌, replicate, slice_get}
+use Rattle.std.specs.Int.{bit_at, bit_not, w16}
 use Rattle.std.specs.Int.RustNames.{bit_or}
 use Rattle.std.proofs.lemmas.Bool.Decides.{nat_tests}
 use Rattle.std.proofs.lemmas.Bool.{cases_Bool, cases_eq, cases_lt}
 use Rattle.std.proofs.lemmas.List.{get_or-append-add, get_or-replicate, get_or-set_other, get_or-set_same, get_or_append_left, length-append, length-replicate, length-set}
-use Rattle.std.proofs.lemmas.Option.{same_Some}
 use Rattle.std.proofs.lemmas.Nat.Bits.{bit_at_above, bit_at_and, bit_at_clear_other, bit_at_clear_same, bit_at_set_other, bit_at_set_same}
 use Rattle.dep_check.specs.declared.channel.Channel.{Channel}
 use Rattle.dep_check.specs.Tables.{IsSpot, place_of}
@@ -15,13 +14,12 @@ use Rattle.dep_check.proofs.SpotLemmas.{one_spot, place_low}
 use Rattle.fcfc_router.specs.Shown.{ports_of}
 use Rattle.fcfc_router.specs.Tree.{HasNone, IsFirst}
 use Rattle.flow_channels.specs.declared.board.Board.{Board}
-use Rattle.flow_channels.specs.declared.board.Packet.{Packet}
 use Rattle.flow_channels.specs.declared.tables.Tables.{Tables}
-use Rattle.flow_channels.specs.Board.{exit_set, flow_of, packet_of, ways}
+use Rattle.flow_channels.specs.Board.{exit_set, flow_of, ways}
 use Rattle.flow_channels.specs.Flows.{FlowOf, PacketOf, WaitOf, asks, asks_at, comes_into, empty_flow, first_asks, first_of, queue_at, waiting_at, with_queue}
 use Rattle.flow_channels.specs.Layout.{LayoutOf, spot}
 use Rattle.flow_channels.specs.Moves.{CanArrive, HasRoom}
-use Rattle.flow_channels.specs.Turns.{IsAtTarget, NoneArrives}
+use Rattle.flow_channels.specs.Turns.{NoneArrives}
 use Rattle.flow_channels.specs.Watch.{AreArriving, AreAwake, AreFreePorts, HasPortIf, IsIdle, IsIn, IsTouched, NoneAsks}
 use Rattle.flow_channels.proofs.ComeLemmas.{asked_queues, came_behind, came_first}
 use Rattle.flow_channels.proofs.StateLemmas.{waiting_there}
@@ -81,19 +79,6 @@ waits_elsewhere (Some end) (Some packet) flow at other = elim (cases_Bool (end.a
   | inl here ↦ rw here refl
   | inr before ↦ rw before (waiting_there flow end.at at (waiting_at flow end.at ++ (record { packet = packet; entry = end.port } ∷ [])) (other end refl))
 ]
-
--- a channel whose first packet asks at no far side
-pub no_far : (layout : LayoutOf) (flow : FlowOf) (channel : Channel) → layout.far channel ≡ None → NoneAsks layout flow channel
-no_far layout flow channel none end packet far first = absurd (let e = sym none ∙ far in cc)
-
-pub no_first : (layout : LayoutOf) (flow : FlowOf) (channel : Channel) → first_of flow channel ≡ None → NoneAsks layout flow channel
-no_first layout flow channel none end packet far first = absurd (let e = sym none ∙ first in cc)
-
-pub all_there : (layout : LayoutOf) (flow : FlowOf) (channel end : Channel) (packet : PacketOf) → layout.far channel ≡ Some end → first_of flow channel ≡ Some packet → end.at ≡ packet.to → NoneAsks layout flow channel
-all_there layout flow channel end packet far first here other another is_far is_first =
-    let one = same_Some end other (sym far ∙ is_far) in
-    let two = same_Some packet another (sym first ∙ is_first) in
-    sym (ap (λ (x : Channel). x.at) one) ∙ here ∙ ap (λ (x : PacketOf). x.to) two
 
 -- where nobody asks nothing changes
 nobody_asks : (o : Option Channel) (first : Option PacketOf) (flow : FlowOf) → ((end : Channel) (packet : PacketOf) → o ≡ Some end → first ≡ Some packet → end.at ≡ packet.to) → asks_at o first flow ≡ flow
@@ -310,14 +295,3 @@ module _ (tables : Tables) (board : Board) (sets : List ℕ) (are : AreArriving 
 
   pub none_before_found : (place end : ℕ) → IsFirst 1 sets place → end ≡ place → NoneArrives tables board end
   none_before_found place end first at channel is low can = are.all channel is can (first.before (place_of channel) (omega arith))
-
--- what a place is given by what is seen of a channel
-pub marked : (tables : Tables) (board : Board) (channel : Channel) (seen : Option Packet) (arrives : Bool) (v : ℕ) → arrives ≡ is_some seen → v ≡ from_bool arrives → MatchOption seen (CanArrive (ways tables) (flow_of board) channel → ⊥) (IsAtTarget tables board channel) → (bit_and v 1 ≢ 0 → CanArrive (ways tables) (flow_of board) channel) × (CanArrive (ways tables) (flow_of board) channel → bit_and v 1 ≢ 0)
-marked tables board channel None arrives v is value none = (
-  (λ has. absurd (has (ap (λ (n : ℕ). bit_and n 1) (value ∙ ap from_bool is)))),
-  (λ can. absurd (none can)),
-)
-marked tables board channel (Some packet) arrives v is value (entry, first, far) = (
-  (λ has. (packet_of packet, entry, first, far)),
-  (λ can out. one_in (sym (ap (λ (n : ℕ). bit_and n 1) (value ∙ ap from_bool is)) ∙ out)),
-)

@@ -11,4 +11,5 @@ pub mod Board
 pub mod Exits
 pub mod Turns
 pub mod Marks
+pub mod Ahead
 pub mod Watch

@@ -1,8 +1,18 @@
--- A set of numbers, by its bits.
-use Rattle.std.specs.Prelude.{ℕ, List, map}
+-- Sets of numbers and of places, by their bits.
+use Rattle.std.specs.Prelude.{◌≡◌, ◌≢◌, ◌<◌, ◌/◌, ◌%◌, ◌↔◌, ℕ, List, length, map, slice_index}
 use Rattle.std.specs.List.{range_with_len}
 use Rattle.std.specs.Int.{bit_at}
 
 -- for each number up to 127 the bit that says whether it is in
 abbrev pub marks_of : ℕ → List ℕ
 marks_of bits = map (bit_at bits) (range_with_len 0 128)
+
+-- for each place below 2,048 its bit, among those of its part of 128 places
+abbrev pub spot_marks : List ℕ → List ℕ
+spot_marks parts =
+    map (λ place. bit_at (slice_index parts (place / 128)) (place % 128)) (range_with_len 0 2048)
+
+-- there are sixteen parts, and these are the ones that have a bit
+pub record HasParts (parts : List ℕ) (some : ℕ) : Type 0 where
+  pub count : length parts ≡ 16
+  pub each : (part : ℕ) → part < 16 → ((bit_at some part ≡ 1) ↔ (slice_index parts part ≢ 0))

@@ -2,11 +2,11 @@ ghost use Rattle.std.specs.Prelude.{◌≡◌, ◌<◌, ◌≤◌, ◌++◌, ◌
 ghost use Rattle.std.specs.Prelude.{slice_index_or, IfOk, IsTrue, MatchOption, Some, ◌↔◌};
 ghost use Rattle.dep_check.specs.Tables.{IsSpot, place_of, WiresAreWithin};
 ghost use Rattle.flow_channels.specs.Board.{asked_by, come_by, flow_of, IsKept, IsSoundOver, ways};
-ghost use Rattle.flow_channels.specs.Flows.{empty_flow, enters, first_asks, leaves};
+ghost use Rattle.flow_channels.specs.Ahead.{ahead_of, asks_of};
+ghost use Rattle.flow_channels.specs.Flows.{empty_flow, enters, first_asks, first_of, leaves};
 ghost use Rattle.flow_channels.specs.Moves.{CanArrive, HasRoom};
 ghost use Rattle.flow_channels.specs.Queue.{QueueOf};
 ghost use Rattle.flow_channels.specs.Turns.{AreFree, IsAtTarget};
-ghost use Rattle.flow_channels.specs.Watch.{NoneAsks};
 
 use crate::exits::NUMBERS;
 use crate::queue::Queue;
@@ -44,6 +44,33 @@ pub struct Departure {
     pub exit: u8,
     /// The place of the packet.
     pub slot: u32,
+}
+
+/// What the first packet of a channel does at the far side.
+#[derive(Clone, Copy, Debug)]
+pub enum Ahead {
+    /// There is no such packet, or no far side.
+    Rests,
+    /// It is at its target.
+    Arrives,
+    /// It asks to go on.
+    Asks {
+        /// The far side.
+        end: Channel,
+    },
+}
+
+impl Ahead {
+    /// The far side, if it asks there.
+    pub fn asks(&self) -> Option<Channel>
+        ensures { result ≡ asks_of self.now }
+    {
+        match self {
+            Ahead::Asks { end } => Some(*end),
+            Ahead::Arrives => None,
+            Ahead::Rests => None,
+        }
+    }
 }
 
 /// Where the packets are. Each has a place in the order in which they entered, its slot.
@@ -87,41 +114,64 @@ impl Board {
         self.routers[usize::from(at)].ask_set(slot, exits);
     }
 
+    // What the first packet of a channel does at the far side.
+    fn ahead(&self, tables: &Tables, channel: Channel) -> Ahead
+        requires kept { IsKept tables.now self.now }
+        requires spot { IsSpot channel }
+        ensures { result ≡ ahead_of ((ways tables.now).far channel) (first_of (flow_of self.now) channel) }
+    {
+        let Some(end) = tables.far(channel) else {
+            return Ahead::Rests;
+        };
+        let Some(slot) = self.first(channel) else {
+            return Ahead::Rests;
+        };
+        if self.packets[slot as usize].to == end.at {
+            return Ahead::Arrives;
+        }
+        Ahead::Asks { end }
+    }
+
     // The first packet of a channel asks at the far side, unless that is its target.
-    fn first_asks(&mut self, tables: &Tables, channel: Channel)
+    fn first_asks(&mut self, tables: &Tables, channel: Channel) -> Ahead
         requires kept { IsKept tables.now self.old }
         requires spot { IsSpot channel }
         requires sound { IsSoundOver tables.now (first_asks (ways tables.now) channel (flow_of self.old)) }
         ensures kept { IsKept tables.now self.new }
         ensures flow { flow_of self.new ≡ first_asks (ways tables.now) channel (flow_of self.old) }
         ensures packets { self.new.packets.items ≡ self.old.packets.items }
+        ensures ahead { result ≡ ahead_of ((ways tables.now).far channel) (first_of (flow_of self.new) channel) }
     {
         let Some(end) = tables.far(channel) else {
-            return;
+            return Ahead::Rests;
         };
         let Some(slot) = self.first(channel) else {
-            return;
+            return Ahead::Rests;
         };
-        if self.packets[slot as usize].to != end.at {
-            self.ask(tables, end.at, slot, end.port);
+        let to = self.packets[slot as usize].to;
+        if to == end.at {
+            return Ahead::Arrives;
         }
+        self.ask(tables, end.at, slot, end.port);
+        Ahead::Asks { end }
     }
 
     /// The first packet of a channel leaves it, and the next one asks.
-    pub fn leave(&mut self, tables: &Tables, channel: Channel)
+    pub fn leave(&mut self, tables: &Tables, channel: Channel) -> Ahead
         requires kept { IsKept tables.now self.old }
         requires spot { IsSpot channel }
         requires sound { IsSoundOver tables.now (leaves (ways tables.now) channel (flow_of self.old)) }
         ensures kept { IsKept tables.now self.new }
         ensures flow { flow_of self.new ≡ leaves (ways tables.now) channel (flow_of self.old) }
         ensures packets { self.new.packets.items ≡ self.old.packets.items }
+        ensures ahead { result ≡ ahead_of ((ways tables.now).far channel) (first_of (flow_of self.new) channel) }
     {
         self.queues[place_of(channel)].pop();
-        self.first_asks(tables, channel);
+        self.first_asks(tables, channel)
     }
 
     /// A packet comes last in a channel, and asks where it is the first there.
-    pub fn come_into(&mut self, tables: &Tables, channel: Channel, slot: u32)
+    pub fn come_into(&mut self, tables: &Tables, channel: Channel, slot: u32) -> Ahead
         requires kept { IsKept tables.now self.old }
         requires spot { IsSpot channel }
         requires slot { slot < length self.old.packets.items }
@@ -129,12 +179,14 @@ impl Board {
         ensures kept { IsKept tables.now self.new }
         ensures flow { flow_of self.new ≡ come_by tables.now self.old channel slot }
         ensures packets { self.new.packets.items ≡ self.old.packets.items }
+        ensures ahead { result ≡ ahead_of ((ways tables.now).far channel) (first_of (flow_of self.new) channel) }
     {
         let count = self.queues[place_of(channel)].len();
         self.queues[place_of(channel)].push(slot);
         if count == 0 {
-            self.first_asks(tables, channel);
+            return self.first_asks(tables, channel);
         }
+        self.ahead(tables, channel)
     }
 
     /// The first packet of a channel, where it is at its target.
@@ -151,22 +203,6 @@ impl Board {
             return Some(packet);
         }
         None
-    }
-
-    /// The far side of a channel, where its first packet is to go on from there.
-    pub fn asks_at(&self, tables: &Tables, channel: Channel) -> Option<Channel>
-        requires kept { IsKept tables.now self.now }
-        requires spot { IsSpot channel }
-        ensures { MatchOption result (NoneAsks (ways tables.now) (flow_of self.now) channel)
-            (λ end. (ways tables.now).far channel ≡ Some end) }
-    {
-        let end = tables.far(channel)?;
-        let slot = self.first(channel)?;
-        let packet = self.packets[slot as usize];
-        if packet.to == end.at {
-            return None;
-        }
-        Some(end)
     }
 
     /// Whether a port has a channel with room.

@@ -1,4 +1,4 @@
-ghost use Rattle.std.specs.Prelude.{◌≡◌, ◌+◌, ◌*◌, ◌<◌, All, length, IfOk};
+ghost use Rattle.std.specs.Prelude.{◌≡◌, ◌+◌, ◌*◌, ◌<◌, All, length, replicate, IfOk};
 ghost use Rattle.an_base.specs.Rows.{ArePorts};
 ghost use Rattle.dep_check.specs.Tables.{IsSpot, place_of};
 ghost use Rattle.flow_channels.specs.Board.{exit_set};
@@ -49,6 +49,17 @@ fn add_row(sets: &mut Vec<u16>, row: &Row)
     sets[place] = with(sets[place], exits);
 }
 
+// An empty set for each place.
+fn no_exits(alloc: Global) -> Result<Vec<u16>, OutOfMemory>
+    ensures { IfOk result (λ sets. sets.items ≡ replicate (1651 * 127) 0) }
+{
+    let mut sets = Vec::with_capacity(alloc, usize::from(SPOTS) * usize::from(NUMBERS))?;
+    'spots: for _ in 0..SPOTS {
+        sets.extend_from_slice(&[0u16; 127])?;
+    }
+    Ok(sets)
+}
+
 impl ExitTable {
     /// The exits of these rows.
     pub fn of(alloc: Global, rows: &[Row]) -> Result<Self, OutOfMemory>
@@ -56,7 +67,7 @@ impl ExitTable {
         ensures sets { IfOk result (λ table. AreSets rows.now table.sets.items) }
         ensures ports { IfOk result (λ _. All (λ row. ArePorts row.exits) rows.now) }
     {
-        let mut sets = vec![in alloc; 0u16; usize::from(SPOTS) * usize::from(NUMBERS)]?;
+        let mut sets = no_exits(alloc)?;
         'rows: for row in rows {
             add_row(&mut sets, row);
         }

@@ -53,3 +53,71 @@ impl Marks {
         Some(self.bits.trailing_zeros() as usize)
     }
 }
+
+/// A set of places below 2,048. Contracts see it as a list, which has 1 at each place that is in it and
+/// else 0.
+#[derive(Debug, Drop)]
+pub struct SpotMarks {
+    // A bit for each place, 128 of them in a part; and the parts that have some.
+    parts: [u128; 16],
+    some: u16,
+}
+
+impl Model for SpotMarks {
+    ghost use Rattle.std.specs.Prelude.{ℕ, List};
+    ghost use Rattle.flow_channels.specs.Marks.{HasParts, spot_marks};
+
+    ghost Value = { List ℕ };
+
+    ghost view = { λ m. spot_marks m.parts };
+
+    ghost invariant = { λ m. HasParts m.parts m.some };
+}
+
+impl SpotMarks {
+    /// No place.
+    pub fn new() -> Self
+        ensures { result ≡ replicate 2048 0 }
+    {
+        SpotMarks {
+            parts: [0; 16],
+            some: 0,
+        }
+    }
+
+    /// Puts a place in.
+    pub fn insert(&mut self, place: usize)
+        requires { place < 2048 }
+        ensures { self.new ≡ slice_set self.old place 1 }
+    {
+        let part = place / 128;
+        let bits = self.parts[part] | 1u128 << (place % 128);
+        self.parts[part] = bits;
+        self.some |= 1u16 << part;
+    }
+
+    /// Takes a place out.
+    pub fn remove(&mut self, place: usize)
+        requires { place < 2048 }
+        ensures { self.new ≡ slice_set self.old place 0 }
+    {
+        let part = place / 128;
+        let bits = self.parts[part] & !(1u128 << (place % 128));
+        self.parts[part] = bits;
+        if bits == 0 {
+            self.some &= !(1u16 << part);
+        }
+    }
+
+    /// The least place; none exactly where there is no place.
+    pub fn first(&self) -> Option<usize>
+        ensures { MatchOption result (HasNone 1 self.now) (IsFirst 1 self.now) }
+    {
+        if self.some == 0 {
+            return None;
+        }
+        let part = self.some.trailing_zeros() as usize;
+        let bits = self.parts[part];
+        Some(128 * part + bits.trailing_zeros() as usize)
+    }
+}

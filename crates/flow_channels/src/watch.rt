@@ -3,26 +3,26 @@ ghost use Rattle.std.specs.Prelude.{IfOk, IsNone, MatchOption};
 ghost use Rattle.dep_check.specs.Tables.{IsSpot};
 ghost use Rattle.flow_channels.specs.Board.{come_by, flow_of, freed_by, gone_by, IsKept};
 ghost use Rattle.flow_channels.specs.Board.{IsSoundOver, left_by, ways};
-ghost use Rattle.flow_channels.specs.Flows.{empty_flow, enters, leaves};
+ghost use Rattle.flow_channels.specs.Ahead.{ahead_of};
+ghost use Rattle.flow_channels.specs.Flows.{empty_flow, enters, first_of, leaves};
 ghost use Rattle.flow_channels.specs.Turns.{HasDeparted, IsFirstArrival, IsSame, NoneArrives, NoneGoes};
 ghost use Rattle.flow_channels.specs.Watch.{AreArriving, AreFreePorts, HasPortIf, HeldBefore, IsWatched};
 
-use crate::board::{Arrival, Board, Departure, Packet};
+use crate::board::{Ahead, Arrival, Board, Departure, Packet};
 use crate::exits::NUMBERS;
-use crate::marks::Marks;
+use crate::marks::{Marks, SpotMarks};
 use crate::tables::Tables;
 use an_base::memory::OutOfMemory;
 use dep_check::channel::Channel;
 use dep_check::spot::{place_of, spot_at};
 use fcfc_router::router::Grant;
-use fcfc_router::tree::PortTree;
 use std::alloc::Global;
 
 /// Where something may happen next.
 #[derive(Debug, Drop)]
 pub struct Watch {
     /// The places of the channels whose first packet is at its target: 1 for each.
-    pub arriving: PortTree,
+    pub arriving: SpotMarks,
     /// For each switch the ports whose channels have room, by its number.
     pub free: Vec<u16>,
     /// At least the numbers of the switches at which somebody can go.
@@ -68,15 +68,25 @@ fn see_room(free: &mut Vec<u16>, tables: &Tables, board: &Board, channel: Channe
 
 // Sees to whether the first packet of a channel is at its target, behind something that came or went
 // in it.
-fn see_first(arriving: &mut PortTree, tables: &Tables, board: &Board, channel: Channel)
-    requires kept { IsKept tables.now board.now }
+fn see_first(
+    arriving: &mut SpotMarks,
+    tables: &Tables,
+    board: &Board,
+    channel: Channel,
+    ahead: Ahead,
+)
     requires spot { IsSpot channel }
+    requires ahead { ahead ≡ ahead_of ((ways tables.now).far channel) (first_of (flow_of board.now) channel) }
     requires was { HeldBefore tables.now channel (flow_of board.now)
         (λ old. AreArriving tables.now old arriving.old) }
     ensures { AreArriving tables.now (flow_of board.now) arriving.new }
 {
-    let arrives = board.arrived_in(tables, channel).is_some();
-    arriving.put(place_of(channel), u16::from(arrives));
+    let place = place_of(channel);
+    match ahead {
+        Ahead::Arrives => arriving.insert(place),
+        Ahead::Rests => arriving.remove(place),
+        Ahead::Asks { end: _end } => arriving.remove(place),
+    }
 }
 
 impl Watch {
@@ -87,24 +97,25 @@ impl Watch {
         ensures { IfOk result (IsWatched tables.now (flow_of board.now)) }
     {
         Ok(Watch {
-            arriving: PortTree::new(alloc, 2048)?,
+            arriving: SpotMarks::new(),
             free: all_free(alloc, tables, board)?,
             awake: Marks::new(),
         })
     }
 
     // Sees to what may happen behind something that came or went in a channel.
-    fn see(&mut self, tables: &Tables, board: &Board, channel: Channel)
+    fn see(&mut self, tables: &Tables, board: &Board, channel: Channel, ahead: Ahead)
         requires kept { IsKept tables.now board.now }
         requires spot { IsSpot channel }
+        requires ahead { ahead ≡ ahead_of ((ways tables.now).far channel) (first_of (flow_of board.now) channel) }
         requires was { HeldBefore tables.now channel (flow_of board.now)
             (λ old. IsWatched tables.now old self.old) }
         ensures { IsWatched tables.now (flow_of board.now) self.new }
     {
-        see_first(&mut self.arriving, tables, board, channel);
+        see_first(&mut self.arriving, tables, board, channel, ahead);
         see_room(&mut self.free, tables, board, channel);
         self.awake.insert(usize::from(channel.at));
-        if let Some(end) = board.asks_at(tables, channel) {
+        if let Some(end) = ahead.asks() {
             self.awake.insert(usize::from(end.at));
         }
     }
@@ -120,8 +131,8 @@ impl Watch {
         ensures flow { flow_of board.new ≡ leaves (ways tables.now) channel (flow_of board.old) }
         ensures packets { board.new.packets.items ≡ board.old.packets.items }
     {
-        board.leave(tables, channel);
-        self.see(tables, board, channel);
+        let ahead = board.leave(tables, channel);
+        self.see(tables, board, channel, ahead);
     }
 
     // What came in at a spot leaves the channel that brought it, if one did.
@@ -152,8 +163,8 @@ impl Watch {
         ensures flow { flow_of board.new ≡ come_by tables.now board.old channel slot }
         ensures packets { board.new.packets.items ≡ board.old.packets.items }
     {
-        board.come_into(tables, channel, slot);
-        self.see(tables, board, channel);
+        let ahead = board.come_into(tables, channel, slot);
+        self.see(tables, board, channel, ahead);
     }
 
     /// A packet that was let go leaves the channel that brought it, and goes into that of the port.
@@ -208,7 +219,7 @@ impl Watch {
         ensures { MatchOption result (NoneArrives tables.now board.now 1651)
             (IsFirstArrival tables.now board.now) }
     {
-        let place = self.arriving.first(1)?;
+        let place = self.arriving.first()?;
         let channel = spot_at(place as u16);
         let packet = board.arrived_in(tables, channel)?;
         Some(Arrival { channel, packet })

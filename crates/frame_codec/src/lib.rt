@@ -8,6 +8,4 @@ pub mod law;
 mod order;
 mod reader;
 pub mod reading;
-#[cfg(test)]
-mod tests;
 pub mod writing;

@@ -16,6 +16,3 @@ free_others r slip other apart = get_or-set_other r.held slip other None None ap
 -- a slip that is held is not a new one
 pub new_is_other : (r : RegionOf) (slip other : ℕ) → IsSome (held_at r other) → held_at r slip ≡ None → other ≢ slip
 new_is_other r slip other has new = λ same. let none : held_at r other ≡ None = ap (held_at r) same ∙ new in let some : IsSome {T = List ℕ} None = rw none at has in cc
-
-pub still_held : (r : RegionOf) (slip other : ℕ) (bytes : List ℕ) → IsSome (held_at r other) → held_at r slip ≡ None → IsSome (held_at (with_put slip bytes r) other)
-still_held r slip other bytes has new = rw (put_others r slip other bytes (new_is_other r slip other has new)) has

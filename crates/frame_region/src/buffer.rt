@@ -58,21 +58,3 @@ impl FrameBuf {
         let _added = self.bytes.extend_from_slice(bytes);
     }
 }
-
-#[cfg(test)]
-mod tests {
-    use super::*;
-    use std::test::Fail;
-
-    #[test]
-    fn a_buffer_shows_what_was_added_since_it_was_cleared(rt: HostRuntime) -> Result<(), Fail> {
-        let mut buffer = FrameBuf::new(rt.alloc())?;
-        assert!(rt; buffer.bytes().is_empty());
-        buffer.add(&[1, 2]);
-        buffer.clear();
-        buffer.add(&[3]);
-        buffer.add(&[4, 5]);
-        assert_eq!(rt; buffer.bytes(), [3, 4, 5].as_slice());
-        Ok(())
-    }
-}

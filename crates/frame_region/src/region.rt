@@ -1,4 +1,4 @@
-ghost use Rattle.std.specs.Prelude.{◌≡◌, ◌≢◌, min, ◌+◌, ◌-◌, ◌*◌, ◌<◌, ◌≤◌, ℕ, length, take, drop, replicate};
+ghost use Rattle.std.specs.Prelude.{◌≡◌, ◌≢◌, min, ◌+◌, ◌-◌, ◌*◌, ◌<◌, ◌≤◌, ℕ, length, take, replicate};
 ghost use Rattle.std.specs.Prelude.{None, IfOk, IfErr, OnOk, OnErr, IsSome, slice_index_or};
 ghost use Rattle.frame_region.specs.declared.buffer.TheConstants.{MOST_FRAME};
 ghost use Rattle.frame_region.specs.declared.region.TheConstants.{MOST_BLOCKS};
@@ -279,80 +279,5 @@ impl Region {
         self.first_free = first;
         self.free += count;
         self.lens[first as usize] = 0;
-    }
-}
-
-#[cfg(test)]
-mod tests {
-    use super::*;
-    use std::test::Fail;
-
-    // A region of so many blocks.
-    fn region_of(alloc: Global, blocks: u32) -> Result<Region, OutOfMemory>
-        requires { blocks ≤ MOST_BLOCKS }
-    {
-        Region::new(alloc, blocks)
-    }
-
-    // Puts more bytes in a region that has a slip, and answers the refusal, if there is one.
-    fn put_more(region: &mut Region, slip: &Slip, bytes: &[u8]) -> Option<NoRoom>
-        requires has { IsSome (held_at region.old slip.now) }
-        requires least { 1 ≤ length bytes.now }
-        requires most { length bytes.now ≤ MOST_FRAME }
-        ensures { IsSome (held_at region.new slip.now) }
-    {
-        match region.put(bytes) {
-            Ok(_slip) => None,
-            Err(refused) => Some(refused),
-        }
-    }
-
-    #[test]
-    fn a_region_of_two_blocks_has_room_for_two(rt: HostRuntime) -> Result<(), Fail> {
-        let mut region = region_of(rt.alloc(), 2)?;
-        let mut out = FrameBuf::new(rt.alloc())?;
-        let first = region.put(&[7u8; 64]).ok().ok_or("no room")?;
-        assert!(rt; put_more(&mut region, &first, &[1u8; 65]) == Some(NoRoom { need: 2, free: 1 }));
-        assert!(rt; put_more(&mut region, &first, &[2]) == None);
-        assert!(rt; put_more(&mut region, &first, &[3]) == Some(NoRoom { need: 1, free: 0 }));
-        region.take(first, &mut out);
-        assert!(rt; out.bytes() == [7u8; 64].as_slice());
-        assert!(rt; region.free_blocks() == 1);
-        Ok(())
-    }
-
-    #[test]
-    fn the_largest_frame_needs_353_blocks(rt: HostRuntime) -> Result<(), Fail> {
-        let mut small = region_of(rt.alloc(), 352)?;
-        let mut region = region_of(rt.alloc(), 353)?;
-        let mut out = FrameBuf::new(rt.alloc())?;
-        let frame = [9u8; 22_591];
-        assert!(rt;
-            small.put(&frame).err()
-                == Some(NoRoom {
-                    need: 353,
-                    free: 352
-                })
-        );
-        let slip = region.put(&frame).ok().ok_or("no room")?;
-        assert!(rt; region.free_blocks() == 0);
-        assert!(rt; region.piece(&slip, 352).len() == 63);
-        region.take(slip, &mut out);
-        assert!(rt; out.bytes() == frame.as_slice());
-        Ok(())
-    }
-
-    #[test]
-    fn two_blocks_take_65_bytes_a_thousand_times(rt: HostRuntime) -> Result<(), Fail> {
-        let mut region = region_of(rt.alloc(), 2)?;
-        let mut out = FrameBuf::new(rt.alloc())?;
-        'puts: for k in 0..1000u32 {
-            let frame = [(k % 251) as u8; 65];
-            let slip = region.put(&frame).ok().ok_or("no room")?;
-            region.take(slip, &mut out);
-            assert!(rt; out.bytes() == frame.as_slice());
-            assert!(rt; region.free_blocks() == 2);
-        }
-        Ok(())
     }
 }

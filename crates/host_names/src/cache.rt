@@ -1,4 +1,4 @@
-ghost use Rattle.std.specs.Prelude.{◌≡◌, ◌≤◌, [], ◌∷◌, All, find, IfOk, List, ℕ};
+ghost use Rattle.std.specs.Prelude.{◌≡◌, ◌≤◌, [], ◌∷◌, All, find, IfOk, List};
 ghost use Rattle.std.specs.Option.{ForSome};
 ghost use Rattle.host_names.specs.Caches.{ArrivalOf, choice_by, choice_of, is_from, kept_of, with_arrival};
 
@@ -111,32 +111,5 @@ impl Cache {
         ensures { result ≡ choice_of self.now uid now }
     {
         choice_by(last_of(&self.heard, uid), now)
-    }
-}
-
-#[cfg(test)]
-mod tests {
-    use super::*;
-    use std::test::Fail;
-
-    // A cache of packets from these senders, all at tick 0 from address 17.
-    fn heard_from(rt: &HostRuntime, uids: &[u64]) -> Result<Cache, Fail>
-        ensures { IfOk result (λ cache. (now : ℕ) → All (λ arrival. arrival.tick ≤ now) cache) }
-    {
-        let mut cache = Cache::new(rt.alloc())?;
-        'uids: for uid in uids {
-            cache.arrived(*uid, 17, 0);
-        }
-        Ok(cache)
-    }
-
-    #[test]
-    fn the_seventeenth_sender_takes_the_place_of_the_first(rt: HostRuntime) -> Result<(), Fail> {
-        let uids = [1, 2, 3, 4, 5, 6, 7, 8, 9, 10, 11, 12, 13, 14, 15, 16, 17];
-        let cache = heard_from(&rt, &uids)?;
-        assert_eq!(rt; cache.choose(1, 0), Choice::Broadcast);
-        assert_eq!(rt; cache.choose(2, 63), Choice::Known { address: 17 });
-        assert_eq!(rt; cache.choose(2, 64), Choice::Broadcast);
-        Ok(())
     }
 }

@@ -13,7 +13,5 @@
 
 pub mod hop;
 mod packet;
-#[cfg(test)]
-mod tests;
 pub mod traffic;
 pub mod view;

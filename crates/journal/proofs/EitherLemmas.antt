@@ -39,7 +39,8 @@ use Rattle.journal.specs.Texts.{IsJournal, IsFirstLine, IsWrongLine, IsFaultyRes
 use Rattle.journal.proofs.JournalLemmas.{switch_of, port_of, line_of, line_back}
 use Rattle.journal.proofs.FieldLemmas.{spelled}
 use Rattle.journal.proofs.LineLemmas.{feedless, first_is}
-use Rattle.journal.proofs.ReadLemmas.{IsRead, read_more, read_end, line_joined}
+use Rattle.journal.specs.Reading.{IsRead}
+use Rattle.journal.proofs.ReadLemmas.{read_more, read_end, line_joined}
 
 -- the words of the form that is found
 switch_is : (w : List ℕ) (k : SwitchEvent) → switch_of w ≡ Some k → w ≡ switch_word k

@@ -4,3 +4,4 @@ pub mod ReadLemmas
 pub mod JournalLemmas
 pub mod FaultLemmas
 pub mod EitherLemmas
+pub mod ReadingLemmas

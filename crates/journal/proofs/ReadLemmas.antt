@@ -1,4 +1,4 @@
-use Rattle.std.proofs.Common.{◌≡◌, ◌≢◌, ◌∙◌, sym, ap, ℕ, ◌+◌, List, [], ◌∷◌, ◌++◌, append_assoc, append-nil, length, map, All, arith, codes, Result, Ok, Err, inr, Bool, true, false}
+use Rattle.std.proofs.Common.{◌≡◌, ◌≢◌, ◌∙◌, sym, ap, ℕ, ◌+◌, List, [], ◌∷◌, ◌++◌, append_assoc, append-nil, map, arith, codes, Result, Ok, Err, inr, Bool, true, false}
 use Rattle.std.specs.List.{flat_map, join_with_byte}
 use Rattle.std.specs.Str.{bytes_eq}
 use Rattle.std.proofs.lemmas.Slice.Eq.{bytes_eq-Decides}
@@ -17,12 +17,7 @@ use Rattle.text_lines.specs.Stops.{refusal_at}
 use Rattle.text_lines.specs.declared.stop.Stop.TheVariants.{Fault, OutOfMemory}
 use Rattle.journal.specs.Words.{words_of}
 use Rattle.journal.specs.Texts.{IsFirstLine, IsJournal}
-
--- the bytes are the first line, the lines of these events and the rest, and the next line has this number
-pub record IsRead (s : ScriptOf) (bytes rest : List ℕ) (events : List Event) (line : ℕ) : Type 0 where
-  pub spelled : All (CanSpell s) events
-  pub text : bytes ≡ line_text first_words ++ (events_text s events ++ rest)
-  pub number : line ≡ length events + 2
+use Rattle.journal.specs.Reading.{IsRead}
 
 -- the text of events with one more
 pub events_push : (s : ScriptOf) (events : List Event) (e : Event) → events_text s (events ++ e ∷ []) ≡ events_text s events ++ line_text (event_words s e)

@@ -6,3 +6,4 @@ pub mod Events
 pub mod Rules
 pub mod Texts
 pub mod Steps
+pub mod Reading

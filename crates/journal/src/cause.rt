@@ -38,14 +38,3 @@ impl JournalCause {
         }
     }
 }
-
-#[cfg(test)]
-mod tests {
-    use super::*;
-
-    #[test]
-    fn a_cause_has_its_words(rt: HostRuntime) {
-        assert_eq!(rt; JournalCause::NotLawful.text(), "not lawful");
-        assert_eq!(rt; JournalCause::Unfinished.text(), "unfinished");
-    }
-}

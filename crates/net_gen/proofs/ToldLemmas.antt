@@ -1,13 +1,12 @@
 -- What the lines of a history tell of packets.
 
-use Rattle.std.proofs.Common.{◌≡◌, refl, ℕ, ◌≤◌, List, [], ◌∷◌, ◌++◌, length, Option, Some, None, Bool, true, false, not, ◌==◌, cond, is_some, arith}
+use Rattle.std.proofs.Common.{◌≡◌, refl, sym, ℕ, ◌+◌, List, [], ◌∷◌, ◌++◌, Option, Some, None, Bool, true, false, not, ◌==◌, cond, is_some, arith}
 use Rattle.std.specs.Prelude.{◌&&◌, count_by, flat_map}
-use Rattle.std.specs.Option.{option_map_or}
-use Rattle.std.proofs.lemmas.List.Sums.{count_by-le-length, sum_by-append}
+use Rattle.std.proofs.lemmas.List.Sums.{sum_by-append}
 use Rattle.an_base.specs.Ports.{NoteOf}
 use Rattle.an_base.specs.Values.{EndId, LifeId, TopoOf}
 use Rattle.an_base.specs.declared.event.Event.{Event}
-use Rattle.an_base.specs.declared.event.Event.TheVariants.{Tick, Clock, Take, Handle, Load, Fail, Repair, Lose, Again, Swap, Noise, Send, Move, Restart}
+use Rattle.an_base.specs.declared.event.Event.TheVariants.{Clock, Take, Handle, Load, Restart}
 use Rattle.an_base.specs.declared.port.PortState.{PortState}
 use Rattle.port_monitor.specs.Histories.{externals}
 use Rattle.frame_codec.specs.Reading.{frame_of}
@@ -15,23 +14,23 @@ use Rattle.wire_set.specs.WireState.{WiresOf, place as port_place, side_at, is_l
 use Rattle.wire_set.specs.declared.side.Loss.{Loss}
 use Rattle.wire_set.specs.declared.side.Put.{Put}
 use Rattle.wire_set.specs.declared.side.Put.TheVariants as put
-use Rattle.table_build.specs.Tables.{TableOf}
+use Rattle.table_build.specs.Made.{number_in}
 use Rattle.switch_core.specs.Switch.{SwitchOf, finish_of, note_of}
 use Rattle.switch_core.specs.Steps.{Step}
 use Rattle.switch_core.specs.Bytes.{BytesOut, all_spelled}
-use Rattle.host_traffic.specs.declared.hop.DropCause.TheVariants as cause
-use Rattle.host_traffic.specs.Packets.{PacketOf, packet_of}
 use Rattle.fabric_state.specs.declared.hand.Hand.{Hand}
 use Rattle.fabric_state.specs.declared.hand.Hand.TheVariants as hand
 use Rattle.fabric_state.specs.PortStates.{state_code}
-use Rattle.fabric_state.specs.Fabric.{FabricOf, station, held_bytes, host_at, host_on, table_at, side_of_port, switch_behind}
-use Rattle.fabric_state.specs.Effects.{released, put_out, noise}
+use Rattle.fabric_state.specs.Fabric.{station, held_bytes, side_of_port, switch_behind}
+use Rattle.fabric_state.specs.Effects.{released, put_out}
 use Rattle.fabric_world.specs.declared.line.Line.{Line}
 use Rattle.fabric_world.specs.declared.line.Line.TheVariants as line
-use Rattle.fabric_world.specs.Lines.{shown_in, port_line, no_frame_lines, has_joined, join_lines, spent_lines, finish_line, finish_lines, loss_line, lost_line, lost_lines, handle_lines, copy_line, load_lines, sent_line, unsent_line, send_line, move_lines, lines_of}
-use Rattle.fabric_world.specs.World.{WorldOf, handled}
+use Rattle.fabric_world.specs.Lines.{shown_in, port_line, no_frame_lines, has_joined, join_lines, spent_lines, finish_line, finish_lines, loss_line, lost_line, lost_lines, handle_lines, copy_line, load_lines, lines_of, all_lines}
+use Rattle.fabric_world.specs.World.{WorldOf, handled, step}
+use Rattle.fabric_book.specs.Nets.{driver_line, driver_lines}
+use Rattle.fabric_book.proofs.DriverLemmas.{not_first}
 
--- a test that no line of frames, ports and epochs passes
+-- a test that no line of frames, ports, epochs and lives passes
 pub record IsOfPackets (p : Line → Bool) : Type 0 where
   pub port : (s q : ℕ) (state : PortState) (peer : Option EndId) → p (line.Port s q state peer) ≡ false
   pub no_frame : (s q : ℕ) → p (line.NoFrame s q) ≡ false
@@ -39,8 +38,10 @@ pub record IsOfPackets (p : Line → Bool) : Type 0 where
   pub spent : (s : ℕ) → p (line.Spent s) ≡ false
   pub finish : (s epoch : ℕ) (root : LifeId) (members : ℕ) → p (line.Finish s epoch root members) ≡ false
   pub lost : (s q : ℕ) (why : Loss) → p (line.Lost s q why) ≡ false
+  pub load : (s epoch number : ℕ) → p (line.Load s epoch number) ≡ false
+  pub restarted : (s : ℕ) → p (line.Restarted s) ≡ false
 
--- HANDLING TELLS OF NO PACKET
+-- WORKERS TELL OF NO PACKET
 
 module _ (p : Line → Bool) (of : IsOfPackets p) where
   abbrev None_pass : List Line → Type 0
@@ -105,56 +106,34 @@ module _ (p : Line → Bool) (of : IsOfPackets p) where
       (either (not (has_joined u v) && is_some (finish_of u)) [] (finish_line s v.epoch (finish_of v)) refl (finished s v.epoch (finish_of v))))
       (all_lost s (all_spelled st.frames) (released h s w.fabric.wires))
 
--- OTHER EVENTS HAVE ONE LINE AT MOST
+  copied : (far : Option (ℕ × ℕ)) (what : Option Put) → None_pass (copy_line far what)
+  copied None what = refl
+  copied (Some far) None = refl
+  copied (Some far) (Some what) = losses far.0 far.1 what
 
-loss_short : (s q : ℕ) (what : Put) → length (loss_line s q what) ≤ 1
-loss_short s q put.Kept = omega arith
-loss_short s q (put.Lost why) = omega arith
+  loaded : (o : Option TopoOf) (s : ℕ) (u : SwitchOf) → None_pass (load_lines o s u)
+  loaded None s u = refl
+  loaded (Some topo) s u = one _ (of.load s u.epoch (number_in topo u.life))
 
-copy_short : (far : Option (ℕ × ℕ)) (what : Option Put) → length (copy_line far what) ≤ 1
-copy_short None what = omega arith
-copy_short (Some far) None = omega arith
-copy_short (Some far) (Some what) = loss_short far.0 far.1 what
+  -- SO THE DRIVER'S LINES TELL OF ALL PACKETS
 
-load_short : (o : Option TopoOf) (s : ℕ) (u : SwitchOf) → length (load_lines o s u) ≤ 1
-load_short None s u = omega arith
-load_short (Some topo) s u = omega arith
+  worker : (n : ℕ) (xs : List Line) → None_pass xs → count_by p (cond (n + 1 == 0) xs []) ≡ count_by p xs
+  worker n xs none = rw (not_first n) (sym none)
 
-send_short : (a b : ℕ) (f : FabricOf) → length (send_line a b f) ≤ 1
-send_short a b f = by (not (is_some (host_at f (host_on f a).s (host_on f a).port))) (table_at f (host_on f b).s) where
-  by : (c : Bool) (o : Option TableOf) → length (cond c (unsent_line a b cause.NoPort f) (option_map_or (sent_line a b f) o (unsent_line a b cause.NoTable f))) ≤ 1
-  by true o = omega arith
-  by false None = omega arith
-  by false (Some t) = omega arith
+  event : (w : WorldOf) (e : Event) → count_by p (driver_line w e) ≡ count_by p (lines_of w e)
+  unfolding lines_of
+  event w (Clock s) = worker s [] refl
+  event w (Take s q) =
+      let wire = port_place s q in
+      worker s (lines_of w (Take s q)) (copied (switch_behind (side_of_port w.fabric s q).far) (what_copy_becomes wire (taken_frame wire w.fabric.wires) (held_from wire (port_place s 0) w.fabric.wires)))
+  event w (Handle s) = worker s (lines_of w (Handle s)) (handling s (handled s w) w)
+  event w (Load s) = worker s (lines_of w (Load s)) (loaded (finish_of (w.switches s)) s (w.switches s))
+  event w (Restart s) = worker s (lines_of w (Restart s)) (one (line.Restarted s) (of.restarted s))
+  event w e = refl
 
-move_short : (o : Option PacketOf) (f : FabricOf) → length (move_lines o f) ≤ 1
-move_short None f = omega arith
-move_short (Some packet) f = omega arith
-
--- so an event tells at most once what passes such a test
-pub at_most_once : (p : Line → Bool) → IsOfPackets p → (w : WorldOf) (e : Event) → count_by p (lines_of w e) ≤ 1
-unfolding lines_of
-at_most_once p of w Tick = omega arith
-at_most_once p of w (Clock s) = omega arith
-at_most_once p of w (Take s q) =
-    let wire = port_place s q in
-    let far = (switch_behind (side_of_port w.fabric s q).far) in
-    let what = what_copy_becomes wire (taken_frame wire w.fabric.wires) (held_from wire (port_place s 0) w.fabric.wires) in
-    omega (arith, count_by-le-length p (copy_line far what), copy_short far what)
-at_most_once p of w (Handle s) = let none = handling p of s (handled s w) w in omega (arith, none)
-at_most_once p of w (Load s) =
-    let o = finish_of (w.switches s) in
-    omega (arith, count_by-le-length p (load_lines o s (w.switches s)), load_short o s (w.switches s))
-at_most_once p of w (Fail s q) = count_by-le-length p (lines_of w (Fail s q))
-at_most_once p of w (Repair s q) = count_by-le-length p (lines_of w (Repair s q))
-at_most_once p of w (Lose s q n) = omega arith
-at_most_once p of w (Again s q n) = omega arith
-at_most_once p of w (Swap s q n) = omega arith
-at_most_once p of w (Noise s q n) =
-    let what = what_becomes (port_place s q) (wire_out w.fabric.wires s q) (noise n) w.fabric.wires in
-    omega (arith, count_by-le-length p (loss_line s q what), loss_short s q what)
-at_most_once p of w (Send a b) = omega (arith, count_by-le-length p (send_line a b w.fabric), send_short a b w.fabric)
-at_most_once p of w (Move n) =
-    let o = packet_of n w.fabric.packets in
-    omega (arith, count_by-le-length p (move_lines o w.fabric), move_short o w.fabric)
-at_most_once p of w (Restart s) = count_by-le-length p (lines_of w (Restart s))
+  pub all_told : (w : WorldOf) (h : List Event) → count_by p (driver_lines w h) ≡ count_by p (all_lines w h)
+  all_told w [] = refl
+  all_told w (e ∷ h) =
+      let drivers = sum_by-append (λ x. cond (p x) 1 0) (driver_line w e) (driver_lines (step w e) h) in
+      let all = sum_by-append (λ x. cond (p x) 1 0) (lines_of w e) (all_lines (step w e) h) in
+      omega (arith, drivers, all, event w e, all_told (step w e) h)

@@ -1,5 +1,4 @@
-ghost use Rattle.std.specs.Prelude.{◌≡◌, ◌<◌, ℕ, length, IfOk, None, Some, ◌∷◌, slice_set};
-ghost use Rattle.net_graph.specs.Wires.{network};
+ghost use Rattle.std.specs.Prelude.{◌≡◌, ◌<◌, ℕ, length, IfOk, None, Some};
 ghost use Rattle.net_graph.specs.Levels.{level_at};
 ghost use Rattle.net_graph.specs.Forest.{IsForest};
 ghost use Rattle.net_graph.specs.Forested.{IsWithout};
@@ -56,6 +55,3 @@ pub fn trees(alloc: Global, wiring: &Wiring) -> Result<Vec<Entries>, OutOfMemory
     }
     Ok(forest)
 }
-
-#[cfg(test)]
-mod tests;

@@ -68,14 +68,3 @@ impl ScriptCause {
         }
     }
 }
-
-#[cfg(test)]
-mod tests {
-    use super::*;
-
-    #[test]
-    fn a_cause_has_its_words(rt: HostRuntime) {
-        assert_eq!(rt; ScriptCause::NoSuchName.text(), "no such name");
-        assert_eq!(rt; ScriptCause::TablesShort.text(), "tables short");
-    }
-}

@@ -1,6 +1,6 @@
 //! The reader of scripts.
 
-ghost use Rattle.std.specs.Prelude.{◌≡◌, ◌<◌, ◌-◌, ◌^◌, [], ◌∷◌, length, map, IfOk, IfErr};
+ghost use Rattle.std.specs.Prelude.{◌<◌, ◌-◌, ◌^◌, [], ◌∷◌, length, map, IfOk, IfErr};
 ghost use Rattle.net_script.specs.declared.draft.Part.TheVariants.{Header};
 ghost use Rattle.net_script.specs.Texts.{IsText, Adds, IsFaulty, AddsWords, IsFaultyWords};
 ghost use Rattle.text_lines.specs.Stops.{IsStep};
@@ -45,7 +45,9 @@ pub fn read(alloc: Global, bytes: &[u8]) -> Result<Script, ReadRefusal>
     Ok(draft.script)
 }
 
-// Adds what a line says.
+/// Adds what one line, without its end, says after those before it; a blank line, or a comment alone, adds
+/// nothing. `Fault` is the first cause for which the line is refused; `OutOfMemory` says nothing of the line.
+/// After either nothing is said of `draft`.
 pub fn read_line(draft: &mut Draft, alloc: Global, line: &[u8]) -> Result<(), ScriptStop>
     ensures { IsStep result (Adds draft.old line.now draft.new) (IsFaulty draft.old line.now) }
 {
@@ -97,50 +99,4 @@ fn read_first(draft: &mut Draft, a: &[u8], b: &[u8]) -> Result<(), ScriptStop>
         return Ok(());
     }
     Err(Stop::Fault(ScriptCause::BadHeader))
-}
-
-#[cfg(test)]
-mod tests {
-    use super::*;
-    use crate::command::Command;
-    use an_base::event::Event;
-    use std::test::Fail;
-
-    // Reads bytes of which there are few.
-    fn read_few(rt: &HostRuntime, bytes: &[u8]) -> Result<Script, ReadRefusal> {
-        if bytes.len() > 1_000 {
-            return Err(Refusal::OutOfMemory);
-        }
-        read(rt.alloc(), bytes)
-    }
-
-    #[test]
-    fn what_lines_say_is_in_the_script(rt: HostRuntime) -> Result<(), Fail> {
-        let bytes: &[u8] = b"\n# forms\r\nautonet 1\r\n\tswitch A 00000000000A had 126 # root\n\
-            limit blocks 9\nlink A 1 A 12\nhost H 0000000000fF A 2\nat 7 noise A 1 64\n\
-            at 1000000 restart A\nend # here\n\n#";
-        let script = read_few(&rt, bytes).map_err(|_error| "refused")?;
-        assert_eq!(rt; script.commands().len(), 2);
-        let last = Command {
-            time: 1_000_000,
-            event: Event::Restart { s: 0 },
-        };
-        assert!(rt; script.commands()[1] == last);
-        assert_eq!(rt; script.lives(), 2);
-        assert_eq!(rt; script.limits().blocks, 9);
-        Ok(())
-    }
-
-    #[test]
-    fn settings_without_a_line_have_their_defaults(rt: HostRuntime) -> Result<(), Fail> {
-        let script = read_few(&rt, b"autonet 1\nend").map_err(|_error| "refused")?;
-        let limits = script.limits();
-        assert_eq!(rt; limits.ticks, 4_096);
-        assert_eq!(rt; limits.events, 2_000_000);
-        assert_eq!(rt; limits.blocks, 65_536);
-        assert_eq!(rt; script.epoch(), 0);
-        assert!(rt; script.pace() == None);
-        assert!(rt; !script.any_routes());
-        Ok(())
-    }
 }

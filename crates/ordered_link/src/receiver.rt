@@ -1,4 +1,4 @@
-ghost use Rattle.std.specs.Prelude.{◌≡◌, ◌+◌, ◌%◌, ◌<◌, ◌≤◌, None};
+ghost use Rattle.std.specs.Prelude.{◌≡◌, ◌+◌, ◌%◌, ◌<◌, None};
 ghost use Rattle.ordered_link.specs.Receiving.{Receiving, IsLeftOf, come, follow, last, untouched, verdict};
 
 use an_base::body::Body;
@@ -120,42 +120,5 @@ impl Receiver {
         let early = self.places[place as usize].take()?;
         self.last = early.k;
         Some(early.body)
-    }
-}
-
-#[cfg(test)]
-mod tests {
-    use super::*;
-    use an_base::body::AnswerBody;
-
-    // The body with this version.
-    fn body(version: u32) -> Body
-        requires { 1 ≤ version }
-    {
-        Body::Answer(AnswerBody::new(version, false))
-    }
-
-    #[test]
-    fn a_body_that_comes_early_is_held_and_follows_the_wanted_one(rt: HostRuntime) {
-        let mut receiver = Receiver::new();
-        assert!(rt; matches!(receiver.on_carry(1, body(1)), Verdict::Accepted(_)));
-        assert!(rt; receiver.next().is_none());
-        assert!(rt;
-            matches!(
-                receiver.on_carry(3, body(3)),
-                Verdict::Held { wanted: 2, got: 3 }
-            )
-        );
-        assert!(rt; matches!(receiver.on_carry(3, body(3)), Verdict::Repeat { last: 1 }));
-        assert!(rt; matches!(receiver.on_carry(2, body(2)), Verdict::Accepted(_)));
-        assert!(rt; matches!(receiver.next(), Some(Body::Answer(_))));
-        assert!(rt; receiver.next().is_none());
-        assert!(rt;
-            matches!(
-                receiver.on_carry(12, body(12)),
-                Verdict::Ahead { wanted: 4, got: 12 }
-            )
-        );
-        assert_eq!(rt; receiver.last(), 3);
     }
 }

@@ -1,9 +1,13 @@
 -- A journal is replayed event by event.
-use Rattle.std.proofs.Common.{◌≡◌, ◌∙◌, sym, ap, subst, refl, ℕ, suc, ◌+◌, ◌<◌, ◌≤◌, List, [], ◌∷◌, ◌++◌, add-one, length, get_or, take, drop, drop-cons, take-append-drop, take_all, true, false, true≢false}
+use Rattle.std.proofs.Common.{◌≡◌, ◌∙◌, sym, ap, subst, refl, ℕ, suc, ◌+◌, ◌<◌, ◌≤◌, List, [], ◌∷◌, ◌++◌, add-one, append_assoc, length, get_or, take, drop, drop-cons, take-append-drop, take_all, true, false, true≢false}
 use Rattle.std.proofs.lemmas.List.{take_more}
 use Rattle.an_base.specs.declared.event.Event.{Event}
 use Rattle.net_script.specs.Scripts.{IsScript, ScriptOf}
+use Rattle.text_lines.specs.declared.stop.Refusal.TheVariants as stopped
 use Rattle.journal.specs.declared.cause.JournalCause.{JournalCause}
+use Rattle.journal.specs.Reading.{BeginsJournal}
+use Rattle.journal.specs.Steps.{JournalRefusal, IsRefusal as IsUnread}
+use Rattle.journal.specs.Texts.{IsJournal}
 use Rattle.fabric_state.specs.Fabric.{FabricOf}
 use Rattle.fabric_state.specs.declared.ending.Ending.{Ending}
 use Rattle.fabric_state.specs.Lawful.{is_lawful}
@@ -12,7 +16,7 @@ use Rattle.fabric_world.specs.Histories.{AreLawful, IsFirstFault, IsLawful, IsLe
 use Rattle.fabric_world.proofs.CountLemmas.{lawful_events}
 use Rattle.fabric_world.proofs.InductionLemmas.{world_script}
 use Rattle.fabric_book.specs.Nets.{NetOf, history_of, with_step}
-use Rattle.replay.specs.Replays.{HasMade, HasNoEnd, IfIllegal, IsIllegal, IsRefusal, IsUnlawfulNext, line_behind, unended, unlawful}
+use Rattle.replay.specs.Replays.{HasMade, HasNoEnd, IfIllegal, IsIllegal, IsNoReplay, IsRefusal, IsUnlawfulNext, as_replayed, line_behind, no_journal, not_legal, unended, unlawful}
 use Rattle.replay.specs.declared.refusal.ReplayRefusal.{ReplayRefusal}
 use Rattle.replay.specs.declared.refusal.ReplayRefusal.TheVariants as refusal
 
@@ -82,6 +86,39 @@ refused_behind script journal net why made none =
     if_illegal why (HasNoEnd (record { script = script; events = journal })) (IsIllegal script journal)
     (λ line cause is. unended made.lawful is.none is.stands is.cause_is)
     here
+
+-- A TEXT IS REFUSED
+
+-- it is no journal
+pub refused_fault : (script : ScriptOf) (bytes : List ℕ) (fault : JournalRefusal) → IsUnread script bytes fault → IfIllegal (as_replayed fault) (IsNoReplay script bytes)
+refused_fault script bytes (stopped.Fault line why) is = no_journal is
+refused_fault script bytes stopped.OutOfMemory is = tt
+
+-- an event of its journal is not lawful
+pub refused_event : (script : ScriptOf) (bytes : List ℕ) (before : List Event) (event : Event) (why : ReplayRefusal) → BeginsJournal script bytes (before ++ event ∷ []) → IsLawful script before → IfIllegal why (IsUnlawfulNext (record { script = script; events = before }) event) → IfIllegal why (IsNoReplay script bytes)
+refused_event script bytes before event why begins lawful next =
+    let journal = (before ++ event ∷ []) ++ begins.more in
+    if_illegal why (IsUnlawfulNext (record { script = script; events = before }) event) (IsNoReplay script bytes)
+    (λ line cause is. not_legal journal begins.is_journal (unlawful before begins.more event (record { parts = append_assoc before (event ∷ []) begins.more; lawful = lawful; fault = is.fault }) is.stands is.cause_is))
+    next
+
+-- its journal comes to no end
+pub refused_end : (script : ScriptOf) (bytes : List ℕ) (net : NetOf) (why : ReplayRefusal) → IsJournal script bytes net.events → HasMade script net.events net → IfIllegal why (HasNoEnd (history_of net)) → IfIllegal why (IsNoReplay script bytes)
+refused_end script bytes net why is_journal made none =
+    if_illegal why (IsIllegal script net.events) (IsNoReplay script bytes)
+    (λ line cause is. not_legal net.events is_journal is)
+    (refused_behind script net.events net why made none)
+
+-- THE EVENTS OF A NETWORK
+
+pub events_are : (script : ScriptOf) (events : List Event) (net : NetOf) → HasMade script events net → net.events ≡ events
+events_are script events net made = ap (λ (n : NetOf). n.events) made.net_is
+
+pub made_these : (script : ScriptOf) (events : List Event) (net : NetOf) → HasMade script events net → HasMade script net.events net
+made_these script events net made = subst (λ (es : List Event). HasMade script es net) (sym (events_are script events net made)) made
+
+pub unlawful_there : (script : ScriptOf) (net : NetOf) (event : Event) (why : ReplayRefusal) → HasMade script net.events net → IfIllegal why (IsUnlawfulNext (history_of net) event) → IfIllegal why (IsUnlawfulNext (record { script = script; events = net.events }) event)
+unlawful_there script net event why made next = subst (λ (n : NetOf). IfIllegal why (IsUnlawfulNext (history_of n) event)) made.net_is next
 
 -- A LEGAL JOURNAL IS NOT REFUSED
 

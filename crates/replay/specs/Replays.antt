@@ -5,6 +5,9 @@ use Rattle.an_base.specs.declared.event.Event.{Event}
 use Rattle.net_script.specs.Scripts.{ScriptOf}
 use Rattle.journal.specs.declared.cause.JournalCause.{JournalCause}
 use Rattle.journal.specs.declared.cause.JournalCause.TheVariants as cause
+use Rattle.journal.specs.Steps.{JournalRefusal}
+use Rattle.journal.specs.Texts.{IsFault, IsJournal}
+use Rattle.text_lines.specs.declared.stop.Refusal.TheVariants as stopped
 use Rattle.fabric_state.specs.Lawful.{is_lawful}
 use Rattle.fabric_world.specs.Histories.{HistoryOf, IsFirstFault, IsLawful, end_of, fabric_of}
 use Rattle.fabric_book.specs.Nets.{NetOf}
@@ -48,3 +51,14 @@ pub data IsIllegal (script : ScriptOf) (journal : List Event) (line : ℕ) (why 
 
 abbrev pub IsRefusal : ScriptOf → List Event → ReplayRefusal → Type 0
 IsRefusal script journal refused = IfIllegal refused (IsIllegal script journal)
+
+-- The bytes do not begin with the text of a journal, or the journal is not legal.
+pub data IsNoReplay (script : ScriptOf) (bytes : List ℕ) (line : ℕ) (why : JournalCause) : Type 0 where
+  no_journal : IsFault script bytes line why → IsNoReplay script bytes line why
+  not_legal : (journal : List Event) → IsJournal script bytes journal → IsIllegal script journal line why
+      → IsNoReplay script bytes line why
+
+-- a text that is no journal is refused for its fault
+abbrev pub as_replayed : JournalRefusal → ReplayRefusal
+as_replayed (stopped.Fault line why) = refusal.Illegal line why
+as_replayed stopped.OutOfMemory = refusal.OutOfMemory

@@ -1,19 +1,22 @@
 //! Why a journal was not replayed.
 
 ghost use Rattle.std.specs.Prelude.{◌≡◌};
+ghost use Rattle.replay.specs.Replays.{as_replayed};
 ghost use Rattle.replay.specs.declared.refusal.ReplayRefusal.TheVariants as refusal;
 
 use an_base::memory::OutOfMemory;
 use journal::cause::JournalCause;
+use journal::reader::JournalRefusal;
 
 /// Why a journal was not replayed.
 #[derive(Clone, Copy, Debug, PartialEq, Eq)]
 pub enum ReplayRefusal {
     /// It is no lawful journal with an end.
     Illegal {
-        /// The line of its text: that of the first event that is not lawful, or the last.
+        /// The line of its text: that of the first event that is not lawful, or the last. Where the text is no
+        /// journal, its first faulty line.
         line: u32,
-        /// What is wrong: `NotLawful` or `Unfinished`.
+        /// What is wrong: `NotLawful` or `Unfinished`. Where the text is no journal, its fault.
         cause: JournalCause,
     },
     /// No memory was found.
@@ -25,5 +28,16 @@ impl From<OutOfMemory> for ReplayRefusal {
 
     fn from(_value: OutOfMemory) -> Self {
         ReplayRefusal::OutOfMemory
+    }
+}
+
+impl From<JournalRefusal> for ReplayRefusal {
+    ghost from_gives = { λ refused result. result ≡ as_replayed refused };
+
+    fn from(refused: JournalRefusal) -> Self {
+        match refused {
+            JournalRefusal::Fault { line, cause } => ReplayRefusal::Illegal { line, cause },
+            JournalRefusal::OutOfMemory => ReplayRefusal::OutOfMemory,
+        }
     }
 }

@@ -1,12 +1,14 @@
 //! The replay of a journal.
 
-ghost use Rattle.std.specs.Prelude.{◌≡◌, false, IfErr, IfOk, OnOk};
-ghost use Rattle.net_script.specs.Scripts.{IsScript};
+ghost use Rattle.std.specs.Prelude.{◌≡◌, ◌∷◌, ◌++◌, [], List, ℕ, false, IfErr, IfOk, OnOk};
+ghost use Rattle.an_base.specs.declared.event.Event.{Event};
+ghost use Rattle.net_script.specs.Scripts.{IsScript, ScriptOf};
+ghost use Rattle.journal.specs.Reading.{HasRead};
 ghost use Rattle.fabric_world.specs.Histories.{IsLawful, IsLegal, world_of};
 ghost use Rattle.fabric_world.specs.Lines.{lines_of};
 ghost use Rattle.fabric_settling.specs.Claims.{HoldsAndSettles};
 ghost use Rattle.fabric_book.specs.Nets.{history_of, with_step};
-ghost use Rattle.replay.specs.Replays.{HasNoEnd, IfIllegal, IsRefusal, IsUnlawfulNext, line_behind};
+ghost use Rattle.replay.specs.Replays.{HasNoEnd, IfIllegal, IsNoReplay, IsRefusal, IsUnlawfulNext, line_behind};
 
 use crate::refusal::ReplayRefusal;
 use an_base::event::{Event, Journal};
@@ -14,6 +16,7 @@ use fabric_book::lines::Lines;
 use fabric_book::net::{Net, StepRefusal};
 use fabric_state::ending::Ending;
 use journal::cause::JournalCause;
+use journal::reader::Reader;
 use net_script::script::Script;
 use std::alloc::Global;
 use std::marker::Model;
@@ -89,6 +92,24 @@ pub fn end_of(net: &Net) -> Result<Ending, ReplayRefusal>
             line,
             cause: JournalCause::Unfinished,
         }),
+    }
+}
+
+/// Why the journal of a text is refused, an event of which was refused, where the reader stands behind that event:
+/// for the first fault that the text has behind it, and else for the event. The rest of the text is read and
+/// nothing of it is kept.
+pub fn refused(reader: &mut Reader, why: ReplayRefusal) -> ReplayRefusal
+    ensures { (script : ScriptOf) (bytes : List ℕ) (before : List Event) (event : Event)
+        → HasRead script bytes (before ++ event ∷ []) reader.old → IsLawful script before
+        → IfIllegal why (IsUnlawfulNext (record { script = script; events = before }) event)
+        → IfIllegal result (IsNoReplay script bytes) }
+{
+    if let ReplayRefusal::OutOfMemory = why {
+        return why;
+    }
+    match reader.check_rest() {
+        Ok(()) => why,
+        Err(fault) => ReplayRefusal::from(fault),
     }
 }
 

@@ -1,8 +1,8 @@
 -- A text is told of a history moment by moment.
-use Rattle.std.proofs.Common.{◌≡◌, ◌∙◌, sym, ap, subst, ℕ, ◌+◌, ◌<◌, List, [], ◌∷◌, ◌++◌, Option, Some, length, append_assoc, append-nil, get_or, take}
+use Rattle.std.proofs.Common.{◌≡◌, ◌∙◌, sym, ap, subst, ℕ, List, [], ◌∷◌, ◌++◌, Option, Some, append_assoc, append-nil}
 use Rattle.std.specs.List.{flat_map}
 use Rattle.std.specs.Option.{option_map_or}
-use Rattle.std.proofs.lemmas.List.{flat_map_more, take_more}
+use Rattle.std.proofs.lemmas.List.{flat_map_more}
 use Rattle.an_base.specs.declared.event.Event.{Event}
 use Rattle.net_script.specs.Scripts.{ScriptOf}
 use Rattle.fabric_state.specs.declared.ending.Ending.{Ending}
@@ -23,11 +23,7 @@ told_more first told history event =
     ap (λ (ms : List Moment). first ++ flat_map told ms) (moments_more history event)
     ∙ sym (flat_map_more told first (moments history) (record { before = history; event = event }))
 
--- THE NEXT EVENT OF A JOURNAL
-
-pub next_history : (journal : List Event) (place : ℕ) (event d : Event) → place < length journal → event ≡ get_or journal place d → take place journal ++ event ∷ [] ≡ take (place + 1) journal
-next_history journal place event d within at =
-    ap (λ (e : Event). take place journal ++ e ∷ []) at ∙ sym (take_more journal place d within)
+-- THE NEXT EVENT
 
 -- what is so of a network that has made events
 pub at_net : (P : ScriptOf → List Event → Type 0) (script : ScriptOf) (history : List Event) (net : NetOf) → HasMade script history net → P net.script net.events → P script history
@@ -40,18 +36,16 @@ pub own_made : (script : ScriptOf) (history : List Event) (net : NetOf) → HasM
 own_made script history net made = of_net (λ s h. HasMade s h net) script history net made made
 
 -- what is so behind the next event
-pub next_so : (P : ScriptOf → List Event → Type 0) (script : ScriptOf) (journal : List Event) (place : ℕ) (event d : Event) (net : NetOf) → place < length journal → event ≡ get_or journal place d → HasMade script (take place journal) net → P net.script (net.events ++ event ∷ []) → P script (take (place + 1) journal)
-next_so P script journal place event d net within at made p =
-    subst (P script) (next_history journal place event d within at) (at_net (λ s h. P s (h ++ event ∷ [])) script (take place journal) net made p)
+pub next_so : (P : ScriptOf → List Event → Type 0) (script : ScriptOf) (event : Event) (net new : NetOf) → HasMade script net.events net → new.events ≡ net.events ++ event ∷ [] → P net.script (net.events ++ event ∷ []) → P script new.events
+next_so P script event net new made events p =
+    subst (P script) (sym events) (at_net (λ s h. P s (h ++ event ∷ [])) script net.events net made p)
 
-pub next_told : (first : List ℕ) (told : ScriptOf → Moment → List ℕ) (script : ScriptOf) (journal : List Event) (place : ℕ) (event d : Event) (net : NetOf) (written text new : List ℕ) → place < length journal → event ≡ get_or journal place d → HasMade script (take place journal) net → written ++ text ≡ told_so_far first (told script) (take place journal) → new ≡ text ++ told net.script (record { before = net.events; event = event }) → written ++ new ≡ told_so_far first (told script) (take (place + 1) journal)
-next_told first told script journal place event d net written text new within at made says one =
-    let history = take place journal in
-    let here = at_net (λ s h. new ≡ text ++ told s (record { before = h; event = event })) script history net made one in
-    let line = told script (record { before = history; event = event }) in
-    ap (λ (t : List ℕ). written ++ t) here ∙ sym (append_assoc written text line) ∙ ap (λ (t : List ℕ). t ++ line) says
-    ∙ sym (told_more first (told script) history event)
-    ∙ ap (told_so_far first (told script)) (next_history journal place event d within at)
+pub next_told : (first : List ℕ) (told : ScriptOf → Moment → List ℕ) (script : ScriptOf) (event : Event) (net new : NetOf) (text more : List ℕ) → HasMade script net.events net → new.events ≡ net.events ++ event ∷ [] → text ≡ told_so_far first (told script) net.events → more ≡ text ++ told net.script (record { before = net.events; event = event }) → more ≡ told_so_far first (told script) new.events
+next_told first told script event net new text more made events says one =
+    let here = at_net (λ s h. more ≡ text ++ told s (record { before = h; event = event })) script net.events net made one in
+    let line = told script (record { before = net.events; event = event }) in
+    here ∙ ap (λ (t : List ℕ). t ++ line) says ∙ sym (told_more first (told script) net.events event)
+    ∙ ap (told_so_far first (told script)) (sym events)
 
 -- with the last line it is the whole
 pub last_told : (first : List ℕ) (told : Moment → List ℕ) (last : ScriptOf → List Event → Ending → List ℕ) (script : ScriptOf) (journal : List Event) (net : NetOf) (end : Ending) (all : Option Ending) (written text new : List ℕ) → HasMade script journal net → all ≡ Some end → written ++ text ≡ told_so_far first told journal → new ≡ text ++ last net.script net.events end → written ++ new ≡ told_whole first told (last script journal) journal all

@@ -10,6 +10,7 @@ use Rattle.an_base.specs.declared.event.Event.TheVariants.{Send, Move}
 use Rattle.net_graph.specs.declared.wiring.HostOn.{HostOn}
 use Rattle.text_lines.specs.Lines.{line_text}
 use Rattle.net_script.specs.Scripts.{ScriptOf}
+use Rattle.journal.specs.Texts.{IsJournal}
 use Rattle.host_traffic.specs.declared.hop.Hop.{Hop}
 use Rattle.host_traffic.specs.declared.hop.Hop.TheVariants as hop
 use Rattle.host_traffic.specs.Packets.{packet_of}
@@ -175,3 +176,9 @@ names_text script history =
 pub record AreNames (script : ScriptOf) (history : List Event) (text : List ℕ) : Type 0 where
   pub legal : HasLegalEnd script history
   pub says : text ≡ names_text script history
+
+-- the bytes begin with the text of a journal, and this is what hosts believe in it
+pub record AreNamesIn (script : ScriptOf) (bytes text : List ℕ) : Type 0 where
+  pub journal : List Event
+  pub is_journal : IsJournal script bytes journal
+  pub names : AreNames script journal text

@@ -24,9 +24,10 @@ use Rattle.fabric_world.specs.World.{WorldOf, begun, step, world_after}
 use Rattle.fabric_world.specs.Lines.{lines_of}
 use Rattle.fabric_world.specs.Histories.{IsLegal, end_of}
 use Rattle.fabric_settling.specs.Claims.{HoldsAndSettles}
-use Rattle.report.specs.Names.{life_text}
-use Rattle.report.specs.Rows.{row_form}
-use Rattle.report.specs.Expect.{table_text}
+use Rattle.journal.specs.Texts.{IsJournal}
+use Rattle.table_report.specs.Names.{life_text}
+use Rattle.table_report.specs.Rows.{row_form}
+use Rattle.table_report.specs.Expect.{table_text}
 
 -- each word behind a space
 abbrev pub spaced_word : List ℕ → List ℕ
@@ -184,6 +185,14 @@ pub record IsReport (script : ScriptOf) (history : List Event) (end : Ending) (t
   pub legal : IsLegal script history end
   pub says : text ≡ report_text script history
   pub claims : HoldsAndSettles script history
+
+-- The bytes begin with the text of a journal, and this is its report, with the tick at its end.
+pub record IsReportOf (script : ScriptOf) (bytes : List ℕ) (end : Ending) (tick : ℕ) (text : List ℕ)
+    : Type 0 where
+  pub journal : List Event
+  pub is_journal : IsJournal script bytes journal
+  pub is_report : IsReport script journal end text
+  pub tick_is : tick ≡ (world_after script journal).fabric.tick
 
 -- a history is legal, with whatever end
 abbrev pub HasLegalEnd : ScriptOf → List Event → Type 0

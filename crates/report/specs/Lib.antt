@@ -1,13 +1,3 @@
-pub mod Names
-pub mod Rows
-pub mod Expect
-pub mod Floods
-pub mod Sends
-pub mod Flows
-pub mod FlowRuns
-pub mod Check
-pub mod Decimals
-pub mod Pieces
 pub mod Events
 pub mod Moments
 pub mod Beliefs

@@ -1,22 +1,21 @@
 //! What is told of a journal, event by event, while a network makes its events.
 
-ghost use Rattle.std.specs.Prelude.{◌≡◌, ◌∷◌, ◌++◌, [], List, ℕ, IfErr, OnOk};
+ghost use Rattle.std.specs.Prelude.{◌≡◌, ◌<◌, ◌-◌, ◌^◌, ◌∷◌, ◌++◌, [], List, ℕ, length, IfErr, OnOk};
 ghost use Rattle.an_base.specs.declared.event.Event.{Event};
 ghost use Rattle.net_script.specs.Scripts.{ScriptOf};
 ghost use Rattle.fabric_state.specs.declared.ending.Ending.{Ending};
-ghost use Rattle.fabric_world.specs.Histories.{end_of};
 ghost use Rattle.fabric_book.specs.Nets.{history_of};
-ghost use Rattle.replay.specs.Replays.{HasMade, IfIllegal, IsRefusal, IsUnlawfulNext};
-ghost use Rattle.report.specs.Events.{HasLegalEnd};
-ghost use Rattle.report.specs.Moments.{Moment, told_whole};
+ghost use Rattle.replay.specs.Replays.{HasMade, IfIllegal, IsNoReplay, IsUnlawfulNext};
+ghost use Rattle.report.specs.Moments.{IsToldOf, Moment};
 
-use an_base::event::{Event, Journal};
+use an_base::event::Event;
 use an_base::memory::OutOfMemory;
 use fabric_book::net::Net;
 use fabric_state::ending::Ending;
+use journal::reader::Reader;
 use net_script::script::Script;
 use replay::refusal::ReplayRefusal;
-use replay::world::end_of;
+use replay::world::{end_of, refused};
 use std::alloc::Global;
 
 /// What is told of a journal, with what it is told by.
@@ -57,25 +56,27 @@ pub(crate) trait Account {
             ++ last net.now.script net.now.events end.now) };
 }
 
-/// Tells of a journal, if it is legal.
+/// Tells of the journal with whose text the bytes begin, if it is legal. Its events are made as they are read.
 pub(crate) fn tell<A: Account>(
     alloc: Global,
     script: &Script,
-    journal: &Journal,
+    bytes: &[u8],
     account: &mut A,
     text: &mut Vec<u8>,
 ) -> Result<(), ReplayRefusal>
+    requires few { length bytes.now < 2 ^ 32 - 1 }
     requires first { text.old.items ≡ A.first }
     requires stands { A.stands account.old script.now [] }
-    ensures legal { OnOk result (HasLegalEnd script.now journal.now) }
-    ensures text { OnOk result (text.new.items ≡ told_whole A.first (A.told script.now)
-        (A.last script.now journal.now) journal.now (end_of script.now journal.now)) }
-    ensures refused { IfErr result (IsRefusal script.now journal.now) }
+    ensures told { OnOk result (IsToldOf script.now bytes.now A.first (A.told script.now)
+        (A.last script.now) text.new.items) }
+    ensures refused { IfErr result (λ why. IfIllegal why (IsNoReplay script.now bytes.now)) }
 {
+    let mut reader = Reader::begin(alloc, script, bytes)?;
     let mut net = Net::begin(alloc, script)?;
-    let events = journal.as_slice();
-    'events: for event in events {
-        account.step(&mut net, event, text)?;
+    'events: while let Some(event) = reader.next()? {
+        if let Err(why) = account.step(&mut net, &event, text) {
+            return Err(refused(&mut reader, why));
+        }
     }
     let end = end_of(&net)?;
     account.finish(&net, &end, text)?;

@@ -1,16 +1,16 @@
 //! What hosts believe about where others are.
 
-ghost use Rattle.std.specs.Prelude.{◌≡◌, ◌<◌, ◌≤◌, ◌+◌, ◌-◌, ◌∷◌, ◌++◌, [], List, IfErr, IfOk, OnOk, None, length, replicate, slice_index_or, if◌then◌else◌};
+ghost use Rattle.std.specs.Prelude.{◌≡◌, ◌<◌, ◌≤◌, ◌+◌, ◌-◌, ◌^◌, ◌∷◌, ◌++◌, [], List, IfErr, IfOk, OnOk, None, length, replicate, slice_index_or, if◌then◌else◌};
 ghost use Rattle.an_base.specs.declared.event.Event.{Event};
 ghost use Rattle.net_script.specs.Scripts.{ScriptOf};
-ghost use Rattle.replay.specs.Replays.{IsRefusal};
+ghost use Rattle.replay.specs.Replays.{IfIllegal, IsNoReplay};
 ghost use Rattle.text_lines.specs.Lines.{line_text};
-ghost use Rattle.report.specs.Beliefs.{AreNames, address_in, belief_line, belief_text, counts_by, host_in, is_known};
+ghost use Rattle.report.specs.Beliefs.{AreNamesIn, address_in, belief_line, belief_text, counts_by, host_in, is_known};
 ghost use Rattle.report.specs.Remembering.{CameUntil, KeepBeliefs, Meets, arrival_in, choice_at, delivery_in};
 ghost use Rattle.report.specs.Remembering.{own_address, source_with, with_arrival_at, with_delivery, with_source};
 
 use crate::account::{Account, tell};
-use an_base::event::{Event, Journal};
+use an_base::event::Event;
 use an_base::memory::OutOfMemory;
 use fabric_book::lines::Lines;
 use fabric_book::net::Net;
@@ -351,14 +351,15 @@ impl Account for Believing<'_> {
     }
 }
 
-/// What hosts believe in a journal, if it is legal: for each packet that a host sends, where it would send it by
-/// what came to it before; and last how many these are.
-pub fn names(alloc: Global, script: &Script, journal: &Journal) -> Result<Vec<u8>, ReplayRefusal>
-    ensures names { IfOk result (λ text. AreNames script.now journal.now text.items) }
-    ensures refused { IfErr result (IsRefusal script.now journal.now) }
+/// What hosts believe in the journal with whose text the bytes begin, if it is legal: for each packet that a host
+/// sends, where it would send it by what came to it before; and last how many these are.
+pub fn names(alloc: Global, script: &Script, bytes: &[u8]) -> Result<Vec<u8>, ReplayRefusal>
+    requires few { length bytes.now < 2 ^ 32 - 1 }
+    ensures names { IfOk result (λ text. AreNamesIn script.now bytes.now text.items) }
+    ensures refused { IfErr result (λ why. IfIllegal why (IsNoReplay script.now bytes.now)) }
 {
     let mut believing = Believing::begin(alloc, script)?;
     let mut text = Vec::new(alloc);
-    tell(alloc, script, journal, &mut believing, &mut text)?;
+    tell(alloc, script, bytes, &mut believing, &mut text)?;
     Ok(text)
 }

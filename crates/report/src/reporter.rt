@@ -1,19 +1,17 @@
 //! The report of a journal.
 
-ghost use Rattle.std.specs.Prelude.{◌≡◌, ◌∷◌, ◌++◌, [], codes, IfErr, IfOk, OnErr, OnOk, Err};
+ghost use Rattle.std.specs.Prelude.{◌≡◌, ◌<◌, ◌-◌, ◌^◌, ◌∷◌, ◌++◌, [], codes, length, IfErr, IfOk, OnErr, OnOk, Err};
 ghost use Rattle.fabric_world.specs.Histories.{IsLegal, fabric_of, world_of};
 ghost use Rattle.fabric_world.specs.World.{world_after};
 ghost use Rattle.fabric_settling.specs.Claims.{HoldsAndSettles};
 ghost use Rattle.fabric_book.specs.Nets.{history_of};
 ghost use Rattle.outside.specs.Told.{Failed, Gains, GainsFront, IsNoLess};
-ghost use Rattle.replay.specs.Replays.{HasMade, HasNoEnd, IfIllegal, IsRefusal, IsUnlawfulNext};
+ghost use Rattle.replay.specs.Replays.{HasMade, HasNoEnd, IfIllegal, IsNoReplay, IsRefusal, IsUnlawfulNext};
 ghost use Rattle.replay.specs.declared.refusal.ReplayRefusal.TheVariants as refusal;
-ghost use Rattle.report.specs.Events.{HasLegalEnd, IsReport, event_text, line_of_end, report_text};
-ghost use Rattle.report.specs.Names.{life_text};
+ghost use Rattle.report.specs.Events.{HasLegalEnd, IsReport, IsReportOf, event_text, line_of_end, report_text};
+ghost use Rattle.table_report.specs.Names.{life_text};
 ghost use Rattle.report.specs.declared.reporter.ReportStop.TheVariants as stop;
 
-use crate::decimals::Decimals;
-use crate::piece::life_word;
 use crate::telling::Telling;
 use an_base::event::{Event, Journal};
 use an_base::life::Life;
@@ -22,12 +20,15 @@ use an_base::text::Word;
 use fabric_book::lines::Lines;
 use fabric_book::net::Net;
 use fabric_state::ending::Ending;
+use journal::reader::Reader;
 use net_script::script::Script;
 use outside::all::{WriteFault, write_all};
 use outside::sink::Sink;
 use replay::refusal::ReplayRefusal;
-use replay::world::{end_of, step};
+use replay::world::{end_of, refused, step};
 use std::alloc::Global;
+use table_report::decimals::Decimals;
+use table_report::piece::life_word;
 
 /// Why a report was not written.
 #[derive(Clone, Copy, Debug, PartialEq, Eq)]
@@ -208,6 +209,28 @@ pub fn reported(alloc: Global, script: &Script, journal: &Journal) -> Result<Rep
     let events = journal.as_slice();
     'events: for event in events {
         reporter.step(event)?;
+    }
+    let end = reporter.finish()?;
+    Ok(Report {
+        end,
+        tick: reporter.net.now(),
+        text: reporter.text,
+    })
+}
+
+/// The report of the journal with whose text the bytes begin, if it is legal. Its events are made as they are read.
+pub fn reported_text(alloc: Global, script: &Script, bytes: &[u8]) -> Result<Report, ReplayRefusal>
+    requires few { length bytes.now < 2 ^ 32 - 1 }
+    ensures report { IfOk result (λ report.
+        IsReportOf script.now bytes.now report.end report.tick report.text.items) }
+    ensures refused { IfErr result (λ why. IfIllegal why (IsNoReplay script.now bytes.now)) }
+{
+    let mut reader = Reader::begin(alloc, script, bytes)?;
+    let mut reporter = Reporter::begin(alloc, script)?;
+    'events: while let Some(event) = reader.next()? {
+        if let Err(why) = reporter.step(&event) {
+            return Err(refused(&mut reader, why));
+        }
     }
     let end = reporter.finish()?;
     Ok(Report {

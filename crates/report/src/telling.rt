@@ -3,7 +3,7 @@
 ghost use Rattle.std.specs.Prelude.{◌≡◌, ◌==◌, ◌++◌, ◌∷◌, [], codes, OnOk, Some};
 ghost use Rattle.std.specs.List.{list_any};
 ghost use Rattle.std.specs.Fmt.{decimal};
-ghost use Rattle.report.specs.Names.{life_text};
+ghost use Rattle.table_report.specs.Names.{life_text};
 ghost use Rattle.report.specs.Events.{all_told, deliver_words, drop_word, ending_words, has_line, host_text};
 ghost use Rattle.report.specs.Events.{life_shown, line_of_end, loss_words, peer_words, place_words, rows_in_use};
 ghost use Rattle.report.specs.Events.{rows_text, spaced, state_word, switch_text, told_text, told_words, used_text};
@@ -11,9 +11,6 @@ ghost use Rattle.wire_set.specs.declared.side.Loss.TheVariants as loss;
 ghost use Rattle.fabric_state.specs.declared.ending.Ending.TheVariants as ending;
 ghost use Rattle.fabric_world.specs.declared.line.Line.TheVariants as told;
 
-use crate::decimals::Decimals;
-use crate::piece::push_life;
-use crate::row::push_row_line;
 use an_base::life::{End, Life};
 use an_base::memory::OutOfMemory;
 use an_base::port::PortState;
@@ -26,6 +23,9 @@ use itoa::Buffer;
 use net_script::script::Script;
 use std::alloc::Global;
 use table_build::table::Table;
+use table_report::decimals::Decimals;
+use table_report::piece::push_life;
+use table_report::row::push_row_line;
 use wire_set::side::Loss;
 
 // Appends a word behind a space.

@@ -315,30 +315,3 @@ pub fn push_send(text: &mut Vec<u8>, hosts: &Names, host: u16, to: u16) -> Resul
     let to = hosts.get(usize::from(to));
     push_line(text, &[b"send", host, to])
 }
-
-#[cfg(test)]
-mod tests {
-    use super::*;
-    use net_script::reader::read;
-    use std::test::Fail;
-
-    fn reprinted(rt: &HostRuntime, bytes: &[u8]) -> Result<Vec<u8>, Fail> {
-        if bytes.len() > 1_000 {
-            return Err("long")?;
-        }
-        let script = read(rt.alloc(), bytes).map_err(|_error| "refused")?;
-        Ok(print(rt.alloc(), &script).map_err(|_error| "memory")?)
-    }
-
-    #[test]
-    fn the_canonical_text_has_its_lines_in_order(rt: HostRuntime) -> Result<(), Fail> {
-        let bytes: &[u8] = b"autonet 1\nswitch B FFFFFFFFFFFF had 2\nroutes any\nlink B 1 B 12\n\
-            limit ticks 4096\npace 3\nhost H 000000000001 B 2\nat 0 restart B\n\
-            at 1 noise B 1 64\nat 7 fail B 2\nat 7 send H H\nepoch 5\nend";
-        let wanted: &[u8] = b"autonet 1\nepoch 5\npace 3\nroutes any\n\
-            switch B ffffffffffff had 2\nlink B 1 B 12\nhost H 000000000001 B 2\n\
-            at 0 restart B\nat 1 noise B 1 64\nat 7 fail B 2\nat 7 send H H\nend\n";
-        assert_eq!(rt; reprinted(&rt, bytes)?.as_slice(), wanted);
-        Ok(())
-    }
-}

@@ -90,26 +90,3 @@ impl Skeptic {
         self.run = 0;
     }
 }
-
-#[cfg(test)]
-mod tests {
-    use super::*;
-
-    #[test]
-    fn a_failure_doubles_the_hold_and_64_good_samples_halve_it(rt: HostRuntime) {
-        let mut skeptic = Skeptic::new();
-        assert!(rt; skeptic.dwell());
-        for _ in 0..9 {
-            skeptic.fail();
-        }
-        assert_eq!(rt; skeptic.hold(), 128);
-        for _ in 0..63 {
-            skeptic.good();
-        }
-        assert_eq!(rt; skeptic.hold(), 128);
-        skeptic.good();
-        assert_eq!(rt; skeptic.hold(), 64);
-        skeptic.clear();
-        assert!(rt; !skeptic.dwell());
-    }
-}

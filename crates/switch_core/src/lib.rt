@@ -11,5 +11,3 @@ pub mod law;
 pub mod out;
 mod session;
 pub mod switch;
-#[cfg(test)]
-mod tests;

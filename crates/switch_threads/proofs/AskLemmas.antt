@@ -1,10 +1,11 @@
 -- What a worker and the driver ask is fit for what their seats have seen, and what kind of reply comes.
 
 use Rattle.std.specs.Prelude.{◌≡◌, ℕ, List, Option, Some, IfSome, refl}
-use Rattle.std.proofs.Common.{sym, subst}
+use Rattle.std.proofs.Common.{◌∙◌, sym, subst}
 use Rattle.an_base.specs.Ports.{NoteOf}
 use Rattle.an_base.specs.declared.event.Event.{Event}
 use Rattle.net_script.specs.Scripts.{ScriptOf}
+use Rattle.switch_core.specs.Bytes.{OutOf}
 use Rattle.switch_core.specs.Kept.{KeptOf, StandsFor}
 use Rattle.switch_core.specs.Steps.{loaded}
 use Rattle.switch_core.specs.Switch.{SwitchOf, note_of}
@@ -20,8 +21,8 @@ use Rattle.fabric_world.specs.declared.ask.Done.{Done}
 use Rattle.fabric_world.specs.declared.ask.LoadReply.{LoadReply}
 use Rattle.fabric_world.specs.declared.ask.Reply.{Reply}
 use Rattle.fabric_world.specs.declared.ask.Reply.TheVariants as reply
-use Rattle.fabric_world.specs.Turns.{AnswersDrive, AnswersLoad, AnswersPut, AnswersTake, IsFit, IsToLoad}
-use Rattle.fabric_world.specs.World.{world_after}
+use Rattle.fabric_world.specs.Turns.{AnswersDrive, AnswersLoad, AnswersPut, AnswersTake, IsDone, IsFit, IsToLoad}
+use Rattle.fabric_world.specs.World.{handled, world_after}
 use Rattle.fabric_book.specs.Nets.{PowerOf}
 use Rattle.switch_threads.specs.declared.desk.Pending.TheVariants as pending
 use Rattle.switch_threads.specs.Workers.{IsAtPlace, IsDriving}
@@ -36,10 +37,23 @@ module _ (view : View Event ScriptOf) (place : ℕ) (power : PowerOf) (switch : 
       let at = step.keeps_up.powered in
       fit_of view step.script (ask.Take place out) step.begun (record { kept = at.kept; may_ask = (record { within = at.within; caller_is = step.number }, step.keeps_up.fits.0) })
 
-  pub put_fit : (done : Done) → IsAtPlace view place power switch (pending.Put done) → IsFitFor IsFit view (ask.Put place done)
-  put_fit done step =
+  pub put_fit : (out : OutOf) (done : Done) → IsAtPlace view place power switch (pending.Put out) → done.frames ≡ out.frames → done.noframe ≡ out.noframe → ((x : SwitchOf) → StandsFor switch x → done.note ≡ note_of x)
+      → ((x : SwitchOf) → StandsFor switch x → done.spent ≡ x.spent) → IsFitFor IsFit view (ask.Put place done)
+  put_fit out done step frames noframe note spent =
       let at = step.keeps_up.powered in
-      fit_of view step.script (ask.Put place done) step.begun (record { kept = at.kept; may_ask = (record { within = at.within; caller_is = step.number }, step.keeps_up.fits.0) })
+      let is = step.keeps_up.fits.0 in
+      let y = (handled place (world_after step.script view.seen)).switch in
+      let stands = step.keeps_up.fits.1 in
+      let came : IsDone (world_after step.script view.seen) place done = record {
+        handled_is = record {
+          full = is.handled_is.full;
+          frames_are = frames ∙ is.handled_is.frames_are;
+          note_is = note y stands;
+          spent_is = spent y stands;
+        };
+        noframe = noframe ∙ is.noframe;
+      } in
+      fit_of view step.script (ask.Put place done) step.begun (record { kept = at.kept; may_ask = (record { within = at.within; caller_is = step.number }, came) })
 
   pub load_fit : (table : TableFor) (note : NoteOf) → IsAtPlace view place power switch (pending.Load table) → ((x : SwitchOf) → StandsFor switch x → note ≡ note_of x) → IsFitFor IsFit view (ask.Load place table note)
   load_fit table note step shows =

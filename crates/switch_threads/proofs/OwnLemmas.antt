@@ -12,6 +12,7 @@ use Rattle.net_script.specs.Scripts.{ScriptOf}
 use Rattle.table_build.proofs.MadeTables.{only_table}
 use Rattle.table_build.specs.Made.{number_in, table_of}
 use Rattle.table_build.specs.Tables.{TableOf}
+use Rattle.switch_core.specs.Bytes.{OutOf}
 use Rattle.switch_core.specs.Kept.{KeptOf, StandsFor}
 use Rattle.switch_core.specs.Steps.{loaded}
 use Rattle.switch_core.specs.Switch.{SwitchOf, finish_of, note_of}
@@ -26,7 +27,6 @@ use Rattle.fabric_state.specs.Effects.{restarted, showing}
 use Rattle.fabric_state.specs.Fabric.{FabricOf, StationOf, clock_due_at, held_bytes, is_empty, is_full_at, is_some_spent, room, samples_of, station}
 use Rattle.fabric_state.specs.Lawful.{is_barred, is_command, is_lawful}
 use Rattle.fabric_state.specs.Starts.{next_life_at}
-use Rattle.fabric_world.specs.declared.ask.Done.{Done}
 use Rattle.fabric_world.specs.Histories.{last_taken}
 use Rattle.fabric_world.specs.Sound.{AllMayCome}
 use Rattle.fabric_world.specs.Turns.{IsToLoad, TakesWork}
@@ -59,8 +59,8 @@ put_in script h s power switch at start works stands =
       );
     }
 
-pub put_own : (script : ScriptOf) (h : List Event) (s : ℕ) (power : PowerOf) (switch : KeptOf) (done : Done) → KeepsUp script (world_after script h) s power switch (pending.Put done) → KeepsUp script (world_after script (h ++ Handle s ∷ [])) s power switch pending.Work
-put_own script h s power switch done is =
+pub put_own : (script : ScriptOf) (h : List Event) (s : ℕ) (power : PowerOf) (switch : KeptOf) (out : OutOf) → KeepsUp script (world_after script h) s power switch (pending.Put out) → KeepsUp script (world_after script (h ++ Handle s ∷ [])) s power switch pending.Work
+put_own script h s power switch out is =
     let lawful = handle_is_lawful script h s is.powered.within is.fits.0.handled_is.full in
     subst (λ (v : WorldOf). KeepsUp script v s power switch pending.Work) (sym (world_more script h (Handle s) lawful))
     (put_in script h s power switch is.powered is.start is.works is.fits.1)

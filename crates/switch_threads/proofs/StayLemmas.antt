@@ -13,7 +13,7 @@ use Rattle.fabric_state.specs.Fabric.{StationOf, held_bytes, is_empty, station}
 use Rattle.fabric_turn.specs.History.{NoneOf}
 use Rattle.fabric_world.specs.declared.ask.Ask.TheVariants as ask
 use Rattle.fabric_world.specs.Histories.{owner_of}
-use Rattle.fabric_world.specs.Turns.{IsToLoad}
+use Rattle.fabric_world.specs.Turns.{IsDone, IsToLoad}
 use Rattle.fabric_world.specs.World.{WorldOf, handled, handles, start_of, world_after}
 use Rattle.fabric_world.proofs.CountLemmas.{event_counts}
 use Rattle.fabric_world.proofs.ElsewhereLemmas.{AreSameAt, world_elsewhere}
@@ -22,7 +22,7 @@ use Rattle.fabric_world.proofs.InductionLemmas.{kept_by}
 use Rattle.fabric_book.specs.Nets.{PowerOf}
 use Rattle.switch_threads.specs.declared.desk.Pending.{Pending}
 use Rattle.switch_threads.specs.declared.desk.Pending.TheVariants as pending
-use Rattle.switch_threads.specs.Workers.{IsPending, KeepsUp}
+use Rattle.switch_threads.specs.Workers.{IsPending, KeepsUp, done_with}
 
 -- there are never fewer events
 grow_one : (script : ScriptOf) → IsScript script → (h : List Event) (e : Event) → (world_after script h).fabric.events ≤ (world_after script (h ++ e ∷ [])).fabric.events
@@ -57,9 +57,11 @@ module _ (script : ScriptOf) (kept : IsScript script) (h more : List Event) (s :
   fits_stay : (switch : KeptOf) (next : Pending) → IsPending (world_after script h) s switch next → IsPending (world_after script (h ++ more)) s switch next
   fits_stay switch pending.Work is =
       (ap (λ (x : StationOf). not (is_empty x.hand)) same.place ∙ is.0, subst (StandsFor switch) (sym same.switch) is.1)
-  fits_stay switch (pending.Put done) is =
+  fits_stay switch (pending.Put out) is =
+      let v = world_after script (h ++ more) in
+      let done = done_with out (handled s (world_after script h)).switch in
       let may = fit_stays script h (s + 1) (ask.Put s done) more (record { kept = kept; may_ask = (record { within = below; caller_is = refl }, is.0) }) none in
-      (may.may_ask.1, subst (λ (t : Step). StandsFor switch t.switch) (sym (handled_same (world_after script h) (world_after script (h ++ more)) s same bytes)) is.1)
+      subst (λ (t : Step). IsDone v s (done_with out t.switch) × StandsFor switch t.switch) (sym (handled_same (world_after script h) v s same bytes)) (may.may_ask.1, is.1)
   fits_stay switch (pending.Load table) is =
       let w = world_after script h in
       let v = world_after script (h ++ more) in

@@ -99,21 +99,22 @@ same_noise hand.Empty held bytes has = refl
 same_noise (hand.Clock now samples) held bytes has = refl
 same_noise (hand.Frame port) held bytes has = ap (λ (b : List ℕ). is_noise (hand.Frame port) b) has
 
-pub handled_fits : (script : ScriptOf) (h : List Event) (s : ℕ) (power : PowerOf) (old new : KeptOf) (buffer : List ℕ) (in_hand : Hand) (out : OutOf) (done : Done) → HasInHand script (world_after script h) s power old buffer in_hand
-    → new.start ≡ old.start → new.works ≡ old.works + 1 → IsHandled ((world_after script h).switches s) in_hand buffer new out → done.frames ≡ out.frames → done.noframe ≡ out.noframe
-    → ((x : SwitchOf) → StandsFor new x → done.note ≡ note_of x) → ((x : SwitchOf) → StandsFor new x → done.spent ≡ x.spent) → KeepsUp script (world_after script h) s power new (pending.Put done)
-handled_fits script h s power old new buffer in_hand out done is start works_are does frames noframe note spent =
+pub handled_fits : (script : ScriptOf) (h : List Event) (s : ℕ) (power : PowerOf) (old new : KeptOf) (buffer : List ℕ) (in_hand : Hand) (out : OutOf) → HasInHand script (world_after script h) s power old buffer in_hand
+    → new.start ≡ old.start → new.works ≡ old.works + 1 → IsHandled ((world_after script h).switches s) in_hand buffer new out → KeepsUp script (world_after script h) s power new (pending.Put out)
+handled_fits script h s power old new buffer in_hand out is start works_are does =
     let w = world_after script h in
     let more = is.more in
     let there = station w.fabric s in
+    let y = (handles in_hand buffer (w.switches s)).switch in
+    let came = done_is w s in_hand buffer is.hand_is is.kept.frame out.frames (note_of y) y.spent is.full does.frames refl refl in
     record {
       powered = is.powered;
       start = start ∙ is.kept.start ∙ ap (λ (x : ScriptOf). start_of x s (w.switches s).life.boot) (world_script script h);
       works = omega (arith, more, works_are);
       fits = (
         record {
-          handled_is = done_is w s in_hand buffer is.hand_is is.kept.frame done.frames done.note done.spent is.full (frames ∙ does.frames) (note (handles in_hand buffer (w.switches s)).switch does.stands) (spent (handles in_hand buffer (w.switches s)).switch does.stands);
-          noframe = noframe ∙ does.noframe ∙ ap (λ (k : Hand). is_noise k buffer) is.hand_is ∙ same_noise there.hand (held_bytes w.fabric s) buffer is.kept.frame;
+          handled_is = record { full = is.full; frames_are = came.frames_are; note_is = refl; spent_is = refl };
+          noframe = does.noframe ∙ ap (λ (k : Hand). is_noise k buffer) is.hand_is ∙ same_noise there.hand (held_bytes w.fabric s) buffer is.kept.frame;
         },
         stands_is w s in_hand buffer is.hand_is is.kept.frame new does.stands,
       );
@@ -154,12 +155,12 @@ module _ (view after : View Event ScriptOf) (asked : Ask) (answer : Reply) (call
     }
 
 -- what came of what was in hand was put
-pub put_step : (view after : View Event ScriptOf) (place : ℕ) (power : PowerOf) (switch : KeptOf) (done back : Done) → IsAtPlace view place power switch (pending.Put done) → Called owner_of AnswersBook view (ask.Put place done) (reply.Put back) after
+pub put_step : (view after : View Event ScriptOf) (place : ℕ) (power : PowerOf) (switch : KeptOf) (out : OutOf) (done back : Done) → IsAtPlace view place power switch (pending.Put out) → Called owner_of AnswersBook view (ask.Put place done) (reply.Put back) after
     → IsAtPlace after place power switch pending.Work
-put_step view after place power switch done back step called =
+put_step view after place power switch out done back step called =
     let does = answered view after (ask.Put place done) (reply.Put back) called step.script step.begun in
-    steps_on view after (ask.Put place done) (reply.Put back) called place power switch (pending.Put done) step ((view.seen ++ called.between) ++ Handle place ∷ []) does.1 switch pending.Work
-    (put_own step.script (view.seen ++ called.between) place power switch done (moment view after (ask.Put place done) (reply.Put back) called place power switch (pending.Put done) step))
+    steps_on view after (ask.Put place done) (reply.Put back) called place power switch (pending.Put out) step ((view.seen ++ called.between) ++ Handle place ∷ []) does.1 switch pending.Work
+    (put_own step.script (view.seen ++ called.between) place power switch out (moment view after (ask.Put place done) (reply.Put back) called place power switch (pending.Put out) step))
 
 -- a table was to be loaded
 abbrev pub next_after : LoadReply → Pending

@@ -4,15 +4,17 @@
 use Rattle.std.specs.Prelude.{◌≡◌, ◌+◌, ◌<◌, ◌≤◌, ℕ, List, length, Option, Some, IfSome, false, true}
 use Rattle.an_base.specs.declared.event.Event.{Event}
 use Rattle.net_script.specs.Scripts.{IsScript, ScriptOf}
+use Rattle.switch_core.specs.Bytes.{OutOf}
 use Rattle.switch_core.specs.Kept.{KeptOf, StandsFor}
 use Rattle.switch_core.specs.Steps.{loaded}
-use Rattle.switch_core.specs.Switch.{note_of}
+use Rattle.switch_core.specs.Switch.{SwitchOf, note_of}
 use Rattle.fabric_state.specs.declared.ending.Ending.{Ending}
 use Rattle.fabric_state.specs.declared.hand.Hand.{Hand}
 use Rattle.fabric_state.specs.declared.hand.Hand.TheVariants as hand
 use Rattle.fabric_state.specs.declared.work.Work.{Work}
 use Rattle.fabric_state.specs.declared.work.Work.TheVariants as work
 use Rattle.fabric_state.specs.Fabric.{is_full_at, station}
+use Rattle.fabric_world.specs.declared.ask.Done.{Done}
 use Rattle.fabric_world.specs.World.{WorldOf, handled, start_of, world_after}
 use Rattle.fabric_world.specs.Histories.{end_of}
 use Rattle.fabric_world.specs.Turns.{IsDone, IsToLoad}
@@ -22,13 +24,19 @@ use Rattle.switch_threads.specs.declared.desk.Desk.{Desk}
 use Rattle.switch_threads.specs.declared.desk.Pending.{Pending}
 use Rattle.switch_threads.specs.declared.desk.Pending.TheVariants as pending
 
+-- what came of what a switch had in hand, with what the switch shows then
+abbrev pub done_with : OutOf → SwitchOf → Done
+done_with out switch =
+    record { frames = out.frames; noframe = out.noframe; note = note_of switch; spent = switch.spent }
+
 -- What a worker has to ask for next fits the world, and its switch is the one at its place: as it stands, or
 -- as it will stand once that is put or loaded.
 abbrev pub IsPending : WorldOf → ℕ → KeptOf → Pending → Type 0
 IsPending world place switch pending.Work =
     (is_full_at world.fabric place ≡ false) × StandsFor switch (world.switches place)
-IsPending world place switch (pending.Put done) =
-    IsDone world place done × StandsFor switch (handled place world).switch
+IsPending world place switch (pending.Put out) =
+    IsDone world place (done_with out (handled place world).switch)
+    × StandsFor switch (handled place world).switch
 IsPending world place switch (pending.Load table) =
     IsToLoad world place table (note_of (loaded table.table.number (world.switches place)))
     × StandsFor switch (loaded table.table.number (world.switches place))

@@ -3,11 +3,13 @@
 ghost use Rattle.std.specs.Prelude.{◌≡◌, ◌<◌, List, [], length, IfOk, OnOk};
 ghost use Rattle.an_base.specs.declared.event.Event.{Event};
 ghost use Rattle.net_script.specs.Scripts.{ScriptOf};
+ghost use Rattle.fabric_state.specs.declared.work.Work.TheVariants.{Restart};
 ghost use Rattle.fabric_turn.specs.Names.{turnstile_id};
 ghost use Rattle.switch_threads.specs.declared.desk.Pending.TheVariants as pending;
 ghost use Rattle.switch_threads.specs.Runs.{HasCalled};
 ghost use Rattle.switch_threads.specs.Workers.{IsInStep, IsToDo, IsToHandle, IsUpTo};
 
+use an_base::life::Life;
 use an_base::memory::OutOfMemory;
 use fabric_book::book::Book;
 use fabric_book::handling::work;
@@ -30,7 +32,7 @@ pub(crate) enum Pending {
     /// For work.
     Work,
     /// To put what came of what it had in hand.
-    Put(Done),
+    Put(Out),
     /// To load a table.
     Load(TableFor),
 }
@@ -100,8 +102,8 @@ impl Desk {
     {
         match next {
             Pending::Work => self.take(rt, turnstile, seat),
-            Pending::Put(done) => {
-                self.put(rt, turnstile, seat, done);
+            Pending::Put(out) => {
+                self.put(rt, turnstile, seat, out);
                 Ok((self, Pending::Work, true))
             }
             Pending::Load(table) => {
@@ -146,14 +148,25 @@ impl Desk {
             → IfOk result (IsUpTo script history self.new) }
     {
         match *job {
-            Work::Restart { life } => {
-                *self.switch = self.power_on.start(self.alloc, life)?;
-                Ok(Pending::Work)
-            }
+            Work::Restart { life } => self.restart(life),
             Work::Clock { now, samples } => self.handle(Hand::Clock { now, samples }),
             Work::Frame { port } => self.handle(Hand::Frame { port }),
             Work::Nothing { why: _ } => Ok(Pending::Work),
         }
+    }
+
+    // The switch begins a life. It stands apart from `work`, which would else clear the room for a new switch at
+    // each call, though a restart is rare.
+    #[cold]
+    #[inline(never)]
+    fn restart(&mut self, life: Life) -> Result<Pending, OutOfMemory>
+        requires { (script : ScriptOf) × (history : List Event) × IsToDo script history self.old (Restart life) }
+        ensures place { self.new.s ≡ self.old.s }
+        ensures done { (script : ScriptOf) (history : List Event)
+            → IsToDo script history self.old (Restart life) → IfOk result (IsUpTo script history self.new) }
+    {
+        *self.switch = self.power_on.start(self.alloc, life)?;
+        Ok(Pending::Work)
     }
 
     // The switch handles what it has in hand, and what came of it is to be put then.
@@ -164,29 +177,31 @@ impl Desk {
             → IfOk result (IsUpTo script history self.new) }
     {
         work(&mut self.switch, hand, self.buffer.bytes(), &mut self.out)?;
-        let Out { frames, noframe } = replace(&mut self.out, Out::new(self.alloc));
-        Ok(Pending::Put(Done {
-            frames,
-            noframe,
-            note: self.switch.note(),
-            spent: self.switch.is_spent(),
-        }))
+        Ok(Pending::Put(replace(&mut self.out, Out::new(self.alloc))))
     }
 
     // Puts what came of what it had in hand. The memory of the frames is kept for those that come.
-    fn put<R: Wait>(
-        &mut self,
-        rt: &R,
-        turnstile: &Turnstile<Book>,
-        seat: &mut Seat<Book>,
-        done: Done,
-    )
+    fn put<R: Wait>(&mut self, rt: &R, turnstile: &Turnstile<Book>, seat: &mut Seat<Book>, out: Out)
         requires turnstile { seat.old.0 ≡ turnstile_id turnstile.now }
-        requires step { IsInStep seat.old.1 self.old (pending.Put done) }
+        requires step { IsInStep seat.old.1 self.old (pending.Put out) }
         ensures called { HasCalled seat.old seat.new }
         ensures step { IsInStep seat.new.1 self.new pending.Work }
     {
-        let Reply::Put { done } = turnstile.call(rt, seat, Ask::Put { s: self.s, done }) else {
+        let Out { frames, noframe } = out;
+        let s = self.s;
+        let Reply::Put { done } = turnstile.call(
+            rt,
+            seat,
+            Ask::Put {
+                s,
+                done: Done {
+                    frames,
+                    noframe,
+                    note: self.switch.note(),
+                    spent: self.switch.is_spent(),
+                },
+            },
+        ) else {
             unreachable!()
         };
         self.out = Out {

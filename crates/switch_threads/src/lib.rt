@@ -11,10 +11,8 @@ mod desk;
 mod driver;
 mod gate;
 mod running;
+mod shift;
 mod worker;
 
 pub use gate::{Gate, Open};
 pub use running::run;
-
-#[cfg(test)]
-mod tests;

@@ -1,6 +1,6 @@
 //! A run: rounds of workers and driver, until the driver is told an end.
 
-ghost use Rattle.std.specs.Prelude.{◌≡◌, ◌+◌, [], All, Some, length, IfOk, vec_len};
+ghost use Rattle.std.specs.Prelude.{◌≡◌, ◌+◌, ◌<◌, [], All, Some, length, IfOk, vec_len};
 ghost use Rattle.net_script.specs.Scripts.{IsScript, ScriptOf};
 ghost use Rattle.fabric_world.specs.Histories.{IsLegal, end_of};
 ghost use Rattle.fabric_settling.specs.Claims.{HoldsAndSettles};
@@ -12,6 +12,7 @@ ghost use Rattle.switch_threads.specs.Runs.{HasCalled, HaveCalled, IsOneOf};
 
 use crate::driver::Driver;
 use crate::gate::Gate;
+use crate::shift::Shift;
 use crate::worker::Worker;
 use an_base::memory::OutOfMemory;
 use fabric_book::book::Book;
@@ -21,10 +22,13 @@ use fabric_turn::{Seat, Turnstile};
 use net_script::script::Script;
 use std::alloc::Global;
 use std::sync::Wait;
-use std::thread::{Threads, for_each_mut, join_mut};
+use std::thread::{Threads, for_each_chunk_mut, for_each_mut, join_mut};
 
-// The most threads that the workers of a round have.
+// The most threads that the workers have.
 const THREADS: usize = 4;
+
+// The most rounds that threads stay for.
+const ROUNDS: u32 = 64;
 
 // A worker for each switch of a script, and the seat that is left.
 fn open(
@@ -51,21 +55,20 @@ fn open(
     Ok((seat, workers))
 }
 
-// Each worker makes its turns of a round.
+// The workers of a thread make their turns of a round, one worker after the other.
 fn work<R: Threads + Wait + Sync, G: Gate>(
     rt: &R,
     turnstile: &Turnstile<Book>,
     gate: &G,
     workers: &mut [Worker],
 )
-    requires { All (λ worker. worker.0 ≡ turnstile_id turnstile.now) workers.old }
+    requires workers { All (λ worker. worker.0 ≡ turnstile_id turnstile.now) workers.old }
     ensures { HaveCalled workers.old workers.new }
 {
-    let threads = workers.len().min(THREADS).max(1);
     for_each_mut(
         rt,
         workers,
-        threads,
+        1,
         &|_: usize, worker: &mut Worker|
             requires { worker.now.0 ≡ turnstile_id turnstile.now }
             ensures { HasCalled worker.entry.now worker.exit.now }
@@ -73,11 +76,71 @@ fn work<R: Threads + Wait + Sync, G: Gate>(
     );
 }
 
-// A round: all workers and the driver, beside each other.
-fn round<R: Threads + Wait + Sync, G: Gate>(
+// The workers of a thread make the rounds of a shift.
+fn stay<R: Threads + Wait + Sync, G: Gate>(
     rt: &R,
     turnstile: &Turnstile<Book>,
     gate: &G,
+    shift: &Shift,
+    workers: &mut [Worker],
+)
+    requires { All (λ worker. worker.0 ≡ turnstile_id turnstile.now) workers.old }
+    ensures { HaveCalled workers.old workers.new }
+{
+    'rounds: for round in 0..shift.begin(rt) {
+        work(rt, turnstile, gate, workers);
+        if !shift.end_round(rt, round) {
+            return;
+        }
+    }
+}
+
+// All workers make the rounds of a shift, so many in each thread.
+fn work_all<R: Threads + Wait + Sync, G: Gate>(
+    rt: &R,
+    turnstile: &Turnstile<Book>,
+    gate: &G,
+    shift: &Shift,
+    each: usize,
+    workers: &mut [Worker],
+)
+    requires each { 0 < each }
+    requires workers { All (λ worker. worker.0 ≡ turnstile_id turnstile.now) workers.old }
+    ensures { HaveCalled workers.old workers.new }
+{
+    for_each_chunk_mut(
+        rt,
+        workers,
+        each,
+        &|_: usize, part: &mut [Worker]|
+            requires { All (λ worker. worker.0 ≡ turnstile_id turnstile.now) part.now }
+            ensures { HaveCalled part.entry.now part.exit.now }
+        { stay(rt, turnstile, gate, shift, part) },
+    );
+}
+
+// The driver makes the rounds of a shift. That in which it is told an end is the last one.
+fn drive<R: Wait>(rt: &R, turnstile: &Turnstile<Book>, shift: &Shift, driver: &mut Driver)
+    requires { driver.old.seat.0 ≡ turnstile_id turnstile.now }
+    ensures { HasCalled driver.old.seat driver.new.seat }
+{
+    'rounds: for round in 0..shift.begin(rt) {
+        driver.steps(rt, turnstile);
+        if driver.end().is_some() {
+            shift.end_with(round);
+        }
+        if !shift.end_round(rt, round) {
+            return;
+        }
+    }
+}
+
+// A shift of so many rounds: in each, all workers and the driver, beside each other.
+fn make<R: Threads + Wait + Sync, G: Gate>(
+    rt: &R,
+    turnstile: &Turnstile<Book>,
+    gate: &G,
+    rounds: u32,
     driver: &mut Driver,
     workers: &mut [Worker],
 )
@@ -86,21 +149,25 @@ fn round<R: Threads + Wait + Sync, G: Gate>(
     ensures driver { HasCalled driver.old.seat driver.new.seat }
     ensures workers { HaveCalled workers.old workers.new }
 {
+    let each = workers.len().div_ceil(THREADS).max(1);
+    let shift = Shift::new(rounds, workers.len().div_ceil(each).saturating_add(1));
+    let shift = &shift;
     join_mut(
         rt,
         &mut ||
             requires { driver.now.seat.0 ≡ turnstile_id turnstile.now }
             ensures { HasCalled driver.entry.now.seat driver.exit.now.seat }
-        { driver.steps(rt, turnstile) },
+        { drive(rt, turnstile, shift, driver) },
         &mut ||
-            requires { All (λ worker. worker.0 ≡ turnstile_id turnstile.now) workers.now }
+            requires { (0 < each) × All (λ worker. worker.0 ≡ turnstile_id turnstile.now) workers.now }
             ensures { HaveCalled workers.entry.now workers.exit.now }
-        { work(rt, turnstile, gate, workers) },
+        { work_all(rt, turnstile, gate, shift, each, workers) },
     );
 }
 
-// Rounds, until the driver is told an end.
-fn rounds<R: Threads + Wait + Sync, G: Gate>(
+// Shifts, until the driver is told an end. The first has one round, and each of the next ones twice as many, so that
+// there are few rounds behind the end.
+fn shifts<R: Threads + Wait + Sync, G: Gate>(
     rt: &R,
     turnstile: &Turnstile<Book>,
     gate: &G,
@@ -113,14 +180,16 @@ fn rounds<R: Threads + Wait + Sync, G: Gate>(
     ensures workers { HaveCalled workers.old workers.new }
     ensures end { IfOk result (λ end. driver.new.end ≡ Some end) }
 {
-    'rounds: for _ in rt.forever() {
-        round(rt, turnstile, gate, driver, workers);
+    let mut rounds = 1u32;
+    'shifts: for _ in rt.forever() {
+        make(rt, turnstile, gate, rounds, driver, workers);
         if workers.iter().any(|worker| worker.failed()) {
             return Err(OutOfMemory);
         }
         if let Some(end) = driver.end() {
             return Ok(end);
         }
+        rounds = rounds.saturating_mul(2).min(ROUNDS);
     }
     unreachable!()
 }
@@ -177,7 +246,7 @@ pub fn run<R: Threads + Wait + Sync, G: Gate>(
     let (turnstile, seat) = Turnstile::new(alloc, book, callers)?;
     let (seat, mut workers) = open(alloc, script, &turnstile, seat)?;
     let mut driver = Driver::new(seat);
-    let end = rounds(rt, &turnstile, gate, &mut driver, workers.as_mut_slice())?;
+    let end = shifts(rt, &turnstile, gate, &mut driver, workers.as_mut_slice())?;
     let seat = joined(&turnstile, driver.into_seat(), workers);
     Ok(close(turnstile, seat, end))
 }

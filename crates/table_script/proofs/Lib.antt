@@ -6,6 +6,8 @@ pub mod KeptLemmas
 pub mod TableLaws
 pub mod FinalLemmas
 pub mod PairLemmas
+pub mod DraftLemmas
+pub mod ShortLemmas
 pub mod NumberLineLemmas
 pub mod ReadyLemmas
 pub mod WalkJoined

@@ -1,4 +1,4 @@
-use Rattle.std.specs.Prelude.{Bool, false, List, []}
+use Rattle.std.specs.Prelude.{◌+◌, ◌*◌, ◌<◌, ℕ, All, Bool, false, List, []}
 use Rattle.an_base.specs.Rows.{RowOf}
 use Rattle.table_script.specs.declared.table_draft.NumberAt.{NumberAt}
 use Rattle.table_script.specs.declared.table_draft.EntryAt.{EntryAt}
@@ -16,3 +16,11 @@ pub record TableDraftOf : Type 0 where
 -- what no lines say
 abbrev pub no_tables : TableDraftOf
 no_tables = record { numbers = []; entries = []; rows = []; ended = false }
+
+-- where an entry of a switch stands among all, by rising switch and then by rising entry
+abbrev pub height_of : EntryAt → ℕ
+height_of one = one.s * 256 + one.entry
+
+-- the entries stand below this
+abbrev pub AreEntriesBelow : ℕ → List EntryAt → Type 0
+AreEntriesBelow top entries = All (λ one. height_of one < top) entries

@@ -1,7 +1,7 @@
 //! What the lines of tables say so far.
 
-ghost use Rattle.std.specs.Prelude.{◌≡◌, ◌<◌, ◌++◌, [], ◌∷◌, true, All, length, OnOk};
-ghost use Rattle.table_script.specs.TableDrafts.{no_tables};
+ghost use Rattle.std.specs.Prelude.{◌≡◌, ◌<◌, ◌++◌, [], ◌∷◌, true, false, All, length, OnOk};
+ghost use Rattle.table_script.specs.TableDrafts.{height_of, no_tables};
 ghost use Rattle.table_script.specs.TableRules.{is_numbered, is_labelled, is_entered, number_of};
 
 use an_base::memory::OutOfMemory;
@@ -32,12 +32,22 @@ pub struct EntryAt {
 pub struct TableDraft {
     numbers: Vec<NumberAt>,
     entries: Vec<EntryAt>,
+    // Above the height of each of these entries.
+    top: u32,
     rows: Vec<Row>,
     ended: bool,
 }
 
+// Where an entry of a switch stands among all, by rising switch and then by rising entry.
+fn height_of(at: EntryAt) -> u32
+    ensures height { result ≡ height_of at }
+    ensures low { result < 65536 }
+{
+    u32::from(at.s) * 256 + u32::from(at.entry)
+}
+
 impl Model for TableDraft {
-    ghost use Rattle.table_script.specs.TableDrafts.{TableDraftOf};
+    ghost use Rattle.table_script.specs.TableDrafts.{AreEntriesBelow, TableDraftOf};
 
     ghost Value = { TableDraftOf };
 
@@ -47,6 +57,8 @@ impl Model for TableDraft {
       rows = d.rows.items;
       ended = d.ended;
     } };
+
+    ghost invariant = { λ d. AreEntriesBelow d.top d.entries.items };
 }
 
 impl TableDraft {
@@ -57,6 +69,7 @@ impl TableDraft {
         TableDraft {
             numbers: Vec::new(alloc),
             entries: Vec::new(alloc),
+            top: 0,
             rows: Vec::new(alloc),
             ended: false,
         }
@@ -88,11 +101,26 @@ impl TableDraft {
         self.numbers.iter().any(|x| x.number == number && labels[usize::from(x.s)] == label)
     }
 
-    /// Whether an entry of a switch had its line.
+    // Whether an entry of a switch stands above all that had their lines.
+    fn is_next(&self, s: u8, entry: u8) -> bool
+        ensures { result ≡ true → is_entered self.now s entry ≡ false }
+    {
+        let height = height_of(EntryAt { s, entry });
+        if height < self.top {
+            return false;
+        }
+        true
+    }
+
+    /// Whether an entry of a switch had its line. Where the lines come by rising switch and entry it looks
+    /// at none of them.
     #[tactic(auto, unfolding(crate::specs::TableRules::is_entered))]
     pub fn is_entered(&self, s: u8, entry: u8) -> bool
         ensures { result ≡ is_entered self.now s entry }
     {
+        if self.is_next(s, entry) {
+            return false;
+        }
         self.entries.iter().any(|x| x.s == s && x.entry == entry)
     }
 
@@ -120,6 +148,10 @@ impl TableDraft {
         ensures { OnOk result (self.new ≡ record self.old { entries = self.old.entries ++ entry ∷ [] }) }
     {
         self.entries.push(entry)?;
+        let next = height_of(entry) + 1;
+        if self.top < next {
+            self.top = next;
+        }
         Ok(())
     }
 

@@ -1,9 +1,12 @@
 //! The forms of lines of tables: what the words of a line add to what stands before it.
 
-ghost use Rattle.std.specs.Prelude.{◌≡◌, ◌≤◌, ◌<◌, ◌==◌, ◌++◌, [], ◌∷◌, true, false, map, length, codes, All, IfOk, IfSome, MatchResult, MatchOption};
+ghost use Rattle.std.specs.Prelude.{◌≡◌, ◌+◌, ◌≤◌, ◌<◌, ◌==◌, ◌++◌, [], ◌∷◌, true, false, map, length, codes, All, IfOk, IfSome, MatchResult, MatchOption};
+ghost use Rattle.std.specs.Char.{is_ascii_digit};
 ghost use Rattle.std.specs.List.{slice_split, list_all, range_with_len};
+ghost use Rattle.std.specs.Str.{bytes_eq};
 ghost use Rattle.net_script.specs.declared.cause.ScriptCause.TheVariants.{BadNumber};
-ghost use Rattle.text_lines.specs.Words.{number_value};
+ghost use Rattle.net_script.specs.Rules.{number_cause};
+ghost use Rattle.text_lines.specs.Words.{is_number, number_value};
 ghost use Rattle.text_lines.specs.Faults.{unless};
 ghost use Rattle.table_script.specs.Tables.{AreLabels};
 ghost use Rattle.table_script.specs.TableForms.{NumberLine, RowLine, EndLine};
@@ -148,7 +151,7 @@ fn read_row_line(
         return Err(Stop::Fault(ScriptCause::NameTwice));
     }
     draft.push_entry(EntryAt { s, entry })?;
-    push_rows(draft, s, entry, 0, pairs)
+    push_rows(draft, s, entry, pairs)
 }
 
 // The entry that a word says.
@@ -165,34 +168,29 @@ fn entry_in(word: &[u8]) -> Result<u8, ScriptCause>
     }
 }
 
-// Adds the rows of pairs whose numbers rise, the first above one number.
-fn push_rows(
-    draft: &mut TableDraft,
-    s: u8,
-    entry: u8,
-    above: u8,
-    pairs: &[&[u8]],
-) -> Result<(), ScriptStop>
+// Adds the rows of pairs whose numbers rise.
+fn push_rows(draft: &mut TableDraft, s: u8, entry: u8, pairs: &[&[u8]]) -> Result<(), ScriptStop>
     ensures { IsStep result
-        ((are_pairs above (map (λ w. w.now) pairs.now) ≡ true)
+        ((are_pairs 0 (map (λ w. w.now) pairs.now) ≡ true)
         × (draft.new ≡ record draft.old {
           rows = draft.old.rows
               ++ map (row_of s entry) (map (λ w. w.now) pairs.now);
         }))
-        (λ c. (are_pairs above (map (λ w. w.now) pairs.now) ≡ false) × (c ≡ BadNumber)) }
+        (λ c. (are_pairs 0 (map (λ w. w.now) pairs.now) ≡ false) × (c ≡ BadNumber)) }
 {
-    match pairs {
-        [] => Ok(()),
-        [pair, rest @ ..] => {
-            let row = row_in(s, entry, pair)?;
-            let to = row.to;
-            if to <= above {
-                return Err(Stop::Fault(ScriptCause::BadNumber));
-            }
-            draft.push_row(row)?;
-            push_rows(draft, s, entry, to, rest)
+    let mut left = pairs;
+    let mut above = 0u8;
+    'pairs: while let [pair, rest @ ..] = left {
+        let row = row_in(s, entry, pair)?;
+        let to = row.to;
+        if to <= above {
+            return Err(Stop::Fault(ScriptCause::BadNumber));
         }
+        draft.push_row(row)?;
+        above = to;
+        left = rest;
     }
+    Ok(())
 }
 
 // The row that a pair says.
@@ -203,7 +201,7 @@ fn row_in(s: u8, entry: u8, pair: &[u8]) -> Result<Row, ScriptCause>
     let Some(colon) = first_of(pair, b':') else {
         return Err(ScriptCause::BadNumber);
     };
-    let to = number_in(&pair[..colon], 1, 126)? as u8;
+    let to = short_number(&pair[..colon], 126)?;
     let exits = exits_in(&pair[colon + 1..])?;
     Ok(Row {
         at: s,
@@ -213,13 +211,73 @@ fn row_in(s: u8, entry: u8, pair: &[u8]) -> Result<Row, ScriptCause>
     })
 }
 
+// The number from 1 to a most that a word says.
+fn short_number(word: &[u8], most: u8) -> Result<u8, ScriptCause>
+    ensures number { IsField result (number_cause 1 most word.now) (number_value word.now) }
+    ensures range { IfOk result (λ n. (1 ≤ n) × (n ≤ most)) }
+{
+    match short_value(word) {
+        Some(number) if 1 <= number && number <= u16::from(most) => Ok(number as u8),
+        Some(_) => Err(ScriptCause::BadNumber),
+        None => {
+            let number = number_in(word, 1, u64::from(most))?;
+            Ok(number as u8)
+        }
+    }
+}
+
+// What a number of up to three digits says: it looks once at each. It tells no other number.
+fn short_value(word: &[u8]) -> Option<u16>
+    ensures { IfSome result (λ n. (is_number word.now ≡ true) × (n ≡ number_value word.now)) }
+{
+    match word {
+        [ones] => Some(digit(*ones)?),
+        [tens, ones] => Some(first_digit(*tens)? * 10 + digit(*ones)?),
+        [hundreds, tens, ones] => {
+            Some(first_digit(*hundreds)? * 100 + digit(*tens)? * 10 + digit(*ones)?)
+        }
+        _ => None,
+    }
+}
+
+// What a digit says.
+fn digit(byte: u8) -> Option<u16>
+    ensures { IfSome result (λ d. (is_ascii_digit byte ≡ true) × (d + 48 ≡ byte) × (d < 10)) }
+{
+    if byte.is_ascii_digit() {
+        Some(u16::from(byte - b'0'))
+    } else {
+        None
+    }
+}
+
+// What a digit says, if it is none of 0.
+fn first_digit(byte: u8) -> Option<u16>
+    ensures { IfSome result (λ d. (is_ascii_digit byte ≡ true) × (d + 48 ≡ byte) × (d < 10) × (0 < d)) }
+{
+    match digit(byte) {
+        Some(digit) if digit > 0 => Some(digit),
+        _ => None,
+    }
+}
+
+// Whether a text is a dash.
+fn is_dash(text: &[u8]) -> bool
+    ensures { result ≡ bytes_eq text.now (codes "-") }
+{
+    match text {
+        [c] => *c == b'-',
+        _ => false,
+    }
+}
+
 // The exits that a text says: none for `-`, else ports between slashes that rise.
 fn exits_in(text: &[u8]) -> Result<Exits, ScriptCause>
     ensures { IsField result (unless (are_ports 0 (port_words text.now)) BadNumber)
         (map number_value (port_words text.now)) }
 {
     let mut exits = Exits::new();
-    if is(text, "-") {
+    if is_dash(text) {
         return Ok(exits);
     }
     push_ports(&mut exits, 0, text)?;
@@ -237,7 +295,7 @@ fn push_ports(exits: &mut Exits, above: u8, text: &[u8]) -> Result<(), ScriptCau
         (λ c. (are_ports above (slice_split (λ c. c == 47) text.now) ≡ false) × (c ≡ BadNumber)) }
 {
     let (word, rest) = first_part(text);
-    let port = number_in(word, 1, 12)? as u8;
+    let port = short_number(word, 12)?;
     if port <= above {
         return Err(ScriptCause::BadNumber);
     }

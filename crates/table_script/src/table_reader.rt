@@ -182,6 +182,3 @@ fn numbers_of(alloc: Global, draft: &TableDraft, count: u8) -> Result<Vec<u8>, O
     }
     Ok(numbers)
 }
-
-#[cfg(test)]
-mod tests;

@@ -111,24 +111,3 @@ pub fn line_of(bytes: &[u8], place: usize) -> usize
 {
     1 + bytes[..place].iter().filter(|c| **c == b'\n').count()
 }
-
-#[cfg(test)]
-mod tests {
-    use super::*;
-    use std::test::Fail;
-
-    #[test]
-    fn a_byte_stands_in_the_line_after_the_feeds_before_it(rt: HostRuntime) {
-        assert_eq!(rt; line_of(b"", 0), 1);
-        assert_eq!(rt; line_of(b"a\n\nb", 1), 1);
-        assert_eq!(rt; line_of(b"a\n\nb", 3), 3);
-    }
-
-    #[test]
-    fn words_stand_between_blanks_before_a_comment(rt: HostRuntime) -> Result<(), Fail> {
-        let words = words(rt.alloc(), b" a\tbc # d")?;
-        assert_eq!(rt; words.len(), 2);
-        assert_eq!(rt; words[1], b"bc".as_slice());
-        Ok(())
-    }
-}

@@ -81,21 +81,3 @@ impl Names {
         let _last = self.texts.pop();
     }
 }
-
-#[cfg(test)]
-mod tests {
-    use super::*;
-    use std::test::Fail;
-
-    #[test]
-    fn a_name_is_found_at_its_place(rt: HostRuntime) -> Result<(), Fail> {
-        let mut names = Names::new(rt.alloc());
-        assert!(rt; names.is_empty());
-        names.push(Word::of(rt.alloc(), b"A")?)?;
-        assert!(rt; names.place(b"B") == None);
-        assert_eq!(rt; names.len(), 1);
-        assert!(rt; names.place(b"A") == Some(0));
-        assert_eq!(rt; names.get(0), b"A".as_slice());
-        Ok(())
-    }
-}

@@ -72,19 +72,3 @@ fn hex_glyph(digit: u8) -> u8
         b'a' + (digit - 10)
     }
 }
-
-#[cfg(test)]
-mod tests {
-    use super::*;
-    use std::test::Fail;
-
-    #[test]
-    fn a_line_has_its_words(rt: HostRuntime) -> Result<(), Fail> {
-        let mut text = Vec::new(rt.alloc());
-        let number = decimal(rt.alloc(), 120)?;
-        let uid = identifier(rt.alloc(), 0xab)?;
-        push_line(&mut text, &[b"A", &number, &uid])?;
-        assert_eq!(rt; text.as_slice(), b"A 120 0000000000ab\n".as_slice());
-        Ok(())
-    }
-}

@@ -1,7 +1,7 @@
 ghost use Rattle.std.specs.Prelude.{◌≡◌, ◌↔◌, ◌<◌, ◌≤◌, length, ℕ, Any, IsTrue, IsSome, IfOk, IfSome};
 ghost use Rattle.std.specs.Prelude.{MatchOption};
 ghost use Rattle.an_base.specs.Values.{EndId};
-ghost use Rattle.an_base.specs.declared.limits.TheConstants.{LAST_PORT, MOST_LEVEL, MOST_SWITCHES};
+ghost use Rattle.an_base.specs.declared.limits.TheConstants.{MOST_LEVEL, MOST_SWITCHES};
 ghost use Rattle.an_base.specs.Order.{LivesRise, PortsRise};
 ghost use Rattle.topo_graph.specs.Topology.{AreWithin, entry_at, far_of, is_to, IsLink, joined, level_at};
 ghost use Rattle.topo_graph.specs.Topology.{life_at, place_of};
@@ -279,53 +279,5 @@ impl Graph {
             }
         }
         true
-    }
-}
-
-#[cfg(test)]
-mod tests {
-    use super::*;
-    use crate::sample::{entry, life_of, link};
-    use an_base::links::Links;
-    use std::test::Fail;
-
-    // Lives 1 and 2 with two links between them, a link of life 1 to itself and one that life 2
-    // alone names; life 2 states this level and port.
-    fn pair(rt: &HostRuntime, level: u8, port: u8) -> Result<Graph, Fail>
-        requires level { level ≤ 125 }
-        requires port { port ≤ 12 }
-    {
-        let mut links = Links::new();
-        links.push(link(1, 2, 2));
-        links.push(link(2, 2, 1));
-        links.push(link(4, 1, 5));
-        links.push(link(5, 1, 4));
-        let mut far_links = Links::new();
-        far_links.push(link(1, 1, 2));
-        far_links.push(link(2, 1, 1));
-        far_links.push(link(3, 1, 3));
-        let mut entries = Entries::of(rt.alloc(), entry(1, 0, 1, 0, links))?;
-        entries.push(entry(2, level, 1, port, far_links))?;
-        Ok(Graph::of(rt.alloc(), &entries)?)
-    }
-
-    #[test]
-    fn links_are_named_at_both_ends_and_join_two_lives(rt: HostRuntime) -> Result<(), Fail> {
-        let graph = pair(&rt, 1, 1)?;
-        assert_eq!(rt; graph.entries().len(), 2);
-        assert_eq!(rt; graph.far(life_of(1), 1), Some(End::new(life_of(2), 2)));
-        assert_eq!(rt; graph.far(life_of(2), 1), Some(End::new(life_of(1), 2)));
-        assert_eq!(rt; graph.far(life_of(1), 4), None);
-        assert_eq!(rt; graph.far(life_of(2), 3), None);
-        assert_eq!(rt; graph.far(life_of(3), 1), None);
-        Ok(())
-    }
-
-    #[test]
-    fn a_tree_has_the_least_parent_port_and_level(rt: HostRuntime) -> Result<(), Fail> {
-        assert!(rt; pair(&rt, 1, 1)?.tree_ok());
-        assert!(rt; !pair(&rt, 1, 2)?.tree_ok());
-        assert!(rt; !pair(&rt, 2, 1)?.tree_ok());
-        Ok(())
     }
 }

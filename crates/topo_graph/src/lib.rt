@@ -7,4 +7,3 @@
 
 pub mod graph;
 pub mod law;
-pub mod sample;

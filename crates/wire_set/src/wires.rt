@@ -1,4 +1,4 @@
-ghost use Rattle.std.specs.Prelude.{◌≡◌, ◌+◌, ◌*◌, ◌<◌, ◌≤◌, ◌/◌, ◌%◌, ℕ, true, [], length, map, min, IfOk};
+ghost use Rattle.std.specs.Prelude.{◌≡◌, ◌+◌, ◌*◌, ◌<◌, ◌≤◌, ◌/◌, ◌%◌, ℕ, true, [], length, map, IfOk};
 ghost use Rattle.std.specs.Prelude.{◌^◌, ◌-◌};
 ghost use Rattle.std.specs.List.{range_with_len};
 ghost use Rattle.net_graph.specs.Wires.{far_at};
@@ -13,7 +13,7 @@ ghost use Rattle.wire_set.specs.WireState.{lose_on, place, put_into, release_fro
 ghost use Rattle.wire_set.specs.WireState.{side_of};
 ghost use Rattle.wire_set.specs.WireState.{start, swap_on, take_from, taken_frame, what_becomes};
 ghost use Rattle.wire_set.specs.WireState.{what_copy_becomes};
-ghost use Rattle.wire_set.specs.WireState.{wire_at, wire_out, with_up};
+ghost use Rattle.wire_set.specs.WireState.{wire_at, wire_out};
 
 use crate::frames::Frames;
 use crate::side::{Loss, Put, Side, Taken};
@@ -326,6 +326,3 @@ impl WireSet {
         count
     }
 }
-
-#[cfg(test)]
-mod tests;

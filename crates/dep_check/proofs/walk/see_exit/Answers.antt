@@ -5,8 +5,8 @@ use Rattle.dep_check.specs.Search.{IsStep}
 use Rattle.dep_check.proofs.WalkLemmas.{sees_as}
 use Rattle.dep_check.proofs.walk.see_exit.Goals as goal
 
-pub returns-in_ok-see : goal.returns-in_ok-see
-returns-in_ok-see c =
+pub returns-clause-sees : goal.returns-clause-sees
+returns-clause-sees c =
     let steps = c.args.steps.now in
     let next = c.in-Some.next in
     let step = (c.next.ensures.step next).0 c.in-Some.is in
@@ -14,3 +14,6 @@ returns-in_ok-see c =
     (λ s other. sym (same_Some next s (sym c.in-Some.is ∙ (c.next.ensures.step s).1 other)))
     (λ s same. subst (λ (x : Channel). IsStep steps c.args.spot c.args.exit x) (sym same) step)
     c.in_ok-see.ensures
+
+pub returns-clause-leads : goal.returns-clause-leads
+returns-clause-leads c = λ t. (c.in-Some.next, (c.next.ensures.step c.in-Some.next).0 c.in-Some.is)

@@ -3,13 +3,12 @@ use Rattle.std.proofs.lemmas.List.Elements.{Contains-push}
 use Rattle.dep_check.specs.declared.channel.Channel.{Channel}
 use Rattle.dep_check.proofs.WalkLemmas.{walk_first, walk_more, walk_done, push_more}
 use Rattle.dep_check.proofs.walk.walk.Goals as goal
-use Rattle.dep_check.proofs.walk.walk.Goals.{then-is_stuck, else-is_stuck}
 
 pub ahead-init : goal.ahead-init
 ahead-init c = walk_first c.args.steps.now c.args.start c.args.seen.now.items c.see.new.seen.items c.see.new.ahead.items c.requires.count c.requires.start (rw c.new-ahead.ensures.items at c.in_ok-see.ensures)
 
-pub is_stuck-requires : goal.is_stuck-requires
-is_stuck-requires c = (c.ahead.invariant.waiting c.in-Some.spot (rw c.in-Some.ensures.items (Contains-push c.pop.new.self.items c.in-Some.spot))).0
+pub is_stuck_at-requires-clause-spot : goal.is_stuck_at-requires-clause-spot
+is_stuck_at-requires-clause-spot c = (c.ahead.invariant.waiting c.in-Some.spot (rw c.in-Some.ensures.items (Contains-push c.pop.new.self.items c.in-Some.spot))).0
 
 pub see_next-requires-clause-count : goal.see_next-requires-clause-count
 see_next-requires-clause-count c = c.ahead.invariant.count
@@ -17,23 +16,22 @@ see_next-requires-clause-count c = c.ahead.invariant.count
 pub see_next-requires-clause-spot : goal.see_next-requires-clause-spot
 see_next-requires-clause-spot c = (c.ahead.invariant.waiting c.in-Some.spot (rw c.in-Some.ensures.items (Contains-push c.pop.new.self.items c.in-Some.spot))).0
 
+pub is_stuck_at-requires-clause-clear : goal.is_stuck_at-requires-clause-clear
+is_stuck_at-requires-clause-clear c = c.in_ok-clear.ensures.clear
+
 pub ahead-smaller : goal.ahead-smaller
 ahead-smaller c =
-    let sees = c.in_ok-see_next.ensures in
+    let sees = c.in_ok-clear.ensures.sees in
     let size = sees.size in
     let more = push_more c.pop.new.self.items c.in-Some.spot in
     let was : length c.ahead.ahead.items ≡ length (c.pop.new.self.items ++ c.in-Some.spot ∷ []) = ap (λ (xs : List Channel). length xs) c.in-Some.ensures.items in
     omega arith
 
+pub ahead-preserved-then-is_stuck_at : goal.ahead-preserved-then-is_stuck_at
+ahead-preserved-then-is_stuck_at c = walk_more c.args.steps.now c.args.start c.args.seen.now.items c.ahead.seen.items c.see_next.new.seen.items c.ahead.ahead.items c.pop.new.self.items c.see_next.new.ahead.items c.in-Some.spot c.ahead.stuck true c.in-Some.ensures.items (λ _. refl) (λ _. refl) (λ _. inr (c.is_stuck_at.ensures.0 c.if-is_stuck_at.true)) c.ahead.invariant c.in_ok-clear.ensures.sees
+
 pub ahead-preserved : goal.ahead-preserved
-ahead-preserved c =
-    let steps = c.args.steps.now in
-    let start = c.args.start in
-    let had = c.args.seen.now.items in
-    elim c.if-is_stuck.branch [
-      | then-is_stuck w ↦ rw w.stuck-is (walk_more steps start had c.ahead.seen.items c.see_next.new.seen.items c.ahead.ahead.items c.pop.new.self.items c.see_next.new.ahead.items c.in-Some.spot c.ahead.stuck true c.in-Some.ensures.items (λ _. refl) (λ _. refl) (λ _. inr (c.is_stuck.ensures.0 w.if-is_stuck.true)) c.ahead.invariant c.in_ok-see_next.ensures)
-      | else-is_stuck w ↦ rw w.stuck-is (walk_more steps start had c.ahead.seen.items c.see_next.new.seen.items c.ahead.ahead.items c.pop.new.self.items c.see_next.new.ahead.items c.in-Some.spot c.ahead.stuck c.ahead.stuck c.in-Some.ensures.items (λ is. absurd (let t = c.is_stuck.ensures.1 is in let f = w.if-is_stuck.false in cc)) (λ e. e) (λ e. inl e) c.ahead.invariant c.in_ok-see_next.ensures)
-    ]
+ahead-preserved c = walk_more c.args.steps.now c.args.start c.args.seen.now.items c.ahead.seen.items c.see_next.new.seen.items c.ahead.ahead.items c.pop.new.self.items c.see_next.new.ahead.items c.in-Some.spot c.ahead.stuck c.ahead.stuck c.in-Some.ensures.items (λ is. absurd (let t = c.is_stuck_at.ensures.1 is in let f = c.if-is_stuck_at.false in cc)) (λ e. e) (λ e. inl e) c.ahead.invariant c.in_ok-clear.ensures.sees
 
 pub returns : goal.returns
 returns c =

@@ -55,9 +55,9 @@ handle-requires-2-clause-done c =
     let x = (world_of h).switches c.args.s in
     let at : c.station-station.result.now ≡ station (fabric_of h) c.args.s = c.station-station.ensures ∙ ap (λ (f : FabricOf). station f c.args.s) c.fabric.ensures in
     let hand : c.hand.result ≡ (station (fabric_of h) c.args.s).hand = c.hand.ensures ∙ ap (λ (y : StationOf). y.hand) at in
-    let is = c.in_ok-note.ensures.handled x c.requires.kept.stands in
-    done_is (world_of h) c.args.s c.hand.result c.args.bytes.now hand c.requires.kept.frame c.as_slice-frames.result.now c.in_ok-note.note c.is_spent.result (hand_full h.script c.requires.script h.events c.args.s c.requires.lawful)
-    (c.as_slice-frames.ensures.all ∙ ap (λ (o : OutOf). o.frames) c.out.view_is ∙ is.frames) (c.in_ok-note.ensures.note x c.requires.kept.stands) (c.is_spent.ensures.stands _ is.stands)
+    let is = c.in_ok-handle.ensures.handled x c.requires.kept.stands in
+    done_is (world_of h) c.args.s c.hand.result c.args.bytes.now hand c.requires.kept.frame c.as_slice-frames.result.now c.handle.new.note c.is_spent.result (hand_full h.script c.requires.script h.events c.args.s c.requires.lawful)
+    (c.as_slice-frames.ensures.all ∙ ap (λ (o : OutOf). o.frames) c.out.view_is ∙ is.frames) (c.in_ok-handle.ensures.note x c.requires.kept.stands) (c.is_spent.ensures.stands _ is.stands)
 
 pub tell_losses-requires : goal.tell_losses-requires
 tell_losses-requires c =
@@ -74,7 +74,7 @@ returns-clause-kept c =
     let s = c.args.s in
     let at : c.station-station.result.now ≡ station (fabric_of h) c.args.s = c.station-station.ensures ∙ ap (λ (f : FabricOf). station f c.args.s) c.fabric.ensures in
     let hand : c.hand.result ≡ (station (fabric_of h) c.args.s).hand = c.hand.ensures ∙ ap (λ (y : StationOf). y.hand) at in
-    let is = c.in_ok-note.ensures.handled ((world_of h).switches s) c.requires.kept.stands in
+    let is = c.in_ok-handle.ensures.handled ((world_of h).switches s) c.requires.kept.stands in
     let after : IsSwitchKept (world_of c.handle-2.new.self) c.args.s c.handle.new.switch c.args.bytes.now =
     subst (λ (g : HistoryOf). IsSwitchKept (world_of g) s c.handle.new.switch c.args.bytes.now) (sym c.handle-2.ensures.handled)
     (handle_own h.script c.requires.script h.events s (hand_within h.script c.requires.script h.events s c.requires.lawful) c.requires.lawful c.args.switch.now c.handle.new.switch c.args.bytes.now c.args.bytes.now c.requires.kept c.handle.ensures.start c.handle.ensures.works
@@ -90,12 +90,12 @@ returns-clause-told c =
     let wires = wires_at_hand (fabric_of h) s in
     let at : c.station-station.result.now ≡ station (fabric_of h) c.args.s = c.station-station.ensures ∙ ap (λ (f : FabricOf). station f c.args.s) c.fabric.ensures in
     let hand : c.hand.result ≡ (station (fabric_of h) c.args.s).hand = c.hand.ensures ∙ ap (λ (y : StationOf). y.hand) at in
-    let is = c.in_ok-note.ensures.handled x c.requires.kept.stands in
+    let is = c.in_ok-handle.ensures.handled x c.requires.kept.stands in
     let items : c.handle-2.new.puts.items ≡ all_put_becomes c.args.s frames wires =
     c.handle-2.ensures.puts ∙ ap (λ (xs : List (Option Put)). xs ++ all_put_becomes c.args.s frames wires) (c.in_ok-reserve.ensures.items ∙ c.clear.ensures.items) in
     let shown = c.note.ensures ∙ ap (λ (y : StationOf). y.note) at ∙ (place_sound h.script c.requires.script h.events s (hand_within h.script c.requires.script h.events s c.requires.lawful)).note in
     on_ok_weaker c.tell_losses.result
     (λ (told : c.tell_losses.new.lines ≡ c.handle.new.lines ++ losses c.args.s c.as_slice-frames.result.now c.deref.result.now).
     handled_told (world_of h) s c.hand.result c.args.bytes.now hand c.requires.kept.frame frames c.deref.result.now c.args.lines.now c.handle.new.lines c.tell_losses.new.lines
-    (c.as_slice-frames.ensures.all ∙ ap (λ (o : OutOf). o.frames) c.out.view_is ∙ is.frames) (c.deref.ensures.value ∙ items) (c.in_ok-note.ensures.told x c.requires.kept.stands shown) told)
+    (c.as_slice-frames.ensures.all ∙ ap (λ (o : OutOf). o.frames) c.out.view_is ∙ is.frames) (c.deref.ensures.value ∙ items) (c.in_ok-handle.ensures.told x c.requires.kept.stands shown) told)
     c.tell_losses.ensures

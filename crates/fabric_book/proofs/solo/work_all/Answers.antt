@@ -21,6 +21,7 @@ switches-preserved c =
       done.turn,
       goes_then c.args.net.now c.switches.net c.work_out.new.net c.switches.invariant.1 done.on,
       idle_more c.args.net.now c.switches.net c.work_out.new.net c.switches.s c.switches.invariant.2 c.switches.invariant.1 done.on done.idle,
+      done.told ∙ c.switches.invariant.3,
     )
 
 pub returns-clause-turn : goal.returns-clause-turn

@@ -1,7 +1,8 @@
 -- A worker has its turn.
 
-use Rattle.std.proofs.Common.{◌<◌, Bool, length, subst, sym}
+use Rattle.std.proofs.Common.{◌<◌, ◌∙◌, Bool, length, subst, sym}
 use Rattle.net_script.specs.Scripts.{ScriptOf}
+use Rattle.fabric_book.proofs.DriverLemmas.{turn_tells}
 use Rattle.fabric_book.proofs.RoundLemmas.{HasTurned, goes_then, turned_by}
 use Rattle.fabric_book.proofs.solo.work_out.Goals as goal
 use Rattle.fabric_book.proofs.solo.work_out.Goals.{In_ok-turn}
@@ -14,8 +15,11 @@ turned c =
 
 pub turns-preserved : goal.turns-preserved
 turns-preserved c =
-    let done = subst (λ (b : Bool). HasTurned b c.args.s c.turns.net c.turn.new.self) c.if-branch.true (turned (goal.at.turns-preserved c).In_ok-turn) in
-    (done.0, goes_then c.args.net.now c.turns.net c.turn.new.self c.turns.invariant.1 done.1)
+    let done = subst (λ (b : Bool). HasTurned b c.args.s c.turns.net c.turn.new.self) c.if-branch.true (turned (goal.at.turns-preserved c).In_ok-turn) in (
+      done.0,
+      goes_then c.args.net.now c.turns.net c.turn.new.self c.turns.invariant.1 done.1,
+      turn_tells c.turns.net c.turn.new.self c.args.s c.in_ok-turn.ensures.turned ∙ c.turns.invariant.2,
+    )
 
 pub returns-clause-turn : goal.returns-clause-turn
 returns-clause-turn c =
@@ -31,3 +35,6 @@ pub returns-clause-idle : goal.returns-clause-idle
 returns-clause-idle c =
     let done = subst (λ (b : Bool). HasTurned b c.args.s c.turns.net c.turn.new.self) c.if-branch.false (turned (goal.at.returns-clause-idle c).In_ok-turn) in
     done.2
+
+pub returns-clause-told : goal.returns-clause-told
+returns-clause-told c = turn_tells c.turns.net c.turn.new.self c.args.s c.in_ok-turn.ensures.turned ∙ c.turns.invariant.2

@@ -1,8 +1,10 @@
 -- The line of each port comes after those before it.
 
-use Rattle.std.proofs.Common.{◌≡◌, ◌∙◌, ◌++◌, ◌-◌, ℕ, Some, ap, arith, slice_get}
+use Rattle.std.specs.Prelude.{◌==◌}
+use Rattle.std.proofs.Common.{◌≡◌, ◌∙◌, ◌++◌, ◌-◌, ℕ, ap, arith, refl, slice_get}
 use Rattle.std.specs.List.{flat_map, range_with_len}
-use Rattle.an_base.specs.Ports.{NoteOf, PortViewOf}
+use Rattle.an_base.specs.Ports.{NoteOf}
+use Rattle.fabric_state.specs.PortStates.{state_code}
 use Rattle.fabric_world.specs.Lines.{port_line}
 use Rattle.fabric_book.proofs.TellLemmas.{ports_more}
 use Rattle.fabric_book.proofs.telling.tell_ports.Goals as goal
@@ -10,11 +12,11 @@ use Rattle.fabric_book.proofs.telling.tell_ports.Goals as goal
 pub ports-preserved : goal.ports-preserved
 ports-preserved c =
     let port = c.ports.port in
-    ports_more c.args.s port c.args.before.now c.args.after.now (record { state = c.old.inside.state; peer = c.old.inside.peer }) (record { state = c.new.inside.state; peer = c.new.inside.peer }) c.is_same_state.result
-    c.args.lines.now c.ports.lines c.push_if.new.self (omega arith)
-    (ap (λ (v : PortViewOf). Some v) c.old.view_is ∙ c.get-old.ensures ∙ ap (λ (n : NoteOf). slice_get n.ports (port - 1)) c.before-2.view_is)
-    (ap (λ (v : PortViewOf). Some v) c.new.view_is ∙ c.get-new.ensures ∙ ap (λ (n : NoteOf). slice_get n.ports (port - 1)) c.after.view_is)
-    c.is_same_state.ensures c.ports.invariant c.in_ok-push_if.ensures
+    ports_more c.args.s port c.args.before.now c.args.after.now c.get-old.result c.get-new.result (state_code c.get-old.result.state == state_code c.get-new.result.state)
+    c.args.lines.now c.ports.lines c.tell_port.new.lines (omega arith)
+    (c.get-old.ensures ∙ ap (λ (n : NoteOf). slice_get n.ports (port - 1)) c.before-2.view_is)
+    (c.get-new.ensures ∙ ap (λ (n : NoteOf). slice_get n.ports (port - 1)) c.after.view_is)
+    refl c.ports.invariant c.in_ok-tell_port.ensures
 
 pub returns : goal.returns
 returns c =

@@ -1,12 +1,17 @@
-use Rattle.std.proofs.Common.{◌≡◌, take}
+use Rattle.std.proofs.Common.{◌≡◌, length}
+use Rattle.journal.specs.Reading.{HasRead}
 use Rattle.replay.specs.Replays.{HasMade}
 use Rattle.report.specs.Moments.{told_so_far}
 use Rattle.report.proofs.account.tell.Given as goal
 
--- the events so far were made and told
+-- the events that were read were made and told
 abbrev pub invariant-events : goal.invariant-events
 invariant-events g l = record {
-  made : HasMade l.script (take l.event-index l.events) l.net;
-  stands : g.A.Account.stands l.account l.script (take l.event-index l.events);
-  says : l.text.items ≡ told_so_far g.A.Account.first (g.A.Account.told l.script) (take l.event-index l.events);
+  made : HasMade l.script l.net.events l.net;
+  stands : g.A.Account.stands l.account l.script l.net.events;
+  says : l.text.items ≡ told_so_far g.A.Account.first (g.A.Account.told l.script) l.net.events;
+  read : HasRead l.script l.bytes l.net.events l.reader;
 }
+
+abbrev pub decreases-events : goal.decreases-events
+decreases-events g l = length l.reader.rest

@@ -1,11 +1,20 @@
-use Rattle.std.proofs.Common.{◌∙◌, subst, List}
-use Rattle.std.specs.Prelude.{All}
-use Rattle.std.proofs.lemmas.List.{take_all}
+use Rattle.std.proofs.Common.{◌∙◌, ◌*◌, [], ap, sym, subst, refl, arith, length, ℕ, List}
+use Rattle.std.specs.Prelude.{All, replicate}
+use Rattle.std.proofs.lemmas.List.{length-replicate, take_all}
 use Rattle.std.proofs.lemmas.List.Elements.{All-more}
 use Rattle.an_base.specs.Rows.{ArePorts, RowOf}
 use Rattle.flow_channels.specs.Exits.{AreSets}
-use Rattle.flow_channels.proofs.ExitTableLemmas.{more_sets}
+use Rattle.flow_channels.proofs.ExitTableLemmas.{more_sets, no_sets}
 use Rattle.flow_channels.proofs.exits.ExitTable.of.Goals as goal
+
+pub rows-init : goal.rows-init
+rows-init c =
+    let is = c.in_ok-sets.ensures in
+    record {
+      count = ap (λ (sets : List ℕ). length sets) is ∙ length-replicate {A = ℕ} (1651 * 127) 0;
+      sets = subst (λ (sets : List ℕ). AreSets [] sets) (sym is) (no_sets (1651 * 127) refl);
+      ports = λ k row below. absurd (omega arith);
+    }
 
 pub rows-preserved : goal.rows-preserved
 rows-preserved c =

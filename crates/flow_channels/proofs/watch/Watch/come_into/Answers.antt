@@ -12,5 +12,5 @@ see-requires-clause-was c =
     record {
       old = old;
       held = c.requires.watched;
-      touched = subst (λ (f : FlowOf). IsTouched (ways t) c.args.channel old f) (sym c.come_into.ensures.flow) (come_touched (ways t) c.args.channel (packet_at c.args.board.now.packets.items c.args.slot) old);
+      touched = subst (λ (f : FlowOf). IsTouched (ways t) c.args.channel old f) (sym c.come_into-ahead.ensures.flow) (come_touched (ways t) c.args.channel (packet_at c.args.board.now.packets.items c.args.slot) old);
     }

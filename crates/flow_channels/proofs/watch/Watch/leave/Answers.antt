@@ -13,5 +13,5 @@ see-requires-clause-was c =
     record {
       old = old;
       held = c.requires.watched;
-      touched = subst (λ (f : FlowOf). IsTouched (ways t) c.args.channel old f) (sym c.leave.ensures.flow) (asked_touched (ways t) c.args.channel (drop 1 (queue_at old c.args.channel)) old);
+      touched = subst (λ (f : FlowOf). IsTouched (ways t) c.args.channel old f) (sym c.leave-ahead.ensures.flow) (asked_touched (ways t) c.args.channel (drop 1 (queue_at old c.args.channel)) old);
     }

@@ -1,7 +1,6 @@
 -- What was in hand was handled.
 
 use Rattle.std.proofs.Common.{◌∙◌, ◌+◌, ◌<◌, ◌^◌, List, ℕ, ap, subst, sym}
-use Rattle.switch_core.specs.Bytes.{OutOf}
 use Rattle.switch_core.specs.Kept.{IsWorking, KeptOf, StandsFor}
 use Rattle.fabric_state.specs.Fabric.{is_empty}
 use Rattle.fabric_state.specs.Fits.{IsHandPort}
@@ -52,7 +51,5 @@ returns-clause-done c script history is =
     let x = (world_after script history).switches desk.s in
     let same = c.deref_mut.ensures.value in
     let does = subst (λ (xs : List ℕ). IsHandled x c.args.hand xs c.work.new.switch c.work.new.out) c.bytes.ensures.all (c.in_ok-work.ensures.handled x (subst (λ (k : KeptOf). StandsFor k x) (sym same) is.kept.stands)) in
-    handled_fits script history desk.s desk.power_on desk.switch.value c.work.new.switch desk.buffer c.args.hand c.work.new.out (record { frames = c.frames.inside.frames; noframe = c.frames.inside.noframe; note = c.note.result; spent = c.is_spent.result }) is
-    (c.work.ensures.start ∙ ap (λ (k : KeptOf). k.start) same) (c.work.ensures.works ∙ ap (λ (k : KeptOf). k.works + 1) same) does (ap (λ (o : OutOf). o.frames) (c.frames.view_is ∙ c.replace.ensures.value)) (ap (λ (o : OutOf). o.noframe) (c.frames.view_is ∙ c.replace.ensures.value))
-    (λ y stands. c.note.ensures y (subst (λ (k : KeptOf). StandsFor k y) (sym c.deref.ensures) stands))
-    (λ y stands. c.is_spent.ensures.stands y (subst (λ (k : KeptOf). StandsFor k y) (sym c.deref-2.ensures) stands))
+    handled_fits script history desk.s desk.power_on desk.switch.value c.work.new.switch desk.buffer c.args.hand c.replace.result is
+    (c.work.ensures.start ∙ ap (λ (k : KeptOf). k.start) same) (c.work.ensures.works ∙ ap (λ (k : KeptOf). k.works + 1) same) (subst (IsHandled x c.args.hand desk.buffer c.work.new.switch) (sym c.replace.ensures.value) does)

@@ -4,9 +4,14 @@ use Rattle.std.proofs.Common.{subst}
 use Rattle.switch_threads.specs.Workers.{IsToDo}
 use Rattle.switch_threads.proofs.desk.Desk.work.Goals as goal
 
-pub returns-in_ok-self-in-Restart-clause-done : goal.returns-in_ok-self-in-Restart-clause-done
-returns-in_ok-self-in-Restart-clause-done c script history is =
-    subst (IsToDo script history c.args.self.now) c.in-Restart.is is c.in_ok-self-in-Restart.field-0 c.in_ok-self-in-Restart.ensures
+pub restart-requires : goal.restart-requires
+restart-requires c =
+    let is = c.requires in
+    (is.0, is.1, subst (IsToDo is.0 is.1 c.args.self.now) c.in-Restart.is is.2)
+
+pub returns-in-Restart-clause-done : goal.returns-in-Restart-clause-done
+returns-in-Restart-clause-done c script history is =
+    c.restart.ensures.done script history (subst (IsToDo script history c.args.self.now) c.in-Restart.is is)
 
 pub handle-requires : goal.handle-requires
 handle-requires c =

@@ -1,6 +1,0 @@
-use Rattle.std.proofs.Common.{refl}
-use Rattle.autonet.specs.Gen.{given}
-use Rattle.autonet.proofs.generate.status_of.Goals as goal
-
-pub returns-in-Ok-write_all : goal.returns-in-Ok-write_all
-returns-in-Ok-write_all g c = given refl c.in-Ok.text.items c.in-Ok.ensures (cc (c.in-Ok-write_all.ensures.all, c.deref.ensures.value))

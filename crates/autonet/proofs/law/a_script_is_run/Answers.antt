@@ -1,5 +1,0 @@
-use Rattle.autonet.proofs.RunLemmas.{script_is_run}
-use Rattle.autonet.proofs.law.a_script_is_run.Goals as goal
-
-pub returns : goal.returns
-returns c = script_is_run

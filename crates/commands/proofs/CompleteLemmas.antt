@@ -1,0 +1,103 @@
+-- What commands answer to a source that tells a text.
+use Rattle.std.proofs.Common.{◌≡◌, subst, ℕ, ◌≤◌, List, length, Some, inl, inr}
+use Rattle.an_base.specs.declared.event.Event.{Event}
+use Rattle.net_script.specs.Scripts.{ScriptOf}
+use Rattle.net_script.specs.Texts.{IsFault, IsText}
+use Rattle.net_script.proofs.ScriptKept.{text_kept}
+use Rattle.net_script.proofs.TextLemmas.{no_fault, one_text}
+use Rattle.table_script.specs.Tables.{TablesOf}
+use Rattle.table_script.specs.TableTexts.{IsFaultWith, IsTextWith}
+use Rattle.table_script.proofs.TableLaws.{no_fault_with, one_text_with}
+use Rattle.journal.specs.declared.cause.JournalCause.{JournalCause}
+use Rattle.journal.specs.Texts.{IsJournal}
+use Rattle.journal.proofs.FaultLemmas.{no_fault as no_journal_fault}
+use Rattle.journal.proofs.JournalLemmas.{one_journal}
+use Rattle.fabric_state.specs.declared.ending.Ending.{Ending}
+use Rattle.fabric_world.specs.Histories.{IsLegal}
+use Rattle.replay.specs.Replays.{IsIllegal, IsNoReplay, no_journal, not_legal}
+use Rattle.replay.proofs.OneDivision.{one_division}
+use Rattle.table_report.specs.Check.{IsJudged}
+use Rattle.table_report.specs.Expect.{IsExpectOf}
+use Rattle.commands.specs.declared.status.Status.{Status}
+use Rattle.commands.specs.declared.status.Status.TheVariants.{Ok, Usage, ScriptRefused, ReadFault, WriteFault, TablesRefused, Unsettled, EpochsSpent, JournalRefused, JournalFull, OutOfMemory}
+use Rattle.commands.specs.Answer.{Streams, IsAnswer, input_limit, refuses_nothing}
+use Rattle.commands.specs.Check.{gives_judged, refuses_tables}
+use Rattle.commands.specs.Complete.{gives_expected_of, gives_judged_of, gives_report_of}
+use Rattle.commands.specs.Expect.{gives_expected, refuses_script}
+use Rattle.commands.specs.Replay.{IfJournalRefused, IsNoScript, IsReplayedOf, IsScriptWith, IsUnreplayed, gives_replayed, refuses_journal}
+use Rattle.commands.specs.Reported.{IsReported}
+use Rattle.commands.specs.Words.{IsCheckAnswer, IsExpectAnswer, IsReplayAnswer}
+use Rattle.commands.proofs.AllToldLemmas.{answered_as, not_refused}
+use Rattle.commands.proofs.RunLemmas.{never_illegal}
+
+pub text_is_expected : (answer : ℕ) (bytes : List ℕ) (script : ScriptOf) (old new : Streams) → IsText bytes script → old.source.told ≡ Some bytes → length bytes ≤ input_limit → IsExpectAnswer old new answer → IsAnswer input_limit (gives_expected_of script) refuses_nothing old new answer
+text_is_expected answer bytes script old new is_text told few is =
+    answered_as gives_expected (gives_expected_of script) refuses_script bytes old new told
+    (λ status text (ok, of). (ok, subst (λ (s : ScriptOf). IsExpectOf s text) (one_text bytes of.script script of.is_text is_text) of.expected))
+    (λ status. not_refused status (IsFault bytes) (λ line cause fault. no_fault bytes script line cause is_text fault))
+    answer is
+
+pub text_is_judged : (answer : ℕ) (bytes : List ℕ) (script : ScriptOf) (tables : TablesOf) (old new : Streams) → IsTextWith bytes script tables → old.source.told ≡ Some bytes → length bytes ≤ input_limit → IsCheckAnswer old new answer → IsAnswer input_limit (gives_judged_of script tables) refuses_nothing old new answer
+text_is_judged answer bytes script tables old new is_text told few is =
+    answered_as gives_judged (gives_judged_of script tables) refuses_tables bytes old new told
+    (λ status text (passed, is_status, of).
+    let one = one_text_with bytes of.script script of.tables tables of.is_text is_text in
+    (passed, is_status, subst (λ (t : TablesOf). IsJudged script t passed text) one.1 (subst (λ (s : ScriptOf). IsJudged s of.tables passed text) one.0 of.judged)))
+    (λ status. not_refused status (IsFaultWith bytes) (λ line cause fault. no_fault_with bytes script tables line cause is_text fault))
+    answer is
+
+-- A SCRIPT AND A LEGAL JOURNAL
+
+journal_not_refused : (status : Status) (Holds : ℕ → JournalCause → Type 0) → ((line : ℕ) (why : JournalCause) → Holds line why → ⊥) → IfJournalRefused status Holds → ⊥
+journal_not_refused (JournalRefused line why) Holds none refused = none line why refused
+journal_not_refused Ok Holds none refused = refused
+journal_not_refused Usage Holds none refused = refused
+journal_not_refused (ScriptRefused line cause) Holds none refused = refused
+journal_not_refused ReadFault Holds none refused = refused
+journal_not_refused WriteFault Holds none refused = refused
+journal_not_refused TablesRefused Holds none refused = refused
+journal_not_refused (Unsettled tick) Holds none refused = refused
+journal_not_refused (EpochsSpent name) Holds none refused = refused
+journal_not_refused JournalFull Holds none refused = refused
+journal_not_refused OutOfMemory Holds none refused = refused
+
+-- the bytes have one division, and the script and the journal in it are the only ones
+module _ (bytes behind : List ℕ) (script : ScriptOf) (journal : List Event) (end : Ending)
+    (input : IsScriptWith bytes script behind) (is_journal : IsJournal script behind journal) (legal : IsLegal script journal end) where
+  same_script : (other : ScriptOf) (rest : List ℕ) → IsScriptWith bytes other rest → (other ≡ script) × (rest ≡ behind)
+  same_script other rest is =
+      let parts = one_division bytes is.first rest input.first behind is.division input.division in
+      (one_text input.first other script (subst (λ (b : List ℕ). IsText b other) parts.0 is.is_text) input.is_text, parts.1)
+
+  same_journal : (other : List Event) → IsJournal script behind other → other ≡ journal
+  same_journal other is = one_journal script behind other journal (text_kept input.first script input.is_text) is is_journal
+
+  reported_same : (status : Status) (text : List ℕ) → IsReplayedOf status text bytes → IsReported script journal status text
+  reported_same status text of =
+      let read = of.read in
+      let same = same_script of.script read.behind read.input in
+      let there = subst (λ (b : List ℕ). IsJournal script b of.journal) same.1 (subst (λ (s : ScriptOf). IsJournal s read.behind of.journal) same.0 read.is_journal) in
+      subst (λ (j : List Event). IsReported script j status text) (same_journal of.journal there)
+      (subst (λ (s : ScriptOf). IsReported s of.journal status text) same.0 of.reported)
+
+  has_script : (status : Status) → IsNoScript bytes status → ⊥
+  has_script status none =
+      let parts = one_division bytes none.first none.behind input.first behind none.division input.division in
+      not_refused status (IsFault none.first) (λ line cause fault. no_fault input.first script line cause input.is_text (subst (λ (b : List ℕ). IsFault b line cause) parts.0 fault)) none.fault
+
+  is_replayed : (line : ℕ) (why : JournalCause) → IsNoReplay script behind line why → ⊥
+  is_replayed line why (no_journal fault) = no_journal_fault script behind journal line why (text_kept input.first script input.is_text) is_journal fault
+  is_replayed line why (not_legal other is illegal) =
+      never_illegal script journal end line why legal (subst (λ (j : List Event). IsIllegal script j line why) (same_journal other is) illegal)
+
+  not_refused_here : (status : Status) → refuses_journal bytes status → ⊥
+  not_refused_here status refused = elim refused [
+    | inl none ↦ has_script status none
+    | inr illegal ↦ journal_not_refused status (IsUnreplayed bytes) (λ line why un.
+        let same = same_script un.script un.behind un.input in
+        is_replayed line why (subst (λ (b : List ℕ). IsNoReplay script b line why) same.1 (subst (λ (s : ScriptOf). IsNoReplay s un.behind line why) same.0 un.refused))) illegal
+  ]
+
+  pub legal_is_replayed : (answer : ℕ) (old new : Streams) → old.source.told ≡ Some bytes → length bytes ≤ input_limit → IsReplayAnswer old new answer → IsAnswer input_limit (gives_report_of script journal) refuses_nothing old new answer
+  legal_is_replayed answer old new told few is =
+      answered_as gives_replayed (gives_report_of script journal) refuses_journal bytes old new told reported_same not_refused_here answer is

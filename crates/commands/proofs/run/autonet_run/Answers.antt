@@ -1,0 +1,11 @@
+use Rattle.commands.specs.Answer.{input_limit, streams}
+use Rattle.commands.specs.Expect.{refuses_script}
+use Rattle.commands.specs.Run.{gives_run}
+use Rattle.commands.proofs.AnswerLemmas.{answered}
+use Rattle.commands.proofs.run.autonet_run.Goals as goal
+
+pub returns : goal.returns
+returns g c = answered input_limit gives_run refuses_script
+    (streams (g.S.Source.seen c.args.source.now) (g.O.Sink.seen c.args.out.now) (g.E.Sink.seen c.args.err.now))
+    (streams (g.S.Source.seen c.status_of-status.new.source) (g.O.Sink.seen c.status_of-status.new.out) (g.E.Sink.seen c.finish.new.err))
+    c.finish.result c.status_of-status.result c.status_of-status.ensures c.finish.ensures

@@ -1,0 +1,26 @@
+-- The command `flow B`: what becomes of the packets that a script sends, where each channel holds B.
+
+use Rattle.std.specs.Prelude.{◌≡◌, ℕ, true, List, [], ◌∷◌, codes}
+use Rattle.text_lines.specs.Words.{is_number_in, number_value}
+use Rattle.net_script.specs.Scripts.{ScriptOf}
+use Rattle.net_script.specs.Texts.{IsText}
+use Rattle.table_report.specs.Flows.{IsFlowOf}
+use Rattle.commands.specs.declared.status.Status.TheVariants.{Ok}
+use Rattle.commands.specs.Answer.{Gives}
+
+-- the bytes are the text of a script of whose packets this becomes
+pub record IsFlowedOf (room : ℕ) (text bytes : List ℕ) : Type 0 where
+  pub script : ScriptOf
+  pub is_text : IsText bytes script
+  pub flowed : IsFlowOf script room text
+
+-- it gives the text that says what becomes of them, with status 0
+abbrev pub gives_flow : ℕ → Gives
+gives_flow room bytes status text = (status ≡ Ok) × IsFlowedOf room text bytes
+
+-- the words `flow B`, with B from 1 to 16
+pub record AreFlowWords (words : List (List ℕ)) (room : ℕ) : Type 0 where
+  pub word : List ℕ
+  pub words_are : words ≡ codes "flow" ∷ word ∷ []
+  pub in_range : is_number_in 1 16 word ≡ true
+  pub room_is : room ≡ number_value word

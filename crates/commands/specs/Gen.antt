@@ -1,0 +1,53 @@
+-- The command `gen SEED N`: a script that is made from a seed.
+
+use Rattle.std.specs.Prelude.{◌≡◌, ◌-◌, ◌^◌, ℕ, List, [], ◌∷◌, ◌++◌, true, codes}
+use Rattle.outside.specs.Told.{Seen, Gains, GainsFront, IsKept, Failed}
+use Rattle.text_lines.specs.Words.{is_number_in, number_value}
+use Rattle.script_text.specs.Canonical.{canonical_text}
+use Rattle.net_gen.specs.Generated.{generated}
+use Rattle.net_gen.specs.Summary.{IsSummary}
+use Rattle.commands.specs.declared.status.Status.{Status}
+use Rattle.commands.specs.declared.status.Status.TheVariants.{Ok, WriteFault, OutOfMemory}
+use Rattle.commands.specs.Answer.{Streams, IsTold}
+
+-- the words `gen SEED N`, with a seed below 2^64 and N from 1 to 100
+pub record AreGenWords (words : List (List ℕ)) (seed count : ℕ) : Type 0 where
+  pub seed_word : List ℕ
+  pub count_word : List ℕ
+  pub words_are : words ≡ codes "gen" ∷ seed_word ∷ count_word ∷ []
+  pub seed_range : is_number_in 0 (2 ^ 64 - 1) seed_word ≡ true
+  pub seed_is : seed ≡ number_value seed_word
+  pub count_range : is_number_in 1 100 count_word ≡ true
+  pub count_is : count ≡ number_value count_word
+
+-- the text is that of the script, and behind it the line on how its run on one thread ends
+pub record IsGenerated (seed count : ℕ) (text : List ℕ) : Type 0 where
+  pub line : List ℕ
+  pub says : text ≡ canonical_text (generated seed count) ++ line
+  pub summary : IsSummary (generated seed count) line
+
+-- out failed, and has a front of that text
+pub record IsGenCutOff (seed count : ℕ) (old new : Seen) : Type 0 where
+  pub text : List ℕ
+  pub is_generated : IsGenerated seed count text
+  pub gains : GainsFront old new text
+  pub failed : Failed old new
+
+-- The cause of a status, and what out gained: the text, a front of it where out failed, and nothing where
+-- memory was wanting.
+pub data IsGenCause (seed count : ℕ) (old new : Seen) (status : Status) : Type 0 where
+  given : status ≡ Ok → (text : List ℕ) → IsGenerated seed count text → Gains old new text
+      → IsGenCause seed count old new status
+  cut : status ≡ WriteFault → IsGenCutOff seed count old new → IsGenCause seed count old new status
+  want : status ≡ OutOfMemory → IsKept old new → IsGenCause seed count old new status
+
+-- the answer to `gen SEED N`: a status came about by its cause, and was told
+pub record IsGenAnswerOn (seed count : ℕ) (out out' err err' : Seen) (answer : ℕ) : Type 0 where
+  pub status : Status
+  pub cause : IsGenCause seed count out out' status
+  pub told : IsTold err err' status answer
+
+-- and the source is left alone
+pub record IsGenAnswer (seed count : ℕ) (old new : Streams) (answer : ℕ) : Type 0 where
+  pub source : new.source ≡ old.source
+  pub on : IsGenAnswerOn seed count old.out new.out old.err new.err answer

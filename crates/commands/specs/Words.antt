@@ -1,0 +1,55 @@
+-- The answer of the program to the words of a call.
+
+use Rattle.std.specs.Prelude.{◌≡◌, ◌≢◌, ℕ, List, [], ◌∷◌, codes}
+use Rattle.commands.specs.Answer.{Streams, IsAnswer, IsUsageAnswer, input_limit}
+use Rattle.commands.specs.Expect.{gives_expected, refuses_script}
+use Rattle.commands.specs.Check.{gives_judged, refuses_tables}
+use Rattle.commands.specs.Flood.{gives_flooded}
+use Rattle.commands.specs.Flow.{AreFlowWords, gives_flow}
+use Rattle.commands.specs.Gen.{AreGenWords, IsGenAnswer}
+use Rattle.commands.specs.Names.{gives_names}
+use Rattle.commands.specs.Replay.{gives_replayed, refuses_journal}
+use Rattle.commands.specs.Run.{gives_run}
+
+-- the answer to `expect`
+abbrev pub IsExpectAnswer : Streams → Streams → ℕ → Type 0
+IsExpectAnswer old new answer = IsAnswer input_limit gives_expected refuses_script old new answer
+
+-- the answer to `check`
+abbrev pub IsCheckAnswer : Streams → Streams → ℕ → Type 0
+IsCheckAnswer old new answer = IsAnswer input_limit gives_judged refuses_tables old new answer
+
+-- the answer to `flood`
+abbrev pub IsFloodAnswer : Streams → Streams → ℕ → Type 0
+IsFloodAnswer old new answer = IsAnswer input_limit gives_flooded refuses_script old new answer
+
+-- the answer to `flow B`
+abbrev pub IsFlowAnswer : ℕ → Streams → Streams → ℕ → Type 0
+IsFlowAnswer room old new answer = IsAnswer input_limit (gives_flow room) refuses_script old new answer
+
+-- the answer to `replay`
+abbrev pub IsReplayAnswer : Streams → Streams → ℕ → Type 0
+IsReplayAnswer old new answer = IsAnswer input_limit gives_replayed refuses_journal old new answer
+
+-- the answer to `run`
+abbrev pub IsRunAnswer : Streams → Streams → ℕ → Type 0
+IsRunAnswer old new answer = IsAnswer input_limit gives_run refuses_script old new answer
+
+-- the answer to `names`
+abbrev pub IsNamesAnswer : Streams → Streams → ℕ → Type 0
+IsNamesAnswer old new answer = IsAnswer input_limit gives_names refuses_journal old new answer
+
+-- the answer to words: that of the command that they name, and the usage line where they name none
+pub record IsAnswerTo (words : List (List ℕ)) (old new : Streams) (answer : ℕ) : Type 0 where
+  pub expect : words ≡ codes "expect" ∷ [] → IsExpectAnswer old new answer
+  pub check : words ≡ codes "check" ∷ [] → IsCheckAnswer old new answer
+  pub flood : words ≡ codes "flood" ∷ [] → IsFloodAnswer old new answer
+  pub flow : (room : ℕ) → AreFlowWords words room → IsFlowAnswer room old new answer
+  pub run : words ≡ codes "run" ∷ [] → IsRunAnswer old new answer
+  pub replay : words ≡ codes "replay" ∷ [] → IsReplayAnswer old new answer
+  pub names : words ≡ codes "names" ∷ [] → IsNamesAnswer old new answer
+  pub gen : (seed count : ℕ) → AreGenWords words seed count → IsGenAnswer seed count old new answer
+  pub usage : words ≢ codes "expect" ∷ [] → words ≢ codes "check" ∷ [] → words ≢ codes "flood" ∷ []
+      → words ≢ codes "run" ∷ [] → words ≢ codes "replay" ∷ [] → words ≢ codes "names" ∷ []
+      → ((room : ℕ) → ¬ AreFlowWords words room)
+      → ((seed count : ℕ) → ¬ AreGenWords words seed count) → IsUsageAnswer old new answer

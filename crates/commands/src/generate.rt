@@ -1,0 +1,88 @@
+ghost use Rattle.std.specs.Prelude.{◌≡◌, ◌≢◌, ◌≤◌, ℕ, List, [], ◌∷◌, IfOk, IfSome, MatchOption};
+ghost use Rattle.commands.specs.Gen.{AreGenWords, IsGenAnswerOn, IsGenCause, IsGenerated};
+
+use crate::status::{Status, finish};
+use an_base::memory::OutOfMemory;
+use an_base::text::Word;
+use net_gen::script::script_of;
+use net_gen::summary::summary;
+use outside::all::write_all;
+use outside::sink::Sink;
+use script_text::printer::print;
+use std::alloc::Global;
+use text_lines::word::number_between;
+
+// The second and the third of three words, of which the first has these bytes.
+fn words_behind<'a>(words: &'a [Word], bytes: &[u8]) -> Option<(&'a Word, &'a Word)>
+    ensures { MatchOption result
+        ((second third : List ℕ) → words.now ≢ bytes.now ∷ second ∷ third ∷ [])
+        (λ behind. words.now ≡ bytes.now ∷ behind.0.now ∷ behind.1.now ∷ []) }
+{
+    let [first, second, third] = words else {
+        return None;
+    };
+    if first.as_bytes() == bytes {
+        return Some((second, third));
+    }
+    None
+}
+
+/// The seed and the number of switches, where the words are `gen SEED N` with N from 1 to 100.
+pub fn gen_words(words: &[Word]) -> Option<(u64, u8)>
+    ensures words { MatchOption result ((seed count : ℕ) → ¬ AreGenWords words.now seed count)
+        (λ numbers. AreGenWords words.now numbers.0 numbers.1) }
+    ensures least { IfSome result (λ numbers. 1 ≤ numbers.1) }
+    ensures most { IfSome result (λ numbers. numbers.1 ≤ 100) }
+{
+    let (seed, count) = words_behind(words, b"gen")?;
+    let seed = number_between(seed.as_bytes(), 0, u64::MAX)?;
+    let count = number_between(count.as_bytes(), 1, 100)?;
+    Some((seed, count as u8))
+}
+
+// The text of the script of a seed, and the line on how its run on one thread ends.
+fn generated(alloc: Global, seed: u64, count: u8) -> Result<Vec<u8>, OutOfMemory>
+    requires least { 1 ≤ count }
+    requires most { count ≤ 100 }
+    ensures { IfOk result (λ text. IsGenerated seed count text.items) }
+{
+    let script = script_of(alloc, seed, count)?;
+    let mut text = print(alloc, &script)?;
+    let line = summary(alloc, &script)?;
+    text.extend_from_slice(&line)?;
+    Ok(text)
+}
+
+// Writes them to out, or answers why they are not there.
+fn status_of<O: Sink>(alloc: Global, seed: u64, count: u8, out: &mut O) -> Status
+    requires least { 1 ≤ count }
+    requires most { count ≤ 100 }
+    ensures { IsGenCause seed count (O.seen out.old) (O.seen out.new) result }
+{
+    let Ok(text) = generated(alloc, seed, count) else {
+        return Status::OutOfMemory;
+    };
+    match write_all(out, &text) {
+        Ok(()) => Status::Ok,
+        Err(_fault) => Status::WriteFault,
+    }
+}
+
+/// Answers `gen SEED N`, with N from 1 to 100: writes to out the script that is made from a seed with so many
+/// switches, and behind it one line on how its run on one thread ends. The answer is the number of a status,
+/// whose line goes to err.
+pub fn autonet_gen<O: Sink, E: Sink>(
+    alloc: Global,
+    seed: u64,
+    count: u8,
+    out: &mut O,
+    err: &mut E,
+) -> u8
+    requires least { 1 ≤ count }
+    requires most { count ≤ 100 }
+    ensures { IsGenAnswerOn seed count (O.seen out.old) (O.seen out.new) (E.seen err.old) (E.seen err.new)
+        result }
+{
+    let status = status_of(alloc, seed, count, out);
+    finish(alloc, err, status)
+}

@@ -1,0 +1,88 @@
+ghost use Rattle.std.specs.Prelude.{◌≡◌, ◌⊎◌, ◌≤◌, length, IfErr, IfOk};
+ghost use Rattle.commands.specs.declared.status.Status.TheVariants as ended;
+ghost use Rattle.commands.specs.Answer.{input_limit, streams};
+ghost use Rattle.commands.specs.Replay.{IsScriptWith, gives_replayed, refuses_journal, replay_refused_as};
+ghost use Rattle.commands.specs.Words.{IsReplayAnswer};
+
+use crate::command::{Command, Given, answer};
+use crate::input::refused;
+use crate::reported::told_text;
+use crate::status::Status;
+use an_base::memory::OutOfMemory;
+use net_script::reader::read;
+use net_script::script::Script;
+use outside::sink::Sink;
+use outside::source::Source;
+use replay::division::divide;
+use replay::refusal::ReplayRefusal;
+use std::alloc::Global;
+
+/// The command `replay`: for a script with a journal behind it, the report of the journal.
+#[derive(Clone, Copy, Debug)]
+pub struct Replay;
+
+/// The status of a text that is no journal, or whose journal is not legal.
+pub fn replay_refused(refusal: ReplayRefusal) -> Status
+    ensures { result ≡ replay_refused_as refusal }
+{
+    match refusal {
+        ReplayRefusal::Illegal { line, cause } => Status::JournalRefused { line, cause },
+        ReplayRefusal::OutOfMemory => Status::OutOfMemory,
+    }
+}
+
+/// A script, and the bytes that stand behind it.
+#[derive(Debug, Drop)]
+pub struct Journaled<'a> {
+    /// The script.
+    pub script: Script,
+    /// The bytes that are to begin with the text of a journal.
+    pub behind: &'a [u8],
+}
+
+/// The script with which an input begins, and what stands behind it.
+pub fn read_first(alloc: Global, bytes: &[u8]) -> Result<Journaled, Status>
+    requires few { length bytes.now ≤ input_limit }
+    ensures read { IfOk result (λ input. IsScriptWith bytes.now input.script input.behind.now) }
+    ensures few { IfOk result (λ input. length input.behind.now ≤ input_limit) }
+    ensures stopped { IfErr result (λ status.
+        refuses_journal bytes.now status ⊎ (status ≡ ended.OutOfMemory)) }
+{
+    let (first, behind) = match divide(alloc, bytes) {
+        Ok(parts) => parts,
+        Err(OutOfMemory) => return Err(Status::OutOfMemory),
+    };
+    match read(alloc, first) {
+        Ok(script) => Ok(Journaled { script, behind }),
+        Err(refusal) => Err(refused(refusal)),
+    }
+}
+
+impl Command for Replay {
+    ghost gives = { λ _. gives_replayed };
+
+    ghost refuses = { λ _. refuses_journal };
+
+    fn given(&self, alloc: Global, bytes: &[u8]) -> Result<Given, Status> {
+        let input = read_first(alloc, bytes)?;
+        match told_text(alloc, &input.script, input.behind) {
+            Ok(given) => Ok(given),
+            Err(refusal) => Err(replay_refused(refusal)),
+        }
+    }
+}
+
+/// Answers `replay`: reads a script and a journal from the source, and writes the report of the journal to
+/// out. The answer is the number of a status, whose line goes to err.
+pub fn autonet_replay<S: Source, O: Sink, E: Sink>(
+    alloc: Global,
+    source: &mut S,
+    out: &mut O,
+    err: &mut E,
+) -> u8
+    ensures { IsReplayAnswer
+        (streams (S.seen source.old) (O.seen out.old) (E.seen err.old))
+        (streams (S.seen source.new) (O.seen out.new) (E.seen err.new)) result }
+{
+    answer(&Replay, alloc, source, out, err)
+}

@@ -1,0 +1,67 @@
+//! A journal with its report, and the status of its end.
+
+ghost use Rattle.std.specs.Prelude.{◌≡◌, ◌≤◌, length, IfErr, IfOk};
+ghost use Rattle.replay.specs.Replays.{IfIllegal, IsNoReplay, IsRefusal};
+ghost use Rattle.commands.specs.Answer.{IsEnding, input_limit};
+ghost use Rattle.commands.specs.Reported.{IsReported, IsReportedText, status_of_end};
+
+use crate::command::Given;
+use crate::status::Status;
+use an_base::event::Journal;
+use an_base::memory::OutOfMemory;
+use fabric_state::ending::Ending;
+use net_script::script::Script;
+use replay::refusal::ReplayRefusal;
+use report::reporter::{Report, life_name, reported, reported_text};
+use std::alloc::Global;
+
+// The status of a journal with this end, at this tick.
+fn status_of(alloc: Global, script: &Script, end: Ending, tick: u32) -> Result<Status, OutOfMemory>
+    ensures status { IfOk result (λ status. status ≡ status_of_end script.now tick end) }
+    ensures ends { IfOk result IsEnding }
+{
+    Ok(match end {
+        Ending::Settled => Status::Ok,
+        Ending::Unsettled => Status::Unsettled { tick },
+        Ending::Full => Status::JournalFull,
+        Ending::Spent(life) => Status::EpochsSpent {
+            name: life_name(alloc, script, life)?,
+        },
+    })
+}
+
+// A report, with the status of the end of its journal.
+fn given(alloc: Global, script: &Script, report: Report) -> Result<Given, OutOfMemory>
+    ensures status { IfOk result (λ given. given.status ≡ status_of_end script.now report.tick report.end) }
+    ensures ends { IfOk result (λ given. IsEnding given.status) }
+    ensures text { IfOk result (λ given. given.text.items ≡ report.text.items) }
+{
+    let status = status_of(alloc, script, report.end, report.tick)?;
+    Ok(Given {
+        status,
+        text: report.text,
+    })
+}
+
+/// The report of a journal, with the status of its end, if the journal is legal.
+pub fn told(alloc: Global, script: &Script, journal: &Journal) -> Result<Given, ReplayRefusal>
+    ensures reported { IfOk result (λ given.
+        IsReported script.now journal.now given.status given.text.items) }
+    ensures ends { IfOk result (λ given. IsEnding given.status) }
+    ensures refused { IfErr result (IsRefusal script.now journal.now) }
+{
+    let report = reported(alloc, script, journal)?;
+    Ok(given(alloc, script, report)?)
+}
+
+/// The same of the journal with whose text the bytes begin.
+pub fn told_text(alloc: Global, script: &Script, bytes: &[u8]) -> Result<Given, ReplayRefusal>
+    requires few { length bytes.now ≤ input_limit }
+    ensures reported { IfOk result (λ given.
+        IsReportedText script.now bytes.now given.status given.text.items) }
+    ensures ends { IfOk result (λ given. IsEnding given.status) }
+    ensures refused { IfErr result (λ why. IfIllegal why (IsNoReplay script.now bytes.now)) }
+{
+    let report = reported_text(alloc, script, bytes)?;
+    Ok(given(alloc, script, report)?)
+}

@@ -1,0 +1,145 @@
+//! The command `run`. It is no `Command`, whose calls start no threads.
+
+ghost use Rattle.std.specs.Prelude.{◌≡◌, ◌⊎◌, ◌≤◌, length, IfErr, IfOk};
+ghost use Rattle.net_script.specs.Scripts.{IsScript};
+ghost use Rattle.report.specs.Events.{HasLegalEnd};
+ghost use Rattle.commands.specs.declared.status.Status.TheVariants as ended;
+ghost use Rattle.commands.specs.Answer.{streams, IsCause, IsEnding, IsInput, IsStop, input_limit};
+ghost use Rattle.commands.specs.Expect.{refuses_script};
+ghost use Rattle.commands.specs.Reported.{IsReported};
+ghost use Rattle.commands.specs.Run.{IsRun, gives_run};
+ghost use Rattle.commands.specs.Words.{IsRunAnswer};
+
+use crate::command::Given;
+use crate::input::{INPUT_LIMIT, read_input, refused};
+use crate::reported::told;
+use crate::status::{Status, finish};
+use an_base::event::Journal;
+use an_base::memory::OutOfMemory;
+use journal::printer::print;
+use net_script::reader::read;
+use net_script::script::Script;
+use outside::all::write_all;
+use outside::sink::Sink;
+use outside::source::Source;
+use replay::refusal::ReplayRefusal;
+use std::alloc::Global;
+use std::sync::Wait;
+use std::thread::Threads;
+use switch_threads::Gate;
+
+// The report of a legal journal, with the status of its end.
+fn report_of(alloc: Global, script: &Script, journal: &Journal) -> Result<Given, OutOfMemory>
+    requires legal { HasLegalEnd script.now journal.now }
+    ensures reported { IfOk result (λ given.
+        IsReported script.now journal.now given.status given.text.items) }
+    ensures ends { IfOk result (λ given. IsEnding given.status) }
+{
+    match told(alloc, script, journal) {
+        Ok(given) => Ok(given),
+        Err(ReplayRefusal::OutOfMemory) => Err(OutOfMemory),
+        Err(ReplayRefusal::Illegal { .. }) => unreachable!(),
+    }
+}
+
+// The text of a legal journal and, behind it, its report, with the status of its end.
+fn printed(alloc: Global, script: &Script, journal: &Journal) -> Result<Given, OutOfMemory>
+    requires kept { IsScript script.now }
+    requires legal { HasLegalEnd script.now journal.now }
+    ensures run { IfOk result (λ given. IsRun script.now given.status given.text.items) }
+    ensures ends { IfOk result (λ given. IsEnding given.status) }
+{
+    let mut text = print(alloc, script, journal)?;
+    let report = report_of(alloc, script, journal)?;
+    text.extend_from_slice(&report.text)?;
+    Ok(Given {
+        status: report.status,
+        text,
+    })
+}
+
+// The same for a run of the network of a script, whose text the bytes are, or the status that says why there is
+// none.
+fn given<R: Threads + Wait + Sync, G: Gate>(
+    rt: &R,
+    gate: &G,
+    alloc: Global,
+    bytes: &[u8],
+) -> Result<Given, Status>
+    requires { length bytes.now ≤ input_limit }
+    ensures given { IfOk result (λ given. gives_run bytes.now given.status given.text.items) }
+    ensures ends { IfOk result (λ given. IsEnding given.status) }
+    ensures stopped { IfErr result (λ status.
+        refuses_script bytes.now status ⊎ (status ≡ ended.OutOfMemory)) }
+{
+    let script = match read(alloc, bytes) {
+        Ok(script) => script,
+        Err(refusal) => return Err(refused(refusal)),
+    };
+    let Ok(run) = switch_threads::run(rt, alloc, &script, gate) else {
+        return Err(Status::OutOfMemory);
+    };
+    match printed(alloc, &script, &run.journal) {
+        Ok(given) => Ok(given),
+        Err(OutOfMemory) => Err(Status::OutOfMemory),
+    }
+}
+
+// The same for what the source gives.
+fn found<R: Threads + Wait + Sync, G: Gate, S: Source>(
+    rt: &R,
+    gate: &G,
+    alloc: Global,
+    source: &mut S,
+) -> Result<Given, Status>
+    ensures given { IfOk result (λ given. IsInput input_limit
+        (λ bytes. gives_run bytes given.status given.text.items)
+        (S.seen source.old) (S.seen source.new)) }
+    ensures ends { IfOk result (λ given. IsEnding given.status) }
+    ensures stopped { IfErr result (IsStop input_limit refuses_script
+        (S.seen source.old) (S.seen source.new)) }
+{
+    let bytes = read_input(alloc, source, INPUT_LIMIT)?;
+    given(rt, gate, alloc, &bytes)
+}
+
+// Writes it to out, or answers why there is none.
+fn status_of<R: Threads + Wait + Sync, G: Gate, S: Source, O: Sink>(
+    rt: &R,
+    gate: &G,
+    alloc: Global,
+    source: &mut S,
+    out: &mut O,
+) -> Status
+    ensures { IsCause input_limit gives_run refuses_script
+        (S.seen source.old) (S.seen source.new) (O.seen out.old) (O.seen out.new) result }
+{
+    let given = match found(rt, gate, alloc, source) {
+        Ok(given) => given,
+        Err(status) => return status,
+    };
+    match write_all(out, &given.text) {
+        Ok(()) => given.status,
+        Err(_fault) => Status::WriteFault,
+    }
+}
+
+/// Answers `run`: reads a script from the source, runs its network with a thread for each switch, and writes
+/// the journal of the run, and behind it its report, to out. `gate` is called round each turn of a worker. The
+/// answer is the number of a status, whose line goes to err. It may never answer, as `switch_threads::run` may
+/// never return.
+pub fn autonet_run<R: Threads + Wait + Sync, G: Gate, S: Source, O: Sink, E: Sink>(
+    rt: &R,
+    gate: &G,
+    alloc: Global,
+    source: &mut S,
+    out: &mut O,
+    err: &mut E,
+) -> u8
+    ensures { IsRunAnswer
+        (streams (S.seen source.old) (O.seen out.old) (E.seen err.old))
+        (streams (S.seen source.new) (O.seen out.new) (E.seen err.new)) result }
+{
+    let status = status_of(rt, gate, alloc, source, out);
+    finish(alloc, err, status)
+}

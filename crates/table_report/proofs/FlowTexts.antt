@@ -1,0 +1,134 @@
+-- The text of what becomes of packets, line by line.
+use Rattle.std.proofs.Common.{◌≡◌, ◌∙◌, sym, ap, subst, refl, ℕ, ◌+◌, ◌/◌, ◌%◌, ◌<◌, ◌≤◌, arith, List, [], ◌∷◌, ◌++◌, true, false, append-nil, length, get_or, take, map, All, Bool, cond}
+use Rattle.std.specs.Fmt.{decimal}
+use Rattle.std.specs.List.{flat_map}
+use Rattle.std.proofs.lemmas.List.{take_more, map-append, map_push}
+use Rattle.std.proofs.lemmas.List.Elements.{All-nil, All-push}
+use Rattle.std.proofs.lemmas.Fmt.{decimal_digit, decimal_step}
+use Rattle.std.proofs.lemmas.Grind.{flat_map-append}
+use Rattle.an_base.specs.Values.{EntryOf}
+use Rattle.net_graph.specs.declared.wiring.SwitchAt.{SwitchAt}
+use Rattle.net_graph.specs.Forest.{IsForest}
+use Rattle.text_lines.specs.Lines.{line_text}
+use Rattle.text_lines.proofs.FormTexts.{text_push, go_on}
+use Rattle.net_script.specs.Scripts.{ScriptOf}
+use Rattle.flow_channels.specs.declared.went.Went.{Went}
+use Rattle.table_report.specs.declared.sent.Sent.{Sent}
+use Rattle.flow_channels.specs.Flows.{FlowOf}
+use Rattle.flow_channels.specs.Runs.{Turns}
+use Rattle.table_report.specs.Flows.{FlowLine, Local, Unjoined, end_line, entered_flow, entries_of, fate_lines, flow_text, flow_told, flow_words, FlowPart, IsFlowOf, IsFlowPart, layout_in, part_lines, start_of, went_line}
+use Rattle.table_report.specs.FlowRuns.{IsRun}
+use Rattle.table_report.specs.Sends.{entering, homes_of, is_joined, is_local, numbers_in, sends_of}
+
+-- one line, as lines
+pub one_line : (line : FlowLine) (base text : List ℕ) → text ≡ base ++ line_text (flow_words line) → text ≡ base ++ flow_told (line ∷ [])
+one_line line base text is = is ∙ ap (λ (t : List ℕ). base ++ t) (sym (append-nil (line_text (flow_words line))))
+
+-- a number of two digits, the first of which is 1
+pub two_digits : (n : ℕ) → 10 ≤ n → n < 20 → decimal n ≡ 49 ∷ (38 + n) ∷ []
+two_digits n ten few =
+    let tens : n / 10 ≡ 1 = omega arith in
+    let ones : 48 + n % 10 ≡ 38 + n = omega arith in
+    decimal_step n ten (omega arith)
+    ∙ ap (λ (front : List ℕ). front ++ (48 + n % 10) ∷ []) (ap decimal tens ∙ decimal_digit 1 (omega arith))
+    ∙ ap (λ (end : ℕ). 49 ∷ end ∷ []) ones
+
+-- the line of one move more
+pub moves_told : (script : ScriptOf) (es : List EntryOf) (moves : List Went) (i : ℕ) (went : Went) (base text new : List ℕ) → i < length moves → went ≡ get_or moves i went → text ≡ base ++ flow_told (map (went_line script es) (take i moves)) → new ≡ text ++ line_text (flow_words (went_line script es went)) → new ≡ base ++ flow_told (map (went_line script es) (take (i + 1) moves))
+moves_told script es moves i went base text new low is so_far one =
+    let line : Went → FlowLine = went_line script es in
+    let front : take (i + 1) moves ≡ take i moves ++ went ∷ [] = take_more moves i went low ∙ ap (λ (w : Went). take i moves ++ w ∷ []) (sym is) in
+    text_push flow_words (map line (take i moves)) (line went) base text new so_far one
+    ∙ ap (λ (ls : List FlowLine). base ++ flow_told ls) (sym (ap (map line) front ∙ map_push line (take i moves) went))
+
+-- the lines of one packet more
+pub fates_told : (script : ScriptOf) (homes : List (List ℕ)) (sends : List Sent) (i : ℕ) (sent : Sent) (base text new : List ℕ) → i < length sends → sent ≡ get_or sends i sent → text ≡ base ++ flow_told (flat_map (fate_lines script homes) (take i sends)) → new ≡ text ++ flow_told (fate_lines script homes sent) → new ≡ base ++ flow_told (flat_map (fate_lines script homes) (take (i + 1) sends))
+fates_told script homes sends i sent base text new low is so_far one =
+    let lines : Sent → List FlowLine = fate_lines script homes in
+    let front : take (i + 1) sends ≡ take i sends ++ sent ∷ [] = take_more sends i sent low ∙ ap (λ (s : Sent). take i sends ++ s ∷ []) (sym is) in
+    go_on flow_words (flat_map lines (take i sends)) (lines sent) base text new so_far one
+    ∙ ap (λ (ls : List FlowLine). base ++ flow_told ls) (sym (ap (flat_map lines) front ∙ flat_map-append lines (take i sends) (sent ∷ []) ∙ ap (λ (ls : List FlowLine). flat_map lines (take i sends) ++ ls) (append-nil (lines sent))))
+
+-- the lines of a component whose packets ran, and its moves behind those so far
+pub part_done : (script : ScriptOf) (room : ℕ) (any : Bool) (es graph entries : List EntryOf) (switches : List SwitchAt) (home : List ℕ) (those sends : List Sent) (moves passed all more : List Went) (text new : List ℕ) → any ≡ script.any_routes → graph ≡ es → entries ≡ es → switches ≡ script.wires.switches → home ≡ numbers_in switches es → those ≡ entering home sends → sends ≡ sends_of script → IsRun any room graph home those moves → passed ≡ moves → new ≡ text ++ flow_told (map (went_line script entries) passed) → more ≡ all ++ moves
+    → (part : FlowPart) × (entries_of part ≡ es) × IsFlowPart script room part × (new ≡ text ++ flow_told (part_lines script part)) × (more ≡ all ++ part.moves)
+part_done script room any es graph entries switches home those sends moves passed all more text new any_is graph_is entries_is switches_are home_is those_are sends_are ran passed_is told more_is =
+    let run : IsRun script.any_routes room es home those moves = subst (λ (a : Bool). IsRun a room es home those moves) any_is (subst (λ (g : List EntryOf). IsRun any room g home those moves) graph_is ran) in
+    let own : home ≡ numbers_in script.wires.switches es = home_is ∙ ap (λ (w : List SwitchAt). numbers_in w es) switches_are in
+    let start : entered_flow home those ≡ start_of script es = ap (entered_flow home) (those_are ∙ ap (entering home) sends_are) ∙ ap (λ (h : List ℕ). entered_flow h (entering h (sends_of script))) own in
+    let part : FlowPart = record { part = record { entries = es; tables = run.tables }; moves = moves; end = run.run.end } in (
+      part,
+      refl,
+      record {
+        tables = run.are;
+        turns = subst (λ (f : FlowOf). Turns (layout_in room part.part) f moves run.run.end) start run.run.turns;
+        done = run.run.done;
+      },
+      told ∙ ap (λ (e : List EntryOf). text ++ flow_told (map (went_line script e) passed)) entries_is ∙ ap (λ (ms : List Went). text ++ flow_told (map (went_line script es) ms)) passed_is,
+      more_is,
+    )
+
+-- what has been said of the components so far
+pub record AreToldParts (script : ScriptOf) (room : ℕ) (forest : List (List EntryOf)) (base text : List ℕ) (moves : List Went) : Type 0 where
+  pub parts : List FlowPart
+  pub entries : map entries_of parts ≡ forest
+  pub flows : All (IsFlowPart script room) parts
+  pub text_is : text ≡ base ++ flow_told (flat_map (part_lines script) parts)
+  pub moves_are : moves ≡ flat_map (λ p. p.moves) parts
+
+pub none_told : (script : ScriptOf) (room : ℕ) (text : List ℕ) → AreToldParts script room [] text text []
+none_told script room text = record { parts = []; entries = refl; flows = All-nil (IsFlowPart script room); text_is = sym (append-nil text); moves_are = refl }
+
+-- one component more
+pub parts_told : (script : ScriptOf) (room : ℕ) (forest : List (List EntryOf)) (i : ℕ) (es : List EntryOf) (part : FlowPart) (base text new : List ℕ) (moves more : List Went) → i < length forest → es ≡ get_or forest i es → entries_of part ≡ es → IsFlowPart script room part → new ≡ text ++ flow_told (part_lines script part) → more ≡ moves ++ part.moves → AreToldParts script room (take i forest) base text moves → AreToldParts script room (take (i + 1) forest) base new more
+parts_told script room forest i es part base text new moves more low at is flows one moves_are so_far =
+    let lines : FlowPart → List FlowLine = part_lines script in
+    let went : FlowPart → List Went = λ p. p.moves in
+    let all = so_far.parts ++ part ∷ [] in
+    record {
+      parts = all;
+      entries = map-append entries_of so_far.parts (part ∷ []) ∙ ap (λ (f : List (List EntryOf)). f ++ entries_of part ∷ []) so_far.entries ∙ ap (λ (e : List EntryOf). take i forest ++ e ∷ []) (is ∙ at) ∙ sym (take_more forest i es low);
+      flows = All-push (IsFlowPart script room) so_far.parts part so_far.flows flows;
+      text_is = go_on flow_words (flat_map lines so_far.parts) (lines part) base text new so_far.text_is one
+          ∙ ap (λ (ls : List FlowLine). base ++ flow_told ls) (sym (flat_map-append lines so_far.parts (part ∷ []) ∙ ap (λ (ls : List FlowLine). flat_map lines so_far.parts ++ ls) (append-nil (lines part))));
+      moves_are = moves_are ∙ ap (λ (ms : List Went). ms ++ part.moves) so_far.moves_are ∙ sym (flat_map-append went so_far.parts (part ∷ []) ∙ ap (λ (ms : List Went). flat_map went so_far.parts ++ ms) (append-nil part.moves));
+    }
+
+-- and the last line
+pub flow_ended : (script : ScriptOf) (room : ℕ) (forest : List (List EntryOf)) (homes : List (List ℕ)) (sends : List Sent) (moves : List Went) (base text new : List ℕ) → IsForest script.wires forest → homes ≡ homes_of script.wires.switches forest → sends ≡ sends_of script → base ≡ flow_told (flat_map (fate_lines script homes) sends) → AreToldParts script room forest base text moves → new ≡ text ++ line_text (flow_words (end_line homes sends moves)) → IsFlowOf script room new
+unfolding flow_text
+flow_ended script room forest homes sends moves base text new trees homes_are sends_are fates told last =
+    let parts = told.parts in
+    let same : homes ≡ homes_of script.wires.switches (map entries_of parts) = homes_are ∙ ap (homes_of script.wires.switches) (sym told.entries) in
+    let lines = flat_map (part_lines script) parts in
+    let end : FlowLine = end_line homes sends moves in
+    let rest : new ≡ base ++ flow_told (lines ++ end ∷ []) = text_push flow_words lines end base text new told.text_is last in
+    let all : new ≡ flow_told (flat_map (fate_lines script homes) sends ++ (lines ++ end ∷ [])) = go_on flow_words (flat_map (fate_lines script homes) sends) (lines ++ end ∷ []) [] base new fates rest in
+    record {
+      parts = parts;
+      trees = subst (IsForest script.wires) (sym told.entries) trees;
+      flows = told.flows;
+      text_is = all
+          ∙ ap (λ (hs : List (List ℕ)). flow_told (flat_map (fate_lines script hs) sends ++ (lines ++ end_line hs sends moves ∷ []))) same
+          ∙ ap (λ (ss : List Sent). flow_told (flat_map (fate_lines script (homes_of script.wires.switches (map entries_of parts))) ss ++ (lines ++ end_line (homes_of script.wires.switches (map entries_of parts)) ss moves ∷ []))) sends_are
+          ∙ ap (λ (ms : List Went). flow_told (flat_map (fate_lines script (homes_of script.wires.switches (map entries_of parts))) (sends_of script) ++ (lines ++ end_line (homes_of script.wires.switches (map entries_of parts)) (sends_of script) ms ∷ []))) told.moves_are;
+    }
+
+-- THE LINE OF A PACKET THAT ENTERS NOWHERE
+
+pub local_told : (script : ScriptOf) (homes : List (List ℕ)) (sent : Sent) (base text : List ℕ) → is_local sent ≡ true → text ≡ base ++ line_text (flow_words (Local sent.packet (get_or script.switch_names sent.from []))) → text ≡ base ++ flow_told (fate_lines script homes sent)
+local_told script homes sent base text yes_local is =
+    let line : FlowLine = Local sent.packet (get_or script.switch_names sent.from []) in
+    let lines : fate_lines script homes sent ≡ line ∷ [] = rw yes_local refl in
+    one_line line base text is ∙ ap (λ (ls : List FlowLine). base ++ flow_told ls) (sym lines)
+
+pub joined_told : (script : ScriptOf) (homes : List (List ℕ)) (sent : Sent) (base : List ℕ) → is_local sent ≡ false → is_joined homes sent ≡ true → base ≡ base ++ flow_told (fate_lines script homes sent)
+joined_told script homes sent base no_local yes_joined =
+    let lines : fate_lines script homes sent ≡ [] = rw (no_local, yes_joined) refl in
+    sym (append-nil base) ∙ ap (λ (ls : List FlowLine). base ++ flow_told ls) (sym lines)
+
+pub unjoined_told : (script : ScriptOf) (homes : List (List ℕ)) (sent : Sent) (base text : List ℕ) → is_local sent ≡ false → is_joined homes sent ≡ false → text ≡ base ++ line_text (flow_words (Unjoined sent.packet)) → text ≡ base ++ flow_told (fate_lines script homes sent)
+unjoined_told script homes sent base text no_local no_joined is =
+    let line : FlowLine = Unjoined sent.packet in
+    let lines : fate_lines script homes sent ≡ line ∷ [] = rw (no_local, no_joined) refl in
+    one_line line base text is ∙ ap (λ (ls : List FlowLine). base ++ flow_told ls) (sym lines)

@@ -1,0 +1,77 @@
+use Rattle.std.specs.Prelude.{◌≡◌, ◌<◌, ◌≤◌, ℕ, Bool, List, [], ◌∷◌, Option, length, map, slice_index_or}
+use Rattle.an_base.specs.Values.{EntryOf}
+use Rattle.an_base.specs.Numbers.{AreNumbers}
+use Rattle.an_base.specs.Rows.{RowOf}
+use Rattle.net_script.specs.Scripts.{ScriptOf}
+use Rattle.topo_graph.specs.Topology.{IsGraph, IsTree}
+use Rattle.table_build.specs.Tables.{TableOf}
+use Rattle.dep_check.specs.Channels.{IsChannel, LeadsTo}
+use Rattle.dep_check.specs.Cycles.{AreRanks}
+use Rattle.dep_check.specs.Laws.{AreTables as AllTables}
+use Rattle.dep_check.specs.Tables.{rank_at}
+use Rattle.flow_channels.specs.declared.went.Went.{Went}
+use Rattle.flow_channels.specs.Flows.{FlowOf, empty_flow, left_of}
+use Rattle.flow_channels.specs.Layout.{LayoutOf}
+use Rattle.flow_channels.specs.Runs.{Turns}
+use Rattle.flow_channels.specs.View.{FlowView, IsOver}
+use Rattle.table_report.specs.declared.sent.Sent.{Sent}
+use Rattle.table_report.specs.Check.{name_of}
+use Rattle.table_report.specs.Expect.{AreTables}
+use Rattle.table_report.specs.Flows.{entered_flow, layout_in}
+
+-- What private functions alone cite: a run of the packets that enter a component.
+
+-- the graph of a component, in which the members have these numbers
+pub record IsNumbered (entries : List EntryOf) (numbers : List ℕ) : Type 0 where
+  pub graph : IsGraph entries
+  pub tree : IsTree entries
+  pub named : AreNumbers numbers
+  pub count : length numbers ≡ length entries
+
+-- rows that are those of the tables of all its members, so that they are never refused
+pub record AreOwnRows (any : Bool) (entries : List EntryOf) (numbers : List ℕ) (rows : List RowOf)
+    : Type 0 where
+  pub numbered : IsNumbered entries numbers
+  pub tables : AllTables entries numbers any rows
+
+-- a flow that no packet entered yet, with room for these
+pub record IsReady (layout : LayoutOf) (sends : List Sent) (view : FlowView) : Type 0 where
+  pub over : IsOver layout view
+  pub known_is : view.known ≡ []
+  pub flow_is : view.flow ≡ empty_flow
+  pub room : length sends ≤ view.limit
+
+-- the same flow, with these packets entered
+pub record HasEntered (home : List ℕ) (sends : List Sent) (old new : FlowView) : Type 0 where
+  pub known_is : new.known ≡ map (λ sent. sent.packet) sends
+  pub flow_is : new.flow ≡ entered_flow home sends
+  pub limit_is : new.limit ≡ old.limit
+
+-- a flow over rows whose channels have these ranks
+pub record IsRanked (ranks : List (Option ℕ)) (view : FlowView) : Type 0 where
+  pub layout : LayoutOf
+  pub over : IsOver layout view
+  pub ranked : AreRanks (IsChannel layout.far) (LeadsTo layout.far layout.rows) (rank_at ranks)
+
+-- these are turns from a flow on, until no packet is left
+pub record IsRunFrom (layout : LayoutOf) (start : FlowOf) (moves : List Went) : Type 0 where
+  pub end : FlowOf
+  pub turns : Turns layout start moves end
+  pub done : left_of end ≡ 0
+
+-- these are the moves of packets that enter a component
+pub record IsRun (any : Bool) (room : ℕ) (entries : List EntryOf) (home : List ℕ) (sends : List Sent)
+    (moves : List Went) : Type 0 where
+  pub tables : List TableOf
+  pub are : AreTables entries any (length entries) tables
+  pub run : IsRunFrom (layout_in room (record { entries = entries; tables = tables }))
+      (entered_flow home sends) moves
+
+-- for each number below an end a space and the name of the switch that has it
+pub record AreNames (script : ScriptOf) (entries : List EntryOf) (numbers : List ℕ) (end : ℕ)
+    (names : List (List ℕ))
+    : Type 0 where
+  pub count : length names ≡ end
+  pub each :
+      (number : ℕ) → number < end
+      → slice_index_or names number [] ≡ 32 ∷ name_of script entries numbers number

@@ -1,0 +1,11 @@
+pub mod Names
+pub mod Rows
+pub mod Expect
+pub mod Floods
+pub mod Sends
+pub mod Flows
+pub mod FlowRuns
+pub mod Check
+pub mod Runs
+pub mod Decimals
+pub mod Pieces

@@ -1,0 +1,198 @@
+//! What is expected of a script.
+
+ghost use Rattle.std.specs.Prelude.{◌≡◌, ◌≤◌, ◌++◌, List, All, length, map, IfOk, OnOk};
+ghost use Rattle.std.specs.List.{zip};
+ghost use Rattle.text_lines.specs.Lines.{line_text};
+ghost use Rattle.table_script.specs.TableForms.{table_words};
+ghost use Rattle.switch_numbering.specs.Numbering.{numbering};
+ghost use Rattle.table_build.specs.Tables.{TableOf};
+ghost use Rattle.table_report.specs.Expect.{AreTables, component_form, expect_text, IsExpectOf, member_form, number_form, Part, part_forms, table_text};
+ghost use Rattle.table_report.specs.Rows.{table_forms};
+
+use crate::decimals::Decimals;
+use crate::piece::life_word;
+use crate::row::push_row_lines;
+use an_base::entry::{Entries, Entry};
+use an_base::memory::OutOfMemory;
+use an_base::numbers::Numbers;
+use net_graph::forest::trees;
+use net_script::script::Script;
+use std::alloc::Global;
+use switch_numbering::numbering::number;
+use table_build::routing::Routing;
+use table_build::table::Table;
+use text_lines::spelling::{decimal, push_line};
+use topo_graph::graph::Graph;
+
+// Appends the line of a member: its level and, below the root, its parent and its port to it.
+fn push_member(
+    alloc: Global,
+    text: &mut Vec<u8>,
+    script: &Script,
+    entry: &Entry,
+) -> Result<(), OutOfMemory>
+    ensures { OnOk result
+        (text.new.items ≡ text.old.items ++ line_text (table_words (member_form script.now entry.now))) }
+{
+    let name = life_word(alloc, script, entry.life)?;
+    let level = decimal(alloc, u64::from(entry.position.level))?;
+    if entry.position.level == 0 {
+        return push_line(text, &[b"member", &name, b"level", &level]);
+    }
+    let parent = life_word(alloc, script, entry.position.parent)?;
+    let port = decimal(alloc, u64::from(entry.position.port))?;
+    push_line(
+        text,
+        &[
+            b"member", &name, b"level", &level, b"parent", &parent, b"port", &port,
+        ],
+    )
+}
+
+// Appends the lines of the members.
+fn push_members(
+    alloc: Global,
+    text: &mut Vec<u8>,
+    script: &Script,
+    entries: &[Entry],
+) -> Result<(), OutOfMemory>
+    ensures { OnOk result
+        (text.new.items ≡ text.old.items ++ table_text (map (member_form script.now) entries.now)) }
+{
+    'members: for entry in entries {
+        push_member(alloc, text, script, entry)?;
+    }
+    Ok(())
+}
+
+// Appends the line of a member's number.
+fn push_numbered(
+    alloc: Global,
+    text: &mut Vec<u8>,
+    script: &Script,
+    entry: &Entry,
+    number: u8,
+) -> Result<(), OutOfMemory>
+    ensures { OnOk result (text.new.items ≡ text.old.items
+        ++ line_text (table_words (number_form script.now (entry.now, number)))) }
+{
+    let name = life_word(alloc, script, entry.life)?;
+    let number = decimal(alloc, u64::from(number))?;
+    push_line(text, &[b"number", &name, &number])
+}
+
+// Appends the lines of the numbers of the members.
+fn push_numbers(
+    alloc: Global,
+    text: &mut Vec<u8>,
+    script: &Script,
+    entries: &[Entry],
+    numbers: &[u8],
+) -> Result<(), OutOfMemory>
+    requires { length numbers.now ≡ length entries.now }
+    ensures { OnOk result (text.new.items ≡ text.old.items
+        ++ table_text (map (number_form script.now) (zip entries.now numbers.now))) }
+{
+    'numbers: for (i, entry) in entries.iter().enumerate() {
+        push_numbered(alloc, text, script, entry, numbers[i])?;
+    }
+    Ok(())
+}
+
+// Appends the lines of the tables of the members.
+fn push_tables(
+    alloc: Global,
+    text: &mut Vec<u8>,
+    script: &Script,
+    decimals: &Decimals,
+    component: &Entries,
+    numbers: &Numbers,
+    any: bool,
+) -> Result<(), OutOfMemory>
+    requires { numbers.now ≡ numbering component.now }
+    ensures { OnOk result ((ts : List TableOf)
+        × AreTables component.now any (length component.now) ts
+        × (text.new.items ≡ text.old.items ++ table_text (table_forms script.now component.now 0 ts))) }
+{
+    let graph = Graph::of(alloc, component)?;
+    let routing = Routing::of(alloc, &graph, numbers)?;
+    let count = graph.count();
+    'members: for x in 0..count {
+        let table = Table::of(alloc, &graph, numbers, &routing, x, any)?;
+        push_row_lines(alloc, text, script, decimals, &graph, x, table.as_slice())?;
+    }
+    Ok(())
+}
+
+// Appends the line of a component.
+#[tactic(auto, using(std::proofs::lemmas::List::get_or_default))]
+fn push_head(
+    alloc: Global,
+    text: &mut Vec<u8>,
+    script: &Script,
+    entries: &[Entry],
+) -> Result<(), OutOfMemory>
+    requires some { 1 ≤ length entries.now }
+    ensures { OnOk result
+        (text.new.items ≡ text.old.items ++ line_text (table_words (component_form script.now entries.now))) }
+{
+    let first = &entries[0];
+    let root = life_word(alloc, script, first.position.root)?;
+    let count = decimal(alloc, entries.len() as u64)?;
+    push_line(text, &[b"component", &root, b"members", &count])
+}
+
+// Appends the lines of a component.
+fn push_component(
+    alloc: Global,
+    text: &mut Vec<u8>,
+    script: &Script,
+    decimals: &Decimals,
+    component: &Entries,
+    any: bool,
+) -> Result<(), OutOfMemory>
+    ensures { OnOk result ((ts : List TableOf)
+        × AreTables component.now any (length component.now) ts
+        × (text.new.items ≡ text.old.items
+        ++ table_text (part_forms script.now (record { entries = component.now; tables = ts })))) }
+{
+    let entries = component.as_slice();
+    let numbers = number(alloc, component)?;
+    push_head(alloc, text, script, entries)?;
+    push_members(alloc, text, script, entries)?;
+    push_numbers(alloc, text, script, entries, numbers.as_slice())?;
+    push_tables(alloc, text, script, decimals, component, &numbers, any)
+}
+
+// The text of the components.
+fn text_of(
+    alloc: Global,
+    script: &Script,
+    forest: &[Entries],
+    any: bool,
+) -> Result<Vec<u8>, OutOfMemory>
+    ensures { IfOk result (λ text. (parts : List Part)
+        × (map (λ p. p.entries) parts ≡ forest.now)
+        × All (λ p. AreTables p.entries any (length p.entries) p.tables) parts
+        × (text.items ≡ expect_text script.now parts)) }
+{
+    let decimals = Decimals::new(alloc)?;
+    let mut text = Vec::new(alloc);
+    'components: for component in forest {
+        push_component(alloc, &mut text, script, &decimals, component, any)?;
+    }
+    push_line(&mut text, &[b"end"])?;
+    Ok(text)
+}
+
+/// What is expected of the script's network with all links up: for each component, by rising root,
+/// its root and how many members it has; for each member by rising life its level and, below the
+/// root, its parent and its port to it; the number of each member; for each member and each entry,
+/// 0 and the ports with a link, the row with the exits to each other member by rising number; last
+/// `end`. Each line ends in a line feed.
+pub fn expect(alloc: Global, script: &Script) -> Result<Vec<u8>, OutOfMemory>
+    ensures { IfOk result (λ text. IsExpectOf script.now text.items) }
+{
+    let forest = trees(alloc, script.wiring())?;
+    text_of(alloc, script, &forest, script.any_routes())
+}

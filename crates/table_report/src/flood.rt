@@ -1,0 +1,148 @@
+//! How broadcasts go in a script's network.
+
+ghost use Rattle.std.specs.Prelude.{◌≡◌, ◌++◌, List, All, length, map, IfOk, OnOk};
+ghost use Rattle.an_base.specs.Values.{EntryOf};
+ghost use Rattle.text_lines.specs.Lines.{line_text};
+ghost use Rattle.topo_graph.specs.Topology.{IsTree};
+ghost use Rattle.broadcast_flood.specs.declared.hop.FloodHop.{FloodHop as FloodHopOf};
+ghost use Rattle.table_report.specs.Floods.{AreFloods, Copies, flood_lines, flood_text, FloodPart, From, Goes};
+ghost use Rattle.table_report.specs.Floods.{IsFloodOf, line_words, lines_told, part_lines};
+
+use crate::piece::life_word;
+use an_base::entry::Entries;
+use an_base::life::Life;
+use an_base::memory::OutOfMemory;
+use broadcast_flood::flood::Flood;
+use broadcast_flood::hop::FloodHop;
+use net_graph::forest::trees;
+use net_script::script::Script;
+use std::alloc::Global;
+use text_lines::spelling::{decimal, push_line};
+use topo_graph::graph::Graph;
+
+// Appends the line of a hop.
+fn push_hop(
+    alloc: Global,
+    text: &mut Vec<u8>,
+    script: &Script,
+    hop: &FloodHop,
+) -> Result<(), OutOfMemory>
+    ensures { OnOk result (text.new.items
+        ≡ text.old.items ++ line_text (line_words script.now (Goes hop.now))) }
+{
+    let name = life_word(alloc, script, hop.at)?;
+    let port = decimal(alloc, u64::from(hop.port))?;
+    if hop.up {
+        return push_line(text, &[b"up", &name, &port]);
+    }
+    push_line(text, &[b"down", &name, &port])
+}
+
+// Appends the lines of hops.
+fn push_hops(
+    alloc: Global,
+    text: &mut Vec<u8>,
+    script: &Script,
+    hops: &[FloodHop],
+) -> Result<(), OutOfMemory>
+    ensures { OnOk result (text.new.items ≡ text.old.items ++ lines_told script.now (map Goes hops.now)) }
+{
+    'hops: for hop in hops {
+        push_hop(alloc, text, script, hop)?;
+    }
+    Ok(())
+}
+
+// Appends the line of who sends a broadcast.
+fn push_from(
+    alloc: Global,
+    text: &mut Vec<u8>,
+    script: &Script,
+    life: Life,
+) -> Result<(), OutOfMemory>
+    ensures { OnOk result (text.new.items
+        ≡ text.old.items ++ line_text (line_words script.now (From life))) }
+{
+    let name = life_word(alloc, script, life)?;
+    push_line(text, &[b"flood", &name])
+}
+
+// Appends the line that says how many members get a copy.
+fn push_copies(
+    alloc: Global,
+    text: &mut Vec<u8>,
+    script: &Script,
+    members: usize,
+) -> Result<(), OutOfMemory>
+    ensures { OnOk result (text.new.items
+        ≡ text.old.items ++ line_text (line_words script.now (Copies members))) }
+{
+    let count = decimal(alloc, members as u64)?;
+    push_line(text, &[b"copies", &count])
+}
+
+// Appends the lines of the broadcast from a member.
+fn push_flood(
+    alloc: Global,
+    text: &mut Vec<u8>,
+    script: &Script,
+    members: usize,
+    from: Life,
+    hops: &[FloodHop],
+) -> Result<(), OutOfMemory>
+    ensures { OnOk result (text.new.items
+        ≡ text.old.items ++ lines_told script.now (flood_lines members from hops.now)) }
+{
+    push_from(alloc, text, script, from)?;
+    push_hops(alloc, text, script, hops)?;
+    push_copies(alloc, text, script, members)
+}
+
+// Appends the lines of the broadcasts from the members of a component.
+fn push_floods(
+    alloc: Global,
+    text: &mut Vec<u8>,
+    script: &Script,
+    component: &Entries,
+) -> Result<(), OutOfMemory>
+    requires { IsTree component.now }
+    ensures { OnOk result ((floods : List (List FloodHopOf))
+        × AreFloods component.now (length component.now) floods
+        × (text.new.items ≡ text.old.items
+        ++ lines_told script.now (part_lines (record { entries = component.now; floods = floods })))) }
+{
+    let graph = Graph::of(alloc, component)?;
+    let flood = Flood::of(alloc, &graph)?;
+    let members = component.len();
+    'members: for entry in component.as_slice() {
+        let hops = flood.hops(alloc, entry.life)?;
+        push_flood(alloc, text, script, members, entry.life, &hops)?;
+    }
+    Ok(())
+}
+
+// The text of the components.
+fn text_of(alloc: Global, script: &Script, forest: &[Entries]) -> Result<Vec<u8>, OutOfMemory>
+    requires { All IsTree forest.now }
+    ensures { IfOk result (λ text. (parts : List FloodPart)
+        × (map (λ p. p.entries) parts ≡ forest.now)
+        × All (λ p. AreFloods p.entries (length p.entries) p.floods) parts
+        × (text.items ≡ flood_text script.now parts)) }
+{
+    let mut text = Vec::new(alloc);
+    'components: for component in forest {
+        push_floods(alloc, &mut text, script, component)?;
+    }
+    push_line(&mut text, &[b"end"])?;
+    Ok(text)
+}
+
+/// How broadcasts go in the script's network with all links up: for each component, by rising root,
+/// and each member, by rising life, who sends, the hops of its broadcast, and how many members get a
+/// copy; last `end`. Each line ends in a line feed.
+pub fn flood(alloc: Global, script: &Script) -> Result<Vec<u8>, OutOfMemory>
+    ensures { IfOk result (λ text. IsFloodOf script.now text.items) }
+{
+    let forest = trees(alloc, script.wiring())?;
+    text_of(alloc, script, &forest)
+}

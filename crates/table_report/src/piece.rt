@@ -1,0 +1,56 @@
+ghost use Rattle.std.specs.Prelude.{◌≡◌, ◌==◌, ◌++◌, position, OnOk, IfOk};
+ghost use Rattle.table_report.specs.Names.{switch_name, life_text};
+
+use an_base::life::Life;
+use an_base::text::push_decimal;
+use net_graph::wiring::SwitchAt;
+use net_script::script::Script;
+use std::alloc::{AllocError, Global};
+use text_lines::names::Names;
+
+// The place of the switch with this identifier.
+pub(crate) fn place_of(switches: &[SwitchAt], uid: u64) -> Option<usize>
+    ensures { result ≡ position (λ s. s.uid == uid) switches.now }
+{
+    switches.iter().position(|switch| switch.uid == uid)
+}
+
+// The name of the switch with this identifier.
+fn name_of<'a>(names: &'a Names, switches: &[SwitchAt], uid: u64) -> &'a [u8]
+    ensures { result.now ≡ switch_name names.now switches.now uid }
+{
+    let Some(s) = place_of(switches, uid) else {
+        return &[];
+    };
+    if s >= names.len() {
+        return &[];
+    }
+    names.get(s)
+}
+
+/// Appends a life: the name of its switch, and a boot above 1.
+pub fn push_life(
+    alloc: Global,
+    text: &mut Vec<u8>,
+    script: &Script,
+    life: Life,
+) -> Result<(), AllocError>
+    ensures { OnOk result (text.new.items ≡ text.old.items ++ life_text script.now life) }
+{
+    let switches = script.wiring().switches();
+    text.extend_from_slice(name_of(script.switch_names(), switches, life.uid))?;
+    if life.boot != 1 {
+        text.extend_from_slice(b".")?;
+        push_decimal(alloc, text, u64::from(life.boot))?;
+    }
+    Ok(())
+}
+
+/// The word for a life.
+pub fn life_word(alloc: Global, script: &Script, life: Life) -> Result<Vec<u8>, AllocError>
+    ensures { IfOk result (λ word. word.items ≡ life_text script.now life) }
+{
+    let mut word = Vec::new(alloc);
+    push_life(alloc, &mut word, script, life)?;
+    Ok(word)
+}

@@ -1,0 +1,18 @@
+//! Tests of `script_text`.
+
+use crate::scripts::script_of;
+use script_text::printer::print;
+use std::test::Fail;
+
+#[test]
+fn the_canonical_text_has_its_lines_in_order(rt: HostRuntime) -> Result<(), Fail> {
+    let bytes: &[u8] = b"autonet 1\nswitch B FFFFFFFFFFFF had 2\nroutes any\nlink B 1 B 12\n\
+        limit ticks 4096\npace 3\nhost H 000000000001 B 2\nat 0 restart B\n\
+        at 1 noise B 1 64\nat 7 fail B 2\nat 7 send H H\nepoch 5\nend";
+    let wanted: &[u8] = b"autonet 1\nepoch 5\npace 3\nroutes any\n\
+        switch B ffffffffffff had 2\nlink B 1 B 12\nhost H 000000000001 B 2\n\
+        at 0 restart B\nat 1 noise B 1 64\nat 7 fail B 2\nat 7 send H H\nend\n";
+    let text = print(rt.alloc(), &script_of(&rt, bytes)?)?;
+    assert_eq!(rt; text.as_slice(), wanted);
+    Ok(())
+}

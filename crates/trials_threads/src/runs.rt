@@ -1,0 +1,121 @@
+//! Whole runs in threads (`switch_threads`).
+
+use an_base::event::Event;
+use fabric_state::ending::Ending;
+use net_script::reader::read;
+use std::sync::Wait;
+use std::sync::atomic::{AtomicU64, Ordering};
+use std::test::Fail;
+use std::thread::yield_now;
+use switch_threads::{Gate, Open, run};
+
+// How many switches there are.
+const COUNT: u64 = 3;
+
+// How often one looks for the others before it gives up.
+const LOOKS: u32 = 20_000_000;
+
+// Two switches with a link, one of which begins a second life, and a switch alone.
+const THREE: &[u8] =
+    b"autonet 1\nswitch A 000000000001\nswitch B 000000000002\nswitch C 000000000003\nlink A 1 B 1\nat 40 restart B\nend\n";
+
+// How many turns each worker made, and how many were not numbered from 1 on.
+#[derive(Drop)]
+struct Turns {
+    made: [AtomicU64; 3],
+    wrong: AtomicU64,
+}
+
+impl Turns {
+    // That so many turns were made by a worker, or one more.
+    fn look(&self, worker: u8, turn: u64, more: u64) {
+        let made = match self.made.get(usize::from(worker).wrapping_sub(1)) {
+            Some(made) => made.fetch_add(more, Ordering::SeqCst),
+            None => u64::MAX,
+        };
+        if made.wrapping_add(more) != turn {
+            self.wrong.fetch_add(1, Ordering::SeqCst);
+        }
+    }
+}
+
+impl Gate for Turns {
+    fn before<R: Wait>(&self, _rt: &R, worker: u8, turn: u64) {
+        self.look(worker, turn, 1);
+    }
+
+    fn after<R: Wait>(&self, _rt: &R, worker: u8, turn: u64) {
+        self.look(worker, turn, 0);
+    }
+}
+
+// How many workers came to their first turn, and how many looked for the others in vain.
+#[derive(Drop)]
+struct Meeting {
+    came: AtomicU64,
+    alone: AtomicU64,
+}
+
+impl Gate for Meeting {
+    fn before<R: Wait>(&self, _rt: &R, _worker: u8, turn: u64) {
+        if turn != 1 {
+            return;
+        }
+        self.came.fetch_add(1, Ordering::SeqCst);
+        for _ in 0..LOOKS {
+            if self.came.load(Ordering::SeqCst) == COUNT {
+                return;
+            }
+            yield_now();
+        }
+        self.alone.fetch_add(1, Ordering::SeqCst);
+    }
+
+    fn after<R: Wait>(&self, _rt: &R, _worker: u8, _turn: u64) {}
+}
+
+#[test]
+fn all_workers_and_the_driver_make_events(rt: HostRuntime) -> Result<(), Fail> {
+    let script = read(rt.alloc(), THREE)?;
+    let run = run(&rt, rt.alloc(), &script, &Open)?;
+    assert!(rt; matches!(run.end, Ending::Settled));
+    let events = run.journal.as_slice();
+    for s in 0..3u8 {
+        let load = Event::Load { s };
+        assert!(rt; events.iter().any(|event| *event == load), "of {s}");
+    }
+    let restart = Event::Restart { s: 1 };
+    assert!(rt; events.iter().any(|event| *event == restart));
+    assert!(rt; events.iter().any(|event| *event == Event::Tick));
+    Ok(())
+}
+
+#[test]
+fn the_gate_is_called_round_each_turn(rt: HostRuntime) -> Result<(), Fail> {
+    let script = read(rt.alloc(), THREE)?;
+    let gate = Turns {
+        made: [AtomicU64::new(0), AtomicU64::new(0), AtomicU64::new(0)],
+        wrong: AtomicU64::new(0),
+    };
+    let run = run(&rt, rt.alloc(), &script, &gate)?;
+    assert!(rt; matches!(run.end, Ending::Settled));
+    assert_eq!(rt; gate.wrong.load(Ordering::SeqCst), 0);
+    for made in &gate.made {
+        assert!(rt; made.load(Ordering::SeqCst) > 0);
+    }
+    Ok(())
+}
+
+#[test]
+fn workers_run_beside_each_other(rt: HostRuntime) -> Result<(), Fail> {
+    let script = read(rt.alloc(), THREE)?;
+    let gate = Meeting {
+        came: AtomicU64::new(0),
+        alone: AtomicU64::new(0),
+    };
+    let run = run(&rt, rt.alloc(), &script, &gate)?;
+    assert!(rt; matches!(run.end, Ending::Settled));
+    assert_eq!(rt; gate.came.load(Ordering::SeqCst), COUNT);
+    assert_eq!(rt; gate.alone.load(Ordering::SeqCst), 0);
+    Ok(())
+}
