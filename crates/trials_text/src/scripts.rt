@@ -6,7 +6,7 @@ use net_script::reader::read;
 use net_script::script::Script;
 use std::test::Fail;
 
-// The script of which the bytes, of which there are few, are the text.
+/// The script of which the bytes, of which there are few, are the text.
 pub fn script_of(rt: &HostRuntime, bytes: &[u8]) -> Result<Script, Fail> {
     if bytes.len() > 1_000 {
         return Err("long")?;
