@@ -6,7 +6,8 @@ use Rattle.std.proofs.lemmas.Bool.{false_from_ne_true}
 use Rattle.an_base.specs.Values.{LifeId}
 use Rattle.an_base.specs.Order.{life_cmp, IsBelow}
 use Rattle.an_base.proofs.OrderingLemmas.{less_is}
-use Rattle.an_base.proofs.OrderLaws.{life_total, life_apart}
+use Rattle.an_base.specs.TotalOrders.{life_total}
+use Rattle.an_base.proofs.OrderLaws.{life_apart}
 
 -- how a lesser life compares
 pub below_cmp : (a b : LifeId) → IsBelow a b → life_cmp a b ≡ Less

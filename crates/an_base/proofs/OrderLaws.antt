@@ -7,6 +7,7 @@ use Rattle.std.specs.Cmp.Lexicographic.{slice_cmp, lists_total}
 use Rattle.std.proofs.lemmas.Map.Lookups.{exact_unsigned}
 use Rattle.an_base.specs.Values.{LifeId, EndId, Place, PeerAt, EntryOf}
 use Rattle.an_base.specs.Order.{life_cmp, end_cmp, link_cmp, position_cmp, entry_cmp}
+use Rattle.an_base.specs.TotalOrders.{life_total, link_total}
 use Rattle.an_base.proofs.OrderingLemmas.{tied, then_equal}
 
 pub nat_apart : (a b : ℕ) → nat_cmp a b ≡ Equal → a ≡ b
@@ -17,15 +18,6 @@ parts_apart : {A B R : Type 0} (make : A → B → R) (a b : A) (c d : B) (first
 parts_apart make a b c d first second one other e =
     let f = then_equal first second e in
     ap (λ x. make x c) (one f.0) ∙ ap (λ y. make b y) (other f.1)
-
-pub life_total : IsTotalOrder life_cmp
-life_total = then_total (on_total (λ l. l.uid) nat_cmp_total) (on_total (λ l. l.boot) nat_cmp_total)
-
-pub end_total : IsTotalOrder end_cmp
-end_total = then_total (on_total (λ e. e.life) life_total) (on_total (λ e. e.port) nat_cmp_total)
-
-pub link_total : IsTotalOrder link_cmp
-link_total = then_total (on_total (λ l. l.port) nat_cmp_total) (on_total (λ l. l.peer) end_total)
 
 pub life_apart : (a b : LifeId) → life_cmp a b ≡ Equal → a ≡ b
 life_apart a b = parts_apart {R = LifeId} (λ u n. record { uid = u; boot = n }) a.uid b.uid a.boot b.boot _ _ (nat_apart a.uid b.uid) (nat_apart a.boot b.boot)

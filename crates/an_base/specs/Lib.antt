@@ -1,5 +1,6 @@
 pub mod Values
 pub mod Order
+pub mod TotalOrders
 pub mod Numbers
 pub mod Tree
 pub mod Rows

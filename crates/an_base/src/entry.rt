@@ -137,7 +137,7 @@ impl Entries {
     {
         let mut items = Vec::with_capacity(alloc, self.items.len())?;
         'entries: for entry in self.as_slice() {
-            items.push(entry.copy())?;
+            items.push_reserved(entry.copy());
         }
         Ok(Entries { items })
     }

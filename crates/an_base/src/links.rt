@@ -1,32 +1,76 @@
 ghost use Rattle.std.specs.Prelude.{◌≡◌, ◌==◌, ◌<◌, ◌≤◌, [], ◌∷◌, ◌++◌, length, All};
+ghost use Rattle.std.proofs.Common.{rules};
+ghost use Rattle.std.specs.Cmp.{partial_order_from_own_ties, partial_order_from_total};
+ghost use Rattle.std.specs.Cmp.Rules.{comparing};
+ghost use Rattle.std.specs.Ordering.{as_partial_cmp};
+ghost use Rattle.an_base.specs.Order.{link_cmp};
+ghost use Rattle.an_base.specs.TotalOrders.{link_total};
 ghost use Rattle.an_base.specs.declared.limits.TheConstants.{LAST_PORT, PORTS};
 
 use crate::life::{End, Life};
 use crate::limits::PORTS;
+use std::cmp::Ordering;
 use std::marker::Model;
 
 /// A link as one of its ends names it: the own port, 1 to 12, and the other end.
 /// Such links are ordered by port, then by the other end.
-#[derive(Clone, Copy, Debug, PartialEq, Eq, PartialOrd, Ord)]
+#[derive(Clone, Copy, Debug, PartialEq, Eq)]
 pub struct PortLink {
-    /// The own port, 1 to 12.
-    pub port: u8,
-    /// The other end.
-    pub peer: End,
+    // The parts of the other end stand here one by one, largest first: so a link takes 16 bytes, not 32.
+    uid: u64,
+    boot: u32,
+    port: u8,
+    far: u8,
 }
 
 impl Model for PortLink {
-    ghost use Rattle.std.specs.Prelude.{◌≤◌};
+    ghost use Rattle.std.specs.Prelude.{◌<◌, ◌≤◌, ◌^◌};
     ghost use Rattle.an_base.specs.Values.{PeerAt};
     ghost use Rattle.an_base.specs.declared.limits.TheConstants.{LAST_PORT};
 
     ghost Value = { PeerAt };
 
-    ghost view = { λ l. record { port = l.port; peer = l.peer } };
+    ghost view = { λ l. record {
+      port = l.port;
+      peer = record { life = record { uid = l.uid; boot = l.boot }; port = l.far };
+    } };
 
-    ghost invariant = { λ l. (1 ≤ l.port) × (l.port ≤ LAST_PORT) };
+    ghost invariant = { λ l. (l.uid < 2 ^ 48) × (1 ≤ l.boot)
+        × (1 ≤ l.port) × (l.port ≤ LAST_PORT) × (1 ≤ l.far) × (l.far ≤ LAST_PORT) };
 
-    ghost inverse = { λ v. record { port = v.port; peer = v.peer } };
+    ghost inverse = { λ v. record {
+      uid = v.peer.life.uid;
+      boot = v.peer.life.boot;
+      port = v.port;
+      far = v.peer.port;
+    } };
+}
+
+impl PartialOrd for PortLink {
+    ghost partial_cmp = { as_partial_cmp link_cmp };
+
+    ghost laws = { partial_order_from_own_ties
+        (partial_order_from_total link_total) (Prim.search (comparing, rules)) };
+
+    fn partial_cmp(&self, other: &PortLink) -> Option<Ordering> {
+        Some(self.cmp(other))
+    }
+}
+
+impl Ord for PortLink {
+    ghost cmp = { link_cmp };
+
+    ghost total = { link_total };
+
+    ghost matches_partial_cmp = { Prim.search (comparing, rules) };
+
+    ghost matches_eq = { Prim.search (comparing, rules) };
+
+    fn cmp(&self, other: &PortLink) -> Ordering {
+        self.port
+            .cmp(&other.port)
+            .then(self.peer().cmp(&other.peer()))
+    }
 }
 
 impl PortLink {
@@ -36,7 +80,13 @@ impl PortLink {
         requires most { port ≤ LAST_PORT }
         ensures { result ≡ record { port = port; peer = peer } }
     {
-        PortLink { port, peer }
+        let life = peer.life();
+        PortLink {
+            uid: life.uid(),
+            boot: life.boot(),
+            port,
+            far: peer.port(),
+        }
     }
 
     /// The own port, 1 to 12.
@@ -52,7 +102,7 @@ impl PortLink {
     pub fn peer(&self) -> End
         ensures { result ≡ self.now.peer }
     {
-        self.peer
+        End::new(Life::new(self.uid, self.boot), self.far)
     }
 }
 

@@ -38,7 +38,7 @@ impl Command for Check {
             Ok(read) => read,
             Err(refusal) => return Err(refused(refusal)),
         };
-        match judge(alloc, &script, &tables) {
+        match judge(alloc, &script, tables) {
             Ok(judgement) => Ok(Given {
                 status: status_of(judgement.passed),
                 text: judgement.text,

@@ -1,4 +1,4 @@
-ghost use Rattle.std.specs.Prelude.{◌≡◌, ◌<◌, ◌+◌, ℕ, List, Option, length, IfOk, OnOk, MatchBool, MatchOption};
+ghost use Rattle.std.specs.Prelude.{◌≡◌, ◌<◌, ◌+◌, ℕ, List, Option, [], length, IfOk, OnOk, MatchBool, MatchOption};
 ghost use Rattle.an_base.specs.Rows.{RowOf};
 ghost use Rattle.dep_check.specs.declared.channel.Channel.{Channel};
 ghost use Rattle.dep_check.specs.Tables.{AreLinks, IsSpot, wire_at};
@@ -42,19 +42,21 @@ struct Pair {
 // Whether packets may get stuck that start at the switch that has a number, if it is another one. No
 // packets get stuck at what was seen before, and else at none of what is seen now.
 fn is_stuck_from(
-    alloc: Global,
     steps: &Steps,
     numbers: &Numbers,
     by_target: &ByTarget,
     seen: &mut Vec<bool>,
+    ahead: &mut Vec<Channel>,
     to: u8,
     from: u8,
 ) -> Result<bool, OutOfMemory>
     requires numbers { AreFor numbers.now by_target.now }
     requires count { length seen.old.items ≡ 1651 }
+    requires ahead { ahead.old.items ≡ [] }
     requires clear { IsClear steps.now seen.old.items }
     requires from { from < 127 }
-    ensures { IfOk result (λ stuck. MatchBool stuck (IsStuckFrom numbers.now steps.now to from)
+    ensures ahead { OnOk result (ahead.new.items ≡ []) }
+    ensures stuck { IfOk result (λ stuck. MatchBool stuck (IsStuckFrom numbers.now steps.now to from)
         (StaysClear numbers.now steps.now to from seen.new.items)) }
 {
     if from == to {
@@ -63,7 +65,7 @@ fn is_stuck_from(
     if !by_target.has(from) {
         return Ok(false);
     }
-    let stuck = walk(alloc, steps, seen, Channel { at: from, port: 0 })?;
+    let stuck = walk(steps, seen, ahead, Channel { at: from, port: 0 })?;
     Ok(stuck)
 }
 
@@ -79,8 +81,9 @@ fn first_stuck(
     ensures { IfOk result (FirstStuck numbers.now steps.now to 127) }
 {
     let mut seen = none_seen(alloc)?;
+    let mut ahead = Vec::new(alloc);
     'numbers: for from in 0..127u8 {
-        if is_stuck_from(alloc, steps, numbers, by_target, &mut seen, to, from)? {
+        if is_stuck_from(steps, numbers, by_target, &mut seen, &mut ahead, to, from)? {
             return Ok(Some(from));
         }
     }
@@ -153,7 +156,8 @@ fn least_end(alloc: Global, steps: &Steps, start: Channel) -> Result<Option<Chan
     ensures { IfOk result (IsLeastEnd steps.now start) }
 {
     let mut seen = none_seen(alloc)?;
-    walk(alloc, steps, &mut seen, start)?;
+    let mut ahead = Vec::new(alloc);
+    walk(steps, &mut seen, &mut ahead, start)?;
     'spots: for place in 0..SPOTS {
         let end = spot_at(place);
         if is_seen(&seen, end) && steps.is_stuck(end) {

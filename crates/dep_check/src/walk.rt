@@ -1,4 +1,4 @@
-ghost use Rattle.std.specs.Prelude.{◌≡◌, ◌<◌, ◌↔◌, length, true, false, Contains, IfOk, IsTrue, OnOk};
+ghost use Rattle.std.specs.Prelude.{◌≡◌, ◌<◌, ◌↔◌, [], length, true, false, Contains, IfOk, IsTrue, OnOk};
 ghost use Rattle.dep_check.specs.declared.channel.Channel.{Channel};
 ghost use Rattle.dep_check.specs.Tables.{IsSpot};
 ghost use Rattle.dep_check.specs.Search.{IsStep, IsStuck, Step};
@@ -103,22 +103,24 @@ fn is_stuck_at(steps: &Steps, spot: Channel, clear: bool) -> bool
 }
 
 /// Adds to the spots that are seen all to which steps lead from one, and tells whether packets get
-/// stuck at one that it added. It looks once at each step from a spot that it adds.
+/// stuck at one that it added. It looks once at each step from a spot that it adds. The room ahead holds the
+/// spots that it has still to look at: none before and behind a walk, so that one room serves many.
 pub fn walk(
-    alloc: Global,
     steps: &Steps,
     seen: &mut Vec<bool>,
+    ahead: &mut Vec<Channel>,
     start: Channel,
 ) -> Result<bool, OutOfMemory>
     requires count { length seen.old.items ≡ 1651 }
+    requires ahead { ahead.old.items ≡ [] }
     requires start { IsSpot start }
-    ensures { IfOk result (λ stuck. IsWalked steps.now start seen.old.items seen.new.items stuck) }
+    ensures walked { IfOk result (λ stuck. IsWalked steps.now start seen.old.items seen.new.items stuck) }
+    ensures ahead { OnOk result (ahead.new.items ≡ []) }
 {
-    let mut ahead = Vec::new(alloc);
-    see(seen, &mut ahead, start)?;
+    see(seen, ahead, start)?;
     let mut stuck = false;
     'ahead: while let Some(spot) = ahead.pop() {
-        let clear = see_next(steps, seen, &mut ahead, spot)?;
+        let clear = see_next(steps, seen, ahead, spot)?;
         if is_stuck_at(steps, spot, clear) {
             stuck = true;
         }

@@ -9,7 +9,8 @@ use Rattle.an_base.specs.Values.{Place, PeerAt, PosOf}
 use Rattle.an_base.specs.Order.{life_cmp, position_cmp}
 use Rattle.an_base.specs.declared.body.Body.{Body}
 use Rattle.an_base.specs.declared.body.Body.TheVariants.{Pos, Answer, Stable, Topo}
-use Rattle.an_base.proofs.OrderLaws.{life_total, position_total}
+use Rattle.an_base.specs.TotalOrders.{life_total}
+use Rattle.an_base.proofs.OrderLaws.{position_total}
 use Rattle.tree_position.specs.Position.{OfferOf, self_root, below_offer, candidate, candidates}
 use Rattle.tree_position.proofs.LeastLemmas.{least_is}
 use Rattle.topo_report.proofs.Members.{In, in_from, contains_from, in_append, in_left, in_right}

@@ -5,7 +5,7 @@ use Rattle.std.specs.Cmp.{tied_itself}
 use Rattle.std.proofs.lemmas.Bool.Decides.{nat_tests}
 use Rattle.an_base.specs.Values.{LifeId, Place, EntryOf}
 use Rattle.an_base.specs.Order.{life_cmp}
-use Rattle.an_base.proofs.OrderLaws.{life_total}
+use Rattle.an_base.specs.TotalOrders.{life_total}
 use Rattle.tree_position.specs.Position.{self_root}
 use Rattle.topo_report.proofs.Members.{In, Rises, rises_from, rising_apart, same_members}
 use Rattle.topo_report.proofs.ReportLaws.{report_is_report}

@@ -3,7 +3,8 @@ use Rattle.std.proofs.Common.{◌≡◌, ℕ, suc, ◌≤◌, ◌<◌, true, sym
 use Rattle.std.proofs.lemmas.Bool.{cases_lt}
 use Rattle.an_base.specs.Values.{LifeId, Place}
 use Rattle.an_base.specs.Order.{life_cmp}
-use Rattle.an_base.proofs.OrderLaws.{life_total, life_apart}
+use Rattle.an_base.specs.TotalOrders.{life_total}
+use Rattle.an_base.proofs.OrderLaws.{life_apart}
 use Rattle.epoch_core.specs.Laws.{IsAtMost}
 use Rattle.epoch_core.proofs.LessLemmas.{at_most_trans}
 use Rattle.epoch_game.proofs.Orders.{LifeAtMost, le_trans, le_antisym, antisym, root_at_most}

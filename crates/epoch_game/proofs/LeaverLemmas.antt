@@ -3,7 +3,7 @@ use Rattle.std.proofs.Common.{◌≡◌, ℕ, zero, suc, ◌≤◌, ◌<◌, tru
 use Rattle.std.proofs.lemmas.Bool.{cases_lt}
 use Rattle.an_base.specs.Values.{LifeId, Place}
 use Rattle.an_base.specs.Order.{life_cmp, IsBelow}
-use Rattle.an_base.proofs.OrderLaws.{life_total}
+use Rattle.an_base.specs.TotalOrders.{life_total}
 use Rattle.epoch_core.specs.Laws.{IsAtMost}
 use Rattle.epoch_game.proofs.Nodes.{decide_life}
 use Rattle.epoch_game.proofs.Orders.{LifeAtMost, le_or_lt, le_lt_trans, antisym, root_at_most, level_at_most}

@@ -4,7 +4,7 @@ use Rattle.an_base.specs.Values.{LifeId, EndId, Place, PeerAt, PosOf}
 use Rattle.an_base.specs.Order.{life_cmp, IsBelow}
 use Rattle.an_base.specs.declared.body.Body.{Body}
 use Rattle.an_base.specs.declared.body.Body.TheVariants.{Pos, Answer, Stable, Topo}
-use Rattle.an_base.proofs.OrderLaws.{life_total}
+use Rattle.an_base.specs.TotalOrders.{life_total}
 use Rattle.an_base.proofs.LifeLemmas.{below_same}
 use Rattle.tree_position.specs.Position.{self_root, lesser}
 use Rattle.epoch_core.specs.Log.{CardOf, OnPort, Log, on_port, is_claimed, answered, fresh_report}

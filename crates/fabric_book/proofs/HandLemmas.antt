@@ -20,10 +20,11 @@ use Rattle.wire_set.specs.declared.side.Put.{Put}
 use Rattle.table_build.proofs.MadeTables.{only_table}
 use Rattle.table_build.specs.Made.{number_in, table_of}
 use Rattle.table_build.specs.Tables.{TableOf}
+use Rattle.switch_core.proofs.LawLemmas.{frame_came}
 use Rattle.switch_core.specs.Bytes.{BytesOut, OutOf, all_spelled}
 use Rattle.switch_core.specs.Kept.{Handles, IsLoadDue, IsWorking, KeptOf, Loads, StandsFor, Ticks}
 use Rattle.switch_core.specs.Steps.{Step, loaded}
-use Rattle.switch_core.specs.Switch.{SwitchOf, finish_of, note_of}
+use Rattle.switch_core.specs.Switch.{CameBy, SwitchOf, finish_of, note_of}
 use Rattle.switch_core.specs.declared.switch.TableFor.{TableFor}
 use Rattle.fabric_state.specs.declared.hand.Hand.TheVariants as hand
 use Rattle.fabric_state.specs.declared.hand.Hand.{Hand}
@@ -75,6 +76,15 @@ frame_handled port bytes x new out small is = by (frame_of bytes) refl where
   by None read =
       let does = is.no_frame (λ f frame same. none-some f (sym read ∙ ap frame_of (sym same) ∙ frame_again f frame)) in
       frame_by port bytes x new out None read does.0 (ap (λ (o : OutOf). o.frames) does.1) (ap (λ (o : OutOf). o.noframe) does.1)
+
+-- which are all that came by this port
+came_by : (port : ℕ) (frame : Option Frame) (x : SwitchOf) → CameBy port x (handles_bytes port frame x).switch
+came_by port (Some f) x = frame_came port f x
+came_by port None x = record { life = refl; others = λ q other. refl }
+
+pub hand_came : (port : ℕ) (bytes : List ℕ) (x : SwitchOf) → CameBy port x (handles (hand.Frame port) bytes x).switch
+unfolding handles
+hand_came port bytes x = came_by port (frame_of bytes) x
 
 -- The bytes of a buffer do for those that the wires hold
 pub same_hand : (h : Hand) (held bytes : List ℕ) (x : SwitchOf) → HasFrame h held bytes → handles h bytes x ≡ handles h held x

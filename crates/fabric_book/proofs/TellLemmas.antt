@@ -1,10 +1,11 @@
 -- What is told of the parts of an event is what is told of it.
 
-use Rattle.std.specs.Prelude.{◌≡◌, ◌==◌, ◌++◌, ◌∷◌, ◌<◌, ◌≤◌, ◌-◌, ℕ, suc, min, not, take, slice_get, slice_index_or, ◌+◌, List, [], length, cond, Option, Some, None, is_some, Result, Ok, Err, Bool, true, false, refl}
+use Rattle.std.specs.Prelude.{◌≡◌, ◌≢◌, ◌==◌, ◌++◌, ◌∷◌, ◌<◌, ◌≤◌, ◌-◌, ℕ, suc, min, not, take, slice_get, slice_index_or, ◌+◌, List, [], length, cond, Option, Some, None, is_some, Result, Ok, Err, Bool, true, false, refl}
 use Rattle.std.specs.List.{flat_map, range_with_len}
 use Rattle.std.specs.Option.{option_map_or}
-use Rattle.std.proofs.Common.{sym, ◌∙◌, ap, append_assoc, arith, length-take, true≢false}
-use Rattle.std.proofs.lemmas.List.{append-nil, take_more}
+use Rattle.std.proofs.Common.{sym, ◌∙◌, ap, map, set, zero, append_assoc, arith, length-take, true≢false}
+use Rattle.std.proofs.lemmas.Bool.{eq-eqb, eqb-false, eqb-true}
+use Rattle.std.proofs.lemmas.List.{append-nil, get_or-set_other, take_more}
 use Rattle.std.proofs.lemmas.Option.{get_or_from_slice_get}
 use Rattle.std.proofs.lemmas.Grind.{flat_map-append}
 use Rattle.an_base.proofs.ListLemmas.{range_more}
@@ -24,7 +25,8 @@ use Rattle.port_monitor.specs.Histories.{externals}
 use Rattle.wire_set.specs.declared.side.Put.{Put}
 use Rattle.wire_set.specs.WireState.{WiresOf, is_link, place as port_place, side_at, what_becomes, wire_out}
 use Rattle.switch_core.specs.Bytes.{BytesOut}
-use Rattle.switch_core.specs.Switch.{SwitchOf, note_of}
+use Rattle.switch_core.specs.Switch.{CameBy, SwitchOf, note_of, port_of, ports_of, view_of}
+use Rattle.switch_core.proofs.NoteLemmas.{view_put}
 use Rattle.fabric_state.specs.declared.hand.Hand.{Hand}
 use Rattle.fabric_state.specs.declared.hand.Hand.TheVariants as hand
 use Rattle.fabric_state.specs.PortStates.{state_code}
@@ -32,7 +34,7 @@ use Rattle.fabric_state.specs.Fabric.{FabricOf, host_at, host_on, no_view, side_
 use Rattle.fabric_state.specs.Effects.{copy_becomes, address_for, address_of, all_put_becomes, put_becomes, put_out, told_of, told_of_send}
 use Rattle.fabric_world.specs.declared.line.Line.{Line}
 use Rattle.fabric_world.specs.declared.line.Line.TheVariants as line
-use Rattle.fabric_world.specs.Lines.{copy_line, epoch_in_use, lines_of, send_line, sent_line, unsent_line, finish_lines, hop_line, join_lines, lost_line, lost_lines, no_frame_lines, port_line, spent_lines}
+use Rattle.fabric_world.specs.Lines.{copy_line, epoch_in_use, lines_of, send_line, sent_line, unsent_line, finish_lines, hop_line, join_lines, lost_line, lost_lines, no_frame_lines, port_line, shown_in, spent_lines}
 use Rattle.fabric_world.specs.Turns.{is_noise}
 use Rattle.fabric_world.specs.World.{WorldOf}
 use Rattle.fabric_book.specs.Told.{command_lines, hand_lines, line_if, losses, sent_lines, loss_lines, noise_lines, told_of_hop}
@@ -166,6 +168,53 @@ ports_more s port before after x y same old lines more least old_is new_is is so
     ∙ append_assoc old (flat_map f (range_with_len 1 (port - 1))) (line_if (not same) (line.Port s port y.state y.peer))
     ∙ ap (λ (xs : List Line). old ++ (flat_map f (range_with_len 1 (port - 1)) ++ xs)) (port_line_is s port before after x y same old_is new_is is)
     ∙ ap (λ (xs : List Line). old ++ xs) (sym all)
+
+-- so past one of them alone of which there are some
+none_past : (f : ℕ → List Line) (port from n : ℕ) → ((q : ℕ) → 1 ≤ q → q ≢ port → f q ≡ []) → 1 ≤ from → port < from → flat_map f (range_with_len from n) ≡ []
+none_past f port from zero others least past = refl
+none_past f port from (suc n) others least past =
+    ap (λ (xs : List Line). xs ++ flat_map f (range_with_len (from + 1) n)) (others from least (λ same. omega (arith, past, same)))
+    ∙ none_past f port (from + 1) n others (omega arith) (omega (arith, past))
+
+-- only those of this one are there
+only_one : (f : ℕ → List Line) (port from n : ℕ) → ((q : ℕ) → 1 ≤ q → q ≢ port → f q ≡ []) → 1 ≤ from → from ≤ port → port < from + n → flat_map f (range_with_len from n) ≡ f port
+only_one f port from zero others least low high = absurd (omega (arith, low, high))
+only_one f port from (suc n) others least low high = by (from == port) refl (λ other. only_one f port (from + 1) n others (omega arith) (omega (arith, low, other)) (omega (arith, high))) where
+  rest : List Line
+  rest = flat_map f (range_with_len (from + 1) n)
+
+  by : (b : Bool) → b ≡ (from == port) → (from ≢ port → rest ≡ f port) → f from ++ rest ≡ f port
+  by true test next =
+      let same : from ≡ port = eqb-true from port (sym test) in
+      ap (λ (q : ℕ). f q ++ rest) same ∙ ap (λ (xs : List Line). f port ++ xs) (none_past f port (from + 1) n others (omega arith) (omega (arith, same))) ∙ append-nil (f port)
+  by false test next =
+      let other : from ≢ port = eqb-false from port (sym test) in
+      ap (λ (xs : List Line). xs ++ rest) (others from least other) ∙ next other
+
+-- another port than that by which it came is shown as before
+same_shown : (port q : ℕ) (x y : SwitchOf) → 1 ≤ port → port ≤ 12 → CameBy port x y → 1 ≤ q → q ≢ port → shown_in (note_of y) q ≡ shown_in (note_of x) q
+same_shown port q x y least most came low other =
+    let views = map view_of (ports_of x) in
+    let view = view_of (port_of y port) in
+    ap (λ (vs : List PortViewOf). slice_index_or vs (q - 1) no_view) (sym (view_put port x y views (set views (port - 1) view) view least most came refl refl refl))
+    ∙ get_or-set_other views (port - 1) (q - 1) view no_view (λ same. other (omega (arith, same, low, least)))
+
+-- so it has no line
+no_line : (s port q : ℕ) (x y : SwitchOf) → 1 ≤ port → port ≤ 12 → CameBy port x y → 1 ≤ q → q ≢ port → port_line s (note_of x) (note_of y) q ≡ []
+no_line s port q x y least most came low other =
+    let old = shown_in (note_of x) q in
+    ap (λ (v : PortViewOf). cond (state_code old.state == state_code v.state) [] (line.Port s q v.state v.peer ∷ [])) (same_shown port q x y least most came low other)
+    ∙ ap (λ (b : Bool). cond b [] (line.Port s q old.state old.peer ∷ [])) (eq-eqb (state_code old.state) (state_code old.state) refl)
+
+-- and what is told of this port is told of all
+pub port_told : (s port : ℕ) (x y : SwitchOf) (before after : NoteOf) (u v : PortViewOf) (old lines : List Line) → 1 ≤ port → port ≤ 12 → CameBy port x y → before ≡ note_of x → after ≡ note_of y
+    → Some u ≡ slice_get before.ports (port - 1) → Some v ≡ slice_get after.ports (port - 1) → lines ≡ old ++ line_if (not (state_code u.state == state_code v.state)) (line.Port s port v.state v.peer)
+    → lines ≡ old ++ flat_map (port_line s (note_of x) (note_of y)) externals
+port_told s port x y before after u v old lines least most came before_is after_is old_is new_is told =
+    told
+    ∙ ap (λ (xs : List Line). old ++ xs)
+    (port_line_is s port before after u v (state_code u.state == state_code v.state) old_is new_is refl ∙ ap (λ (n : NoteOf). port_line s n after port) before_is ∙ ap (λ (n : NoteOf). port_line s (note_of x) n port) after_is
+    ∙ sym (only_one (port_line s (note_of x) (note_of y)) port 1 12 (λ q low other. no_line s port q x y least most came low other) (omega arith) least (omega (arith, most))))
 
 -- one frame more
 losses-append : (s : ℕ) (xs : List BytesOut) (ys : List (Option Put)) (x : BytesOut) (y : Option Put) → length ys ≡ length xs → losses s (xs ++ x ∷ []) (ys ++ y ∷ []) ≡ losses s xs ys ++ loss_lines s x.port y

@@ -19,8 +19,10 @@ ghost use Rattle.fabric_world.specs.Sound.{AllMayCome};
 ghost use Rattle.fabric_world.specs.Turns.{AnswersAsk, Drives, Handled, HasBytes, IsDone, IsFit, IsToLoad, LoadsOrNot, TakesWork};
 ghost use Rattle.fabric_world.proofs.FitLemmas.{fit_stays};
 ghost use Rattle.fabric_settling.specs.Settling.{HasTime, SettlesSoon};
+ghost use Rattle.fabric_book.specs.Asking.{ask_of, reply_of};
 ghost use Rattle.fabric_book.specs.Kept.{IsDrivers, with_events};
 
+use crate::asking::{BookAsk, BookReply};
 use an_base::event::{Event, Journal};
 use an_base::life::Life;
 use an_base::memory::OutOfMemory;
@@ -29,7 +31,7 @@ use fabric_state::fabric::Fabric;
 use fabric_state::told::Told;
 use fabric_state::work::{Drive, Work};
 use fabric_turn::Staged;
-use fabric_world::ask::{Ask, Done, LoadReply, Reply};
+use fabric_world::ask::{Done, LoadReply};
 use frame_region::buffer::FrameBuf;
 use host_traffic::hop::Hop;
 use net_script::script::Script;
@@ -323,9 +325,9 @@ impl Book {
 }
 
 impl Staged for Book {
-    type Ask = Ask;
+    type Ask = BookAsk;
 
-    type Reply = Reply;
+    type Reply = BookReply;
 
     type Entry = Event;
 
@@ -337,28 +339,30 @@ impl Staged for Book {
 
     ghost owner = { owner_of };
 
-    ghost fit = { IsFit };
+    ghost fit = { λ script history caller ask. IsFit script history caller (ask_of ask) };
 
-    ghost answers = { λ script history _ ask reply after. AnswersAsk script history ask reply after };
+    ghost answers = { λ script history _ ask reply after.
+        AnswersAsk script history (ask_of ask) (reply_of reply) after };
 
-    fn act(&mut self, _caller: u32, ask: Ask) -> Reply {
+    fn act(&mut self, _caller: u32, ask: BookAsk) -> BookReply {
         match ask {
-            Ask::Take { s, mut out } => {
+            BookAsk::Take { s, mut out } => {
                 let work = self.take(s, &mut out);
-                Reply::Take { work, out }
+                BookReply::Take { work, out }
             }
-            Ask::Put { s, done } => {
+            BookAsk::Put { s, done } => {
                 self.put(s, &done);
-                Reply::Put { done }
+                BookReply::Put { done }
             }
-            Ask::Load { s, table, note } => Reply::Load {
-                reply: self.load(s, table, &note),
-            },
-            Ask::Drive => Reply::Drive {
+            BookAsk::Load { s, table, note } => {
+                let reply = self.load(s, table, &note);
+                BookReply::Load { reply, note }
+            }
+            BookAsk::Drive => BookReply::Drive {
                 drive: self.drive(),
             },
         }
     }
 
-    ghost stays_fit = { fit_stays };
+    ghost stays_fit = { λ script history caller ask. fit_stays script history caller (ask_of ask) };
 }

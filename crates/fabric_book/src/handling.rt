@@ -1,22 +1,24 @@
 //! What a switch does with what it has in hand, and with a table that is due.
 
-ghost use Rattle.std.specs.Prelude.{◌≡◌, ◌+◌, ◌<◌, ◌^◌, ◌++◌, false, true, ℕ, List, [], is_some, OnOk, OnErr, IfOk};
+ghost use Rattle.std.specs.Prelude.{◌≡◌, ◌+◌, ◌<◌, ◌^◌, ◌++◌, false, true, ℕ, List, [], is_some, OnOk, OnErr};
+ghost use Rattle.std.specs.List.{flat_map};
 ghost use Rattle.an_base.specs.declared.event.Event.TheVariants as events;
 ghost use Rattle.net_script.specs.Scripts.{IsScript};
+ghost use Rattle.port_monitor.specs.Histories.{externals};
 ghost use Rattle.switch_core.specs.Switch.{SwitchOf, finish_of, note_of, started_as};
 ghost use Rattle.switch_core.specs.Kept.{IsWorking, StandsFor};
 ghost use Rattle.fabric_state.specs.Fabric.{is_empty};
 ghost use Rattle.fabric_state.specs.Fits.{IsHandPort};
 ghost use Rattle.fabric_state.specs.Lawful.{is_lawful};
 ghost use Rattle.fabric_world.specs.Histories.{fabric_of, with_event, world_of};
-ghost use Rattle.fabric_world.specs.Lines.{finish_lines, join_lines, lines_of, spent_lines};
+ghost use Rattle.fabric_world.specs.Lines.{finish_lines, join_lines, lines_of, port_line, spent_lines};
 ghost use Rattle.fabric_world.specs.World.{handles};
 ghost use Rattle.fabric_book.specs.Nets.{IsHandled, IsSameOrNext, IsSwitchKept};
 ghost use Rattle.fabric_book.specs.Told.{hand_lines};
 
 use crate::book::Book;
 use crate::lines::Lines;
-use crate::telling::{tell_finish, tell_losses, tell_noise, tell_ports};
+use crate::telling::{tell_finish, tell_losses, tell_noise, tell_port, tell_ports};
 use an_base::memory::OutOfMemory;
 use an_base::port::Note;
 use fabric_state::hand::Hand;
@@ -72,6 +74,38 @@ fn tell_epochs(
     Ok(())
 }
 
+// Notes what a switch shows that has handled what it had in hand, before which it showed this; a line of each port
+// whose state changed is added. After a frame this can only be the port by which it came.
+fn show(
+    switch: &Switch,
+    s: u8,
+    hand: Hand,
+    before: &Note,
+    note: &mut Note,
+    lines: &mut Lines,
+) -> Result<(), OutOfMemory>
+    requires port { IsHandPort hand }
+    ensures note { (x : SwitchOf) (bytes : List ℕ) → StandsFor switch.now (handles hand bytes x).switch
+        → before.now ≡ note_of x → note.new ≡ note_of (handles hand bytes x).switch }
+    ensures told { (x : SwitchOf) (bytes : List ℕ) → StandsFor switch.now (handles hand bytes x).switch
+        → before.now ≡ note_of x → OnOk result (lines.new ≡ lines.old
+        ++ flat_map (port_line s (note_of x) (note_of (handles hand bytes x).switch)) externals) }
+{
+    match hand {
+        Hand::Frame { port } => {
+            *note = before.copy();
+            switch.show_port(port, note);
+            let old = before.ports.get(port);
+            let new = note.ports.get(port);
+            tell_port(s, port, old, new, lines)
+        }
+        Hand::Empty | Hand::Clock { now: _, samples: _ } => {
+            switch.show(note);
+            tell_ports(s, before, note, lines)
+        }
+    }
+}
+
 // A switch handles what it has in hand, before which it showed this; all lines of it are added but those of
 // frames. Notes what it shows now.
 fn handle(
@@ -92,15 +126,14 @@ fn handle(
     ensures works { switch.new.works ≡ switch.old.works + 1 }
     ensures handled { (x : SwitchOf) → StandsFor switch.old x
         → OnOk result (IsHandled x hand bytes.now switch.new out.new) }
-    ensures note { (x : SwitchOf) → StandsFor switch.old x
+    ensures note { (x : SwitchOf) → StandsFor switch.old x → before.now ≡ note_of x
         → OnOk result (note.new ≡ note_of (handles hand bytes.now x).switch) }
     ensures told { (x : SwitchOf) → StandsFor switch.old x → before.now ≡ note_of x
         → OnOk result (lines.new ≡ lines.old ++ hand_lines s hand bytes.now x (handles hand bytes.now x).switch) }
 {
     let had_finished = switch.finish().is_some();
     work(switch, hand, bytes, out)?;
-    *note = switch.note();
-    tell_ports(s, before, note, lines)?;
+    show(switch, s, hand, before, note, lines)?;
     tell_noise(s, hand, out.noframe, lines)?;
     tell_epochs(s, before.epoch, had_finished, note.epoch, switch, lines)?;
     Ok(())

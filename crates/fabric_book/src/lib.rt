@@ -8,6 +8,7 @@
 //! a book after the beginning takes memory.
 #![tactic(auto)]
 
+pub mod asking;
 pub mod book;
 pub mod handling;
 pub mod lines;

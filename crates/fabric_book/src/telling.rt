@@ -32,8 +32,8 @@ fn is_same_state(one: PortState, other: PortState) -> bool
     one == other
 }
 
-// A line where the state of a port changed.
-fn tell_port(
+/// A line where the state of a port changed.
+pub(crate) fn tell_port(
     s: u8,
     port: u8,
     old: PortView,

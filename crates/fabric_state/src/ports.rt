@@ -9,49 +9,49 @@ use net_graph::wiring::Far;
 use wire_set::side::Side;
 use wire_set::wires::WireSet;
 
-// Whether a port shows that nothing answers behind it.
+/// Whether a port shows that nothing answers behind it.
 pub fn is_dead(state: PortState) -> bool
     ensures { result ≡ is_dead state }
 {
     matches!(state, PortState::Dead)
 }
 
-// Whether it shows a host.
+/// Whether it shows a host.
 pub fn is_host(state: PortState) -> bool
     ensures { result ≡ is_host state }
 {
     matches!(state, PortState::Host)
 }
 
-// Whether it shows the switch itself.
+/// Whether it shows the switch itself.
 pub fn is_loop(state: PortState) -> bool
     ensures { result ≡ is_loop state }
 {
     matches!(state, PortState::Loop)
 }
 
-// Whether it shows another switch, which knows of it.
+/// Whether it shows another switch, which knows of it.
 pub fn is_good(state: PortState) -> bool
     ensures { result ≡ is_good state }
 {
     matches!(state, PortState::Good)
 }
 
-// Whether a port is an external one.
+/// Whether a port is an external one.
 pub fn is_external(port: u8) -> bool
     ensures { result ≡ is_external port }
 {
     1 <= port && port <= 12
 }
 
-// Whether there is a link of two switch ports.
+/// Whether there is a link of two switch ports.
 pub fn is_link(far: Option<Far>) -> bool
     ensures { result ≡ is_link far }
 {
     matches!(far, Some(Far::Switch { s: _, port: _ }))
 }
 
-// The switch and port behind a link of two switch ports.
+/// The switch and port behind a link of two switch ports.
 pub fn switch_behind(far: Option<Far>) -> Option<(u8, u8)>
     ensures { result ≡ switch_behind far }
 {
@@ -61,7 +61,7 @@ pub fn switch_behind(far: Option<Far>) -> Option<(u8, u8)>
     }
 }
 
-// What the hardware says of a port.
+/// What the hardware says of a port.
 pub fn sample_of(side: Side) -> Sample
     ensures { result ≡ sample_of side }
 {
@@ -75,7 +75,7 @@ pub fn sample_of(side: Side) -> Sample
     }
 }
 
-// What the hardware says of the ports of a switch, by rising port.
+/// What the hardware says of the ports of a switch, by rising port.
 pub fn samples(wires: &WireSet, s: u8) -> [Sample; 12]
     ensures { result ≡ map (λ port. sample_of (side_at wires.now (place s port))) externals }
 {
@@ -86,7 +86,7 @@ pub fn samples(wires: &WireSet, s: u8) -> [Sample; 12]
     samples
 }
 
-// Whether the wire into a port of a switch has a frame.
+/// Whether the wire into a port of a switch has a frame.
 pub fn has_frame(wires: &WireSet, s: u8, port: u8) -> bool
     requires { port ≤ 12 }
     ensures { result ≡ has_frame_on wires.now (place s port) }
@@ -102,7 +102,7 @@ fn is_next(wires: &WireSet, s: u8, last: u8, port: u8) -> bool
     last < port && has_frame(wires, s, port)
 }
 
-// The lowest port above this one that has a frame.
+/// The lowest port above this one that has a frame.
 pub fn port_above(wires: &WireSet, s: u8, last: u8) -> Option<u8>
     ensures { result ≡ find (λ port. nat_lt last port && has_frame_on wires.now (place s port)) externals }
 {

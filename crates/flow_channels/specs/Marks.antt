@@ -7,12 +7,12 @@ use Rattle.std.specs.Int.{bit_at}
 abbrev pub marks_of : ℕ → List ℕ
 marks_of bits = map (bit_at bits) (range_with_len 0 128)
 
--- for each place below 2,048 its bit, among those of its part of 128 places
+-- for each place below 2,048 its bit, among those of its part of 64 places
 abbrev pub spot_marks : List ℕ → List ℕ
 spot_marks parts =
-    map (λ place. bit_at (slice_index parts (place / 128)) (place % 128)) (range_with_len 0 2048)
+    map (λ place. bit_at (slice_index parts (place / 64)) (place % 64)) (range_with_len 0 2048)
 
--- there are sixteen parts, and these are the ones that have a bit
+-- there are thirty-two parts, and these are the ones that have a bit
 pub record HasParts (parts : List ℕ) (some : ℕ) : Type 0 where
-  pub count : length parts ≡ 16
-  pub each : (part : ℕ) → part < 16 → ((bit_at some part ≡ 1) ↔ (slice_index parts part ≢ 0))
+  pub count : length parts ≡ 32
+  pub each : (part : ℕ) → part < 32 → ((bit_at some part ≡ 1) ↔ (slice_index parts part ≢ 0))

@@ -58,9 +58,9 @@ impl Marks {
 /// else 0.
 #[derive(Debug, Drop)]
 pub struct SpotMarks {
-    // A bit for each place, 128 of them in a part; and the parts that have some.
-    parts: [u128; 16],
-    some: u16,
+    // A bit for each place, 64 of them in a part; and the parts that have some.
+    parts: [u64; 32],
+    some: u32,
 }
 
 impl Model for SpotMarks {
@@ -80,7 +80,7 @@ impl SpotMarks {
         ensures { result ≡ replicate 2048 0 }
     {
         SpotMarks {
-            parts: [0; 16],
+            parts: [0; 32],
             some: 0,
         }
     }
@@ -90,10 +90,10 @@ impl SpotMarks {
         requires { place < 2048 }
         ensures { self.new ≡ slice_set self.old place 1 }
     {
-        let part = place / 128;
-        let bits = self.parts[part] | 1u128 << (place % 128);
+        let part = place / 64;
+        let bits = self.parts[part] | 1u64 << (place % 64);
         self.parts[part] = bits;
-        self.some |= 1u16 << part;
+        self.some |= 1u32 << part;
     }
 
     /// Takes a place out.
@@ -101,11 +101,11 @@ impl SpotMarks {
         requires { place < 2048 }
         ensures { self.new ≡ slice_set self.old place 0 }
     {
-        let part = place / 128;
-        let bits = self.parts[part] & !(1u128 << (place % 128));
+        let part = place / 64;
+        let bits = self.parts[part] & !(1u64 << (place % 64));
         self.parts[part] = bits;
         if bits == 0 {
-            self.some &= !(1u16 << part);
+            self.some &= !(1u32 << part);
         }
     }
 
@@ -118,6 +118,6 @@ impl SpotMarks {
         }
         let part = self.some.trailing_zeros() as usize;
         let bits = self.parts[part];
-        Some(128 * part + bits.trailing_zeros() as usize)
+        Some(64 * part + bits.trailing_zeros() as usize)
     }
 }

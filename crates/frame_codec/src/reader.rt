@@ -17,9 +17,19 @@ use an_base::limits::{LAST_PORT, MOST_LEVEL, MOST_NUMBER};
 use an_base::links::{Links, PortLink};
 use an_base::numbers::Numbers;
 use an_base::position::Position;
-use byteorder::{BigEndian, ByteOrder};
 use std::alloc::Global;
 use std::marker::Model;
+
+// An entry, in whose place others are read.
+fn no_entry() -> Entry {
+    let life = Life::new(0, 1);
+    Entry {
+        life,
+        position: Position::new(life, 0, life, 0),
+        proposed: 1,
+        links: Links::new(),
+    }
+}
 
 // The bytes that are still to be read.
 #[derive(Drop)]
@@ -66,11 +76,11 @@ impl<'a> Reader<'a> {
     fn number_32(&mut self) -> Result<u32, DecodeRefusal>
         ensures { Reads (number_at 4) result self.old self.new }
     {
-        if self.rest.len() < 4 {
+        let [a, b, c, d, rest @ ..] = self.rest else {
             return Err(DecodeRefusal::NotAFrame);
-        }
-        let number = BigEndian::read_u32(self.rest);
-        self.rest = &self.rest[4..];
+        };
+        let number = u32::from_be_bytes([*a, *b, *c, *d]);
+        self.rest = rest;
         Ok(number)
     }
 
@@ -91,11 +101,11 @@ impl<'a> Reader<'a> {
     fn number_64(&mut self) -> Result<u64, DecodeRefusal>
         ensures { Reads (number_at 8) result self.old self.new }
     {
-        if self.rest.len() < 8 {
+        let [a, b, c, d, e, f, g, h, rest @ ..] = self.rest else {
             return Err(DecodeRefusal::NotAFrame);
-        }
-        let number = BigEndian::read_u64(self.rest);
-        self.rest = &self.rest[8..];
+        };
+        let number = u64::from_be_bytes([*a, *b, *c, *d, *e, *f, *g, *h]);
+        self.rest = rest;
         Ok(number)
     }
 
@@ -174,57 +184,53 @@ impl<'a> Reader<'a> {
         Ok(PortLink::new(port, peer))
     }
 
-    // So many links by rising port.
-    fn links_of(&mut self, count: u8) -> Result<Links, DecodeRefusal>
+    // Sets links to so many by rising port.
+    fn links_of(&mut self, count: u8, links: &mut Links) -> Result<(), DecodeRefusal>
         requires { count ≤ LAST_PORT }
-        ensures { Reads (links_from 0 count) result self.old self.new }
+        ensures { ReadsAs (λ _. links.new) (links_from 0 count) result self.old self.new }
     {
-        let mut links = Links::new();
+        *links = Links::new();
         let mut above = 0;
         'links: for _ in 0..count {
             let link = self.link(above)?;
             above = link.port();
             links.push(link);
         }
-        Ok(links)
+        Ok(())
     }
 
+    // Sets links to the next ones.
     #[tactic(auto, unfolding(crate::specs::Reading::links_at))]
-    fn links(&mut self) -> Result<Links, DecodeRefusal>
-        ensures { Reads links_at result self.old self.new }
+    fn links(&mut self, links: &mut Links) -> Result<(), DecodeRefusal>
+        ensures { ReadsAs (λ _. links.new) links_at result self.old self.new }
     {
         let count = self.within(0, LAST_PORT)?;
-        self.links_of(count)
+        self.links_of(count, links)
     }
 
+    // Sets an entry to the next one.
     #[tactic(auto, unfolding(crate::specs::Reading::entry_at))]
-    fn entry(&mut self) -> Result<Entry, DecodeRefusal>
-        ensures { Reads entry_at result self.old self.new }
+    fn entry(&mut self, entry: &mut Entry) -> Result<(), DecodeRefusal>
+        ensures { ReadsAs (λ _. entry.new) entry_at result self.old self.new }
     {
-        let life = self.life()?;
-        let position = self.position()?;
-        let proposed = self.within(1, MOST_NUMBER)?;
-        let links = self.links()?;
-        Ok(Entry {
-            life,
-            position,
-            proposed,
-            links,
-        })
+        entry.life = self.life()?;
+        entry.position = self.position()?;
+        entry.proposed = self.within(1, MOST_NUMBER)?;
+        self.links(&mut entry.links)
     }
 
-    // An entry whose life is above this one, where there is one.
+    // Sets an entry to the next one, whose life is above this one, where there is one.
     #[tactic(auto, unfolding(crate::specs::Reading::entry_above_at))]
-    fn entry_above(&mut self, above: Option<Life>) -> Result<Entry, DecodeRefusal>
-        ensures { Reads (entry_above_at above) result self.old self.new }
+    fn entry_above(&mut self, above: Option<Life>, entry: &mut Entry) -> Result<(), DecodeRefusal>
+        ensures { ReadsAs (λ _. entry.new) (entry_above_at above) result self.old self.new }
     {
-        let entry = self.entry()?;
+        self.entry(entry)?;
         if let Some(above) = above {
             if above >= entry.life {
                 return Err(DecodeRefusal::NotAFrame);
             }
         }
-        Ok(entry)
+        Ok(())
     }
 
     // So many entries by rising life.
@@ -233,10 +239,11 @@ impl<'a> Reader<'a> {
     {
         let mut entries = Vec::with_capacity(alloc, usize::from(count))?;
         let mut above = None;
+        let mut entry = no_entry();
         'entries: for _ in 0..count {
-            let entry = self.entry_above(above)?;
+            self.entry_above(above, &mut entry)?;
             above = Some(entry.life);
-            entries.push(entry)?;
+            entries.push_reserved(entry.copy());
         }
         Ok(entries)
     }

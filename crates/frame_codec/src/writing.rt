@@ -27,7 +27,7 @@ fn put_number_32(out: &mut FrameBuf, number: u32)
 {
     let mut bytes = [0; 4];
     BigEndian::write_u32(&mut bytes, number);
-    out.add(&bytes);
+    out.add_few(&bytes);
 }
 
 #[tactic(auto, unfolding(crate::specs::Spelling::number_bytes))]
@@ -38,7 +38,7 @@ fn put_number_64(out: &mut FrameBuf, number: u64)
 {
     let mut bytes = [0; 8];
     BigEndian::write_u64(&mut bytes, number);
-    out.add(&bytes);
+    out.add_few(&bytes);
 }
 
 fn put_truth(out: &mut FrameBuf, truth: bool)
@@ -47,9 +47,9 @@ fn put_truth(out: &mut FrameBuf, truth: bool)
     ensures longer { length out.new ≡ length out.old + 1 }
 {
     if truth {
-        out.add(&[1]);
+        out.add_few(&[1]);
     } else {
-        out.add(&[0]);
+        out.add_few(&[0]);
     }
 }
 
@@ -62,7 +62,7 @@ fn put_life(out: &mut FrameBuf, life: Life)
 {
     let mut uid = [0; 6];
     BigEndian::write_uint(&mut uid, life.uid(), 6);
-    out.add(&uid);
+    out.add_few(&uid);
     put_number_32(out, life.boot());
 }
 
@@ -73,7 +73,7 @@ fn put_end(out: &mut FrameBuf, end: End)
     ensures longer { length out.new ≡ length out.old + 11 }
 {
     put_life(out, end.life());
-    out.add(&[end.port()]);
+    out.add_few(&[end.port()]);
 }
 
 fn put_position(out: &mut FrameBuf, position: &Position)
@@ -83,9 +83,9 @@ fn put_position(out: &mut FrameBuf, position: &Position)
     ensures longer { length out.new ≡ length out.old + 22 }
 {
     put_life(out, position.root());
-    out.add(&[position.level()]);
+    out.add_few(&[position.level()]);
     put_life(out, position.parent());
-    out.add(&[position.port()]);
+    out.add_few(&[position.port()]);
 }
 
 fn put_link(out: &mut FrameBuf, link: &PortLink)
@@ -94,7 +94,7 @@ fn put_link(out: &mut FrameBuf, link: &PortLink)
     ensures within { IsLink link.now }
     ensures longer { length out.new ≡ length out.old + 12 }
 {
-    out.add(&[link.port()]);
+    out.add_few(&[link.port()]);
     put_end(out, link.peer());
 }
 
@@ -117,7 +117,7 @@ fn put_links(out: &mut FrameBuf, links: &Links)
     ensures longer { length out.new ≤ length out.old + 145 }
 {
     let links = links.as_slice();
-    out.add(&[links.len() as u8]);
+    out.add_few(&[links.len() as u8]);
     put_each_link(out, links);
 }
 
@@ -129,7 +129,7 @@ fn put_entry(out: &mut FrameBuf, entry: &Entry)
 {
     put_life(out, entry.life);
     put_position(out, &entry.position);
-    out.add(&[entry.proposed()]);
+    out.add_few(&[entry.proposed()]);
     put_links(out, &entry.links);
 }
 
@@ -152,7 +152,7 @@ fn put_entries(out: &mut FrameBuf, entries: &Entries)
     ensures longer { length out.new ≤ length out.old + 22429 }
 {
     let entries = entries.as_slice();
-    out.add(&[entries.len() as u8]);
+    out.add_few(&[entries.len() as u8]);
     put_each_entry(out, entries);
 }
 
@@ -163,7 +163,7 @@ fn put_pos(out: &mut FrameBuf, body: PosBody)
 {
     put_number_32(out, body.version());
     put_life(out, body.root());
-    out.add(&[body.level()]);
+    out.add_few(&[body.level()]);
     put_truth(out, body.to_parent());
 }
 
@@ -192,19 +192,19 @@ fn put_body(out: &mut FrameBuf, body: &Body)
 {
     match body {
         Body::Pos(body) => {
-            out.add(&[1]);
+            out.add_few(&[1]);
             put_pos(out, *body);
         }
         Body::Answer(body) => {
-            out.add(&[2]);
+            out.add_few(&[2]);
             put_answer(out, *body);
         }
         Body::Stable { entries } => {
-            out.add(&[3]);
+            out.add_few(&[3]);
             put_entries(out, entries);
         }
         Body::Topo(body) => {
-            out.add(&[4]);
+            out.add_few(&[4]);
             put_topo(out, body);
         }
     }
@@ -227,7 +227,7 @@ fn begin(out: &mut FrameBuf, kind: u8)
     ensures { out.new ≡ kind ∷ [] }
 {
     out.clear();
-    out.add(&[kind]);
+    out.add_few(&[kind]);
 }
 
 /// What stands before the body in the frame that carries it.

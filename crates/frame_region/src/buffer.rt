@@ -57,4 +57,14 @@ impl FrameBuf {
     {
         let _added = self.bytes.extend_from_slice(bytes);
     }
+
+    /// Adds bytes at the end, without taking memory, one by one: for a few this is quicker than `add`.
+    pub fn add_few(&mut self, bytes: &[u8])
+        requires { length self.old + length bytes.now ≤ MOST_FRAME }
+        ensures { self.new ≡ self.old ++ bytes.now }
+    {
+        'bytes: for byte in bytes {
+            self.bytes.push_reserved(*byte);
+        }
+    }
 }

@@ -6,6 +6,11 @@ use Rattle.std.proofs.lemmas.List.{take_rest, take_all, take-append-drop, get_or
 use Rattle.std.proofs.lemmas.List.Folds.{list_all_more, list_all_at}
 use Rattle.std.proofs.lemmas.List.Elements.{All-from_get_or}
 use Rattle.std.proofs.lemmas.List.Quantifiers.{position-Some}
+use Rattle.std.specs.Prelude.{Result, OnOk, MatchResult, Option}
+use Rattle.std.specs.Iterator.{Drains, Yields}
+use Rattle.std.proofs.lemmas.Iterator.{YieldsList}
+use Rattle.std.proofs.lemmas.Iterator.Adapters.{fact_from_extend}
+use Rattle.std.proofs.lemmas.Iterator.Consumers.{YieldsList-at}
 use Rattle.text_lines.proofs.LineLemmas.{position_none}
 use Rattle.journal.specs.Words.{has_words}
 use Rattle.journal.specs.Texts.{IsFirstLine}
@@ -47,3 +52,9 @@ words_fail words i d within none =
 -- all words
 pub words_all : (words : List (Bor (List ℕ))) (i : ℕ) → length words ≤ i → has_words (take i (map (λ w. w.now) words)) ≡ true → has_words (map (λ w. w.now) words) ≡ true
 words_all words i past so_far = subst (λ (ws : List (List ℕ)). has_words ws ≡ true) (take_all i (map (λ (w : Bor (List ℕ)). w.now) words) (omega (arith, length-map words (λ (w : Bor (List ℕ)). w.now)))) so_far
+
+-- what `extend` made of all that a chain gives
+pub made_by_extend : {T A C E Q : Type 0} {steps : T → Option A → T → Type 0} {all : List C} {P : List A → Type 0} {s : T} (v : A → C) (r : Result (Unit {0}) E)
+    → ((it : T) × (xs : List A) × (it ≡ s) × P xs × MatchResult r (λ _. Drains steps it xs) (λ _. (t : T) × Yields steps it xs t))
+    → YieldsList steps v s all → ((xs : List A) → map v xs ≡ all → P xs → Q) → OnOk r Q
+made_by_extend v r ran road = fact_from_extend v r ran (λ it same. YieldsList-at same road)

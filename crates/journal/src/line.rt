@@ -1,12 +1,11 @@
 //! The lines of a journal, and the words of a line.
 
-ghost use Rattle.std.specs.Prelude.{◌≡◌, ◌≢◌, ◌==◌, ◌<◌, length, map, position, All, IfOk, IfSome, IfNone};
+ghost use Rattle.std.specs.Prelude.{◌≡◌, ◌≢◌, ◌==◌, ◌<◌, length, map, position, All, IfSome, IfNone, OnOk};
 ghost use Rattle.std.specs.List.{list_all};
 ghost use Rattle.journal.specs.Words.{words_of, is_line_byte, has_words};
 ghost use Rattle.journal.specs.Texts.{IsFirstLine};
 
 use an_base::memory::OutOfMemory;
-use std::alloc::Global;
 
 /// The most bytes of a line, without its line feed.
 pub const MOST_LINE: usize = 200;
@@ -42,11 +41,14 @@ fn is_line_byte(c: u8) -> bool
     (b' '..=b'~').contains(&c)
 }
 
-/// The parts of a line between its spaces, of which some may be empty.
-pub fn words(alloc: Global, line: &[u8]) -> Result<Vec<&[u8]>, OutOfMemory>
-    ensures { IfOk result (λ v. map (λ w. w.now) v.items ≡ words_of line.now) }
+/// Sets words to the parts of a line between its spaces, of which some may be empty. They take memory only where
+/// there are more than there have been.
+pub fn set_words<'a>(words: &mut Vec<&'a [u8]>, line: &'a [u8]) -> Result<(), OutOfMemory>
+    ensures { OnOk result (map (λ w. w.now) words.new.items ≡ words_of line.now) }
 {
-    Ok(line.split(|c| *c == b' ').collect(alloc)?)
+    words.clear();
+    words.extend(line.split(|c| *c == b' '))?;
+    Ok(())
 }
 
 /// Whether no word is empty.

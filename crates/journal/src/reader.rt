@@ -11,7 +11,7 @@ ghost use Rattle.journal.specs.Steps.{ReadsLine, IsRefusal};
 ghost use Rattle.journal.specs.Reading.{BeginsJournal, HasRead, IsNext};
 
 use crate::cause::JournalCause;
-use crate::line::{MOST_LINE, are_line_bytes, first_line, have_bytes, words};
+use crate::line::{MOST_LINE, are_line_bytes, first_line, have_bytes, set_words};
 use crate::words::read_words;
 use an_base::event::{Event, Journal};
 use net_script::script::Script;
@@ -38,10 +38,11 @@ impl From<JournalCause> for Stop<JournalCause> {
 /// than the words of one line need.
 #[derive(Debug, Drop)]
 pub struct Reader<'a> {
-    alloc: Global,
     script: &'a Script,
     rest: &'a [u8],
     line: u32,
+    // The words of the line that was read last, whose memory those of the next take.
+    words: Vec<&'a [u8]>,
 }
 
 impl<'a> Model for Reader<'a> {
@@ -75,10 +76,10 @@ impl<'a> Reader<'a> {
             });
         };
         Ok(Reader {
-            alloc,
             script,
             rest,
             line: 2,
+            words: Vec::new(alloc),
         })
     }
 
@@ -99,7 +100,7 @@ impl<'a> Reader<'a> {
         if first == b"end".as_slice() {
             return Ok(None);
         }
-        match read_line(self.alloc, self.script, first) {
+        match read_line(&mut self.words, self.script, first) {
             Ok(event) => {
                 self.line += 1;
                 self.rest = after;
@@ -162,17 +163,21 @@ pub fn read(alloc: Global, script: &Script, bytes: &[u8]) -> Result<Journal, Jou
     Ok(journal)
 }
 
-// The event that a line says.
-fn read_line(alloc: Global, script: &Script, line: &[u8]) -> Result<Event, JournalStop>
+// The event that a line says. Its words take the place of those before.
+fn read_line<'a>(
+    words: &mut Vec<&'a [u8]>,
+    script: &Script,
+    line: &'a [u8],
+) -> Result<Event, JournalStop>
     ensures { ReadsLine script.now line.now result }
 {
     if line.len() > MOST_LINE || !are_line_bytes(line) {
         return Err(Stop::Fault(JournalCause::UnknownWord));
     }
-    let words = words(alloc, line)?;
-    if !have_bytes(&words) {
+    set_words(words, line)?;
+    if !have_bytes(words) {
         return Err(Stop::Fault(JournalCause::UnknownWord));
     }
-    let event = read_words(script, &words)?;
+    let event = read_words(script, words)?;
     Ok(event)
 }

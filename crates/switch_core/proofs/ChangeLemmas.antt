@@ -18,7 +18,7 @@ use Rattle.switch_core.specs.Stands.{HasJoined, Stands}
 
 -- the test of two links
 abbrev pub is_same_link : PeerAt → PeerAt → Bool
-is_same_link a b = eqb a.port b.port && ((eqb a.peer.life.uid b.peer.life.uid && eqb a.peer.life.boot b.peer.life.boot) && eqb a.peer.port b.peer.port)
+is_same_link a b = eqb a.peer.life.uid b.peer.life.uid && (eqb a.peer.life.boot b.peer.life.boot && (eqb a.port b.port && eqb a.peer.port b.peer.port))
 
 -- one comparison after another tells equal where both do
 both_equal : (o p : Ordering) → is_eq (ordering_then o p) ≡ is_eq o && is_eq p

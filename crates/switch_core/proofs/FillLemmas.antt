@@ -8,11 +8,11 @@ use Rattle.ordered_link.specs.Session.{put_out}
 use Rattle.switch_core.specs.declared.control.Control.{Control}
 use Rattle.switch_core.specs.declared.session.Sessions.{Sessions}
 use Rattle.switch_core.specs.Switch.{SwitchOf, at_port}
-use Rattle.switch_core.specs.Sessions.{AreSessions, IsSessionOf}
+use Rattle.switch_core.specs.Sessions.{AreSessions}
 use Rattle.switch_core.specs.Steps.{Sent, after, carried_to, still, fills, sends_next}
 use Rattle.switch_core.specs.Bytes.{BytesOut, all_spelled}
 use Rattle.switch_core.specs.Stands.{Does, Done, Stands}
-use Rattle.switch_core.proofs.SessionLemmas.{at_the_port}
+use Rattle.switch_core.proofs.SessionLemmas.{are_of_same, at_the_port}
 use Rattle.switch_core.proofs.StandsLemmas.{does_nothing, does_then, spelled_append, stands_sends}
 
 -- more times after some
@@ -46,12 +46,10 @@ same_case true port i u t test same = same ∙ ap t (sym (eqb-true i port (sym t
 same_case false port i u t test same = refl
 
 are_same : (sessions : Sessions) (port : ℕ) (u : Sending) (t : ℕ → Sending) (r : ℕ → Receiving) → u ≡ t port → AreSessions sessions t r → AreSessions sessions (at_port port u t) r
-are_same sessions port u t r same are i session there =
-    subst (λ (x : Sending). IsSessionOf session x (r (suc i))) (sym (same_case (suc i == port) port (suc i) u t refl same)) (are i session there)
+are_same sessions port u t r same = are_of_same sessions t (at_port port u t) r r (λ q. sym (same_case (q == port) port q u t refl same)) (λ q. refl)
 
 are_as_before : (sessions : Sessions) (port : ℕ) (u : Sending) (t : ℕ → Sending) (r : ℕ → Receiving) → u ≡ t port → AreSessions sessions (at_port port u t) r → AreSessions sessions t r
-are_as_before sessions port u t r same are i session there =
-    subst (λ (x : Sending). IsSessionOf session x (r (suc i))) (same_case (suc i == port) port (suc i) u t refl same) (are i session there)
+are_as_before sessions port u t r same = are_of_same sessions (at_port port u t) t r r (λ q. same_case (q == port) port q u t refl same) (λ q. refl)
 
 -- the sessions after nothing was sent
 pub stands_same_at : (c : Control) (sessions : Sessions) (port : ℕ) (t : Sending) (s : SwitchOf) → t ≡ s.sendings port → Stands c s → AreSessions sessions (at_port port t s.sendings) s.receivings → Stands (record c { sessions = sessions }) s

@@ -18,7 +18,7 @@ use Rattle.epoch_core.specs.Log.{CardOf, OnPort, on_port}
 use Rattle.epoch_core.specs.Epoch.{adds, pos_at, position}
 use Rattle.epoch_core.proofs.JoinLemmas.{position_none}
 use Rattle.epoch_core.proofs.LawLemmas.{on_port-append}
-use Rattle.switch_core.specs.Switch.{SwitchOf, card_of, counts, end_at, good_links, good_peer, ports_of}
+use Rattle.switch_core.specs.Switch.{CameBy, SwitchOf, card_of, counts, end_at, good_links, good_peer, ports_of}
 use Rattle.switch_core.specs.Steps.{Step, acknowledges, after, all_added, all_pushed, all_resent, answers_body, begun, clocked, fills, framed, goes_on, is_change_due, is_spent_by, joins, on_ack, on_carry, peer_among, probes, pushed, pushed_to, receives, sampled_by, sends_next, still}
 use Rattle.switch_core.proofs.CountLemmas.{joining_few, one_from}
 use Rattle.switch_core.proofs.SessionLemmas.{at_other_port}
@@ -70,6 +70,49 @@ frame_raises port (Ack epoch from to n) s = let same = ap (λ (u : SwitchOf). u.
 frame_raises port (Probe from nonce) s = omega arith
 frame_raises port (Reply from to nonce) s =
     cond_both (is_same_end to (end_at s port)) (still (record s { ports = with_happening port (Replied from nonce) s.ports })) (still s) (λ step. s.epoch ≤ step.switch.epoch) (λ _. omega arith) (λ _. omega arith)
+
+-- nothing came
+nothing_came : (port : ℕ) (s : SwitchOf) → CameBy port s s
+nothing_came port s = record { life = refl; others = λ q other. refl }
+
+-- what changes only what is sent came by any port
+sends_came : (port : ℕ) (before s t : SwitchOf) → OnlySends s t → CameBy port before s → CameBy port before t
+sends_came port before s t only came = record {
+  life = ap (λ (u : SwitchOf). u.life) only ∙ came.life;
+  others = λ q other. ap (λ (u : SwitchOf). u.ports q) only ∙ came.others q other;
+}
+
+-- so does a join
+joins_came : (port epoch : ℕ) (s : SwitchOf) → CameBy port s (joins epoch s).switch
+joins_came port epoch s = sends_came port s (begun epoch s) (joins epoch s).switch (joins_only epoch s) (record { life = refl; others = λ q other. refl })
+
+-- a body of the present epoch
+body_came : (at port k : ℕ) (peer : EndId) (body : Body) (before s : SwitchOf) → CameBy at before s → CameBy at before (answers_body port peer k body s).switch
+body_came at port k peer body before s came =
+    sends_came at before (receives port k body s) (answers_body port peer k body s).switch (all_pushed_few (all_added s.card port (accepted_by k body (s.receivings port)) s.log) (receives port k body s)).only
+    (record { life = came.life; others = came.others })
+
+-- and one of any epoch
+carry_came : (port : ℕ) (f : CarryOf) (s : SwitchOf) → CameBy port s (on_carry port f s).switch
+carry_came port f s =
+    let one = joins f.epoch s in
+    let here = answers_body port f.from f.k f.body s in
+    let later = answers_body port f.from f.k f.body one.switch in
+    cond_both (nat_lt s.epoch f.epoch) (after one later) (cond (f.epoch == s.epoch) here (still s)) (λ step. CameBy port s step.switch)
+    (λ above. body_came port port f.k f.from f.body s one.switch (joins_came port f.epoch s))
+    (λ _. cond_both (f.epoch == s.epoch) here (still s) (λ step. CameBy port s step.switch) (λ _. body_came port port f.k f.from f.body s s (nothing_came port s)) (λ _. nothing_came port s))
+
+-- a reply happens at its port
+reply_came : (port nonce : ℕ) (from : EndId) (s : SwitchOf) → CameBy port s (record s { ports = with_happening port (Replied from nonce) s.ports })
+reply_came port nonce from s = record { life = refl; others = λ q other. ap (λ b. cond b (Replied from nonce ∷ s.ports q) (s.ports q)) (ne_eqb q port other) }
+
+-- a frame comes by its port
+pub frame_came : (port : ℕ) (frame : Frame) (s : SwitchOf) → CameBy port s (framed port frame s).switch
+frame_came port (Carry f) s = cond_both (counts s port f.from f.to) (on_carry port f s) (still s) (λ step. CameBy port s step.switch) (λ _. carry_came port f s) (λ _. nothing_came port s)
+frame_came port (Ack epoch from to n) s = sends_came port s s (framed port (Ack epoch from to n) s).switch (ack_only port epoch n from to s) (nothing_came port s)
+frame_came port (Probe from nonce) s = nothing_came port s
+frame_came port (Reply from to nonce) s =
+    cond_both (is_same_end to (end_at s port)) (still (record s { ports = with_happening port (Replied from nonce) s.ports })) (still s) (λ step. CameBy port s step.switch) (λ _. reply_came port nonce from s) (λ _. nothing_came port s)
 
 -- the epoch stays, or rises by one
 abbrev pub RisesByOne : ℕ → Step → Type 0

@@ -15,7 +15,7 @@ use Rattle.switch_core.specs.Sessions.{AreSessions}
 use Rattle.switch_core.specs.Switch.{SwitchOf, at_port}
 use Rattle.switch_core.specs.Stands.{Carries, Does, Done, HasWindows, IsSame, Stands}
 use Rattle.switch_core.specs.Steps.{Sent, after, all_again, all_resent, resends_on, sends_again, sends_on, still}
-use Rattle.switch_core.proofs.SessionLemmas.{at_the_port, session_at}
+use Rattle.switch_core.proofs.SessionLemmas.{each_of, at_the_port, session_at}
 use Rattle.switch_core.proofs.StandsLemmas.{does_nothing, does_then, spelled_append, stands_same, stands_sends}
 
 due_test : (now tick : ℕ) → tick + 4 ≤ now → is_due now tick ≡ true
@@ -138,8 +138,8 @@ one_there (x ∷ xs) i low = (get_or (x ∷ xs) i x, slice_get-get_or (x ∷ xs)
 due_alike : (c : Control) (s r : SwitchOf) (port : ℕ) → 1 ≤ port → port ≤ 12 → length c.sessions.items ≡ 12 → Stands c s → Stands c r → due s.tick (s.sendings port) ≡ due r.tick (r.sendings port)
 due_alike c s r port least most count one other =
     let there = one_there c.sessions.items (port - 1) (omega arith) in
-    let of_one = session_at c.sessions.items s.sendings s.receivings port there.0 least there.1 one.sessions in
-    let of_other = session_at c.sessions.items r.sendings r.receivings port there.0 least there.1 other.sessions in
+    let of_one = session_at c.sessions.items s.sendings s.receivings port there.0 least there.1 (each_of c.sessions s.sendings s.receivings one.sessions) in
+    let of_other = session_at c.sessions.items r.sendings r.receivings port there.0 least there.1 (each_of c.sessions r.sendings r.receivings other.sessions) in
     ap (λ now. due now (s.sendings port)) (sym one.tick ∙ other.tick) ∙ same_due there.0.sender (s.sendings port) (r.sendings port) r.tick of_one.0 of_other.0
 
 -- the number that is answered at the tick that is kept

@@ -3,7 +3,6 @@ use Rattle.std.specs.List.{flat_map}
 use Rattle.std.proofs.lemmas.Bool.{eqb-true, eqb-false, le-leb, lt-leb}
 use Rattle.std.proofs.lemmas.Bool.Decides.{nat_tests}
 use Rattle.std.proofs.lemmas.Grind.{flat_map-append}
-use Rattle.std.proofs.lemmas.List.FromFn.{get_or-range_with_len}
 use Rattle.std.proofs.lemmas.Option.{same_Some}
 use Rattle.an_base.specs.Values.{EndId, LifeId}
 use Rattle.an_base.specs.declared.frame.Frame.TheVariants.{Probe}
@@ -20,6 +19,7 @@ use Rattle.switch_core.specs.Switch.{SwitchOf, port_of}
 use Rattle.switch_core.specs.Stands.{Does, Done, HasRoom, IsSame, Stands, probed}
 use Rattle.switch_core.specs.Steps.{Sent, Step, probe_out, probes_at, sample_at, sampled_by}
 use Rattle.switch_core.proofs.ResendLemmas.{spelled_then}
+pub use Rattle.switch_core.proofs.SessionLemmas.{port_at}
 use Rattle.switch_core.proofs.StandsLemmas.{stands_same}
 
 -- the ports up to this one were sampled
@@ -37,10 +37,6 @@ probes_to n s = flat_map (probes_at s) (take n externals)
 -- both
 abbrev pub probed_to : ℕ → ℕ → List Sample → SwitchOf → Step
 probed_to n now samples s = record { switch = sampled_to n now samples s; frames = probes_to n (sampled_by now samples s) }
-
--- the ports stand in their order
-pub port_at : (i : ℕ) → i < 12 → get_or externals i 0 ≡ suc i
-port_at i low = get_or-range_with_len 1 12 i 0 low ∙ omega arith
 
 -- one that comes later is as it was
 not_yet : (i port : ℕ) (samples : List Sample) (histories : ℕ → History) → i < port → first_sampled i samples histories port ≡ histories port

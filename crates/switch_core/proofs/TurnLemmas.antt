@@ -10,10 +10,10 @@ use Rattle.epoch_core.specs.Epoch.{adds}
 use Rattle.epoch_core.specs.StandsFor.{CoreOf, StandsFor, Accepts}
 use Rattle.switch_core.specs.declared.session.Sessions.{Sessions}
 use Rattle.switch_core.specs.Switch.{at_port}
-use Rattle.switch_core.specs.Sessions.{AreSessions, IsSessionOf, Receives, wanted}
+use Rattle.switch_core.specs.Sessions.{AreSessions, Receives, wanted}
 use Rattle.switch_core.specs.Steps.{accepts, after, all_added, log_with, receives}
 use Rattle.switch_core.specs.Stands.{AcceptsInTurn}
-use Rattle.switch_core.proofs.SessionLemmas.{at_the_port}
+use Rattle.switch_core.proofs.SessionLemmas.{are_of_same, at_the_port}
 
 -- one more turn, at the end
 follow_more : (n : ℕ) (r : Receiving) → follow_all (suc n) r ≡ follow (follow_all n r)
@@ -79,8 +79,7 @@ twice false x y z = refl
 
 -- is as it was changed the second time
 pub changed_twice : (sessions : Sessions) (port : ℕ) (x y : Receiving) (t : ℕ → Sending) (r : ℕ → Receiving) → AreSessions sessions t (at_port port y (at_port port x r)) → AreSessions sessions t (at_port port y r)
-changed_twice sessions port x y t r are i session there =
-    subst (λ (z : Receiving). IsSessionOf session (t (suc i)) z) (twice (suc i == port) x y (r (suc i))) (are i session there)
+changed_twice sessions port x y t r = are_of_same sessions t t (at_port port y (at_port port x r)) (at_port port y r) (λ q. refl) (λ q. twice (q == port) x y (r q))
 
 -- a wanted body was accepted, and what so many turns took
 pub record Turned (n port : ℕ) (body : Body) (old new : CoreOf) (old_sessions new_sessions : Sessions) (before after : List OnPort) : Type 0 where
@@ -112,7 +111,7 @@ turned_first port body old new sessions before after accepts =
     record {
       few = omega arith;
       core = λ log t r stands are. subst (λ (xs : List Body). StandsFor new (log_with port (body ∷ xs) log)) (sym (drop-length (r port).accepted)) (accepts.stands log stands);
-      sessions = λ t r are i session there. subst (λ (z : Receiving). IsSessionOf session (t (suc i)) z) (sym (same_there (suc i == port) (suc i) port r refl)) (are i session there);
+      sessions = λ t r. are_of_same sessions t t r (at_port port (follow_all 0 (r port)) r) (λ q. refl) (λ q. sym (same_there (q == port) q port r refl));
       card = accepts.card;
       version = omega (arith, accepts.version);
       sends = λ log t r stands are. accepts.sends log stands ∙ ap (λ (xs : List OnPort). before ++ xs) (sym (ap (λ (xs : List Body). all_added old.card port (body ∷ xs) log) (drop-length (r port).accepted) ∙ append-nil (adds old.card (x ∷ log))));

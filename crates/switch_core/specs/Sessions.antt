@@ -1,12 +1,13 @@
 -- What is kept of the sessions at the ports stands for their two directions.
 
-use Rattle.std.specs.Prelude.{◌≡◌, ℕ, suc, ◌+◌, ◌-◌, ◌≤◌, slice_get, Option, Some}
+use Rattle.std.specs.Prelude.{◌≡◌, ℕ, suc, ◌+◌, ◌-◌, ◌<◌, ◌≤◌, slice_get, Option, Some}
 use Rattle.an_base.specs.declared.body.Body.{Body}
+use Rattle.an_base.specs.declared.limits.TheConstants.{PORTS}
 use Rattle.ordered_link.specs.Sending.{Sending, SenderOf, IsKeptOf, IsOut, unused}
 use Rattle.ordered_link.specs.Receiving.{Receiving, IsLeftOf, last, untouched}
 use Rattle.switch_core.specs.declared.session.Session.{Session}
 use Rattle.switch_core.specs.declared.session.Sessions.{Sessions}
-use Rattle.switch_core.specs.Switch.{at_port}
+use Rattle.switch_core.specs.Switch.{at_port, is_unacked}
 
 -- what is kept of a session is that of its two directions
 abbrev pub IsSessionOf : Session → Sending → Receiving → Type 0
@@ -16,11 +17,12 @@ IsSessionOf session sending receiving = IsKeptOf session.sender sending × IsLef
 abbrev pub IsNew : Session → Type 0
 IsNew session = IsSessionOf session unused untouched
 
--- of each port, from port 1
+-- of each port, from port 1: the session, and whether some body that was pushed there is not acknowledged
 abbrev pub AreSessions : Sessions → (ℕ → Sending) → (ℕ → Receiving) → Type 0
 AreSessions sessions sendings receivings =
-    (i : ℕ) (session : Session) → slice_get sessions.items i ≡ Some session
-    → IsSessionOf session (sendings (suc i)) (receivings (suc i))
+    (i : ℕ) → ((session : Session) → slice_get sessions.items i ≡ Some session
+    → IsSessionOf session (sendings (suc i)) (receivings (suc i)))
+    × (i < PORTS → slice_get sessions.unacked i ≡ Some (is_unacked (sendings (suc i))))
 
 -- what is so of what the sender of a port keeps
 abbrev pub OfSender : Sessions → ℕ → (SenderOf → Type 0) → Type 0

@@ -1,6 +1,6 @@
 -- A switch in one life, by all that happened to it.
 
-use Rattle.std.specs.Prelude.{ℕ, ◌==◌, ◌&&◌, nat_lt, List, [], map, length, Option, None, Bool, false, if◌then◌else◌}
+use Rattle.std.specs.Prelude.{◌≡◌, ◌≢◌, ℕ, ◌==◌, ◌&&◌, nat_lt, List, [], map, length, Option, None, Bool, false, if◌then◌else◌}
 use Rattle.std.specs.List.{list_any}
 use Rattle.an_base.specs.Values.{LifeId, EndId, PeerAt, TopoOf}
 use Rattle.an_base.specs.Ports.{PortViewOf, NoteOf}
@@ -101,6 +101,12 @@ finish_of switch = if switch.joined then finish switch.card switch.log else None
 -- whether some body that was pushed is not acknowledged
 abbrev pub is_unacked : Sending → Bool
 is_unacked sending = nat_lt sending.acked (length sending.pushed)
+
+-- All that came between the one and the other came by this port: the life is the same, and nothing happened at
+-- the other ports
+pub record CameBy (port : ℕ) (before after : SwitchOf) : Type 0 where
+  pub life : after.life ≡ before.life
+  pub others : (other : ℕ) → other ≢ port → after.ports other ≡ before.ports other
 
 -- what it shows of itself
 abbrev pub view_of : Port → PortViewOf

@@ -1,13 +1,10 @@
 //! What a switch keeps, and what it does with what comes in.
 
-ghost use Rattle.std.specs.Prelude.{◌≡◌, ◌+◌, ◌<◌, ◌≤◌, ◌^◌, ◌∷◌, ◌++◌, [], ℕ, suc, None, Some, length, map, slice_get, IfOk, IfSome, IsSome, OnErr, OnOk, option_copied, ◌-◌, List, true, false, not, is_some, ◌||◌};
+ghost use Rattle.std.specs.Prelude.{◌≡◌, ◌+◌, ◌<◌, ◌≤◌, ◌^◌, ◌∷◌, ◌++◌, [], ℕ, None, Some, map, IfOk, IfSome, IsSome, OnErr, OnOk, option_copied, ◌-◌, List, true, false, not, is_some, ◌||◌};
 ghost use Rattle.an_base.specs.declared.limits.TheConstants.{LAST_PORT};
-ghost use Rattle.epoch_core.specs.Log.{OnPort, on_port};
-ghost use Rattle.epoch_core.specs.Epoch.{adds};
-ghost use Rattle.ordered_link.specs.Sending.{IsOut, Sending, IsKeptOf, push, sent_by_push};
-ghost use Rattle.frame_codec.specs.Spelling.{CarryHeadOf, carried, spelling};
+ghost use Rattle.frame_codec.specs.Spelling.{spelling};
 ghost use Rattle.an_base.specs.declared.frame.Frame.TheVariants.{Carry, Probe, Reply};
-ghost use Rattle.switch_core.specs.Switch.{counts, finish_of, good_links, note_of, ports_of, started, view_of, SwitchOf};
+ghost use Rattle.switch_core.specs.Switch.{CameBy, counts, finish_of, good_links, note_of, port_of, ports_of, started, view_of, SwitchOf};
 ghost use Rattle.switch_core.specs.Steps.{all_pushed, all_resent, answers_body, are_same_links, fills, framed, joins, on_ack, on_carry, peer_among, pushed, resends_on};
 ghost use Rattle.switch_core.specs.Bytes.{BytesOut};
 ghost use Rattle.switch_core.specs.Sessions.{IsOutAt};
@@ -517,32 +514,65 @@ impl Control {
         self.core.as_ref()?.finish()
     }
 
-    // What each port is taken to be.
-    fn ports(&self) -> Ports
-        ensures { (s : SwitchOf) → Stands self.now s → result ≡ map view_of (ports_of s) }
+    // What a port is taken to be.
+    fn view(&self, port: u8) -> PortView
+        requires least { 1 ≤ port }
+        requires most { port ≤ LAST_PORT }
+        ensures { (s : SwitchOf) → Stands self.now s → result ≡ view_of (port_of s port) }
     {
-        let mut ports = Ports::new();
-        'ports: for port in EXTERNALS {
-            let view = PortView {
-                state: self.monitor.state(port),
-                peer: self.monitor.peer(port),
-            };
-            ports.set(port, view);
+        PortView {
+            state: self.monitor.state(port),
+            peer: self.monitor.peer(port),
         }
-        ports
+    }
+
+    // Sets what each port is taken to be.
+    fn show_ports(&self, ports: &mut Ports)
+        ensures { (s : SwitchOf) → Stands self.now s → ports.new ≡ map view_of (ports_of s) }
+    {
+        let _twelve = ports.as_slice();
+        'ports: for port in EXTERNALS {
+            ports.set(port, self.view(port));
+        }
+    }
+
+    /// Sets a note to what the switch shows of itself.
+    pub fn show(&self, note: &mut Note)
+        ensures { (s : SwitchOf) → Stands self.now s → note.new ≡ note_of s }
+    {
+        note.life = self.life;
+        note.epoch = self.epoch;
+        self.show_ports(&mut note.ports);
+        note.load_due = self.load_due;
+        note.unacked = self.sessions.is_unacked();
+    }
+
+    /// Sets a note of what the switch showed before something came by a port, 1 to 12, to what it shows
+    /// now.
+    pub fn show_port(&self, port: u8, note: &mut Note)
+        requires least { 1 ≤ port }
+        requires most { port ≤ LAST_PORT }
+        ensures { (before s : SwitchOf) → Stands self.now s → note.old ≡ note_of before → CameBy port before s → note.new ≡ note_of s }
+    {
+        note.epoch = self.epoch;
+        note.ports.set(port, self.view(port));
+        note.load_due = self.load_due;
+        note.unacked = self.sessions.is_unacked();
     }
 
     /// What the switch shows of itself, without taking memory.
     pub fn note(&self) -> Note
         ensures { (s : SwitchOf) → Stands self.now s → result ≡ note_of s }
     {
-        Note {
+        let mut note = Note {
             life: self.life,
             epoch: self.epoch,
-            ports: self.ports(),
-            load_due: self.load_due,
-            unacked: self.sessions.is_unacked(),
-        }
+            ports: Ports::new(),
+            load_due: false,
+            unacked: false,
+        };
+        self.show(&mut note);
+        note
     }
 
     /// Loads the table of what the life has finished with. After want of memory nothing has changed.

@@ -9,7 +9,7 @@ ghost use Rattle.an_base.specs.declared.port.Sample.{Sample};
 ghost use Rattle.ordered_link.specs.Receiving.{untouched};
 ghost use Rattle.epoch_core.specs.Log.{on_port};
 ghost use Rattle.epoch_core.specs.Epoch.{adds};
-ghost use Rattle.switch_core.specs.Switch.{StartOf, SwitchOf, card_of, end_at, good_links, good_peer, started_as};
+ghost use Rattle.switch_core.specs.Switch.{CameBy, StartOf, SwitchOf, card_of, end_at, good_links, good_peer, started_as};
 ghost use Rattle.switch_core.specs.Sound.{IsSound};
 ghost use Rattle.switch_core.specs.Going.{IsSentBy};
 ghost use Rattle.switch_core.specs.Steps.{clocked, framed, joins, loaded, peer_among, still};
@@ -112,4 +112,10 @@ pub fn what_goes_out_is_of_its_sessions()
         → s.spent ≡ false → IsSound works s → All (IsSentBy (framed port frame s).switch) (framed port frame s).frames }
     ensures clock { (works now : ℕ) (samples : List Sample) (s : SwitchOf) → s.spent ≡ false
         → IsSound works s → All (IsSentBy (clocked now samples s).switch) (clocked now samples s).frames }
+{}
+
+/// What comes by a port changes nothing that is shown of another port: the life stays, and nothing happens
+/// at the other ports.
+pub fn a_frame_comes_by_its_port()
+    ensures { (port : ℕ) (frame : Frame) (s : SwitchOf) → CameBy port s (framed port frame s).switch }
 {}

@@ -60,6 +60,13 @@ impl Session {
         self.sender.on_ack(n, now)
     }
 
+    // Whether some body that was pushed is not acknowledged.
+    fn is_unacked(&self) -> bool
+        ensures { (t : Sending) (r : Receiving) → IsSessionOf self.now t r → result ≡ is_unacked t }
+    {
+        self.sender.unacked()
+    }
+
     // The lowest number of an outstanding body that is due to be sent again.
     fn due(&self, now: u32) -> Option<u32>
         ensures first { (t : Sending) (r : Receiving) → IsSessionOf self.now t r → result ≡ first_due now t }
@@ -95,6 +102,8 @@ impl Session {
 #[derive(Debug, Drop)]
 pub struct Sessions {
     items: [Session; 12],
+    // Of each port, whether some body that was pushed is not acknowledged.
+    unacked: [bool; 12],
 }
 
 impl Sessions {
@@ -104,6 +113,7 @@ impl Sessions {
     {
         Sessions {
             items: new_sessions(alloc),
+            unacked: [false; 12],
         }
     }
 
@@ -115,7 +125,10 @@ impl Sessions {
         ensures ok { IfOk result (λ number. Sends port (push body now) (sent_by_push body) self.old self.new number) }
         ensures out { IfOk result (λ number. IfSome number (IsOutAt self.new port)) }
     {
-        Ok(self.items[usize::from(port - 1)].push(body, now)?)
+        let session = &mut self.items[usize::from(port - 1)];
+        let number = session.push(body, now)?;
+        self.unacked[usize::from(port - 1)] = session.is_unacked();
+        Ok(number)
     }
 
     /// The number of the first waiting body of a port, where it is to be sent now.
@@ -135,7 +148,10 @@ impl Sessions {
         ensures sent { Sends port (acknowledge n now) (sent_by_ack n) self.old self.new result }
         ensures out { IfSome result (IsOutAt self.new port) }
     {
-        self.items[usize::from(port - 1)].on_ack(n, now)
+        let session = &mut self.items[usize::from(port - 1)];
+        let number = session.on_ack(n, now);
+        self.unacked[usize::from(port - 1)] = session.is_unacked();
+        number
     }
 
     /// The lowest number of an outstanding body of a port that was last sent at least four ticks ago;
@@ -182,8 +198,8 @@ impl Sessions {
     pub fn is_unacked(&self) -> bool
         ensures { (t : ℕ → Sending) (r : ℕ → Receiving) → AreSessions self.now t r → result ≡ list_any (λ port. is_unacked (t port)) externals }
     {
-        'sessions: for session in &self.items {
-            if session.sender.unacked() {
+        'ports: for unacked in &self.unacked {
+            if *unacked {
                 return true;
             }
         }

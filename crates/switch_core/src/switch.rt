@@ -2,7 +2,7 @@
 
 ghost use Rattle.std.specs.Prelude.{◌≡◌, ◌+◌, ◌<◌, ◌≤◌, ◌^◌, ℕ, IfOk, OnOk, OnErr, Err, [], false, true, option_copied};
 ghost use Rattle.an_base.specs.declared.limits.TheConstants.{LAST_PORT, MOST_NUMBER};
-ghost use Rattle.switch_core.specs.Switch.{finish_of, note_of, started, started_as, SwitchOf};
+ghost use Rattle.switch_core.specs.Switch.{CameBy, finish_of, note_of, started, started_as, SwitchOf};
 ghost use Rattle.switch_core.specs.Stands.{Stands};
 ghost use Rattle.switch_core.specs.Kept.{Handles, IsLoadDue, IsWorking, Loads, StandsFor, Ticks, is_spent, load_due};
 ghost use Rattle.switch_core.specs.declared.switch.ClockRefusal.TheVariants as refusal;
@@ -222,6 +222,24 @@ impl Switch {
         ensures { result ≡ self.now.works }
     {
         self.works
+    }
+
+    /// Sets a note to what the switch shows of itself.
+    pub fn show(&self, note: &mut Note)
+        ensures { (s : SwitchOf) → StandsFor self.now s → note.new ≡ note_of s }
+    {
+        self.control.show(note);
+    }
+
+    /// Sets a note of what the switch showed before something came by a port, 1 to 12, to what it shows
+    /// now. Only this port is looked at.
+    pub fn show_port(&self, port: u8, note: &mut Note)
+        requires least { 1 ≤ port }
+        requires most { port ≤ LAST_PORT }
+        ensures { (before s : SwitchOf) → StandsFor self.now s → note.old ≡ note_of before
+            → CameBy port before s → note.new ≡ note_of s }
+    {
+        self.control.show_port(port, note);
     }
 
     /// What the switch shows of itself.

@@ -1,7 +1,7 @@
 -- What a worker and the driver ask is fit for what their seats have seen, and what kind of reply comes.
 
 use Rattle.std.specs.Prelude.{◌≡◌, ℕ, List, Option, Some, IfSome, refl}
-use Rattle.std.proofs.Common.{◌∙◌, sym, subst}
+use Rattle.std.proofs.Common.{sym, subst}
 use Rattle.an_base.specs.Ports.{NoteOf}
 use Rattle.an_base.specs.declared.event.Event.{Event}
 use Rattle.net_script.specs.Scripts.{ScriptOf}
@@ -19,13 +19,14 @@ use Rattle.fabric_world.specs.declared.ask.Ask.{Ask}
 use Rattle.fabric_world.specs.declared.ask.Ask.TheVariants as ask
 use Rattle.fabric_world.specs.declared.ask.Done.{Done}
 use Rattle.fabric_world.specs.declared.ask.LoadReply.{LoadReply}
-use Rattle.fabric_world.specs.declared.ask.Reply.{Reply}
-use Rattle.fabric_world.specs.declared.ask.Reply.TheVariants as reply
 use Rattle.fabric_world.specs.Turns.{AnswersDrive, AnswersLoad, AnswersPut, AnswersTake, IsDone, IsFit, IsToLoad}
 use Rattle.fabric_world.specs.World.{handled, world_after}
+use Rattle.fabric_book.specs.Asking.{reply_of}
 use Rattle.fabric_book.specs.Nets.{PowerOf}
+use Rattle.fabric_book.specs.declared.asking.BookReply.{BookReply}
+use Rattle.fabric_book.specs.declared.asking.BookReply.TheVariants as book_reply
 use Rattle.switch_threads.specs.declared.desk.Pending.TheVariants as pending
-use Rattle.switch_threads.specs.Workers.{IsAtPlace, IsDriving}
+use Rattle.switch_threads.specs.Workers.{IsAtPlace, IsDriving, done_with}
 
 -- what may be asked is fit
 fit_of : (view : View Event ScriptOf) (script : ScriptOf) (asked : Ask) → view.start ≡ Some script → IsFit script view.seen view.number asked → IsFitFor IsFit view asked
@@ -37,22 +38,11 @@ module _ (view : View Event ScriptOf) (place : ℕ) (power : PowerOf) (switch : 
       let at = step.keeps_up.powered in
       fit_of view step.script (ask.Take place out) step.begun (record { kept = at.kept; may_ask = (record { within = at.within; caller_is = step.number }, step.keeps_up.fits.0) })
 
-  pub put_fit : (out : OutOf) (done : Done) → IsAtPlace view place power switch (pending.Put out) → done.frames ≡ out.frames → done.noframe ≡ out.noframe → ((x : SwitchOf) → StandsFor switch x → done.note ≡ note_of x)
-      → ((x : SwitchOf) → StandsFor switch x → done.spent ≡ x.spent) → IsFitFor IsFit view (ask.Put place done)
-  put_fit out done step frames noframe note spent =
+  pub put_fit : (out : OutOf) (done : Done) → IsAtPlace view place power switch (pending.Put out) → ((x : SwitchOf) → StandsFor switch x → done ≡ done_with out x) → IsFitFor IsFit view (ask.Put place done)
+  put_fit out done step is =
       let at = step.keeps_up.powered in
-      let is = step.keeps_up.fits.0 in
-      let y = (handled place (world_after step.script view.seen)).switch in
-      let stands = step.keeps_up.fits.1 in
-      let came : IsDone (world_after step.script view.seen) place done = record {
-        handled_is = record {
-          full = is.handled_is.full;
-          frames_are = frames ∙ is.handled_is.frames_are;
-          note_is = note y stands;
-          spent_is = spent y stands;
-        };
-        noframe = noframe ∙ is.noframe;
-      } in
+      let w = world_after step.script view.seen in
+      let came = subst (IsDone w place) (sym (is (handled place w).switch step.keeps_up.fits.1)) step.keeps_up.fits.0 in
       fit_of view step.script (ask.Put place done) step.begun (record { kept = at.kept; may_ask = (record { within = at.within; caller_is = step.number }, came) })
 
   pub load_fit : (table : TableFor) (note : NoteOf) → IsAtPlace view place power switch (pending.Load table) → ((x : SwitchOf) → StandsFor switch x → note ≡ note_of x) → IsFitFor IsFit view (ask.Load place table note)
@@ -66,26 +56,26 @@ pub drive_fit : (view : View Event ScriptOf) (told : Option Ending) → IsDrivin
 drive_fit view told is = fit_of view is.script ask.Drive is.begun (record { kept = is.kept; may_ask = is.number })
 
 -- each ask has its own kind of reply
-pub replies_take : (script : ScriptOf) (h : List Event) (place : ℕ) (answer : Reply) (after : List Event) → AnswersTake script h place answer after → (job : Work) × (out : List ℕ) × (answer ≡ reply.Take job out)
-replies_take script h place (reply.Take job out) after is = (job, out, refl)
-replies_take script h place (reply.Put done) after is = absurd is
-replies_take script h place (reply.Load came) after is = absurd is
-replies_take script h place (reply.Drive did) after is = absurd is
+pub replies_take : (script : ScriptOf) (h : List Event) (place : ℕ) (answer : BookReply) (after : List Event) → AnswersTake script h place (reply_of answer) after → ((job : Work) (out : List ℕ) → answer ≡ book_reply.Take job out → ⊥) → ⊥
+replies_take script h place (book_reply.Take job out) after is other = other job out refl
+replies_take script h place (book_reply.Put done) after is other = absurd is
+replies_take script h place (book_reply.Load came back) after is other = absurd is
+replies_take script h place (book_reply.Drive did) after is other = absurd is
 
-pub replies_put : (h : List Event) (place : ℕ) (done : Done) (answer : Reply) (after : List Event) → AnswersPut h place done answer after → (back : Done) × (answer ≡ reply.Put back)
-replies_put h place done (reply.Put back) after is = (back, refl)
-replies_put h place done (reply.Take job out) after is = absurd is
-replies_put h place done (reply.Load came) after is = absurd is
-replies_put h place done (reply.Drive did) after is = absurd is
+pub replies_put : (h : List Event) (place : ℕ) (done : Done) (answer : BookReply) (after : List Event) → AnswersPut h place done (reply_of answer) after → ((back : _) → answer ≡ book_reply.Put back → ⊥) → ⊥
+replies_put h place done (book_reply.Put back) after is other = other back refl
+replies_put h place done (book_reply.Take job out) after is other = absurd is
+replies_put h place done (book_reply.Load came back) after is other = absurd is
+replies_put h place done (book_reply.Drive did) after is other = absurd is
 
-pub replies_load : (script : ScriptOf) (h : List Event) (place : ℕ) (table : TableFor) (answer : Reply) (after : List Event) → AnswersLoad script h place table answer after → (came : LoadReply) × (answer ≡ reply.Load came)
-replies_load script h place table (reply.Load came) after is = (came, refl)
-replies_load script h place table (reply.Take job out) after is = absurd is
-replies_load script h place table (reply.Put done) after is = absurd is
-replies_load script h place table (reply.Drive did) after is = absurd is
+pub replies_load : (script : ScriptOf) (h : List Event) (place : ℕ) (table : TableFor) (answer : BookReply) (after : List Event) → AnswersLoad script h place table (reply_of answer) after → ((came : LoadReply) (back : _) → answer ≡ book_reply.Load came back → ⊥) → ⊥
+replies_load script h place table (book_reply.Load came back) after is other = other came back refl
+replies_load script h place table (book_reply.Take job out) after is other = absurd is
+replies_load script h place table (book_reply.Put done) after is other = absurd is
+replies_load script h place table (book_reply.Drive did) after is other = absurd is
 
-pub replies_drive : (script : ScriptOf) (h : List Event) (answer : Reply) (after : List Event) → AnswersDrive script h answer after → (did : Drive) × (answer ≡ reply.Drive did)
-replies_drive script h (reply.Drive did) after is = (did, refl)
-replies_drive script h (reply.Take job out) after is = absurd is
-replies_drive script h (reply.Put done) after is = absurd is
-replies_drive script h (reply.Load came) after is = absurd is
+pub replies_drive : (script : ScriptOf) (h : List Event) (answer : BookReply) (after : List Event) → AnswersDrive script h (reply_of answer) after → ((did : Drive) → answer ≡ book_reply.Drive did → ⊥) → ⊥
+replies_drive script h (book_reply.Drive did) after is other = other did refl
+replies_drive script h (book_reply.Take job out) after is other = absurd is
+replies_drive script h (book_reply.Put done) after is other = absurd is
+replies_drive script h (book_reply.Load came back) after is other = absurd is

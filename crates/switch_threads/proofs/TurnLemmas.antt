@@ -12,7 +12,7 @@ use Rattle.net_graph.specs.Wires.{network}
 use Rattle.net_script.specs.Scripts.{IsScript, ScriptOf, restarts_of}
 use Rattle.switch_core.specs.Bytes.{OutOf}
 use Rattle.switch_core.specs.Kept.{KeptOf, Loads, StandsFor}
-use Rattle.switch_core.specs.Switch.{SwitchOf, note_of, started_as}
+use Rattle.switch_core.specs.Switch.{note_of, started_as}
 use Rattle.switch_core.specs.declared.switch.TableFor.{TableFor}
 use Rattle.fabric_state.specs.declared.ending.Ending.{Ending}
 use Rattle.fabric_state.specs.declared.hand.Hand.{Hand}
@@ -38,7 +38,10 @@ use Rattle.fabric_world.specs.Turns.{AnswersAsk, Drives, LoadsOrNot, TakesWork, 
 use Rattle.fabric_world.specs.World.{begun, first_station, handles, start_of, world_after}
 use Rattle.fabric_world.proofs.InductionLemmas.{world_script}
 use Rattle.fabric_world.proofs.PlaceLemmas.{world_places}
+use Rattle.fabric_book.specs.Asking.{ask_of, reply_of}
 use Rattle.fabric_book.specs.Nets.{HasFrame, IsHandled, IsStarted, PowerOf, power_of, start_with}
+use Rattle.fabric_book.specs.declared.asking.BookAsk.{BookAsk}
+use Rattle.fabric_book.specs.declared.asking.BookReply.{BookReply}
 use Rattle.fabric_book.proofs.HandLemmas.{done_is, stands_is}
 use Rattle.switch_threads.specs.declared.desk.Desk.{Desk}
 use Rattle.switch_threads.specs.declared.desk.Pending.{Pending}
@@ -123,6 +126,25 @@ handled_fits script h s power old new buffer in_hand out is start works_are does
 -- Of a seat that made a call
 abbrev pub AnswersBook : ScriptOf → List Event → ℕ → Ask → Reply → List Event → Type 0
 AnswersBook script history caller asked answer after = AnswersAsk script history asked answer after
+
+abbrev pub AnswersAsked : ScriptOf → List Event → ℕ → BookAsk → BookReply → List Event → Type 0
+AnswersAsked script history caller asked answer after =
+    AnswersAsk script history (ask_of asked) (reply_of answer) after
+
+-- as the world has it
+pub as_asked : (view after : View Event ScriptOf) (asked : BookAsk) (answer : BookReply) → Called owner_of AnswersAsked view asked answer after → Called owner_of AnswersBook view (ask_of asked) (reply_of answer) after
+as_asked view after asked answer called = record {
+  start = called.start;
+  between = called.between;
+  added = called.added;
+  begun = called.begun;
+  others = called.others;
+  adds = called.adds;
+  seen = called.seen;
+  answer = called.answer;
+  mine = called.mine;
+  same = called.same;
+}
 
 module _ (view after : View Event ScriptOf) (asked : Ask) (answer : Reply) (called : Called owner_of AnswersBook view asked answer after) where
   pub calls_differ : DifferByCalls view after

@@ -3,27 +3,31 @@
 ghost use Rattle.std.specs.Prelude.{◌≡◌, ◌<◌, List, [], length, IfOk, OnOk};
 ghost use Rattle.an_base.specs.declared.event.Event.{Event};
 ghost use Rattle.net_script.specs.Scripts.{ScriptOf};
+ghost use Rattle.switch_core.specs.Kept.{StandsFor};
+ghost use Rattle.switch_core.specs.Switch.{SwitchOf, note_of};
 ghost use Rattle.fabric_state.specs.declared.work.Work.TheVariants.{Restart};
 ghost use Rattle.fabric_turn.specs.Names.{turnstile_id};
 ghost use Rattle.switch_threads.specs.declared.desk.Pending.TheVariants as pending;
 ghost use Rattle.switch_threads.specs.Runs.{HasCalled};
-ghost use Rattle.switch_threads.specs.Workers.{IsInStep, IsToDo, IsToHandle, IsUpTo};
+ghost use Rattle.switch_threads.specs.Workers.{IsInStep, IsToDo, IsToHandle, IsUpTo, done_with};
 
 use an_base::life::Life;
 use an_base::memory::OutOfMemory;
+use an_base::port::Note;
+use fabric_book::asking::{BookAsk, BookReply};
 use fabric_book::book::Book;
 use fabric_book::handling::work;
 use fabric_book::power::PowerOn;
 use fabric_state::hand::Hand;
 use fabric_state::work::Work;
 use fabric_turn::{Seat, Turnstile};
-use fabric_world::ask::{Ask, Done, LoadReply, Reply};
+use fabric_world::ask::{Done, LoadReply};
 use frame_region::buffer::FrameBuf;
 use net_script::script::Script;
 use std::alloc::Global;
 use std::mem::replace;
 use std::sync::Wait;
-use switch_core::out::Out;
+use switch_core::out::{Frames, Out};
 use switch_core::switch::{Switch, TableFor};
 
 /// What a worker has to ask for next.
@@ -51,6 +55,30 @@ pub(crate) struct Desk {
     pub buffer: FrameBuf,
     /// Where the frames go that the switch sends.
     pub out: Out,
+    /// Where what it puts lies while it is put.
+    pub done: Box<Done>,
+    /// Where what its switch shows lies while a table is loaded.
+    pub note: Box<Note>,
+}
+
+// The box with what came of what a switch had in hand, and with what the switch shows then.
+fn filled(switch: &Switch, out: Out, mut done: Box<Done>) -> Box<Done>
+    ensures { (x : SwitchOf) → StandsFor switch.now x → result.value ≡ done_with out x }
+{
+    let Out { frames, noframe } = out;
+    done.frames = frames;
+    done.noframe = noframe;
+    switch.show(&mut done.note);
+    done.spent = switch.is_spent();
+    done
+}
+
+// The box with what a switch shows.
+fn shown(switch: &Switch, mut note: Box<Note>) -> Box<Note>
+    ensures { (x : SwitchOf) → StandsFor switch.now x → result.value ≡ note_of x }
+{
+    switch.show(&mut note);
+    note
 }
 
 impl Desk {
@@ -63,6 +91,13 @@ impl Desk {
         let power_on = PowerOn::of(script, s);
         let started = power_on.start(alloc, script.wiring().life(s))?;
         let switch = Box::new(alloc, started)?;
+        let done = Done {
+            frames: Frames::new(alloc),
+            noframe: false,
+            note: switch.note(),
+            spent: false,
+        };
+        let note = switch.note();
         Ok(Desk {
             alloc,
             s,
@@ -70,6 +105,8 @@ impl Desk {
             switch,
             buffer: FrameBuf::new(alloc)?,
             out: Out::new(alloc),
+            done: Box::new(alloc, done)?,
+            note: Box::new(alloc, note)?,
         })
     }
 
@@ -89,7 +126,7 @@ impl Desk {
     /// Asks for what is to be asked for next. Answers what there is to ask for then, and whether that may be
     /// done at once.
     pub fn ask<R: Wait>(
-        mut self,
+        self,
         rt: &R,
         turnstile: &Turnstile<Book>,
         seat: &mut Seat<Book>,
@@ -102,14 +139,8 @@ impl Desk {
     {
         match next {
             Pending::Work => self.take(rt, turnstile, seat),
-            Pending::Put(out) => {
-                self.put(rt, turnstile, seat, out);
-                Ok((self, Pending::Work, true))
-            }
-            Pending::Load(table) => {
-                let (next, more) = self.load(rt, turnstile, seat, table);
-                Ok((self, next, more))
-            }
+            Pending::Put(out) => Ok((self.put(rt, turnstile, seat, out), Pending::Work, true)),
+            Pending::Load(table) => Ok(self.load(rt, turnstile, seat, table)),
         }
     }
 
@@ -125,11 +156,11 @@ impl Desk {
         ensures called { HasCalled seat.old seat.new }
         ensures step { IfOk result (λ r. IsInStep seat.new.1 r.0 r.1) }
     {
-        let ask = Ask::Take {
+        let ask = BookAsk::Take {
             s: self.s,
             out: self.buffer,
         };
-        let Reply::Take { work, out } = turnstile.call(rt, seat, ask) else {
+        let BookReply::Take { work, out } = turnstile.call(rt, seat, ask) else {
             unreachable!()
         };
         let mut desk = Desk {
@@ -181,63 +212,57 @@ impl Desk {
     }
 
     // Puts what came of what it had in hand. The memory of the frames is kept for those that come.
-    fn put<R: Wait>(&mut self, rt: &R, turnstile: &Turnstile<Book>, seat: &mut Seat<Book>, out: Out)
+    fn put<R: Wait>(
+        self,
+        rt: &R,
+        turnstile: &Turnstile<Book>,
+        seat: &mut Seat<Book>,
+        out: Out,
+    ) -> Desk
         requires turnstile { seat.old.0 ≡ turnstile_id turnstile.now }
-        requires step { IsInStep seat.old.1 self.old (pending.Put out) }
+        requires step { IsInStep seat.old.1 self (pending.Put out) }
         ensures called { HasCalled seat.old seat.new }
-        ensures step { IsInStep seat.new.1 self.new pending.Work }
+        ensures step { IsInStep seat.new.1 result pending.Work }
     {
-        let Out { frames, noframe } = out;
         let s = self.s;
-        let Reply::Put { done } = turnstile.call(
-            rt,
-            seat,
-            Ask::Put {
-                s,
-                done: Done {
-                    frames,
-                    noframe,
-                    note: self.switch.note(),
-                    spent: self.switch.is_spent(),
-                },
-            },
-        ) else {
+        let room = self.done;
+        let done = filled(&self.switch, out, room);
+        let BookReply::Put { mut done } = turnstile.call(rt, seat, BookAsk::Put { s, done }) else {
             unreachable!()
         };
-        self.out = Out {
-            frames: done.frames,
+        let out = Out {
+            frames: replace(&mut done.frames, Frames::new(self.alloc)),
             noframe: false,
         };
+        Desk { out, done, ..self }
     }
 
     // Asks for a table to be used. Where it is handed back it is to be asked for again, and not at once.
     fn load<R: Wait>(
-        &mut self,
+        self,
         rt: &R,
         turnstile: &Turnstile<Book>,
         seat: &mut Seat<Book>,
         table: TableFor,
-    ) -> (Pending, bool)
+    ) -> (Desk, Pending, bool)
         requires turnstile { seat.old.0 ≡ turnstile_id turnstile.now }
-        requires step { IsInStep seat.old.1 self.old (pending.Load table) }
+        requires step { IsInStep seat.old.1 self (pending.Load table) }
         ensures called { HasCalled seat.old seat.new }
-        ensures step { IsInStep seat.new.1 self.new result.0 }
+        ensures step { IsInStep seat.new.1 result.0 result.1 }
     {
-        let note = self.switch.note();
-        let Reply::Load { reply } = turnstile.call(
-            rt,
-            seat,
-            Ask::Load {
-                s: self.s,
-                table,
-                note,
-            },
-        ) else {
+        let room = self.note;
+        let ask = BookAsk::Load {
+            s: self.s,
+            table,
+            note: shown(&self.switch, room),
+        };
+        let BookReply::Load { reply, note } = turnstile.call(rt, seat, ask) else {
             unreachable!()
         };
+        let desk = Desk { note, ..self };
         match reply {
-            LoadReply::Loaded => (Pending::Work, true),
-            LoadReply::NotNow(table) => (Pending::Load(table), false),
+            LoadReply::Loaded => (desk, Pending::Work, true),
+            LoadReply::NotNow(table) => (desk, Pending::Load(table), false),
         }
     }
 }

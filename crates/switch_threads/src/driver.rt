@@ -5,11 +5,11 @@ ghost use Rattle.fabric_turn.specs.Names.{turnstile_id};
 ghost use Rattle.switch_threads.specs.Runs.{HasCalled};
 ghost use Rattle.switch_threads.specs.Workers.{IsDriving};
 
+use fabric_book::asking::{BookAsk, BookReply};
 use fabric_book::book::Book;
 use fabric_state::ending::Ending;
 use fabric_state::work::Drive;
 use fabric_turn::{Seat, Turnstile};
-use fabric_world::ask::{Ask, Reply};
 use std::marker::Model;
 use std::sync::Wait;
 
@@ -63,7 +63,7 @@ impl Driver {
         requires { self.old.seat.0 ≡ turnstile_id turnstile.now }
         ensures { HasCalled self.old.seat self.new.seat }
     {
-        let Reply::Drive { drive } = turnstile.call(rt, &mut self.seat, Ask::Drive) else {
+        let BookReply::Drive { drive } = turnstile.call(rt, &mut self.seat, BookAsk::Drive) else {
             unreachable!()
         };
         match drive {

@@ -1,5 +1,6 @@
-use Rattle.std.proofs.Common.{◌≡◌, ◌∙◌, sym, ap, subst, refl, ℕ, ◌<◌, ◌+◌, List, [], ◌∷◌, ◌++◌, Option, Some, Bool, true, false, All, take, drop, suc, map, get_or, length, arith}
-use Rattle.std.specs.List.{flat_map}
+use Rattle.std.proofs.Common.{◌≡◌, ◌∙◌, sym, ap, subst, refl, ℕ, ◌<◌, ◌+◌, List, [], ◌∷◌, ◌++◌, Option, Some, Bool, true, false, All, take, drop, suc, map, get_or, length, arith, codes, append-nil}
+use Rattle.std.specs.List.{flat_map, list_all}
+use Rattle.std.proofs.lemmas.List.Sums.{AllPass-from_list_all}
 use Rattle.std.specs.Prelude.{filter, if◌then◌else◌, slice_index_or}
 use Rattle.std.proofs.lemmas.List.{get_or_default, flat_map_more, take_all, take_more, take-append-drop, map-append}
 use Rattle.std.proofs.lemmas.List.Elements.{All-push}
@@ -18,7 +19,7 @@ use Rattle.dep_check.specs.declared.refusal.CheckRefusal.TheVariants.{Cycle, Not
 use Rattle.dep_check.specs.Answer.{Passes, IsRefusal}
 use Rattle.table_report.proofs.RunLemmas.{filter_alike}
 use Rattle.table_report.specs.Runs.{AreRuns, IsRun, rows_in}
-use Rattle.table_report.specs.Check.{name_of, name_at, numbers_of, members_of, is_row_of, renumbered, rows_of, ranks_text, refusal_line, Judges, IsRefusedFor, ArePassing, IsRanked, Ranked, ranked_text, OneIsRefused}
+use Rattle.table_report.specs.Check.{name_of, name_at, numbers_of, members_of, is_row_of, renumbered, rows_of, ranks_text, refusal_line, Judges, IsRefusedFor, ArePassing, AllPass, IsRanked, Ranked, ranked_text, OneIsRefused}
 
 -- the name of the member at the place of a number
 pub name_is : (s : ScriptOf) (es : List EntryOf) (numbers : List ℕ) (n x : ℕ) (e : EntryOf) → place_in numbers n ≡ Some x → x < length es → e ≡ get_or es x e → life_text s e.life ≡ name_of s es numbers n
@@ -55,6 +56,24 @@ numbers_same switches all t named es numbers one two is = is ∙ ap (λ (w : Lis
 
 pub rows_same : (switches all : List SwitchAt) (t : TablesOf) (named es : List EntryOf) (rows : List RowOf) → switches ≡ all → named ≡ es → rows ≡ rows_of switches t named → rows ≡ rows_of all t es
 rows_same switches all t named es rows one two is = is ∙ ap (λ (w : List SwitchAt). rows_of w t named) one ∙ ap (rows_of all t) two
+
+-- the rows of members, if all are
+pub all_rows : (switches all : List SwitchAt) (t : TablesOf) (named es : List EntryOf) (members : List Bool) (rows : List RowOf) → switches ≡ all → named ≡ es → members ≡ members_of switches named → list_all (is_row_of members) t.rows ≡ true → rows ≡ map (renumbered t) t.rows → rows ≡ rows_of all t es
+all_rows switches all t named es members rows one two members_is each is =
+    rows_same switches all t named es rows one two (is
+    ∙ ap (map (renumbered t)) (filter_alike (is_row_of members) t.rows true (AllPass-from_list_all (is_row_of members) t.rows each))
+    ∙ ap (λ (m : List Bool). map (renumbered t) (filter (is_row_of m) t.rows)) members_is)
+
+-- the only component, if it passes
+pub only_passes : (s : ScriptOf) (t : TablesOf) (es : List EntryOf) (old text new : List ℕ) → IsForest s.wires (es ∷ []) → old ≡ [] → Judges s t es true old text → new ≡ text ++ codes "ok\n" → AllPass s t new
+only_passes s t es old text new forest none judged is =
+    let part : Ranked = record { entries = es; ranks = judged.0 } in
+    record {
+      parts = part ∷ [];
+      trees = forest;
+      pass = All-push (IsRanked s.wires.switches t) [] part (λ k d low. absurd (omega arith)) judged.1;
+      text_is = is ∙ ap (λ (u : List ℕ). u ++ codes "ok\n") (judged.2 ∙ ap (λ (u : List ℕ). u ++ ranked_text s t part) none ∙ sym (append-nil (ranked_text s t part)));
+    }
 
 -- one component more that passes
 pub passing_more : (s : ScriptOf) (t : TablesOf) (forest : List (List EntryOf)) (i : ℕ) (es : List EntryOf) (ranks : List (Option ℕ)) (parts : List Ranked) (text new : List ℕ) → i < length forest → es ≡ get_or forest i es → ArePassing s.wires.switches t es ranks → map (λ p. p.entries) parts ≡ take i forest → All (IsRanked s.wires.switches t) parts → text ≡ flat_map (ranked_text s t) parts → new ≡ text ++ ranked_text s t (record { entries = es; ranks = ranks })

@@ -1,10 +1,8 @@
 -- A run of the packets that enter a component: they enter, and then come the turns.
 use Rattle.std.proofs.Common.{◌≡◌, ◌≢◌, ◌∙◌, sym, ap, subst, refl, ℕ, suc, ◌+◌, ◌<◌, ◌≤◌, List, [], ◌∷◌, ◌++◌, Bool, Option, arith, append-nil, length, length-take, get_or, map, take, Contains, true, ◌==◌}
-use Rattle.std.specs.Prelude.{fold}
 use Rattle.std.specs.List.{flat_map}
 use Rattle.std.proofs.lemmas.Bool.Decides.{nat_tests}
-use Rattle.std.proofs.lemmas.List.{get_or-map, get_or_default, get_or-take, length-map, take_more, map_push}
-use Rattle.std.proofs.lemmas.List.Elements.{Contains-get_or}
+use Rattle.std.proofs.lemmas.List.{get_or-map, get_or-take, length-map, take_more, map_push}
 use Rattle.std.proofs.lemmas.List.Sums.{fold_more}
 use Rattle.std.proofs.lemmas.Grind.{flat_map-append}
 use Rattle.an_base.specs.Values.{EntryOf}
@@ -24,16 +22,16 @@ use Rattle.dep_check.specs.Cycles.{HasNoCycle, IsLeastCycle}
 use Rattle.dep_check.specs.Laws.{AreTables as AllTables}
 use Rattle.dep_check.proofs.TableLaws.{tables_no_cycle, tables_joined, tables_legal}
 use Rattle.flow_channels.specs.declared.went.Went.{Went}
-use Rattle.flow_channels.specs.Flows.{FlowOf, empty_flow, enters, left_of}
+use Rattle.flow_channels.specs.Flows.{FlowOf, empty_flow, enters}
 use Rattle.flow_channels.specs.Layout.{LayoutOf, layout_of}
 use Rattle.flow_channels.specs.Moves.{IsTurn}
 use Rattle.flow_channels.specs.Runs.{MayEnter, moves_left, Turns}
 use Rattle.flow_channels.specs.View.{FlowView, IsFresh, IsOver, MayEnterNow}
 use Rattle.flow_channels.proofs.EndLaws.{turn_less}
 use Rattle.table_report.specs.declared.sent.Sent.{Sent}
-use Rattle.table_report.specs.Expect.{AreTables, Part}
+use Rattle.table_report.specs.Expect.{AreTables}
 use Rattle.table_report.specs.Flows.{entered_flow, layout_in, with_entered}
-use Rattle.table_report.specs.FlowRuns.{AreOwnRows, HasEntered, IsNumbered, IsRanked, IsReady, IsRun, IsRunFrom}
+use Rattle.table_report.specs.FlowRuns.{AreOwnRows, HasEntered, IsNumbered, IsRanked, IsReady, IsRunFrom}
 use Rattle.table_report.specs.Sends.{entering, MayAllEnter, number_at, numbers_in, sends_of}
 use Rattle.table_report.proofs.ComponentTree.{component_tree}
 use Rattle.table_report.proofs.FlowSends.{may_enter}
@@ -192,6 +190,14 @@ own_rows any es numbers tables rows named numbered are is = record {
 -- a flow that is fresh has room for as many packets as may enter
 pub ready : (layout : LayoutOf) (most : ℕ) (sends : List Sent) (view : FlowView) → IsFresh layout most view → length sends ≤ most → IsReady layout sends view
 ready layout most sends view fresh few = record { over = fresh.over; known_is = fresh.known_is; flow_is = fresh.flow_is; room = (let e = fresh.limit_is in omega arith) }
+
+-- these are the moves of packets that enter a component
+pub record IsRun (any : Bool) (room : ℕ) (entries : List EntryOf) (home : List ℕ) (sends : List Sent)
+    (moves : List Went) : Type 0 where
+  pub tables : List TableOf
+  pub are : AreTables entries any (length entries) tables
+  pub run : IsRunFrom (layout_in room (record { entries = entries; tables = tables }))
+      (entered_flow home sends) moves
 
 -- the moves of those that entered are a run
 pub ran : (any : Bool) (room : ℕ) (es : List EntryOf) (numbers home : List ℕ) (sends : List Sent) (tables : List TableOf) (rows : List RowOf) (moves : List Went) (start : FlowOf) → numbers ≡ numbering es → AreTables es any (length es) tables → rows ≡ flat_map (λ t. t.rows) tables → start ≡ entered_flow home sends → IsRunFrom (layout_of es numbers rows room) start moves → IsRun any room es home sends moves

@@ -18,4 +18,5 @@ pub mod FloodLaws
 pub mod FlowSends
 pub mod FlowTurns
 pub mod FlowTexts
+pub mod FlowFates
 pub mod FlowLaws

@@ -1,23 +1,21 @@
-use Rattle.std.specs.Prelude.{◌≡◌, ◌<◌, ◌≤◌, ℕ, Bool, List, [], ◌∷◌, Option, length, map, slice_index_or}
+use Rattle.std.specs.Prelude.{◌≡◌, ◌+◌, ◌<◌, ◌≤◌, ◌++◌, ℕ, Bool, List, [], ◌∷◌, Option, count_by, length, map, slice_index_or}
 use Rattle.an_base.specs.Values.{EntryOf}
 use Rattle.an_base.specs.Numbers.{AreNumbers}
 use Rattle.an_base.specs.Rows.{RowOf}
 use Rattle.net_script.specs.Scripts.{ScriptOf}
 use Rattle.topo_graph.specs.Topology.{IsGraph, IsTree}
-use Rattle.table_build.specs.Tables.{TableOf}
 use Rattle.dep_check.specs.Channels.{IsChannel, LeadsTo}
 use Rattle.dep_check.specs.Cycles.{AreRanks}
 use Rattle.dep_check.specs.Laws.{AreTables as AllTables}
 use Rattle.dep_check.specs.Tables.{rank_at}
 use Rattle.flow_channels.specs.declared.went.Went.{Went}
 use Rattle.flow_channels.specs.Flows.{FlowOf, empty_flow, left_of}
-use Rattle.flow_channels.specs.Layout.{LayoutOf}
+use Rattle.flow_channels.specs.Layout.{LayoutOf, layout_of}
 use Rattle.flow_channels.specs.Runs.{Turns}
 use Rattle.flow_channels.specs.View.{FlowView, IsOver}
 use Rattle.table_report.specs.declared.sent.Sent.{Sent}
 use Rattle.table_report.specs.Check.{name_of}
-use Rattle.table_report.specs.Expect.{AreTables}
-use Rattle.table_report.specs.Flows.{entered_flow, layout_in}
+use Rattle.table_report.specs.Flows.{entered_flow, flow_told, is_out, went_line}
 
 -- What private functions alone cite: a run of the packets that enter a component.
 
@@ -59,14 +57,6 @@ pub record IsRunFrom (layout : LayoutOf) (start : FlowOf) (moves : List Went) : 
   pub turns : Turns layout start moves end
   pub done : left_of end ≡ 0
 
--- these are the moves of packets that enter a component
-pub record IsRun (any : Bool) (room : ℕ) (entries : List EntryOf) (home : List ℕ) (sends : List Sent)
-    (moves : List Went) : Type 0 where
-  pub tables : List TableOf
-  pub are : AreTables entries any (length entries) tables
-  pub run : IsRunFrom (layout_in room (record { entries = entries; tables = tables }))
-      (entered_flow home sends) moves
-
 -- for each number below an end a space and the name of the switch that has it
 pub record AreNames (script : ScriptOf) (entries : List EntryOf) (numbers : List ℕ) (end : ℕ)
     (names : List (List ℕ))
@@ -75,3 +65,20 @@ pub record AreNames (script : ScriptOf) (entries : List EntryOf) (numbers : List
   pub each :
       (number : ℕ) → number < end
       → slice_index_or names number [] ≡ 32 ∷ name_of script entries numbers number
+
+-- a flow over rows, and the ranks of its channels, into which packets have come
+pub record IsBegun (room : ℕ) (entries : List EntryOf) (numbers : List ℕ) (rows : List RowOf) (home : List ℕ)
+    (sends : List Sent) (ranks : List (Option ℕ)) (view : FlowView)
+    : Type 0 where
+  pub ranked : IsRanked ranks view
+  pub over : IsOver (layout_of entries numbers rows room) view
+  pub flow_is : view.flow ≡ entered_flow home sends
+
+-- the turns from a flow on until no packet is left, with their lines behind a text and those that go out counted
+pub record IsToldRun (layout : LayoutOf) (script : ScriptOf) (entries : List EntryOf) (start : FlowOf)
+    (base text : List ℕ) (before out : ℕ)
+    : Type 0 where
+  pub moves : List Went
+  pub run : IsRunFrom layout start moves
+  pub text_is : text ≡ base ++ flow_told (map (went_line script entries) moves)
+  pub out_is : out ≡ before + count_by is_out moves

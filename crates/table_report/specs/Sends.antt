@@ -1,4 +1,4 @@
-use Rattle.std.specs.Prelude.{◌≡◌, ◌≢◌, ◌==◌, ◌&&◌, ◌+◌, ◌≤◌, ℕ, Bool, not, List, [], ◌∷◌, ◌++◌, Option, Some, None, All, AllPairs, Contains, length, map, filter, fold, position, unwrap_or, slice_get, slice_index_or}
+use Rattle.std.specs.Prelude.{◌≢◌, ◌==◌, ◌&&◌, ◌+◌, ◌≤◌, ℕ, Bool, not, List, [], ◌∷◌, ◌++◌, Option, Some, None, All, AllPairs, Contains, length, map, filter, fold, position, unwrap_or, slice_get, slice_index_or}
 use Rattle.std.specs.Option.{option_map}
 use Rattle.std.specs.List.{list_any}
 use Rattle.an_base.specs.Values.{EntryOf}

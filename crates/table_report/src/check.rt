@@ -1,9 +1,9 @@
-ghost use Rattle.std.specs.Prelude.{◌≡◌, ◌≢◌, ◌==◌, ◌<◌, ◌++◌, length, map, filter, ℕ, IfOk, IfSome, OnOk};
-ghost use Rattle.std.specs.List.{list_any};
+ghost use Rattle.std.specs.Prelude.{◌≡◌, ◌≢◌, ◌==◌, ◌<◌, ◌++◌, [], ◌∷◌, length, map, filter, ℕ, IfOk, IfSome, OnOk};
+ghost use Rattle.std.specs.List.{list_all, list_any};
 ghost use Rattle.dep_check.specs.Channels.{place_in};
 ghost use Rattle.an_base.specs.Numbers.{AreNumbers};
 ghost use Rattle.net_graph.specs.Forest.{IsComponent, IsForest};
-ghost use Rattle.table_script.specs.Tables.{AreTablesOf, IsTables};
+ghost use Rattle.table_script.specs.Tables.{AreTablesOf, IsTables, TablesOf};
 ghost use Rattle.dep_check.specs.declared.refusal.CheckRefusal.TheVariants.{Cycle, IllegalExit, NotJoined};
 ghost use Rattle.dep_check.specs.declared.refusal.CheckRefusal.TheVariants as why;
 ghost use Rattle.dep_check.specs.Tables.{rank_at};
@@ -377,8 +377,58 @@ impl Naming<'_> {
     }
 }
 
-// Judges the rows of a component: appends its ranks where they pass, and sets the text to the line of
-// what is refused where they do not. Answers whether they pass.
+// The numbers that the tables give to the members of a component.
+fn component_numbers(
+    alloc: Global,
+    script: &Script,
+    tables: &Tables,
+    component: &Entries,
+) -> Result<Numbers, AllocError>
+    requires tables { AreTablesOf script.now.wires tables.now }
+    requires component { (r : ℕ) × IsComponent script.now.wires r component.now }
+    ensures { IfOk result (λ numbers. numbers
+        ≡ numbers_of script.now.wires.switches tables.now component.now) }
+{
+    let switches = script.wiring().switches();
+    let entries = component.as_slice();
+    Ok(Numbers::new(numbers_of(alloc, switches, tables, entries)?))
+}
+
+// Judges the rows of a component with these numbers: appends its ranks where they pass, and sets the text to
+// the line of what is refused where they do not. Answers whether they pass.
+fn judge_rows(
+    alloc: Global,
+    text: &mut Vec<u8>,
+    script: &Script,
+    component: &Entries,
+    numbers: &Numbers,
+    rows: &[Row],
+) -> Result<bool, OutOfMemory>
+    requires { length numbers.now ≡ length component.now }
+    ensures { (t : TablesOf) → numbers.now ≡ numbers_of script.now.wires.switches t component.now
+        → rows.now ≡ rows_of script.now.wires.switches t component.now
+        → IfOk result (λ passed. Judges script.now t component.now passed text.old.items text.new.items) }
+{
+    let graph = Graph::of(alloc, component)?;
+    let naming = Naming {
+        script,
+        entries: component.as_slice(),
+        numbers: numbers.as_slice(),
+    };
+    match check(alloc, &graph, numbers, rows) {
+        Ok(ranks) => {
+            naming.push_ranks(alloc, text, &ranks)?;
+            Ok(true)
+        }
+        Err(refusal) => {
+            text.clear();
+            naming.push_refusal(alloc, text, &refusal)?;
+            Ok(false)
+        }
+    }
+}
+
+// Judges the rows of a component.
 fn judge_component(
     alloc: Global,
     text: &mut Vec<u8>,
@@ -392,27 +442,10 @@ fn judge_component(
     requires component { (r : ℕ) × IsComponent script.now.wires r component.now }
     ensures { IfOk result (λ passed. Judges script.now tables.now component.now passed text.old.items text.new.items) }
 {
-    let entries = component.as_slice();
+    let numbers = component_numbers(alloc, script, tables, component)?;
     let switches = script.wiring().switches();
-    let graph = Graph::of(alloc, component)?;
-    let numbers = Numbers::new(numbers_of(alloc, switches, tables, entries)?);
-    let rows = rows_of(alloc, switches, tables, runs, entries)?;
-    let naming = Naming {
-        script,
-        entries,
-        numbers: numbers.as_slice(),
-    };
-    match check(alloc, &graph, &numbers, &rows) {
-        Ok(ranks) => {
-            naming.push_ranks(alloc, text, &ranks)?;
-            Ok(true)
-        }
-        Err(refusal) => {
-            text.clear();
-            naming.push_refusal(alloc, text, &refusal)?;
-            Ok(false)
-        }
-    }
+    let rows = rows_of(alloc, switches, tables, runs, component.as_slice())?;
+    judge_rows(alloc, text, script, component, &numbers, &rows)
 }
 
 // Judges the rows of the components, until some are refused.
@@ -440,13 +473,66 @@ fn judge_all(
     Ok(Judgement { passed: true, text })
 }
 
+// Whether all rows are those of members.
+fn are_rows_of(members: &[bool], rows: &[Row]) -> bool
+    ensures { result ≡ list_all (is_row_of members.now) rows.now }
+{
+    rows.iter().all(|row| is_row_of(members, row))
+}
+
+// The rows of a component, in which each stands as its number. Where all are, no memory is taken.
+fn taken_rows(
+    alloc: Global,
+    script: &Script,
+    tables: Tables,
+    component: &Entries,
+) -> Result<Vec<Row>, AllocError>
+    ensures { IfOk result (λ rows. rows.items ≡ rows_of script.now.wires.switches tables component.now) }
+{
+    let switches = script.wiring().switches();
+    let entries = component.as_slice();
+    let members = members_of(alloc, switches, entries)?;
+    if are_rows_of(&members, tables.rows()) {
+        return Ok(tables.into_numbered());
+    }
+    let runs = runs_of(alloc, tables.rows())?;
+    rows_of(alloc, switches, &tables, &runs, entries)
+}
+
+// Judges the rows of a network of one component.
+fn judge_only(
+    alloc: Global,
+    script: &Script,
+    tables: Tables,
+    component: &Entries,
+) -> Result<Judgement, OutOfMemory>
+    requires tables { AreTablesOf script.now.wires tables }
+    requires forest { IsForest script.now.wires (component.now ∷ []) }
+    ensures { IfOk result (λ j. IsJudged script.now tables j.passed j.text.items) }
+{
+    let mut text = Vec::new(alloc);
+    let numbers = component_numbers(alloc, script, &tables, component)?;
+    let rows = taken_rows(alloc, script, tables, component)?;
+    if !judge_rows(alloc, &mut text, script, component, &numbers, &rows)? {
+        return Ok(Judgement {
+            passed: false,
+            text,
+        });
+    }
+    text.extend_from_slice(b"ok\n")?;
+    Ok(Judgement { passed: true, text })
+}
+
 /// Checks the tables of a network, those of one component after another by rising root. Where all pass
 /// the text has the rank of each channel of each component, by rising number and then by rising port,
 /// and `ok`; else it has the one line that says why those of the first refused component are.
-pub fn judge(alloc: Global, script: &Script, tables: &Tables) -> Result<Judgement, OutOfMemory>
-    requires { AreTablesOf script.now.wires tables.now }
-    ensures { IfOk result (λ j. IsJudged script.now tables.now j.passed j.text.items) }
+pub fn judge(alloc: Global, script: &Script, tables: Tables) -> Result<Judgement, OutOfMemory>
+    requires { AreTablesOf script.now.wires tables }
+    ensures { IfOk result (λ j. IsJudged script.now tables j.passed j.text.items) }
 {
     let forest = trees(alloc, script.wiring())?;
-    judge_all(alloc, script, tables, &forest)
+    if let [component] = forest.as_slice() {
+        return judge_only(alloc, script, tables, component);
+    }
+    judge_all(alloc, script, &tables, &forest)
 }

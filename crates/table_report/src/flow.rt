@@ -1,7 +1,7 @@
 //! What becomes of the packets that a script sends, where channels hold a few each.
 
-ghost use Rattle.std.specs.Prelude.{◌≡◌, ◌++◌, ◌∷◌, ◌<◌, ◌≤◌, ℕ, Bool, List, [], codes, count_by, length, map, IfOk, IfSome, OnOk};
-ghost use Rattle.std.specs.Prelude.{slice_index_or};
+ghost use Rattle.std.specs.Prelude.{◌≡◌, ◌+◌, ◌-◌, ◌++◌, ◌∷◌, ◌<◌, ◌≤◌, ℕ, Bool, List, [], codes, count_by, filter, length};
+ghost use Rattle.std.specs.Prelude.{Contains, IfOk, IfSome, OnOk, slice_index_or};
 ghost use Rattle.std.specs.Fmt.{decimal};
 ghost use Rattle.std.specs.List.{flat_map};
 ghost use Rattle.an_base.specs.Values.{EntryOf};
@@ -17,18 +17,15 @@ ghost use Rattle.flow_channels.specs.Layout.{LayoutOf};
 ghost use Rattle.flow_channels.specs.View.{IsOver};
 ghost use Rattle.table_report.specs.Check.{name_of};
 ghost use Rattle.table_report.specs.Expect.{AreTables};
-ghost use Rattle.table_report.specs.Flows.{end_line, entries_of, fate_lines, flow_told, flow_words, FlowPart};
+ghost use Rattle.table_report.specs.Flows.{entries_of, fate_lines, flow_told, flow_words, FlowPart};
 ghost use Rattle.table_report.specs.Flows.{IsFlowOf, IsFlowPart, is_out, part_lines, went_line};
-ghost use Rattle.table_report.specs.Flows.FlowLine.{Arrives, Moves};
-ghost use Rattle.table_report.specs.FlowRuns.{AreNames, AreOwnRows, HasEntered, IsNumbered, IsRanked};
-ghost use Rattle.table_report.specs.FlowRuns.{IsReady, IsRun, IsRunFrom};
-ghost use Rattle.table_report.specs.Sends.{homes_of, MayAllEnter, sends_of};
+ghost use Rattle.table_report.specs.Flows.FlowLine.{Arrives, Ends, Moves};
+ghost use Rattle.table_report.specs.FlowRuns.{AreNames, AreOwnRows, HasEntered, IsRanked};
+ghost use Rattle.table_report.specs.FlowRuns.{IsBegun, IsReady, IsToldRun};
+ghost use Rattle.table_report.specs.Sends.{homes_of, is_entering, is_local, MayAllEnter, numbers_in, sends_of};
 
 use crate::piece::life_word;
-use crate::sent::{
-    Home, Sent, count_entering, count_local, count_unjoined, entering, homes_of, is_joined,
-    sends_of,
-};
+use crate::sent::{Home, Sent, count_local, entering, homes_of, is_joined, sends_of};
 use an_base::entry::{Entries, Entry};
 use an_base::memory::OutOfMemory;
 use an_base::numbers::Numbers;
@@ -106,45 +103,26 @@ fn enter_all(flow: &mut Flow, home: &Home, sends: &[Sent])
     }
 }
 
-// The turns until no packet is left.
-fn moves_of(alloc: Global, flow: &mut Flow, ranks: &Ranks) -> Result<Vec<Went>, OutOfMemory>
-    requires { IsRanked ranks.now flow.old }
-    ensures { IfOk result (λ moves. (layout : LayoutOf) → IsOver layout flow.old
-        → IsRunFrom layout flow.old.flow moves.items) }
-{
-    let _ranks = ranks;
-    let mut moves = Vec::new(alloc);
-    'turns: while let Some(went) = flow.turn() {
-        moves.push(went)?;
-    }
-    Ok(moves)
-}
-
-// The moves of packets that enter a component. Where none enters no flow is made.
-fn run(
+// A flow into which packets that enter a component have come, and the ranks of its channels.
+fn begun(
     alloc: Global,
     graph: &Graph,
     numbers: &Numbers,
-    any: bool,
+    rows: &[Row],
     home: &Home,
     sends: &[Sent],
     b: u16,
-) -> Result<Vec<Went>, OutOfMemory>
-    requires named { numbers.now ≡ numbering graph.now }
-    requires numbered { IsNumbered graph.now numbers.now }
+) -> Result<(Flow, Ranks), OutOfMemory>
+    requires own { (any : Bool) × AreOwnRows any graph.now numbers.now rows.now }
     requires sends { MayAllEnter numbers.now home.now sends.now }
     requires room { 1 ≤ b }
-    ensures { IfOk result (λ moves. IsRun any b graph.now home.now sends.now moves.items) }
+    ensures { IfOk result (λ begun. IsBegun b graph.now numbers.now rows.now home.now sends.now begun.1 begun.0) }
 {
-    let rows = rows_of(alloc, graph, numbers, any)?;
-    if sends.is_empty() {
-        return Ok(Vec::new(alloc));
-    }
-    let ranks = ranks_of(alloc, graph, numbers, &rows)?;
+    let ranks = ranks_of(alloc, graph, numbers, rows)?;
     let most = sends.len().max(1) as u32;
-    let mut flow = Flow::new(alloc, graph, numbers, &rows, &ranks, b, most)?;
+    let mut flow = Flow::new(alloc, graph, numbers, rows, &ranks, b, most)?;
     enter_all(&mut flow, home, sends);
-    moves_of(alloc, &mut flow, &ranks)
+    Ok((flow, ranks))
 }
 
 // The place of a number.
@@ -291,48 +269,73 @@ fn push_went(text: &mut Vec<u8>, names: &[Word], went: Went) -> Result<(), OutOf
     }
 }
 
-// Appends the lines of moves.
-fn push_moves(text: &mut Vec<u8>, names: &[Word], moves: &[Went]) -> Result<(), OutOfMemory>
-    requires { length names.now ≡ 256 }
-    ensures { OnOk result ((script : ScriptOf) (entries : List EntryOf)
-        → AreNames script entries (numbering entries) 256 names.now
-        → text.new.items ≡ text.old.items ++ flow_told (map (went_line script entries) moves.now)) }
+// Whether a packet went out of a switch.
+fn is_out(went: Went) -> bool
+    ensures { result ≡ is_out went }
 {
-    'moves: for went in moves {
-        push_went(text, names, *went)?;
+    matches!(went, Went::Out { .. })
+}
+
+// Appends the lines of the turns until no packet is left, and adds how many go out of a switch.
+fn push_turns(
+    text: &mut Vec<u8>,
+    out: &mut usize,
+    names: &[Word],
+    flow: &mut Flow,
+    ranks: &Ranks,
+) -> Result<(), OutOfMemory>
+    requires ranked { IsRanked ranks.now flow.old }
+    requires named { (script : ScriptOf) × (entries : List EntryOf)
+        × AreNames script entries (numbering entries) 256 names.now }
+    requires few { out.old ≤ length text.old.items }
+    ensures told { OnOk result ((layout : LayoutOf) (script : ScriptOf) (entries : List EntryOf)
+        → IsOver layout flow.old → AreNames script entries (numbering entries) 256 names.now
+        → IsToldRun layout script entries flow.old.flow text.old.items text.new.items out.old out.new) }
+    ensures few { OnOk result (out.new ≤ length text.new.items) }
+{
+    let _ranks = ranks;
+    'turns: while let Some(went) = flow.turn() {
+        push_went(text, names, went)?;
+        *out += usize::from(is_out(went));
     }
     Ok(())
 }
 
-// Appends the lines of the moves of the packets that enter a component, and these to the moves so far.
+// Appends the lines of the moves of the packets that enter a component, and adds how many go out of a switch.
 fn push_part(
     alloc: Global,
     text: &mut Vec<u8>,
-    all: &mut Vec<Went>,
+    out: &mut usize,
     script: &Script,
     component: &Entries,
     sends: &[Sent],
     b: u16,
 ) -> Result<(), OutOfMemory>
     requires component { (root : ℕ) × IsComponent script.now.wires root component.now }
-    requires sends { sends.now ≡ sends_of script.now }
+    requires sends { (homes : List (List ℕ))
+        × Contains homes (numbers_in script.now.wires.switches component.now)
+        × (sends.now ≡ filter (is_entering homes) (sends_of script.now)) }
     requires room { 1 ≤ b }
-    ensures { OnOk result ((part : FlowPart) × (entries_of part ≡ component.now) × IsFlowPart script.now b part
+    requires few { out.old ≤ length text.old.items }
+    ensures told { OnOk result ((part : FlowPart) × (entries_of part ≡ component.now) × IsFlowPart script.now b part
         × (text.new.items ≡ text.old.items ++ flow_told (part_lines script.now part))
-        × (all.new.items ≡ all.old.items ++ part.moves)) }
+        × (out.new ≡ out.old + count_by is_out part.moves)) }
+    ensures few { OnOk result (out.new ≤ length text.new.items) }
 {
     let switches = script.wiring().switches();
     let home = Home::of(alloc, switches, component)?;
     let those = entering(alloc, &home, sends)?;
     let graph = Graph::of(alloc, component)?;
     let numbers = number(alloc, component)?;
-    let any = script.any_routes();
-    let mut moves = run(alloc, &graph, &numbers, any, &home, &those, b)?;
+    let rows = rows_of(alloc, &graph, &numbers, script.any_routes())?;
+    if those.is_empty() {
+        return Ok(());
+    }
+    let (mut flow, ranks) = begun(alloc, &graph, &numbers, &rows, &home, &those, b)?;
     let entries = component.as_slice();
     let named = numbers.as_slice();
     let names = names_of(alloc, script, entries, named)?;
-    push_moves(text, &names, &moves)?;
-    all.append(&mut moves)?;
+    push_turns(text, out, &names, &mut flow, &ranks)?;
     Ok(())
 }
 
@@ -347,72 +350,69 @@ fn switch_name(names: &Names, switch: u8) -> &[u8]
     &[]
 }
 
-// Appends the line of a packet that enters nowhere.
+// Appends the line of a packet that enters nowhere, and answers whether it enters a component.
 fn push_fate(
     text: &mut Vec<u8>,
     script: &Script,
     homes: &[Home],
     sent: Sent,
-) -> Result<(), OutOfMemory>
-    ensures { OnOk result (text.new.items ≡ text.old.items ++ flow_told (fate_lines script.now homes.now sent)) }
+) -> Result<bool, OutOfMemory>
+    ensures told { OnOk result (text.new.items ≡ text.old.items ++ flow_told (fate_lines script.now homes.now sent)) }
+    ensures enters { IfOk result (λ enters. enters ≡ is_entering homes.now sent) }
 {
     let mut digits = Buffer::new();
     let packet = digits.format(sent.packet).as_bytes();
     if sent.is_local() {
         let name = switch_name(script.switch_names(), sent.from);
-        return push_line(text, &[b"local", packet, name]);
+        push_line(text, &[b"local", packet, name])?;
+        return Ok(false);
     }
     if is_joined(homes, sent) {
-        return Ok(());
+        return Ok(true);
     }
-    push_line(text, &[b"unjoined", packet])
+    push_line(text, &[b"unjoined", packet])?;
+    Ok(false)
 }
 
-// Appends the lines of the packets that enter nowhere.
+// Appends the lines of the packets that enter nowhere, and answers the others.
 fn push_fates(
+    alloc: Global,
     text: &mut Vec<u8>,
     script: &Script,
     homes: &[Home],
     sends: &[Sent],
-) -> Result<(), OutOfMemory>
-    ensures { OnOk result (text.new.items
+) -> Result<Vec<Sent>, OutOfMemory>
+    ensures told { OnOk result (text.new.items
         ≡ text.old.items ++ flow_told (flat_map (fate_lines script.now homes.now) sends.now)) }
+    ensures those { IfOk result (λ those. those.items ≡ filter (is_entering homes.now) sends.now) }
 {
+    let mut those = Vec::new(alloc);
     'sends: for sent in sends {
-        push_fate(text, script, homes, *sent)?;
+        if push_fate(text, script, homes, *sent)? {
+            those.push(*sent)?;
+        }
     }
-    Ok(())
+    Ok(those)
 }
 
-// Whether a packet went out of a switch.
-fn is_out(went: Went) -> bool
-    ensures { result ≡ is_out went }
-{
-    matches!(went, Went::Out { .. })
-}
-
-// How many moves go out of a switch.
-fn count_out(moves: &[Went]) -> usize
-    ensures { result ≡ count_by is_out moves.now }
-{
-    moves.iter().filter(|went| is_out(**went)).count()
-}
-
-// Appends the last line.
+// Appends the last line, where so many moves go out of a switch, and so many packets enter a component.
 fn push_end(
     alloc: Global,
     text: &mut Vec<u8>,
-    homes: &[Home],
     sends: &[Sent],
-    moves: &[Went],
+    entered: usize,
+    out: usize,
 ) -> Result<(), OutOfMemory>
-    ensures { OnOk result (text.new.items
-        ≡ text.old.items ++ line_text (flow_words (end_line homes.now sends.now moves.now))) }
+    requires { count_by is_local sends.now + entered ≤ length sends.now }
+    ensures { OnOk result (text.new.items ≡ text.old.items ++ line_text (flow_words (Ends out entered
+        (count_by is_local sends.now) (length sends.now - count_by is_local sends.now - entered)))) }
 {
-    let out = decimal(alloc, count_out(moves) as u64)?;
-    let entered = decimal(alloc, count_entering(homes, sends) as u64)?;
-    let local = decimal(alloc, count_local(sends) as u64)?;
-    let unjoined = decimal(alloc, count_unjoined(homes, sends) as u64)?;
+    let stay = count_local(sends);
+    let nowhere = sends.len() - stay - entered;
+    let out = decimal(alloc, out as u64)?;
+    let entered = decimal(alloc, entered as u64)?;
+    let local = decimal(alloc, stay as u64)?;
+    let unjoined = decimal(alloc, nowhere as u64)?;
     push_line(
         text,
         &[
@@ -445,12 +445,12 @@ fn text_with(
     ensures { IfOk result (λ text. IsFlowOf script.now b text.items) }
 {
     let mut text = Vec::new(alloc);
-    push_fates(&mut text, script, homes, sends)?;
-    let mut moves = Vec::new(alloc);
+    let those = push_fates(alloc, &mut text, script, homes, sends)?;
+    let mut out = 0;
     'components: for component in forest {
-        push_part(alloc, &mut text, &mut moves, script, component, sends, b)?;
+        push_part(alloc, &mut text, &mut out, script, component, &those, b)?;
     }
-    push_end(alloc, &mut text, homes, sends, &moves)?;
+    push_end(alloc, &mut text, sends, those.len(), out)?;
     Ok(text)
 }
 

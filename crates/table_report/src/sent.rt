@@ -4,7 +4,7 @@ ghost use Rattle.std.specs.Prelude.{◌≡◌, ◌==◌, IfOk, count_by, positio
 ghost use Rattle.std.specs.Option.{option_map};
 ghost use Rattle.switch_numbering.specs.Numbering.{numbering};
 ghost use Rattle.table_report.specs.Sends.{entering, has_both, homes_of, is_joined, is_local, number_at, number_in};
-ghost use Rattle.table_report.specs.Sends.{is_entering, is_unjoined, number_of, numbers_in, sends_of};
+ghost use Rattle.table_report.specs.Sends.{number_of, numbers_in, sends_of};
 
 use an_base::entry::{Entries, Entry};
 use an_base::event::Event;
@@ -155,31 +155,11 @@ pub fn is_joined(homes: &[Home], sent: Sent) -> bool
     homes.iter().any(|home| home.has_both(sent))
 }
 
-/// How many packets enter some component.
-pub fn count_entering(homes: &[Home], sends: &[Sent]) -> usize
-    ensures { result ≡ count_by (is_entering homes.now) sends.now }
-{
-    sends
-        .iter()
-        .filter(|sent| !sent.is_local() && is_joined(homes, **sent))
-        .count()
-}
-
 /// How many packets stay at one switch.
 pub fn count_local(sends: &[Sent]) -> usize
     ensures { result ≡ count_by is_local sends.now }
 {
     sends.iter().filter(|sent| sent.is_local()).count()
-}
-
-/// How many packets enter nowhere, since no component has both of their switches.
-pub fn count_unjoined(homes: &[Home], sends: &[Sent]) -> usize
-    ensures { result ≡ count_by (is_unjoined homes.now) sends.now }
-{
-    sends
-        .iter()
-        .filter(|sent| !sent.is_local() && !is_joined(homes, **sent))
-        .count()
 }
 
 /// The packets that enter a component.

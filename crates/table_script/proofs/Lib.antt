@@ -11,3 +11,7 @@ pub mod ShortLemmas
 pub mod NumberLineLemmas
 pub mod ReadyLemmas
 pub mod WalkJoined
+mod WordLemmas
+mod LineStep
+mod NumberedLemmas
+mod ShortPairs

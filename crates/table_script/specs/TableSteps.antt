@@ -1,4 +1,5 @@
-use Rattle.std.specs.Prelude.{◌≡◌, ◌≢◌, ℕ, List, length, Some}
+use Rattle.std.specs.Prelude.{◌≡◌, ◌≢◌, ℕ, List, [], ◌∷◌, length, Some, false, codes, ⊤}
+use Rattle.std.specs.Str.{bytes_eq}
 use Rattle.net_script.specs.declared.cause.ScriptCause.{ScriptCause}
 use Rattle.net_script.specs.declared.draft.Part.TheVariants.{After}
 use Rattle.table_script.specs.declared.table_reader.Reading.{Reading}
@@ -20,6 +21,11 @@ ReadsTable script = ReadsFormBy (table_cause script) (with_table_form script)
 -- this is wrong with a line of this form after a draft
 abbrev pub IsWrongTable : ScriptOf → TableDraftOf → TableForm → ScriptCause → Type 0
 IsWrongTable script draft form cause = table_cause script draft form ≡ Some cause
+
+-- the first of the words is not `row`
+abbrev pub IsNoRow : List (List ℕ) → Type 0
+IsNoRow [] = ⊤
+IsNoRow (word ∷ words) = bytes_eq word (codes "row") ≡ false
 
 -- what the lines so far say
 abbrev pub told_of : Reading → Told

@@ -1,4 +1,4 @@
-use Rattle.std.specs.Prelude.{◌≡◌, ◌≢◌, ◌==◌, ◌&&◌, ◌||◌, ℕ, ◌<◌, ◌≤◌, Bool, List, [], ◌∷◌, length, All, AllPairs, slice_index}
+use Rattle.std.specs.Prelude.{◌≡◌, ◌≢◌, ◌==◌, ◌&&◌, ◌||◌, ℕ, ◌<◌, ◌≤◌, Bool, List, [], ◌∷◌, length, All, AllPairs, slice_index, slice_index_or}
 use Rattle.an_base.specs.Rows.{RowOf}
 use Rattle.an_base.specs.Tree.{Walk}
 use Rattle.net_graph.specs.declared.wiring.LinkAt.{LinkAt}
@@ -10,6 +10,11 @@ use Rattle.net_graph.specs.Wires.{Wires, network}
 pub record TablesOf : Type 0 where
   pub numbers : List ℕ
   pub rows : List RowOf
+
+-- the row, with the number of its switch
+abbrev pub with_number_at : List ℕ → RowOf → RowOf
+with_number_at numbers row =
+    record { at = slice_index_or numbers row.at 0; entry = row.entry; to = row.to; exits = row.exits }
 
 -- a row for a switch of so many: its entry is 0 or a port, and it leads to a number
 pub record IsRowOf (count : ℕ) (row : RowOf) : Type 0 where

@@ -11,4 +11,5 @@ pub mod law;
 mod table_draft;
 mod table_form;
 pub mod table_reader;
+mod table_words;
 pub mod tables;

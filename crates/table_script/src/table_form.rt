@@ -1,6 +1,6 @@
 //! The forms of lines of tables: what the words of a line add to what stands before it.
 
-ghost use Rattle.std.specs.Prelude.{◌≡◌, ◌+◌, ◌≤◌, ◌<◌, ◌==◌, ◌++◌, [], ◌∷◌, true, false, map, length, codes, All, IfOk, IfSome, MatchResult, MatchOption};
+ghost use Rattle.std.specs.Prelude.{◌≡◌, ◌+◌, ◌≤◌, ◌<◌, ◌==◌, ◌++◌, [], ◌∷◌, true, false, map, length, codes, position, All, IfOk, IfSome, MatchResult, MatchOption};
 ghost use Rattle.std.specs.Char.{is_ascii_digit};
 ghost use Rattle.std.specs.List.{slice_split, list_all, range_with_len};
 ghost use Rattle.std.specs.Str.{bytes_eq};
@@ -8,15 +8,17 @@ ghost use Rattle.net_script.specs.declared.cause.ScriptCause.TheVariants.{BadNum
 ghost use Rattle.net_script.specs.Rules.{number_cause};
 ghost use Rattle.text_lines.specs.Words.{is_number, number_value};
 ghost use Rattle.text_lines.specs.Faults.{unless};
+ghost use Rattle.text_lines.specs.Lines.{parts_of};
 ghost use Rattle.table_script.specs.Tables.{AreLabels};
 ghost use Rattle.table_script.specs.TableForms.{NumberLine, RowLine, EndLine};
-ghost use Rattle.table_script.specs.TableRules.{are_ports, port_words, is_pair, are_pairs, row_of, entry_cause, is_numbered, IsKept};
+ghost use Rattle.table_script.specs.TableRules.{are_ports, port_words, is_colon, is_pair, are_pairs, row_of, entry_cause, is_numbered, IsKept};
 ghost use Rattle.table_script.specs.TableTexts.{AddsTableForm, IsFaultyTableForm};
-ghost use Rattle.table_script.specs.TableSteps.{ReadsTable, IsWrongTable};
+ghost use Rattle.table_script.specs.TableSteps.{IsNoRow, ReadsTable, IsWrongTable};
 ghost use Rattle.text_lines.specs.Faults.{IsField};
 ghost use Rattle.text_lines.specs.Stops.{IsStep};
 
 use crate::table_draft::{EntryAt, NumberAt, TableDraft};
+use crate::table_words::next_word;
 use an_base::row::{Exits, Row};
 use net_script::cause::ScriptCause;
 use net_script::field::{known_switch, number_in};
@@ -26,7 +28,8 @@ use text_lines::line::first_of;
 use text_lines::stop::Stop;
 use text_lines::word::{is, is_number, number_of};
 
-/// Adds what a line of tables of these words says. The labels are those of the components.
+/// Adds what a line of tables of these words says, of which the first is not `row`. The labels are those of
+/// the components.
 pub fn read_table_form(
     draft: &mut TableDraft,
     script: &Script,
@@ -35,6 +38,7 @@ pub fn read_table_form(
 ) -> Result<(), ScriptStop>
     requires labels { AreLabels (length script.now.wires.switches) script.now.wires.links labels.now }
     requires kept { IsKept script.now draft.old }
+    requires words { IsNoRow (map (λ w. w.now) words.now) }
     ensures { IsStep result (AddsTableForm script.now draft.old (map (λ w. w.now) words.now) draft.new)
         (IsFaultyTableForm script.now draft.old (map (λ w. w.now) words.now)) }
 {
@@ -53,6 +57,7 @@ fn read_first_word(
 ) -> Result<(), ScriptStop>
     requires labels { AreLabels (length script.now.wires.switches) script.now.wires.links labels.now }
     requires kept { IsKept script.now draft.old }
+    requires word { bytes_eq first.now (codes "row") ≡ false }
     ensures { IsStep result (AddsTableForm script.now draft.old (first.now
         ∷ map (λ w. w.now) rest.now) draft.new)
         (IsFaultyTableForm script.now draft.old (first.now ∷ map (λ w. w.now) rest.now)) }
@@ -65,9 +70,6 @@ fn read_first_word(
     }
     if is(first, "number") {
         return read_number_words(draft, script, labels, rest);
-    }
-    if is(first, "row") {
-        return read_row_words(draft, script, rest);
     }
     if is(first, "end") && rest.is_empty() {
         return read_table_end(draft, script);
@@ -118,19 +120,22 @@ fn read_number_line(
     Ok(())
 }
 
-fn read_row_words(
+/// Adds what a line of tables of the word `row` and of the words of a text says.
+pub fn read_row_words(
     draft: &mut TableDraft,
     script: &Script,
-    words: &[&[u8]],
+    text: &[u8],
 ) -> Result<(), ScriptStop>
-    ensures { IsStep result (AddsTableForm script.now draft.old (codes "row"
-        ∷ map (λ w. w.now) words.now) draft.new)
-        (IsFaultyTableForm script.now draft.old (codes "row" ∷ map (λ w. w.now) words.now)) }
+    ensures { IsStep result (AddsTableForm script.now draft.old (codes "row" ∷ parts_of text.now) draft.new)
+        (IsFaultyTableForm script.now draft.old (codes "row" ∷ parts_of text.now)) }
 {
-    match words {
-        [name, entry, pairs @ ..] => read_row_line(draft, script, name, entry, pairs),
-        _ => Err(Stop::Fault(ScriptCause::UnknownWord)),
-    }
+    let Some((name, rest)) = next_word(text) else {
+        return Err(Stop::Fault(ScriptCause::UnknownWord));
+    };
+    let Some((entry, pairs)) = next_word(rest) else {
+        return Err(Stop::Fault(ScriptCause::UnknownWord));
+    };
+    read_row_line(draft, script, name, entry, pairs)
 }
 
 #[tactic(auto, unfolding(crate::specs::TableRules::row_line_cause))]
@@ -139,11 +144,11 @@ fn read_row_line(
     script: &Script,
     name: &[u8],
     entry: &[u8],
-    pairs: &[&[u8]],
+    pairs: &[u8],
 ) -> Result<(), ScriptStop>
     ensures { IsStep result
-        (ReadsTable script.now draft.old (RowLine name.now entry.now (map (λ w. w.now) pairs.now)) draft.new)
-        (IsWrongTable script.now draft.old (RowLine name.now entry.now (map (λ w. w.now) pairs.now))) }
+        (ReadsTable script.now draft.old (RowLine name.now entry.now (parts_of pairs.now)) draft.new)
+        (IsWrongTable script.now draft.old (RowLine name.now entry.now (parts_of pairs.now))) }
 {
     let s = known_switch(script, name)?;
     let entry = entry_in(entry)?;
@@ -168,19 +173,16 @@ fn entry_in(word: &[u8]) -> Result<u8, ScriptCause>
     }
 }
 
-// Adds the rows of pairs whose numbers rise.
-fn push_rows(draft: &mut TableDraft, s: u8, entry: u8, pairs: &[&[u8]]) -> Result<(), ScriptStop>
+// Adds the rows of pairs whose numbers rise, the words of a text.
+fn push_rows(draft: &mut TableDraft, s: u8, entry: u8, pairs: &[u8]) -> Result<(), ScriptStop>
     ensures { IsStep result
-        ((are_pairs 0 (map (λ w. w.now) pairs.now) ≡ true)
-        × (draft.new ≡ record draft.old {
-          rows = draft.old.rows
-              ++ map (row_of s entry) (map (λ w. w.now) pairs.now);
-        }))
-        (λ c. (are_pairs 0 (map (λ w. w.now) pairs.now) ≡ false) × (c ≡ BadNumber)) }
+        ((are_pairs 0 (parts_of pairs.now) ≡ true)
+        × (draft.new ≡ record draft.old { rows = draft.old.rows ++ map (row_of s entry) (parts_of pairs.now) }))
+        (λ c. (are_pairs 0 (parts_of pairs.now) ≡ false) × (c ≡ BadNumber)) }
 {
     let mut left = pairs;
     let mut above = 0u8;
-    'pairs: while let [pair, rest @ ..] = left {
+    'pairs: while let Some((pair, rest)) = next_word(left) {
         let row = row_in(s, entry, pair)?;
         let to = row.to;
         if to <= above {
@@ -198,7 +200,7 @@ fn push_rows(draft: &mut TableDraft, s: u8, entry: u8, pairs: &[&[u8]]) -> Resul
 fn row_in(s: u8, entry: u8, pair: &[u8]) -> Result<Row, ScriptCause>
     ensures { IsField result (unless (is_pair pair.now) BadNumber) (row_of s entry pair.now) }
 {
-    let Some(colon) = first_of(pair, b':') else {
+    let Some(colon) = colon_of(pair) else {
         return Err(ScriptCause::BadNumber);
     };
     let to = short_number(&pair[..colon], 126)?;
@@ -211,7 +213,20 @@ fn row_in(s: u8, entry: u8, pair: &[u8]) -> Result<Row, ScriptCause>
     })
 }
 
+// Where the first colon stands. In most pairs it is behind one to three digits.
+fn colon_of(pair: &[u8]) -> Option<usize>
+    ensures { result ≡ position is_colon pair.now }
+{
+    match pair {
+        [a, b':', ..] if *a != b':' => Some(1),
+        [a, b, b':', ..] if *a != b':' && *b != b':' => Some(2),
+        [a, b, c, b':', ..] if *a != b':' && *b != b':' && *c != b':' => Some(3),
+        _ => first_of(pair, b':'),
+    }
+}
+
 // The number from 1 to a most that a word says.
+#[inline]
 fn short_number(word: &[u8], most: u8) -> Result<u8, ScriptCause>
     ensures number { IsField result (number_cause 1 most word.now) (number_value word.now) }
     ensures range { IfOk result (λ n. (1 ≤ n) × (n ≤ most)) }
@@ -219,11 +234,19 @@ fn short_number(word: &[u8], most: u8) -> Result<u8, ScriptCause>
     match short_value(word) {
         Some(number) if 1 <= number && number <= u16::from(most) => Ok(number as u8),
         Some(_) => Err(ScriptCause::BadNumber),
-        None => {
-            let number = number_in(word, 1, u64::from(most))?;
-            Ok(number as u8)
-        }
+        None => long_number(word, most),
     }
+}
+
+// The same, whatever the word is.
+#[cold]
+#[inline(never)]
+fn long_number(word: &[u8], most: u8) -> Result<u8, ScriptCause>
+    ensures number { IsField result (number_cause 1 most word.now) (number_value word.now) }
+    ensures range { IfOk result (λ n. (1 ≤ n) × (n ≤ most)) }
+{
+    let number = number_in(word, 1, u64::from(most))?;
+    Ok(number as u8)
 }
 
 // What a number of up to three digits says: it looks once at each. It tells no other number.
@@ -280,8 +303,33 @@ fn exits_in(text: &[u8]) -> Result<Exits, ScriptCause>
     if is_dash(text) {
         return Ok(exits);
     }
+    if let Some(exits) = short_exits(text) {
+        return Ok(exits);
+    }
     push_ports(&mut exits, 0, text)?;
     Ok(exits)
+}
+
+// The exits that a text of one digit says. It tells no others.
+fn short_exits(text: &[u8]) -> Option<Exits>
+    ensures { IfSome result (λ exits. (are_ports 0 (port_words text.now) ≡ true)
+        × (exits ≡ map number_value (port_words text.now))) }
+{
+    match text {
+        [c] => one_exit(*c),
+        _ => None,
+    }
+}
+
+// The exit that a digit says, if it is none of 0.
+fn one_exit(c: u8) -> Option<Exits>
+    ensures { IfSome result (λ exits. (are_ports 0 (port_words (c ∷ [])) ≡ true)
+        × (exits ≡ map number_value (port_words (c ∷ [])))) }
+{
+    let port = first_digit(c)?;
+    let mut exits = Exits::new();
+    exits.push(port as u8);
+    Some(exits)
 }
 
 // Adds ports that rise, the first above one number.

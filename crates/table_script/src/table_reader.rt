@@ -1,18 +1,20 @@
 //! The reader of scripts with tables.
 
-ghost use Rattle.std.specs.Prelude.{◌≡◌, ◌≢◌, ◌<◌, ◌-◌, ◌^◌, length, map, IfOk, IfErr, OnOk};
+ghost use Rattle.std.specs.Prelude.{◌≡◌, ◌≢◌, ◌<◌, ◌-◌, ◌^◌, ◌∷◌, length, map, IfOk, IfErr, OnOk};
 ghost use Rattle.std.specs.List.{range_with_len};
 ghost use Rattle.net_script.specs.declared.draft.Part.TheVariants.{After};
 ghost use Rattle.table_script.specs.Tables.{AreLabels, AreTablesOf};
 ghost use Rattle.table_script.specs.TableRules.{IsKept, number_of, tables_of};
-ghost use Rattle.table_script.specs.TableTexts.{AddsTable, IsFaultyTable, AddsTableWords, IsFaultyTableWords, AddsTold, IsFaultyTold, AreEnded, IsTextWith};
+ghost use Rattle.text_lines.specs.Lines.{parts_of, words_of};
+ghost use Rattle.table_script.specs.TableTexts.{AddsTable, AddsTableForm, IsFaultyTable, IsFaultyTableForm, AddsTableWords, IsFaultyTableWords, AddsTold, IsFaultyTold, AreEnded, IsTextWith};
 ghost use Rattle.net_script.specs.Texts.{Adds, IsFaulty};
 ghost use Rattle.text_lines.specs.Stops.{IsStep};
 ghost use Rattle.table_script.specs.TableSteps.{told_of, IsReady, IsRefusalWith};
 
 use crate::component::labels_of;
 use crate::table_draft::TableDraft;
-use crate::table_form::read_table_form;
+use crate::table_form::{read_row_words, read_table_form};
+use crate::table_words::{before_comment, next_word};
 use crate::tables::Tables;
 use an_base::memory::OutOfMemory;
 use net_script::cause::ScriptCause;
@@ -23,6 +25,7 @@ use net_script::script::Script;
 use std::alloc::Global;
 use text_lines::line::{are_line_bytes, first_line, words};
 use text_lines::stop::{Refusal, Stop};
+use text_lines::word::is;
 
 /// The most bytes of a line of tables, without what ends it.
 pub const MOST_TABLE_LINE: usize = 4_000;
@@ -126,31 +129,57 @@ fn read_table_line(
     if !are_line_bytes(line) {
         return Err(Stop::Fault(ScriptCause::NotAscii));
     }
-    let words = words(alloc, line)?;
-    if words.is_empty() {
-        return Ok(());
+    match next_word(before_comment(line)) {
+        Some((first, rest)) => read_table_words(draft, alloc, script, labels, line, first, rest),
+        None => Ok(()),
     }
-    read_table_words(draft, script, labels, &words)
 }
 
-// Adds what the words of a line of tables say, of which there are some.
+// Adds what the words of a line of tables say: one, and those of the rest.
 fn read_table_words(
     draft: &mut TableDraft,
+    alloc: Global,
     script: &Script,
     labels: &[u8],
-    words: &[&[u8]],
+    line: &[u8],
+    first: &[u8],
+    rest: &[u8],
 ) -> Result<(), ScriptStop>
     requires labels { AreLabels (length script.now.wires.switches) script.now.wires.links labels.now }
     requires kept { IsKept script.now draft.old }
+    requires words { words_of line.now ≡ first.now ∷ parts_of rest.now }
     ensures step { IsStep result
-        (AddsTableWords draft.old.ended script.now draft.old (map (λ w. w.now) words.now) draft.new)
-        (IsFaultyTableWords draft.old.ended script.now draft.old (map (λ w. w.now) words.now)) }
+        (AddsTableWords draft.old.ended script.now draft.old (words_of line.now) draft.new)
+        (IsFaultyTableWords draft.old.ended script.now draft.old (words_of line.now)) }
     ensures kept { OnOk result (IsKept script.now draft.new) }
 {
     if draft.is_ended() {
         return Err(Stop::Fault(ScriptCause::AfterEnd));
     }
-    read_table_form(draft, script, labels, words)
+    read_form(draft, alloc, script, labels, line, first, rest)
+}
+
+// The same before the last line came.
+fn read_form(
+    draft: &mut TableDraft,
+    alloc: Global,
+    script: &Script,
+    labels: &[u8],
+    line: &[u8],
+    first: &[u8],
+    rest: &[u8],
+) -> Result<(), ScriptStop>
+    requires labels { AreLabels (length script.now.wires.switches) script.now.wires.links labels.now }
+    requires kept { IsKept script.now draft.old }
+    requires words { words_of line.now ≡ first.now ∷ parts_of rest.now }
+    ensures { IsStep result (AddsTableForm script.now draft.old (words_of line.now) draft.new)
+        (IsFaultyTableForm script.now draft.old (words_of line.now)) }
+{
+    if is(first, "row") {
+        return read_row_words(draft, script, rest);
+    }
+    let words = words(alloc, line)?;
+    read_table_form(draft, script, labels, &words)
 }
 
 // The script and the tables that the lines say.

@@ -1,10 +1,17 @@
 //! The numbers of switches, and the rows of their routing tables.
 
-ghost use Rattle.std.specs.Prelude.{◌≡◌};
-ghost use Rattle.table_script.specs.Tables.{IsTables};
+ghost use Rattle.std.specs.Prelude.{◌≡◌, map, slice_index_or};
+ghost use Rattle.table_script.specs.Tables.{IsTables, with_number_at};
 
 use an_base::row::Row;
 use std::marker::Model;
+
+// Gives a row the number of its switch in place of the place.
+fn set_number(numbers: &[u8], row: &mut Row)
+    ensures { row.new ≡ with_number_at numbers.now row.old }
+{
+    row.at = numbers.get(usize::from(row.at)).copied().unwrap_or(0);
+}
 
 /// A number for each switch, by the switch's place, and rows of routing tables, in which a switch stands
 /// as its place. Each number, and each number to which a row leads, is 1 to 126; entries are 0 to 12; and
@@ -40,6 +47,20 @@ impl Tables {
         ensures kept { IsTables self.now }
     {
         &self.numbers
+    }
+
+    /// The rows, in which `at` is the switch's number, without taking memory.
+    pub fn into_numbered(self) -> Vec<Row>
+        ensures { result.items ≡ map (with_number_at self.numbers) self.rows }
+    {
+        let Tables { numbers, rows } = self;
+        let mut rows = rows;
+        let mut i = 0usize;
+        'rows: while i < rows.len() {
+            set_number(&numbers, &mut rows[i]);
+            i += 1;
+        }
+        rows
     }
 
     /// The rows, in the order of the text, in which `at` is the switch's place.

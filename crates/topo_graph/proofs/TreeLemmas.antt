@@ -5,7 +5,7 @@ use Rattle.std.proofs.lemmas.Bool.{cases_eq, cases_lt}
 use Rattle.an_base.specs.Values.{EntryOf}
 use Rattle.an_base.specs.Order.{life_cmp, LivesRise}
 use Rattle.an_base.specs.Tree.{Walk, IsDistance}
-use Rattle.an_base.proofs.OrderLaws.{life_total}
+use Rattle.an_base.specs.TotalOrders.{life_total}
 use Rattle.an_base.proofs.PlaceLaws.{one_level}
 use Rattle.topo_graph.specs.Topology.{entry_at, life_at, level_at, network, IsTree, IsGraph}
 use Rattle.topo_graph.specs.Stands.{Stands}

@@ -46,7 +46,7 @@ fn place(entries: &[Entry], life: Life) -> Option<u8>
 fn names(links: &[PortLink], port: u8, end: End) -> bool
     ensures { result ≡ list_any (is_to port end) links.now }
 {
-    links.iter().any(|l| l.port == port && l.peer.life == end.life && l.peer.port == end.port)
+    links.iter().any(|l| l.port() == port && l.peer() == end)
 }
 
 // The far place and port of a link that the entry at x names, where the far entry names it too.

@@ -7,7 +7,8 @@ use Rattle.std.specs.Cmp.{upto, tied_itself, Equal-is}
 use Rattle.an_base.specs.Values.{LifeId, EntryOf}
 use Rattle.an_base.specs.Order.{life_cmp, entry_cmp}
 use Rattle.an_base.proofs.OrderingLemmas.{not_above, at_most, tied}
-use Rattle.an_base.proofs.OrderLaws.{life_total, life_apart, entry_total, entry_apart}
+use Rattle.an_base.specs.TotalOrders.{life_total}
+use Rattle.an_base.proofs.OrderLaws.{life_apart, entry_total, entry_apart}
 use Rattle.topo_report.specs.Report.{lesser_entry, is_of, IsAtMost}
 
 -- an entry is of the life that the test names

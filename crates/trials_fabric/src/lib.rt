@@ -1,9 +1,9 @@
-//! Tests of what no clause sees in the crates of graphs, tables, broadcasts, packets, frames and wires:
-//! each call that takes memory once where it is ample, and answers that come from outside.
+//! Tests of what no clause sees in the crates of wirings, graphs, tables, broadcasts, packets, frames and
+//! wires: each call that takes memory once where it is ample, and answers that come from outside.
 //!
-//! It stands on `topo_graph`, `updown`, `table_build`, `broadcast_flood`, `host_names`, `fcfc_router`,
-//! `host_traffic`, `wire_set`, `frame_region`, `frame_codec` and what these stand on, and nothing stands on
-//! it. Each file has the tests of one of them; `sample` has the small networks that four of them share.
+//! It stands on `net_graph`, `topo_graph`, `updown`, `table_build`, `broadcast_flood`, `host_names`,
+//! `fcfc_router`, `host_traffic`, `wire_set`, `frame_region`, `frame_codec` and what these stand on, and
+//! nothing stands on it. Each file has the tests of one of them; `sample` has the small networks that four of them share.
 #![tactic(auto)]
 
 #[cfg(test)]
@@ -28,3 +28,5 @@ mod tables;
 mod traffic;
 #[cfg(test)]
 mod wires;
+#[cfg(test)]
+mod wirings;

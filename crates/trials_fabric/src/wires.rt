@@ -3,33 +3,14 @@
 ghost use Rattle.std.specs.Prelude.{◌≡◌, true};
 ghost use Rattle.wire_set.specs.WireState.{HasLink};
 
+use crate::wirings::{add_link, add_switch};
 use an_base::memory::OutOfMemory;
-use net_graph::wiring::{Far, LinkAt, SwitchAt, Wiring};
+use net_graph::wiring::{Far, LinkAt, Wiring};
 use std::alloc::Global;
 use std::process::Abort;
 use std::test::Fail;
 use wire_set::side::{Loss, Put};
 use wire_set::wires::WireSet;
-
-// Adds a switch.
-fn add_switch(rt: &impl Abort, wiring: &mut Wiring, uid: u64) -> Result<(), OutOfMemory> {
-    assert!(rt; wiring.count() < 126);
-    assert!(rt; uid < 1 << 48);
-    assert!(rt; !wiring.has_uid(uid));
-    wiring.add_switch(SwitchAt { uid, had: 1 })
-}
-
-// Adds a link between ports that are not used.
-fn add_link(rt: &impl Abort, wiring: &mut Wiring, link: LinkAt) -> Result<(), OutOfMemory> {
-    assert!(rt; link.a < wiring.count());
-    assert!(rt; link.b < wiring.count());
-    assert!(rt; (1..=12).contains(&link.a_port));
-    assert!(rt; (1..=12).contains(&link.b_port));
-    assert!(rt; !wiring.is_used(link.a, link.a_port));
-    assert!(rt; !wiring.is_used(link.b, link.b_port));
-    assert!(rt; (link.a, link.a_port) != (link.b, link.b_port));
-    wiring.add_link(link)
-}
 
 // The wires of two switches with a link between their first ports, and two blocks for frames.
 fn wires_of(rt: &impl Abort, alloc: Global) -> Result<WireSet, OutOfMemory> {

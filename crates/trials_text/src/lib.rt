@@ -1,12 +1,10 @@
-//! Tests of the crates of values, streams, graphs and texts: that calls that take memory succeed where
+//! Tests of the crates of values, streams and texts: that calls that take memory succeed where
 //! memory is ample, and what no clause of theirs can see.
 //!
-//! It stands on `an_base`, `outside`, `net_graph`, `text_lines`, `net_script`, `script_text`,
-//! `table_script` and `journal`, and nothing stands on it. Each file has the tests of one of them.
+//! It stands on `an_base`, `outside`, `text_lines`, `net_script`, `script_text`, `table_script` and
+//! `journal`, and nothing stands on it. Each file has the tests of one of them.
 #![tactic(auto)]
 
-#[cfg(test)]
-mod graphs;
 #[cfg(test)]
 mod journals;
 #[cfg(test)]

@@ -9,7 +9,8 @@ use Rattle.std.proofs.lemmas.List.Kept.{AllPairs-cons}
 use Rattle.an_base.specs.Values.{EntryOf}
 use Rattle.an_base.proofs.ListLemmas.{AllPairs-head, AllPairs-tail}
 use Rattle.an_base.specs.Order.{life_cmp}
-use Rattle.an_base.proofs.OrderLaws.{life_total, life_apart}
+use Rattle.an_base.specs.TotalOrders.{life_total}
+use Rattle.an_base.proofs.OrderLaws.{life_apart}
 use Rattle.an_base.proofs.OrderingLemmas.{then_equal}
 use Rattle.topo_graph.specs.Topology.{life_at, level_at, far_of, IsGraph}
 use Rattle.topo_graph.proofs.FarLemmas.{one_place, far_is_link}

@@ -6,6 +6,7 @@ use Rattle.dep_check.proofs.gap.first_stuck.Goals as goal
 pub numbers-init : goal.numbers-init
 numbers-init c = record {
   count = c.in_ok-seen.ensures.count;
+  empty = c.new-ahead.ensures.items;
   clear = λ s spot e. absurd (let none = c.in_ok-seen.ensures.none s in cc);
   none = λ f low stuck. absurd (omega arith);
 }
@@ -18,7 +19,7 @@ is_stuck_from-requires-clause-clear c = c.numbers.invariant.clear
 
 pub returns-then-branch : goal.returns-then-branch
 returns-then-branch c =
-    let stuck : IsStuckFrom c.args.numbers.now c.args.steps.now c.args.to c.numbers.from = rw c.if-branch.true at c.in_ok-is_stuck_from.ensures in (
+    let stuck : IsStuckFrom c.args.numbers.now c.args.steps.now c.args.to c.numbers.from = rw c.if-branch.true at c.in_ok-is_stuck_from.ensures.stuck in (
       c.numbers-test.true,
       stuck,
       λ f low other. elim (cases_lt f c.numbers.from) [
@@ -29,9 +30,10 @@ returns-then-branch c =
 
 pub numbers-preserved : goal.numbers-preserved
 numbers-preserved c =
-    let stays : StaysClear c.args.numbers.now c.args.steps.now c.args.to c.numbers.from c.is_stuck_from.new.seen.items = rw c.if-branch.false at c.in_ok-is_stuck_from.ensures in
+    let stays : StaysClear c.args.numbers.now c.args.steps.now c.args.to c.numbers.from c.is_stuck_from.new.seen.items = rw c.if-branch.false at c.in_ok-is_stuck_from.ensures.stuck in
     record {
       count = stays.count;
+      empty = c.in_ok-is_stuck_from.ensures.ahead;
       clear = stays.clear;
       none = λ f low stuck. elim (cases_eq f c.numbers.from) [
         | inl last ↦ stays.none (subst (λ (n : ℕ). IsStuckFrom c.args.numbers.now c.args.steps.now c.args.to n) last stuck)

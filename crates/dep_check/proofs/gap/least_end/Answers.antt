@@ -17,7 +17,7 @@ returns-then-is_stuck c =
     let spot = c.spot_at-end.ensures.spot in
     let at = c.spot_at-end.ensures.place in
     let seen : seen_at c.walk.new.seen.items end ≡ true = sym (ap (λ xs. seen_at xs end) c.deref.ensures.value) ∙ sym c.is_seen.ensures ∙ c.if-is_seen.true in
-    let leads = walked_reached steps c.args.start c.in_ok-seen.seen.items c.walk.new.seen.items _ c.in_ok-seen.ensures.none c.in_ok-walk.ensures end spot seen in (
+    let leads = walked_reached steps c.args.start c.in_ok-seen.seen.items c.walk.new.seen.items _ c.in_ok-seen.ensures.none c.in_ok-walk.ensures.walked end spot seen in (
       spot,
       (leads.0, leads.1, c.is_stuck.ensures.0 c.if-is_stuck.true),
       λ e e_spot stuck. elim (cases_lt (place_of e) c.spots.place) [
@@ -41,7 +41,7 @@ spots-preserved c = λ e e_spot low stuck.
                 let f = w.if-is_stuck.false in
                 cc)
             | else-is_seen-via-else-is_seen w ↦ absurd (
-                let t : seen_at c.walk.new.seen.items e ≡ true = walked_all steps c.args.start c.in_ok-seen.seen.items c.walk.new.seen.items _ c.in_ok-seen.ensures.none c.in_ok-walk.ensures stuck.0 c.args.start e c.requires c.in_ok-walk.ensures.begun stuck.1 in
+                let t : seen_at c.walk.new.seen.items e ≡ true = walked_all steps c.args.start c.in_ok-seen.seen.items c.walk.new.seen.items _ c.in_ok-seen.ensures.none c.in_ok-walk.ensures.walked stuck.0 c.args.start e c.requires c.in_ok-walk.ensures.walked.begun stuck.1 in
                 let f : seen_at c.walk.new.seen.items e ≡ false = ap (seen_at c.walk.new.seen.items) here ∙ sym (ap (λ xs. seen_at xs end) c.deref.ensures.value) ∙ sym c.is_seen.ensures ∙ w.if-is_seen.false in
                 cc)
           ])

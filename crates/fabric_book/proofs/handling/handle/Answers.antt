@@ -22,8 +22,8 @@ returns-clause-told c = λ (x : SwitchOf) (stands : StandsFor c.args.switch.now 
     let bytes = c.args.bytes.now in
     let y = (handles c.args.hand c.args.bytes.now x).switch in
     let is = c.in_ok-work.ensures.handled x stands in
-    let note = c.note-3.view_is ∙ c.note.ensures y is.stands in
-    let ports = c.in_ok-tell_ports.ensures ∙ ap (λ (n : NoteOf). c.args.lines.now ++ flat_map (port_line s n (record { life = c.note-3.inside.life; epoch = c.note-3.inside.epoch; ports = c.note-3.inside.ports; load_due = c.note-3.inside.load_due; unacked = c.note-3.inside.unacked })) externals) before ∙ ap (λ (n : NoteOf). c.args.lines.now ++ flat_map (port_line s (note_of x) n) externals) note in
-    let noise = c.in_ok-tell_noise.ensures ∙ ap (λ (b : Bool). c.tell_ports.new.lines ++ noise_lines s h b) (ap (λ (o : OutOf). o.noframe) c.out.view_is ∙ is.noframe) ∙ ap (λ (xs : List Line). c.tell_ports.new.lines ++ xs) (noise_is s h bytes) in
+    let ports = c.in_ok-show.ensures.told x bytes is.stands before in
+    let note = c.note.view_is ∙ c.show.ensures.note x bytes is.stands before in
+    let noise = c.in_ok-tell_noise.ensures ∙ ap (λ (b : Bool). c.show.new.lines ++ noise_lines s h b) (ap (λ (o : OutOf). o.noframe) c.out.view_is ∙ is.noframe) ∙ ap (λ (xs : List Line). c.show.new.lines ++ xs) (noise_is s h bytes) in
     let epochs = c.in_ok-tell_epochs.ensures x y is.stands (ap (λ (n : NoteOf). n.epoch) (c.before-2.view_is ∙ before)) (ap (λ (n : NoteOf). n.epoch) note) (c.is_some-had_finished.ensures ∙ copied_some c.finish.result (finish_of x) (c.finish.ensures x stands)) in
-    told_all c.args.lines.now c.tell_ports.new.lines c.tell_noise.new.lines c.tell_epochs.new.lines (flat_map (port_line s (note_of x) (note_of y)) externals) (no_frame_lines s h bytes) (join_lines s x y) (spent_lines s y) (finish_lines s x y) ports noise epochs
+    told_all c.args.lines.now c.show.new.lines c.tell_noise.new.lines c.tell_epochs.new.lines (flat_map (port_line s (note_of x) (note_of y)) externals) (no_frame_lines s h bytes) (join_lines s x y) (spent_lines s y) (finish_lines s x y) ports noise epochs

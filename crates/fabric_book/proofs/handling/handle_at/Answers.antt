@@ -56,8 +56,9 @@ handle-requires-2-clause-done c =
     let at : c.station-station.result.now ≡ station (fabric_of h) c.args.s = c.station-station.ensures ∙ ap (λ (f : FabricOf). station f c.args.s) c.fabric.ensures in
     let hand : c.hand.result ≡ (station (fabric_of h) c.args.s).hand = c.hand.ensures ∙ ap (λ (y : StationOf). y.hand) at in
     let is = c.in_ok-handle.ensures.handled x c.requires.kept.stands in
+    let shown = c.note.ensures ∙ ap (λ (y : StationOf). y.note) at ∙ (place_sound h.script c.requires.script h.events c.args.s (hand_within h.script c.requires.script h.events c.args.s c.requires.lawful)).note in
     done_is (world_of h) c.args.s c.hand.result c.args.bytes.now hand c.requires.kept.frame c.as_slice-frames.result.now c.handle.new.note c.is_spent.result (hand_full h.script c.requires.script h.events c.args.s c.requires.lawful)
-    (c.as_slice-frames.ensures.all ∙ ap (λ (o : OutOf). o.frames) c.out.view_is ∙ is.frames) (c.in_ok-handle.ensures.note x c.requires.kept.stands) (c.is_spent.ensures.stands _ is.stands)
+    (c.as_slice-frames.ensures.all ∙ ap (λ (o : OutOf). o.frames) c.out.view_is ∙ is.frames) (c.in_ok-handle.ensures.note x c.requires.kept.stands shown) (c.is_spent.ensures.stands _ is.stands)
 
 pub tell_losses-requires : goal.tell_losses-requires
 tell_losses-requires c =

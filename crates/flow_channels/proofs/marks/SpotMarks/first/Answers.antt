@@ -1,5 +1,5 @@
 use Rattle.std.proofs.Common.{◌+◌, ◌*◌, refl, subst, arith, ℕ, List, get_or}
-use Rattle.std.specs.Int.{trailing_zeros, w16, w128}
+use Rattle.std.specs.Int.{trailing_zeros, w32, w64}
 use Rattle.fcfc_router.specs.Tree.{HasNone, IsFirst}
 use Rattle.flow_channels.proofs.SpotMarkLemmas.{first_placed, none_placed}
 use Rattle.flow_channels.proofs.marks.SpotMarks.first.Goals as goal
@@ -12,7 +12,7 @@ returns c =
     let parts = c.self.inside.parts in
     let some = c.self.inside.some in
     let more = c.if-self-eq0.false in
-    let part = trailing_zeros w16 some in
+    let part = trailing_zeros w32 some in
     let bits = get_or parts part 0 in
-    let place = 128 * part + trailing_zeros w128 bits in
+    let place = 64 * part + trailing_zeros w64 bits in
     subst (λ (xs : List ℕ). IsFirst 1 xs place) c.self.view_is (first_placed parts some part bits place c.self.invariant (omega arith) (omega arith) refl refl (omega arith) refl)

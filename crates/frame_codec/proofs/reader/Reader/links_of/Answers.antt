@@ -8,7 +8,7 @@ use Rattle.frame_codec.proofs.reader.Reader.links_of.Goals as goal
 pub returns-in_err-link : goal.returns-in_err-link
 returns-in_err-link c =
     let p = err_from_is_err_and c.from_residual.result c.from_residual.ensures.1 in
-    rw (p.1, p.2) (ends (λ ks. ks) (λ k. k) link_above_at (λ k. k.port) c.links.above 0 c.in_err-link.field-0.0 c.links.links c.args.count c.links.counter c.args.self.now c.links.self c.link.new.self c.link.new.self c.links-test.true c.in_err-link.ensures.reads c.links.invariant.0)
+    rw (p.1, p.2) (ends {V = Unit} (λ _. c.links.links) (λ k. k) link_above_at (λ k. k.port) c.links.above 0 c.in_err-link.field-0.0 c.links.links c.args.count c.links.counter c.args.self.now c.links.self c.link.new.self c.link.new.self c.links-test.true c.in_err-link.ensures.reads c.links.invariant.0)
 
 pub links-preserved : goal.links-preserved
 links-preserved c =

@@ -1,9 +1,9 @@
 use Rattle.std.proofs.Common.{arith}
-use Rattle.switch_core.proofs.SessionLemmas.{found_at, session_at}
+use Rattle.switch_core.proofs.SessionLemmas.{each_of, found_at, session_at}
 use Rattle.switch_core.proofs.session.Sessions.body.Goals as goal
 
 pub body-requires : goal.body-requires
 body-requires c = c.requires.out.1 _ (found_at c.args.self.now.items c.from.result c.args.port c.index-self-from.result (omega arith) c.requires.least c.requires.most c.from.ensures)
 
 pub returns : goal.returns
-returns c t r are = c.body.ensures (t c.args.port) (session_at c.args.self.now.items t r c.args.port _ c.requires.least (found_at c.args.self.now.items c.from.result c.args.port c.index-self-from.result (omega arith) c.requires.least c.requires.most c.from.ensures) are).0
+returns c t r are = c.body.ensures (t c.args.port) (session_at c.args.self.now.items t r c.args.port _ c.requires.least (found_at c.args.self.now.items c.from.result c.args.port c.index-self-from.result (omega arith) c.requires.least c.requires.most c.from.ensures) (each_of c.args.self.now t r are)).0

@@ -1,37 +1,43 @@
 -- What came of what was in hand was put.
 
-use Rattle.std.proofs.Common.{◌++◌, ap, subst, sym}
-use Rattle.switch_core.specs.Bytes.{OutOf}
+use Rattle.std.proofs.Common.{◌++◌, subst, sym}
 use Rattle.switch_core.specs.Kept.{KeptOf, StandsFor}
 use Rattle.fabric_world.specs.declared.ask.Ask.TheVariants as ask
-use Rattle.fabric_world.specs.declared.ask.Done.{Done}
+use Rattle.fabric_book.specs.Asking.{reply_of}
+use Rattle.fabric_book.specs.declared.asking.BookAsk.TheVariants as book_ask
+use Rattle.fabric_book.specs.declared.asking.BookReply.TheVariants as book_reply
 use Rattle.switch_threads.proofs.AskLemmas.{put_fit, replies_put}
-use Rattle.switch_threads.proofs.TurnLemmas.{answered, calls_differ, put_step}
+use Rattle.switch_threads.proofs.TurnLemmas.{answered, as_asked, calls_differ, put_step}
 use Rattle.switch_threads.proofs.desk.Desk.put.Goals as goal
 
 pub call-requires-clause-fit : goal.call-requires-clause-fit
 call-requires-clause-fit g c =
-    let desk = c.args.self.now in
-    put_fit c.args.seat.now.1 desk.s desk.power_on desk.switch.value c.args.out (record { frames = c.out.inside.frames; noframe = c.out.inside.noframe; note = c.note.result; spent = c.is_spent.result }) c.requires.step
-    (ap (λ (o : OutOf). o.frames) c.out.view_is) (ap (λ (o : OutOf). o.noframe) c.out.view_is)
-    (λ x stands. c.note.ensures x (subst (λ (k : KeptOf). StandsFor k x) (sym c.deref.ensures) stands))
-    (λ x stands. c.is_spent.ensures.stands x (subst (λ (k : KeptOf). StandsFor k x) (sym c.deref-2.ensures) stands))
+    let desk = c.args.self in
+    put_fit c.args.seat.now.1 desk.s desk.power_on desk.switch.value c.args.out c.filled-done.result.value c.requires.step
+    (λ x stands. c.filled-done.ensures x (subst (λ (k : KeptOf). StandsFor k x) (sym c.deref.ensures) stands))
 
 pub unreachable-requires : goal.unreachable-requires
 unreachable-requires g c =
-    let desk = c.args.self.now in
+    let desk = c.args.self in
     let step = c.requires.step in
-    let done : Done = record { frames = c.out.inside.frames; noframe = c.out.inside.noframe; note = c.note.result; spent = c.is_spent.result } in
-    let called = c.call.ensures.called in
-    let came = replies_put (c.args.seat.now.1.seen ++ called.between) desk.s done c.call.result c.call.new.seat.1.seen (answered c.args.seat.now.1 c.call.new.seat.1 (ask.Put desk.s done) c.call.result called step.script step.begun) in
-    c.in_default.not-Put came.0 came.1
+    let view = c.args.seat.now.1 in
+    let after = c.call.new.seat.1 in
+    let done = c.filled-done.result in
+    let called = as_asked view after (book_ask.Put desk.s done) c.call.result c.call.ensures.called in
+    replies_put (view.seen ++ called.between) desk.s done.value c.call.result after.seen (answered view after (ask.Put desk.s done.value) (reply_of c.call.result) called step.script step.begun) c.in_default.not-Put
 
 pub returns-clause-called : goal.returns-clause-called
 returns-clause-called g c =
-    let done : Done = record { frames = c.out.inside.frames; noframe = c.out.inside.noframe; note = c.note.result; spent = c.is_spent.result } in
-    (c.call.ensures.turnstile, calls_differ c.args.seat.now.1 c.call.new.seat.1 (ask.Put c.args.self.now.s done) c.call.result c.call.ensures.called)
+    let desk = c.args.self in
+    let view = c.args.seat.now.1 in
+    let after = c.call.new.seat.1 in
+    let done = c.filled-done.result in
+    (c.call.ensures.turnstile, calls_differ view after (ask.Put desk.s done.value) (reply_of c.call.result) (as_asked view after (book_ask.Put desk.s done) c.call.result c.call.ensures.called))
 
 pub returns-clause-step : goal.returns-clause-step
 returns-clause-step g c =
-    let desk = c.args.self.now in
-    put_step c.args.seat.now.1 c.call.new.seat.1 desk.s desk.power_on desk.switch.value c.args.out (record { frames = c.out.inside.frames; noframe = c.out.inside.noframe; note = c.note.result; spent = c.is_spent.result }) c.in-Put.done c.requires.step c.in-Put.ensures.called
+    let desk = c.args.self in
+    let view = c.args.seat.now.1 in
+    let after = c.call.new.seat.1 in
+    let done = c.filled-done.result in
+    put_step view after desk.s desk.power_on desk.switch.value c.args.out done.value c.in-Put.done.value c.requires.step (as_asked view after (book_ask.Put desk.s done) (book_reply.Put c.in-Put.done) c.in-Put.ensures.called)

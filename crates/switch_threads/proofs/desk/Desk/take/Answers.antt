@@ -3,8 +3,11 @@
 use Rattle.std.proofs.Common.{◌++◌}
 use Rattle.fabric_world.specs.declared.ask.Ask.TheVariants as ask
 use Rattle.fabric_world.specs.declared.ask.Reply.TheVariants as reply
+use Rattle.fabric_book.specs.Asking.{reply_of}
+use Rattle.fabric_book.specs.declared.asking.BookAsk.TheVariants as book_ask
+use Rattle.fabric_book.specs.declared.asking.BookReply.TheVariants as book_reply
 use Rattle.switch_threads.proofs.AskLemmas.{replies_take, take_fit}
-use Rattle.switch_threads.proofs.TurnLemmas.{answered, calls_differ, done_step, take_step}
+use Rattle.switch_threads.proofs.TurnLemmas.{answered, as_asked, calls_differ, done_step, take_step}
 use Rattle.switch_threads.proofs.desk.Desk.take.Goals as goal
 
 pub call-requires-clause-fit : goal.call-requires-clause-fit
@@ -16,26 +19,33 @@ pub unreachable-requires : goal.unreachable-requires
 unreachable-requires g c =
     let desk = c.args.self in
     let step = c.requires.step in
-    let asked = ask.Take desk.s desk.buffer in
-    let called = c.call.ensures.called in
-    let came = replies_take step.script (c.args.seat.now.1.seen ++ called.between) desk.s c.call.result c.call.new.seat.1.seen (answered c.args.seat.now.1 c.call.new.seat.1 asked c.call.result called step.script step.begun) in
-    c.in_default.not-Take came.0 came.1 came.2
+    let view = c.args.seat.now.1 in
+    let after = c.call.new.seat.1 in
+    let called = as_asked view after (book_ask.Take desk.s desk.buffer) c.call.result c.call.ensures.called in
+    replies_take step.script (view.seen ++ called.between) desk.s c.call.result after.seen (answered view after (ask.Take desk.s desk.buffer) (reply_of c.call.result) called step.script step.begun) c.in_default.not-Take
 
 pub work-requires : goal.work-requires
 work-requires g c =
     let desk = c.args.self in
     let step = c.requires.step in
-    (step.script, c.call.new.seat.1.seen, take_step c.args.seat.now.1 c.call.new.seat.1 desk desk.buffer c.in-Take.out c.in-Take.work step c.in-Take.ensures.called)
+    let view = c.args.seat.now.1 in
+    let after = c.call.new.seat.1 in
+    let called = as_asked view after (book_ask.Take desk.s desk.buffer) (book_reply.Take c.in-Take.work c.in-Take.out) c.in-Take.ensures.called in
+    (step.script, after.seen, take_step view after desk desk.buffer c.in-Take.out c.in-Take.work step called)
 
 pub returns-clause-called : goal.returns-clause-called
 returns-clause-called g c =
-    (c.call.ensures.turnstile, calls_differ c.args.seat.now.1 c.call.new.seat.1 (ask.Take c.args.self.s c.args.self.buffer) c.call.result c.call.ensures.called)
+    let desk = c.args.self in
+    let view = c.args.seat.now.1 in
+    let after = c.call.new.seat.1 in
+    (c.call.ensures.turnstile, calls_differ view after (ask.Take desk.s desk.buffer) (reply_of c.call.result) (as_asked view after (book_ask.Take desk.s desk.buffer) c.call.result c.call.ensures.called))
 
 pub returns-clause-step : goal.returns-clause-step
 returns-clause-step g c =
     let desk = c.args.self in
     let step = c.requires.step in
-    let seen = c.call.new.seat.1.seen in
-    let called = c.in-Take.ensures.called in
-    done_step c.args.seat.now.1 c.call.new.seat.1 desk c.work.new.self (ask.Take desk.s desk.buffer) (reply.Take c.in-Take.work c.in-Take.out) c.in_ok-next.next step called c.work.ensures.place
-    (c.in_ok-next.ensures.done step.script seen (take_step c.args.seat.now.1 c.call.new.seat.1 desk desk.buffer c.in-Take.out c.in-Take.work step called))
+    let view = c.args.seat.now.1 in
+    let after = c.call.new.seat.1 in
+    let called = as_asked view after (book_ask.Take desk.s desk.buffer) (book_reply.Take c.in-Take.work c.in-Take.out) c.in-Take.ensures.called in
+    done_step view after desk c.work.new.self (ask.Take desk.s desk.buffer) (reply.Take c.in-Take.work c.in-Take.out) c.in_ok-next.next step called c.work.ensures.place
+    (c.in_ok-next.ensures.done step.script after.seen (take_step view after desk desk.buffer c.in-Take.out c.in-Take.work step called))
