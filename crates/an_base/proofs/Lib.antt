@@ -9,3 +9,4 @@ pub mod PigeonLemmas
 pub mod TestLemmas
 pub mod WalkLemmas
 pub mod PlaceLaws
+pub mod PortSetLemmas

@@ -1,5 +1,5 @@
 -- Lists of which each element goes with each later one, and lists of which all elements differ.
-use Rattle.std.proofs.Common.{◌≡◌, ◌≢◌, ◌∙◌, sym, subst, List, [], ◌∷◌, ◌++◌, arith, inl, inr, All, AllPairs, Contains, map}
+use Rattle.std.proofs.Common.{◌≢◌, ◌∙◌, sym, subst, List, [], ◌∷◌, ◌++◌, arith, inl, inr, All, AllPairs, Contains, map}
 use Rattle.std.proofs.lemmas.List.Elements.{All-head, All-tail, All-append, All-map, All-contains, Contains-append_left, Contains-append_right, Contains-append_cases, Contains-get_or}
 use Rattle.std.proofs.lemmas.List.Kept.{AllPairs-cons}
 use Rattle.std.proofs.lemmas.List.Quantifiers.{all_pairs_push}

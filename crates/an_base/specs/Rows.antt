@@ -1,5 +1,7 @@
 -- Rows of routing tables.
-use Rattle.std.specs.Prelude.{ℕ, ◌<◌, ◌≤◌, List, All, AllPairs}
+use Rattle.std.specs.Prelude.{◌≡◌, ◌≢◌, ◌==◌, ◌↔◌, ℕ, ◌<◌, ◌≤◌, List, filter, All, AllPairs}
+use Rattle.std.specs.Int.{bit_at}
+use Rattle.std.specs.List.{range_with_len}
 use Rattle.an_base.specs.declared.limits.TheConstants.{LAST_PORT}
 
 -- each is an external port
@@ -9,6 +11,18 @@ ArePorts = All (λ port. (1 ≤ port) × (port ≤ LAST_PORT))
 -- each exit is above those before it
 abbrev pub ExitsRise : List ℕ → Type 0
 ExitsRise = AllPairs (λ before after. before < after)
+
+-- the ports of a set, rising: bit p of it says that it has port p, 1 to 12
+unfoldable pub ports_of : ℕ → List ℕ
+ports_of set = filter (λ port. bit_at set port == 1) (range_with_len 1 12)
+
+-- it has no other bits
+abbrev pub HasPortsAlone : ℕ → Type 0
+HasPortsAlone set = (p : ℕ) → bit_at set p ≡ 1 → (1 ≤ p) × (p ≤ LAST_PORT)
+
+-- a set has what another one has but one port
+abbrev pub IsWithout : ℕ → ℕ → ℕ → Type 0
+IsWithout set port new = (p : ℕ) → ((bit_at new p ≡ 1) ↔ ((bit_at set p ≡ 1) × (p ≢ port)))
 
 -- a row of a routing table: at a switch, for what came in at an entry and goes to a number, the exits
 pub record RowOf : Type 0 where

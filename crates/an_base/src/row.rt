@@ -1,17 +1,19 @@
-ghost use Rattle.std.specs.Prelude.{◌≡◌, ◌==◌, ◌<◌, ◌≤◌, [], ◌∷◌, ◌++◌, length, All};
+ghost use Rattle.std.specs.Prelude.{◌≡◌, ◌≢◌, ◌==◌, ◌<◌, ◌≤◌, ℕ, [], ◌∷◌, ◌++◌, length, All};
+ghost use Rattle.std.specs.Int.{bit_at};
+ghost use Rattle.an_base.specs.Rows.{HasPortsAlone, IsWithout, ports_of};
 ghost use Rattle.an_base.specs.declared.limits.TheConstants.{LAST_PORT, PORTS};
 
 use crate::limits::PORTS;
 use std::marker::Model;
 
-/// The ports, 1 to 12, by which a packet may leave, rising, which contracts see as a list.
+/// Ports, 1 to 12, rising, one after the other, to go over them. Contracts see a list.
 #[derive(Debug, Drop)]
-pub struct Exits {
+pub struct ExitList {
     ports: [u8; PORTS],
     len: u8,
 }
 
-impl Model for Exits {
+impl Model for ExitList {
     ghost use Rattle.std.specs.Prelude.{List, ℕ, take, ◌≤◌};
     ghost use Rattle.an_base.specs.Rows.{ArePorts, ExitsRise};
     ghost use Rattle.an_base.specs.declared.limits.TheConstants.{PORTS};
@@ -24,35 +26,35 @@ impl Model for Exits {
         (e.len ≤ PORTS) × ArePorts (take e.len e.ports) × ExitsRise (take e.len e.ports) };
 }
 
-impl Exits {
+impl ExitList {
     ghost use Rattle.std.specs.Prelude.{◌≤◌};
     ghost use Rattle.an_base.specs.Rows.{ArePorts, ExitsRise};
 
-    /// No exits.
+    /// No ports.
     pub fn new() -> Self
         ensures { result ≡ [] }
     {
-        Exits {
+        ExitList {
             ports: [1; PORTS],
             len: 0,
         }
     }
 
-    /// How many exits there are, 0 to 12.
+    /// How many there are, 0 to 12.
     pub fn len(&self) -> usize
         ensures { result ≡ length self.now }
     {
         self.as_slice().len()
     }
 
-    /// Whether there are no exits.
+    /// Whether there are none.
     pub fn is_empty(&self) -> bool
         ensures { result ≡ (length self.now == 0) }
     {
         self.as_slice().is_empty()
     }
 
-    /// The exits, rising.
+    /// The ports, rising.
     pub fn as_slice(&self) -> &[u8]
         ensures all { result.now ≡ self.now }
         ensures most { length self.now ≤ PORTS }
@@ -62,17 +64,7 @@ impl Exits {
         &self.ports[..usize::from(self.len)]
     }
 
-    /// The same exits, without taking memory.
-    pub fn copy(&self) -> Self
-        ensures { result ≡ self.now }
-    {
-        Exits {
-            ports: self.ports,
-            len: self.len,
-        }
-    }
-
-    /// Adds an exit at the end, 1 to 12 and above those before it.
+    /// Adds a port at the end, 1 to 12 and above those before it.
     pub fn push(&mut self, port: u8)
         requires room { length self.old < PORTS }
         requires least { 1 ≤ port }
@@ -82,6 +74,119 @@ impl Exits {
     {
         self.ports[usize::from(self.len)] = port;
         self.len += 1;
+    }
+}
+
+// The lowest port of a set that is not empty.
+fn lowest(set: u16) -> u8
+    requires { set ≢ 0 }
+    ensures has { bit_at set result ≡ 1 }
+    ensures lowest { (port : ℕ) → bit_at set port ≡ 1 → result ≤ port }
+    ensures below { result < 16 }
+{
+    set.trailing_zeros() as u8
+}
+
+// The set without one of its ports.
+fn without(set: u16, port: u8) -> u16
+    requires below { port < 16 }
+    requires has { bit_at set port ≡ 1 }
+    ensures ports { IsWithout set port result }
+    ensures less { result < set }
+{
+    set & !(1u16 << port)
+}
+
+// The ports of a set one after the other.
+fn ports_in(set: u16) -> ExitList
+    requires { HasPortsAlone set }
+    ensures { result ≡ ports_of set }
+{
+    let mut ports = ExitList::new();
+    let mut left = set;
+    'ports: while left > 0 {
+        let port = lowest(left);
+        left = without(left, port);
+        ports.push(port);
+    }
+    ports
+}
+
+/// The ports, 1 to 12, by which a packet may leave, which contracts see as a list, rising.
+#[derive(Debug, Drop)]
+pub struct Exits {
+    // Bit `p` says that port `p` is one.
+    set: u16,
+}
+
+impl Model for Exits {
+    ghost use Rattle.std.specs.Prelude.{List, ℕ};
+    ghost use Rattle.an_base.specs.Rows.{HasPortsAlone, ports_of};
+
+    ghost Value = { List ℕ };
+
+    ghost view = { λ e. ports_of e.set };
+
+    ghost invariant = { λ e. HasPortsAlone e.set };
+}
+
+impl Exits {
+    ghost use Rattle.std.specs.Prelude.{ℕ, ◌↔◌, ◌≤◌, Contains};
+    ghost use Rattle.std.specs.Int.{bit_at};
+    ghost use Rattle.an_base.specs.Rows.{ArePorts, ports_of};
+
+    /// No exits.
+    pub fn new() -> Self
+        ensures { result ≡ [] }
+    {
+        Exits { set: 0 }
+    }
+
+    /// The ports of a set: bit `p` of it says that it has port `p`, 1 to 12.
+    pub fn of_set(set: u16) -> Self
+        ensures { result ≡ ports_of set }
+    {
+        Exits { set: set & 8190 }
+    }
+
+    /// The set of the exits: bit `p` of it says that port `p` is one.
+    pub fn as_set(&self) -> u16
+        ensures each { (port : ℕ) → (bit_at result port ≡ 1) ↔ Contains self.now port }
+        ensures ports { ArePorts self.now }
+    {
+        self.set
+    }
+
+    /// Whether there are no exits.
+    pub fn is_empty(&self) -> bool
+        ensures { result ≡ (length self.now == 0) }
+    {
+        self.set == 0
+    }
+
+    /// The exits one after the other, rising.
+    pub fn list(&self) -> ExitList
+        ensures { result ≡ self.now }
+    {
+        ports_in(self.set)
+    }
+
+    /// The same exits.
+    pub fn copy(&self) -> Self
+        ensures { result ≡ self.now }
+    {
+        Exits { set: self.set }
+    }
+
+    /// Adds an exit, 1 to 12 and above those before it.
+    pub fn push(&mut self, port: u8)
+        requires room { length self.old < PORTS }
+        requires least { 1 ≤ port }
+        requires most { port ≤ LAST_PORT }
+        requires rising { All (λ p. p < port) self.old }
+        ensures { self.new ≡ self.old ++ port ∷ [] }
+    {
+        self.set |= 1u16 << port;
     }
 }
 

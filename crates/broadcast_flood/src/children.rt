@@ -4,7 +4,7 @@ ghost use Rattle.broadcast_flood.specs.Tree.{AreChildPorts, IsDown};
 ghost use Rattle.broadcast_flood.specs.Kept.{AreChildren};
 
 use an_base::memory::OutOfMemory;
-use an_base::row::Exits;
+use an_base::row::ExitList;
 use std::alloc::Global;
 use topo_graph::graph::Graph;
 
@@ -20,11 +20,11 @@ fn leads_to_child(graph: &Graph, x: u8, port: u8) -> bool
 }
 
 // The ports of the tree links to the children of the member at a place, rising.
-fn child_ports(graph: &Graph, x: u8) -> Exits
+fn child_ports(graph: &Graph, x: u8) -> ExitList
     requires { IsGraph graph.now }
     ensures { AreChildPorts graph.now x result }
 {
-    let mut ports = Exits::new();
+    let mut ports = ExitList::new();
     'ports: for port in 1..13u8 {
         if leads_to_child(graph, x, port) {
             ports.push(port);
@@ -34,7 +34,7 @@ fn child_ports(graph: &Graph, x: u8) -> Exits
 }
 
 /// The ports to the children of each member, by place.
-pub fn children_of(alloc: Global, graph: &Graph) -> Result<Vec<Exits>, OutOfMemory>
+pub fn children_of(alloc: Global, graph: &Graph) -> Result<Vec<ExitList>, OutOfMemory>
     ensures children { IfOk result (λ children. AreChildren graph.now (length graph.now) children.items) }
     ensures graph { IfOk result (λ _. IsGraph graph.now) }
 {

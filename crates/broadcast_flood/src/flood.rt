@@ -9,7 +9,7 @@ use crate::children::children_of;
 use crate::hop::FloodHop;
 use an_base::life::Life;
 use an_base::memory::OutOfMemory;
-use an_base::row::Exits;
+use an_base::row::ExitList;
 use std::alloc::Global;
 use std::marker::Model;
 use topo_graph::graph::Graph;
@@ -30,7 +30,11 @@ fn push_hops(hops: &mut Vec<FloodHop>, at: Life, ports: &[u8]) -> Result<(), Out
 }
 
 // The hops by every tree link downward, by rising level of who sends, then by life, then by port.
-fn hops_down(alloc: Global, graph: &Graph, children: &[Exits]) -> Result<Vec<FloodHop>, OutOfMemory>
+fn hops_down(
+    alloc: Global,
+    graph: &Graph,
+    children: &[ExitList],
+) -> Result<Vec<FloodHop>, OutOfMemory>
     requires graph { IsGraph graph.now }
     requires children { AreChildren graph.now (length graph.now) children.now }
     ensures { IfOk result (λ hops. AreHopsDown graph.now hops.items) }
@@ -48,7 +52,7 @@ fn hops_down(alloc: Global, graph: &Graph, children: &[Exits]) -> Result<Vec<Flo
 #[derive(Debug, Drop)]
 pub struct Flood<'a> {
     graph: &'a Graph,
-    children: Vec<Exits>,
+    children: Vec<ExitList>,
     downs: Vec<FloodHop>,
 }
 

@@ -50,7 +50,7 @@ pub fn add_row(table: &mut Vec<u16>, row: &Row)
         at: row.at,
         port: row.entry,
     });
-    table[place] = with(table[place], row.exits.as_slice());
+    table[place] = with(table[place], row.exits.as_set());
 }
 
 /// For each spot the exits of all rows.

@@ -142,7 +142,8 @@ fn first_illegal(sides: &Sides<'_>, row: &Row) -> Option<RowExit>
         → FirstBad es numbers row.now result }
 {
     let came_down = sides.is_up(row.at, row.entry);
-    'exits: for exit in row.exits.as_slice() {
+    let ports = row.exits.list();
+    'exits: for exit in ports.as_slice() {
         if sides.is_illegal(row.at, came_down, *exit) {
             return Some(RowExit {
                 at: row.at,

@@ -1,20 +1,14 @@
-ghost use Rattle.std.specs.Prelude.{◌≡◌, ◌≢◌, ◌<◌, ◌⊎◌, ◌↔◌, ℕ, Contains};
+ghost use Rattle.std.specs.Prelude.{◌≡◌, ◌≢◌, ◌<◌, ◌⊎◌, ◌↔◌, ℕ};
 ghost use Rattle.std.specs.Int.{bit_at};
-ghost use Rattle.an_base.specs.Rows.{ArePorts};
 ghost use Rattle.dep_check.specs.Ports.{HasOnlyPorts, IsWithout};
 ghost use Rattle.dep_check.specs.Tables.{has_port};
 
-/// The set with these ports too: bit `p` of a set says that it has port `p`.
-pub fn with(set: u16, ports: &[u8]) -> u16
-    requires { ArePorts ports.now }
+/// The set with the ports of another too: bit `p` of a set says that it has port `p`.
+pub fn with(set: u16, others: u16) -> u16
     ensures { (port : ℕ)
-        → ((bit_at result port ≡ 1) ↔ ((bit_at set port ≡ 1) ⊎ Contains ports.now port)) }
+        → ((bit_at result port ≡ 1) ↔ ((bit_at set port ≡ 1) ⊎ (bit_at others port ≡ 1))) }
 {
-    let mut set = set;
-    'ports: for port in ports {
-        set |= 1u16 << *port;
-    }
-    set
+    set | others
 }
 
 /// Whether a set has a port, 0 to 12.

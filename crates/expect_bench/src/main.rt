@@ -53,8 +53,9 @@ fn lengths_of(alloc: Global, entries: &Entries) -> Result<(), OutOfMemory> {
     Ok(())
 }
 
-// Prints the times of the parts.
-fn measure(rt: &HostRuntime, script: &Script) -> io::Result<()> {
+// Prints the times of the parts of a script, which was begun to be read at this moment.
+fn measure(rt: &HostRuntime, begun: Instant, script: &Script) -> io::Result<()> {
+    println!(rt; "reading {}", micros(rt, begun)?)?;
     let alloc = rt.alloc();
     let start = Instant::now(rt)?;
     let forest = trees(alloc, script.wiring()).map_err(wanted)?;
@@ -83,9 +84,8 @@ fn main(rt: HostRuntime) -> io::Result<()> {
         return Ok(());
     }
     let start = Instant::now(&rt)?;
-    let Ok(script) = read(rt.alloc(), &bytes) else {
-        return Ok(());
-    };
-    println!(rt; "reading {}", micros(&rt, start)?)?;
-    measure(&rt, &script)
+    match read(rt.alloc(), &bytes) {
+        Ok(script) => measure(&rt, start, &script),
+        Err(_) => Ok(()),
+    }
 }

@@ -20,7 +20,7 @@ use Rattle.fabric_state.specs.Agree.{ending_of}
 use Rattle.fabric_state.specs.Choices.{command_or_move, drive_by, event_of_drive, event_of_work, move_or_tick, next_drive, next_work, tick_or_wait}
 use Rattle.fabric_world.specs.World.{WorldOf, world_after}
 use Rattle.fabric_world.specs.Histories.{HistoryOf, IsLawful, IsLegal, fabric_of, last_taken, world_of}
-use Rattle.fabric_world.specs.Solo.{IsOneThread, begins, works, rests, drives, waits, worker_event}
+use Rattle.fabric_world.specs.Solo.{IsOneThread, IsSolo, begins, works, rests, drives, waits, worker_event}
 use Rattle.fabric_book.specs.Nets.{NetOf, history_of, with_events}
 use Rattle.fabric_book.specs.Rounds.{AreIdleBefore, GoesOn, HasDriven, IsIdleAt, IsTurnOf, IsTurnOfDriver}
 use Rattle.fabric_book.proofs.WaitLemmas.{stuck}
@@ -205,3 +205,8 @@ pub legal_by : (script : ScriptOf) (net : NetOf) (journal : List Event) (end : E
 legal_by script net journal end scripts events lawful ended =
     subst (λ (x : ScriptOf). IsLegal x journal end) scripts
     (subst (λ (es : List Event). IsLegal net.script es end) (sym events) (record { lawful = lawful; ends = ends_by net.script net.events end ended }))
+
+pub solo_by : (script : ScriptOf) (net : NetOf) (journal : List Event) (end : Ending) → net.script ≡ script → journal ≡ net.events → HasDriven (Some end) net → IsSolo script journal end
+solo_by script net journal end scripts events driven =
+    subst (λ (x : ScriptOf). IsSolo x journal end) scripts
+    (subst (λ (es : List Event). IsSolo net.script es end) (sym events) (record { order = driven.0.order; ended = driven.1 }))

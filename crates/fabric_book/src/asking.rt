@@ -10,7 +10,7 @@ use frame_region::buffer::FrameBuf;
 use switch_core::switch::TableFor;
 
 /// What a caller asks.
-#[derive(Debug, Drop)]
+#[derive(Drop)]
 pub enum BookAsk {
     /// For the next work of a switch.
     Take {
@@ -40,7 +40,7 @@ pub enum BookAsk {
 }
 
 /// What is replied.
-#[derive(Debug, Drop)]
+#[derive(Drop)]
 pub enum BookReply {
     /// To `Take`.
     Take {

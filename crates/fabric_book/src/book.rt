@@ -92,12 +92,12 @@ impl Book {
     pub fn begin(alloc: Global, script: &Script) -> Result<Self, OutOfMemory>
         ensures { IfOk result (λ book. book ≡ record { script = script.now; events = [] }) }
     {
-        let fabric = Fabric::begin(alloc, script)?;
-        let count = usize::from(fabric.count());
+        let entries = Vec::with_capacity(alloc, script.limits().events as usize)?;
+        let taken = vec![in alloc; 0u8; usize::from(script.wiring().count())]?;
         Ok(Book {
-            fabric,
-            entries: Vec::with_capacity(alloc, script.limits().events as usize)?,
-            taken: vec![in alloc; 0u8; count]?,
+            fabric: Fabric::begin(alloc, script)?,
+            entries,
+            taken,
         })
     }
 

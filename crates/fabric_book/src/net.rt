@@ -40,7 +40,7 @@ use table_build::table::Table;
 use wire_set::side::Put;
 
 /// Why an event was not made.
-#[derive(Clone, Copy, Debug, PartialEq, Eq)]
+#[derive(Clone, Copy, PartialEq, Eq)]
 pub enum StepRefusal {
     /// It is not lawful; nothing has changed.
     NotLawful,
@@ -99,6 +99,16 @@ fn start_all(alloc: Global, wiring: &Wiring, powers: &[PowerOn]) -> Result<Vec<S
     Ok(switches)
 }
 
+// The switches of a script, each in its first life, behind that with what each is started.
+fn started(alloc: Global, script: &Script) -> Result<(Vec<PowerOn>, Vec<Switch>), OutOfMemory>
+    ensures powers { IfOk result (λ r. r.0.items ≡ all_powers script.now) }
+    ensures switches { IfOk result (λ r. AreStarted r.0.items script.now.wires r.1.items) }
+{
+    let powers = powers(alloc, script)?;
+    let switches = start_all(alloc, script.wiring(), &powers)?;
+    Ok((powers, switches))
+}
+
 // A buffer for each of so many switches.
 fn buffers(alloc: Global, count: u8) -> Result<Vec<FrameBuf>, OutOfMemory>
     ensures { IfOk result (λ buffers. length buffers.items ≡ count) }
@@ -125,15 +135,15 @@ impl Net {
     pub fn begin(alloc: Global, script: &Script) -> Result<Self, OutOfMemory>
         ensures { IfOk result (λ net. net ≡ record { script = script.now; events = []; lost = false }) }
     {
-        let wiring = script.wiring();
-        let powers = powers(alloc, script)?;
+        let (powers, switches) = started(alloc, script)?;
+        let bytes = buffers(alloc, script.wiring().count())?;
         Ok(Net {
             alloc,
             lost: false,
             book: Book::begin(alloc, script)?,
-            switches: start_all(alloc, wiring, &powers)?,
             powers,
-            bytes: buffers(alloc, wiring.count())?,
+            switches,
+            bytes,
             out: Out::new(alloc),
             note: started_note(Life::new(0, 1), 0),
             puts: Vec::new(alloc),

@@ -12,7 +12,7 @@ use switch_core::switch::Switch;
 
 /// With what a switch is started in each of its lives: the epoch, the number that it had before, 1 to 126, and
 /// whether its tables have all legal routes.
-#[derive(Clone, Copy, Debug)]
+#[derive(Clone, Copy)]
 pub struct PowerOn {
     epoch: u64,
     had: u8,

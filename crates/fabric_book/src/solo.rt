@@ -18,7 +18,7 @@ use net_script::script::Script;
 use std::alloc::Global;
 
 /// A run: its journal, and its end.
-#[derive(Debug, Drop)]
+#[derive(Drop)]
 pub struct Run {
     /// The events.
     pub journal: Journal,
@@ -27,7 +27,7 @@ pub struct Run {
 }
 
 /// A run, with what was told of the events of its driver, and the tick at its end.
-#[derive(Debug, Drop)]
+#[derive(Drop)]
 pub struct ToldRun {
     /// The run.
     pub run: Run,
@@ -85,6 +85,22 @@ fn drive_all(net: &mut Net, told: &mut Lines) -> Result<Option<Ending>, OutOfMem
     }
 }
 
+// Rounds, until an end has come: the switches in the order of the script, and the driver. What is told of it is added.
+fn go_round(net: &mut Net, lines: &mut Lines, told: &mut Lines) -> Result<Ending, OutOfMemory>
+    requires turn { IsTurnOf 0 net.old }
+    requires told { told.old ≡ told_of net.old }
+    ensures script { OnOk result (net.new.script ≡ net.old.script) }
+    ensures driven { IfOk result (λ end. HasDriven (Some end) net.new) }
+    ensures told { OnOk result (told.new ≡ told_of net.new) }
+{
+    'rounds: loop {
+        work_all(net, lines)?;
+        if let Some(end) = drive_all(net, told)? {
+            return Ok(end);
+        }
+    }
+}
+
 /// The run of a script on one thread: the switches in the order of the script, each while it has work; then
 /// the driver, until it waits; and again. With it what was told of the driver's events, and the tick at the end.
 pub fn solo(alloc: Global, script: &Script) -> Result<ToldRun, OutOfMemory>
@@ -94,17 +110,12 @@ pub fn solo(alloc: Global, script: &Script) -> Result<ToldRun, OutOfMemory>
     ensures tick { IfOk result (λ all. all.tick ≡ (world_after script.now all.run.journal).fabric.tick) }
 {
     let mut net = Net::begin(alloc, script)?;
-    let mut lines = Lines::new(alloc);
     let mut told = Lines::new(alloc);
-    'rounds: loop {
-        work_all(&mut net, &mut lines)?;
-        if let Some(end) = drive_all(&mut net, &mut told)? {
-            let tick = net.now();
-            let run = Run {
-                journal: net.into_journal(),
-                end,
-            };
-            return Ok(ToldRun { run, told, tick });
-        }
-    }
+    let end = go_round(&mut net, &mut Lines::new(alloc), &mut told)?;
+    let tick = net.now();
+    let run = Run {
+        journal: net.into_journal(),
+        end,
+    };
+    Ok(ToldRun { run, told, tick })
 }

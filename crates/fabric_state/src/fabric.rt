@@ -456,7 +456,10 @@ impl Fabric {
     fn is_command(&self, event: Event) -> bool
         ensures { result ≡ is_command self.now event }
     {
-        self.due_command() == Some(event)
+        match self.due_command() {
+            Some(due) => due == event,
+            None => false,
+        }
     }
 
     // This is the place of a switch whose hand is empty.

@@ -4,7 +4,7 @@ use an_base::port::Sample;
 
 /// What a switch has taken and not yet handled. The bytes of a frame are those that the wires hold for
 /// the switch.
-#[derive(Clone, Copy, Debug)]
+#[derive(Clone, Copy)]
 pub enum Hand {
     /// Nothing.
     Empty,

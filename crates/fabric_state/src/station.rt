@@ -16,7 +16,7 @@ use table_build::table::Table;
 
 /// What all may see at the place of a switch: what it has in hand, the tick at which its next clock is due,
 /// the table in use, what the switch shows of itself, and whether its epochs are spent.
-#[derive(Debug, Drop)]
+#[derive(Drop)]
 pub struct Station {
     hand: Hand,
     clock: u32,
@@ -50,6 +50,17 @@ pub fn started_note(life: Life, epoch: u64) -> Note
         load_due: false,
         unacked: false,
     }
+}
+
+/// Writes what a switch shows of itself over what is there, in its place.
+pub fn write_note(to: &mut Note, note: &Note)
+    ensures { to.new ≡ note.now }
+{
+    to.life = note.life;
+    to.epoch = note.epoch;
+    to.ports = note.ports.copy();
+    to.load_due = note.load_due;
+    to.unacked = note.unacked;
 }
 
 impl Station {
@@ -153,7 +164,7 @@ impl Station {
         if note.epoch != self.note.epoch {
             self.table = None;
         }
-        self.note = note.copy();
+        write_note(&mut self.note, note);
         self.spent = spent;
     }
 
@@ -162,7 +173,7 @@ impl Station {
         ensures { self.new ≡ record self.old { table = Some table; note = note.now } }
     {
         self.table = Some(table);
-        self.note = note.copy();
+        write_note(&mut self.note, note);
     }
 
     // The switch begins its next life at this tick.

@@ -23,7 +23,7 @@ const MOST_TICK: u32 = 1_000_000;
 
 // How many stations there are of each kind: with a full hand, a clock that is due, a load that is due, a body
 // that is not acknowledged, and spent.
-#[derive(Clone, Copy, Debug)]
+#[derive(Clone, Copy)]
 struct Tally {
     full: u32,
     clocks: u32,
@@ -34,7 +34,7 @@ struct Tally {
 
 /// The clock of the network, and the places of its switches. How many of these have a full hand, a clock or a
 /// load due, a body that is not acknowledged, or are spent, is kept beside, so that it is known at once.
-#[derive(Debug, Drop)]
+#[derive(Drop)]
 pub struct Stations {
     tick: u32,
     items: Vec<Station>,

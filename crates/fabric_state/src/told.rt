@@ -4,7 +4,7 @@ use host_traffic::hop::DropCause;
 use wire_set::side::Put;
 
 /// What comes of a command besides the change that it makes.
-#[derive(Clone, Copy, Debug)]
+#[derive(Clone, Copy)]
 pub enum Told {
     /// Nothing.
     Nothing,

@@ -1,11 +1,11 @@
 -- The sets of exits, made row by row.
-use Rattle.std.proofs.Common.{◌≡◌, ◌∙◌, sym, ap, subst, refl, ℕ, zero, suc, ◌+◌, ◌*◌, ◌<◌, List, [], ◌∷◌, ◌++◌, arith, length, get_or, take, inl, inr, Bool, ◌==◌}
-use Rattle.std.specs.Prelude.{All, filter, replicate, ◌⊎◌}
+use Rattle.std.proofs.Common.{◌≡◌, ◌∙◌, sym, ap, subst, refl, ℕ, zero, suc, ◌+◌, ◌*◌, ◌<◌, List, [], ◌∷◌, ◌++◌, arith, length, get_or, set, take, inl, inr, ◌↔◌, Bool, ◌==◌}
+use Rattle.std.specs.Prelude.{All, Contains, filter, replicate, ◌⊎◌}
 use Rattle.std.specs.List.{list_any, range_with_len}
 use Rattle.std.proofs.lemmas.List.FromFn.{get_or-range_with_len, length-range_with_len}
 use Rattle.std.specs.Int.{bit_at}
 use Rattle.std.proofs.lemmas.Bool.{cases_eq, eq-eqb, eqb-true}
-use Rattle.std.proofs.lemmas.List.{get_or-replicate, get_or_append_left, get_or_push, length_push, take_more}
+use Rattle.std.proofs.lemmas.List.{get_or-replicate, get_or-set_same, get_or-set_other, get_or_append_left, get_or_default, get_or_push, length-set, length_push, take_more}
 use Rattle.std.proofs.lemmas.Nat.Bits.{bit_at-zero}
 use Rattle.std.proofs.lemmas.List.Elements.{All-filter}
 use Rattle.an_base.specs.Rows.{RowOf}
@@ -19,9 +19,53 @@ use Rattle.flow_channels.proofs.ExitLemmas.{exit_has, has_named}
 use Rattle.dep_check.specs.declared.channel.Channel.{Channel}
 use Rattle.dep_check.specs.Channels.{HasExit}
 use Rattle.dep_check.specs.Tables.{IsSpot, place_of}
-use Rattle.dep_check.proofs.SpotLemmas.{place_low}
+use Rattle.dep_check.proofs.SpotLemmas.{one_spot, place_low}
 use Rattle.flow_channels.specs.Board.{exit_set}
 use Rattle.flow_channels.specs.Exits.{AreAdded, AreSets, RowHas}
+
+-- where a row came in
+abbrev pub spot_of : RowOf → Channel
+spot_of row = record { at = row.at; port = row.entry }
+
+-- the exits of a row, added at its place
+pub row_added : (row : RowOf) (old : List ℕ) (place had others new : ℕ) → row.at < 127 → row.entry < 13 → row.to < 127 → length old ≡ 1651 * 127 → place ≡ place_of (spot_of row) * 127 + row.to → had ≡ get_or old place had → ((port : ℕ) → ((bit_at new port ≡ 1) ↔ ((bit_at had port ≡ 1) ⊎ (bit_at others port ≡ 1)))) → ((port : ℕ) → ((bit_at others port ≡ 1) ↔ Contains row.exits port)) → AreAdded row old (set old place new)
+row_added row old place had others new at entry to_low count is read told named = record { count = length-set old place new; each = each }
+  where
+    row_spot : IsSpot (spot_of row)
+    row_spot = record { at = at; port = entry }
+
+    low : place < length old
+    low = let below = place_low (spot_of row) row_spot in omega arith
+
+    here : (came : Channel) (to port : ℕ) → place_of came * 127 + to ≡ place → came ≡ spot_of row → to ≡ row.to → ((bit_at (exit_set (set old place new) came to) port ≡ 1) ↔ ((bit_at (exit_set old came to) port ≡ 1) ⊎ RowHas row came to port))
+    here came to port same spot to_is =
+        let got : exit_set (set old place new) came to ≡ new = ap (λ (i : ℕ). get_or (set old place new) i 0) same ∙ get_or-set_same old place new 0 low in
+        let was : exit_set old came to ≡ had = ap (λ (i : ℕ). get_or old i 0) same ∙ get_or_default old place 0 had low ∙ sym read in (
+          λ bit. elim ((told port).0 (ap (λ (n : ℕ). bit_at n port) (sym got) ∙ bit)) [
+            | inl before ↦ inl (ap (λ (n : ℕ). bit_at n port) was ∙ before)
+            | inr mine ↦ inr (sym (ap (λ (s : Channel). s.at) spot), sym (ap (λ (s : Channel). s.port) spot), sym to_is, (named port).0 mine)
+          ],
+          λ either. ap (λ (n : ℕ). bit_at n port) got ∙ (told port).1 (elim either [
+            | inl before ↦ inl (ap (λ (n : ℕ). bit_at n port) (sym was) ∙ before)
+            | inr mine ↦ inr ((named port).1 mine.3)
+          ]),
+        )
+
+    elsewhere : (came : Channel) (to port : ℕ) → (place_of came * 127 + to ≡ place → ⊥) → ((bit_at (exit_set (set old place new) came to) port ≡ 1) ↔ ((bit_at (exit_set old came to) port ≡ 1) ⊎ RowHas row came to port))
+    elsewhere came to port other =
+        let same : exit_set (set old place new) came to ≡ exit_set old came to = get_or-set_other old place (place_of came * 127 + to) new 0 other in (
+          λ bit. inl (ap (λ (n : ℕ). bit_at n port) (sym same) ∙ bit),
+          λ either. elim either [
+            | inl before ↦ ap (λ (n : ℕ). bit_at n port) same ∙ before
+            | inr mine ↦ absurd (other (let a = mine.0 in let b = mine.1 in let c = mine.2 in omega arith))
+          ],
+        )
+
+    each : (came : Channel) (to port : ℕ) → IsSpot came → to < 127 → ((bit_at (exit_set (set old place new) came to) port ≡ 1) ↔ ((bit_at (exit_set old came to) port ≡ 1) ⊎ RowHas row came to port))
+    each came to port spot below = elim (cases_eq (place_of came * 127 + to) place) [
+      | inl same ↦ here came to port same (one_spot came (spot_of row) spot row_spot (omega arith)) (omega arith)
+      | inr other ↦ elsewhere came to port other
+    ]
 
 -- one more row
 pub more_sets : (rows : List RowOf) (i : ℕ) (row : RowOf) (old new : List ℕ) → i < length rows → row ≡ get_or rows i row → AreSets (take i rows) old → AreAdded row old new → AreSets (take (i + 1) rows) new

@@ -37,7 +37,7 @@ fn add_row(sets: &mut Vec<u16>, row: &Row)
     ensures added { AreAdded row.now sets.old.items sets.new.items }
     ensures ports { ArePorts row.now.exits }
 {
-    let exits = row.exits.as_slice();
+    let exits = row.exits.as_set();
     if row.at >= NUMBERS || row.entry > 12 || row.to >= NUMBERS {
         return;
     }

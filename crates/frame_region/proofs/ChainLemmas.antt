@@ -1,4 +1,4 @@
-use Rattle.std.proofs.Common.{◌≡◌, ◌≢◌, ◌∙◌, ap, refl, ℕ, zero, suc, ◌+◌, ◌-◌, ◌*◌, ◌/◌, ◌%◌, min, ◌<◌, List, length, arith, slice_index_or, slice_set, ◌⊎◌, inl, inr}
+use Rattle.std.proofs.Common.{◌≡◌, ◌≢◌, ◌∙◌, sym, ap, subst, refl, ℕ, zero, suc, ◌+◌, ◌-◌, ◌*◌, ◌/◌, ◌%◌, min, ◌<◌, ◌≤◌, List, length, arith, slice_index_or, slice_set, ◌⊎◌, inl, inr}
 use Rattle.std.proofs.lemmas.Bool.{cases_eq}
 use Rattle.std.proofs.lemmas.List.{get_or-set_other}
 use Rattle.frame_region.specs.Blocks.{block, place, needed}
@@ -19,6 +19,15 @@ block_kept next x v (suc k) first apart =
     let here : first ≢ x = apart 0 (omega arith) in
     ap (λ b. block (slice_set next x v) b k) (get_or-set_other next x first v 0 here)
     ∙ block_kept next x v k (slice_index_or next first 0) (λ j below. apart (suc j) (omega (arith, below)))
+
+-- One turn of writing a frame: the bytes of block number k are there as well
+pub there_more : (next : List ℕ) (first k old new : ℕ) → 64 * block next first k + 64 ≤ new → old ≤ new → ((j : ℕ) → j < k → 64 * block next first j + 64 ≤ old)
+    → (j : ℕ) → j < k + 1 → 64 * block next first j + 64 ≤ new
+there_more next first k old new here more so_far j below = by (cases_eq j k)
+  where
+    by : (j ≡ k) ⊎ (j ≡ k → ⊥) → 64 * block next first j + 64 ≤ new
+    by (inl same) = subst (λ (q : ℕ). 64 * block next first q + 64 ≤ new) (sym same) here
+    by (inr other) = omega (arith, so_far j (omega (arith, other, below)), more)
 
 -- One turn of writing a frame: block number k is written with piece number k
 pub bytes_more : (next : List ℕ) (first k : ℕ) (frame old new piece : List ℕ)

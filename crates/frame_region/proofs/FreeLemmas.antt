@@ -79,12 +79,12 @@ pub free_kept : (bytes next lens : List ℕ) (slip first_free free : ℕ) → Is
     → IsKept bytes (following next slip (count_at lens slip) first_free) (slice_set lens slip 0) slip (free + count_at lens slip)
 free_kept bytes next lens slip first_free free kept here some =
     record {
-      size = kept.size ∙ ap (λ n. 64 * n) (sym long);
       count = length-set lens slip 0 ∙ kept.count ∙ sym long;
       most = omega (arith, kept.most, long);
       total = omega (arith, sum_by-set needed lens slip 0 0 here, kept.total, long);
       short = λ a. short_by a (set_len lens slip 0 a here);
       within = λ a k below. within_by a k below (set_len lens slip 0 a here);
+      written = λ a k below. written_by a k below (set_len lens slip 0 a here);
       apart = λ a b i j below_i below_j same. apart_by a b i j below_i below_j same (set_len lens slip 0 a here) (set_len lens slip 0 b here);
       taken = λ a i j below_i below_j same. taken_by a i j below_i same (set_len lens slip 0 a here) (freed bytes next lens slip first_free free j kept some below_j).cases;
       free_apart = λ i j below_i below_j same. free_by i j same (freed bytes next lens slip first_free free i kept some below_i).cases (freed bytes next lens slip first_free free j kept some below_j).cases;
@@ -112,6 +112,12 @@ free_kept bytes next lens slip first_free free kept here some =
     within_by a k below (inr at) =
         let few : k < count_at lens a = omega (arith, below, ap needed at.1) in
         omega (arith, other_stays bytes next lens slip first_free free a k kept some at.0 few, kept.within a k few, long)
+
+    written_by : (a k : ℕ) → k < count_at lens' a → ((a ≡ slip) × (len_at lens' a ≡ 0)) ⊎ ((a ≢ slip) × (len_at lens' a ≡ len_at lens a)) → 64 * block next' a k + 64 ≤ length bytes
+    written_by a k below (inl at) = absurd (omega (arith, below, ap needed at.1))
+    written_by a k below (inr at) =
+        let few : k < count_at lens a = omega (arith, below, ap needed at.1) in
+        omega (arith, other_stays bytes next lens slip first_free free a k kept some at.0 few, kept.written a k few)
 
     apart_by : (a b i j : ℕ) → i < count_at lens' a → j < count_at lens' b → block next' a i ≡ block next' b j
         → ((a ≡ slip) × (len_at lens' a ≡ 0)) ⊎ ((a ≢ slip) × (len_at lens' a ≡ len_at lens a))

@@ -1,4 +1,4 @@
-use Rattle.std.proofs.Common.{◌≡◌, ◌≢◌, ◌∙◌, sym, ap, subst, refl, ℕ, ◌+◌, ◌-◌, ◌/◌, ◌%◌, ◌<◌, ◌≤◌, List, length, map, arith, slice_index_or, slice_set, Option, Some, None, ◌⊎◌, inl, inr}
+use Rattle.std.proofs.Common.{◌≡◌, ◌≢◌, ◌∙◌, sym, ap, subst, refl, ℕ, ◌+◌, ◌-◌, ◌*◌, ◌/◌, ◌%◌, ◌<◌, ◌≤◌, List, length, map, arith, slice_index_or, slice_set, Option, Some, None, ◌⊎◌, inl, inr}
 use Rattle.std.specs.List.{range_with_len}
 use Rattle.std.proofs.lemmas.Bool.{cases_eq, cases_lt}
 use Rattle.std.proofs.lemmas.List.{get_or-set_other, get_or-set_same, length-set}
@@ -32,12 +32,12 @@ pub put_kept : (bytes next lens new frame : List ℕ) (first_free free : ℕ) �
     → IsKept new next (slice_set lens first_free (length frame)) (block next first_free (needed (length frame))) (free - needed (length frame))
 put_kept bytes next lens new frame first_free free kept written least most enough =
     record {
-      size = written.count ∙ kept.size;
       count = length-set lens first_free (length frame) ∙ kept.count;
       most = kept.most;
       total = omega (arith, sum_by-set needed lens first_free (length frame) 0 here, ap needed new_is, kept.total, enough);
       short = λ a. short_by a (set_len lens first_free (length frame) a here);
       within = λ a k below. within_by a k below (set_len lens first_free (length frame) a here);
+      written = λ a k below. written_by a k below (set_len lens first_free (length frame) a here);
       apart = λ a b i j below_i below_j same. apart_by a b i j below_i below_j same (set_len lens first_free (length frame) a here) (set_len lens first_free (length frame) b here);
       taken = λ a i j below_i below_j same. taken_by a i j below_i below_j same (set_len lens first_free (length frame) a here);
       free_apart = λ i j below_i below_j same.
@@ -64,6 +64,10 @@ put_kept bytes next lens new frame first_free free kept written least most enoug
     within_by : (a k : ℕ) → k < count_at lens' a → ((a ≡ first_free) × (len_at lens' a ≡ length frame)) ⊎ ((a ≢ first_free) × (len_at lens' a ≡ len_at lens a)) → block next a k < length next
     within_by a k below (inl at) = subst (λ (q : ℕ). block next q k < length next) (sym at.0) (kept.free_within k (omega (arith, below, ap needed at.1, enough)))
     within_by a k below (inr at) = kept.within a k (omega (arith, below, ap needed at.1))
+
+    written_by : (a k : ℕ) → k < count_at lens' a → ((a ≡ first_free) × (len_at lens' a ≡ length frame)) ⊎ ((a ≢ first_free) × (len_at lens' a ≡ len_at lens a)) → 64 * block next a k + 64 ≤ length new
+    written_by a k below (inl at) = subst (λ (q : ℕ). 64 * block next q k + 64 ≤ length new) (sym at.0) (written.there k (omega (arith, below, ap needed at.1)))
+    written_by a k below (inr at) = omega (arith, kept.written a k (omega (arith, below, ap needed at.1)), written.more)
 
     taken_by : (a i j : ℕ) → i < count_at lens' a → j < free - need → block next a i ≡ block next (block next first_free need) j → ((a ≡ first_free) × (len_at lens' a ≡ length frame)) ⊎ ((a ≢ first_free) × (len_at lens' a ≡ len_at lens a)) → ⊥
     taken_by a i j below_i below_j same (inl at) =

@@ -1,4 +1,4 @@
-use Rattle.std.proofs.Common.{◌≡◌, ◌∙◌, sym, ap, subst, refl, ℕ, zero, suc, ◌+◌, ◌*◌, ◌<◌, ◌≤◌, List, length, map, replicate, arith, slice_index_or, Option, None, ◌⊎◌, inl, inr}
+use Rattle.std.proofs.Common.{◌≡◌, ◌∙◌, sym, ap, subst, refl, ℕ, zero, suc, ◌+◌, ◌<◌, ◌≤◌, List, length, map, replicate, arith, slice_index_or, Option, None, ◌⊎◌, inl, inr}
 use Rattle.std.specs.List.{range_with_len}
 use Rattle.std.proofs.lemmas.Bool.{cases_lt}
 use Rattle.std.proofs.lemmas.List.{get_or-replicate, get_or_past, length-replicate}
@@ -26,15 +26,15 @@ in_order next blocks follow (suc k) below =
     ∙ follow k (omega (arith, below))
     ∙ omega arith
 
-pub start_kept : (bytes next lens : List ℕ) (blocks : ℕ) → blocks ≤ 1048576 → length bytes ≡ 64 * blocks → length next ≡ blocks → ((b : ℕ) → b < blocks → slice_index_or next b 0 ≡ b + 1) → lens ≡ replicate blocks 0
+pub start_kept : (bytes next lens : List ℕ) (blocks : ℕ) → blocks ≤ 1048576 → length next ≡ blocks → ((b : ℕ) → b < blocks → slice_index_or next b 0 ≡ b + 1) → lens ≡ replicate blocks 0
     → IsKept bytes next lens 0 blocks
-start_kept bytes next lens blocks few size count follow none = subst (λ (l : List ℕ). IsKept bytes next l 0 blocks) (sym none) (record {
-  size = omega (arith, size, count);
+start_kept bytes next lens blocks few count follow none = subst (λ (l : List ℕ). IsKept bytes next l 0 blocks) (sym none) (record {
   count = omega (arith, length-replicate {A = ℕ} blocks 0, count);
   most = omega (arith, few, count);
   total = omega (arith, sum_by-replicate needed blocks 0, count);
   short = λ a. omega (arith, none_begins blocks a);
   within = λ a k below. absurd (omega (arith, below, ap needed (none_begins blocks a)));
+  written = λ a k below. absurd (omega (arith, below, ap needed (none_begins blocks a)));
   apart = λ a b i j below_i below_j same. absurd (omega (arith, below_i, ap needed (none_begins blocks a)));
   taken = λ a i j below_i below_j same. omega (arith, below_i, ap needed (none_begins blocks a));
   free_apart = λ i j below_i below_j same. omega (arith, same, below_i, below_j, in_order next blocks follow i (omega (arith, below_i)), in_order next blocks follow j (omega (arith, below_j)));

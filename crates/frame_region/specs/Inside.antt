@@ -1,10 +1,12 @@
 -- What only functions inside this crate cite.
-use Rattle.std.specs.Prelude.{◌≡◌, ℕ, ◌+◌, ◌*◌, ◌<◌, List, length, slice_index_or}
+use Rattle.std.specs.Prelude.{◌≡◌, ℕ, ◌+◌, ◌*◌, ◌<◌, ◌≤◌, List, length, slice_index_or}
 use Rattle.frame_region.specs.Blocks.{needed, block, place}
 
--- the bytes of a frame were written into the blocks of a chain, and no other block changed
+-- the bytes of a frame were written into the blocks of a chain, and no other block changed; a byte that
+-- is not there yet is as good as 0
 pub record IsWritten (next : List ℕ) (first : ℕ) (frame old new : List ℕ) : Type 0 where
-  pub count : length new ≡ length old
+  pub more : length old ≤ length new
+  pub there : (k : ℕ) → k < needed (length frame) → 64 * block next first k + 64 ≤ length new
   pub bytes :
       (byte : ℕ) → byte < length frame
       → slice_index_or new (place next first byte) 0 ≡ slice_index_or frame byte 0

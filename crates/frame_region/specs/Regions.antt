@@ -60,12 +60,12 @@ shown bytes next lens free = record {
 
 -- The blocks are sound: no block is twice in a chain or in two of them, the free one among them.
 pub record IsKept (bytes next lens : List ℕ) (first_free free : ℕ) : Type 0 where
-  pub size : length bytes ≡ 64 * length next
   pub count : length lens ≡ length next
   pub most : length next ≤ MOST_BLOCKS
   pub total : sum_by needed lens + free ≡ length next
   pub short : (first : ℕ) → len_at lens first ≤ MOST_FRAME
   pub within : (first k : ℕ) → k < count_at lens first → block next first k < length next
+  pub written : (first k : ℕ) → k < count_at lens first → 64 * block next first k + 64 ≤ length bytes
   pub apart :
       (first other i j : ℕ) → i < count_at lens first → j < count_at lens other
       → block next first i ≡ block next other j → (first ≡ other) × (i ≡ j)

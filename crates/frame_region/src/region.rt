@@ -1,5 +1,5 @@
 ghost use Rattle.std.specs.Prelude.{◌≡◌, ◌≢◌, min, ◌+◌, ◌-◌, ◌*◌, ◌<◌, ◌≤◌, ℕ, length, take, replicate};
-ghost use Rattle.std.specs.Prelude.{None, IfOk, IfErr, OnOk, OnErr, IsSome, slice_index_or};
+ghost use Rattle.std.specs.Prelude.{None, IfOk, IfErr, OnOk, OnErr, IsSome, slice_index_or, vec_capacity};
 ghost use Rattle.frame_region.specs.declared.buffer.TheConstants.{MOST_FRAME};
 ghost use Rattle.frame_region.specs.declared.region.TheConstants.{MOST_BLOCKS};
 ghost use Rattle.frame_region.specs.Blocks.{needed, block, chain_bytes};
@@ -51,8 +51,9 @@ pub struct NoRoom {
     pub free: u32,
 }
 
-/// Blocks of 64 bytes, all of which are taken from memory at once. Each has the number of the next
-/// block of its chain, and the first block of a chain has the length of the byte string in it.
+/// Blocks of 64 bytes, the memory for all of which is taken at once; a block's bytes are there from
+/// when it is first written. Each has the number of the next block of its chain, and the first block
+/// of a chain has the length of the byte string in it.
 #[derive(Debug, Drop)]
 pub struct Region {
     bytes: Vec<u8>,
@@ -63,13 +64,15 @@ pub struct Region {
 }
 
 impl Model for Region {
+    ghost use Rattle.std.specs.Prelude.{◌*◌, ◌≤◌, length, vec_capacity};
     ghost use Rattle.frame_region.specs.Regions.{RegionOf, shown, IsKept};
 
     ghost Value = { RegionOf };
 
     ghost view = { λ r. shown r.bytes.items r.next.items r.lens.items r.free };
 
-    ghost invariant = { λ r. IsKept r.bytes.items r.next.items r.lens.items r.first_free r.free };
+    ghost invariant = { λ r. IsKept r.bytes.items r.next.items r.lens.items r.first_free r.free
+        × (64 * length r.next.items ≤ vec_capacity r.bytes) };
 }
 
 // How many blocks so many bytes need.
@@ -80,17 +83,33 @@ fn needed(len: usize) -> u32
     ((len + 63) / BLOCK) as u32
 }
 
+// So many bytes are there then, without taking memory: those that were not are 0.
+fn reach(bytes: &mut Vec<u8>, end: usize)
+    requires { end ≤ vec_capacity bytes.old }
+    ensures end { end ≤ length bytes.new.items }
+    ensures more { length bytes.old.items ≤ length bytes.new.items }
+    ensures room { vec_capacity bytes.old ≤ vec_capacity bytes.new }
+    ensures shown { (m : ℕ) → slice_index_or bytes.new.items m 0 ≡ slice_index_or bytes.old.items m 0 }
+{
+    if bytes.len() < end {
+        let _reached = bytes.resize(end, 0);
+    }
+}
+
 // Writes a piece of at most 64 bytes at the front of a block.
-fn write(bytes: &mut [u8], block: u32, piece: &[u8])
+fn write(bytes: &mut Vec<u8>, block: u32, piece: &[u8])
     requires most { length piece.now ≤ 64 }
-    requires room { 64 * block + 64 ≤ length bytes.old }
-    ensures count { length bytes.new ≡ length bytes.old }
+    requires room { 64 * block + 64 ≤ vec_capacity bytes.old }
+    ensures end { 64 * block + 64 ≤ length bytes.new.items }
+    ensures more { length bytes.old.items ≤ length bytes.new.items }
+    ensures room { vec_capacity bytes.old ≤ vec_capacity bytes.new }
     ensures piece { (m : ℕ) → m < length piece.now
-        → slice_index_or bytes.new (64 * block + m) 0 ≡ slice_index_or piece.now m 0 }
+        → slice_index_or bytes.new.items (64 * block + m) 0 ≡ slice_index_or piece.now m 0 }
     ensures others { (b m : ℕ) → m < 64 → b ≢ block
-        → slice_index_or bytes.new (64 * b + m) 0 ≡ slice_index_or bytes.old (64 * b + m) 0 }
+        → slice_index_or bytes.new.items (64 * b + m) 0 ≡ slice_index_or bytes.old.items (64 * b + m) 0 }
 {
     let start = BLOCK * block as usize;
+    reach(bytes, start + BLOCK);
     bytes[start..start + piece.len()].copy_from_slice(piece);
 }
 
@@ -129,14 +148,15 @@ fn block_after(next: &[u32], first: u32, count: u32) -> u32
 }
 
 // Writes a frame into the blocks of a chain, and answers the block after them.
-fn fill(bytes: &mut [u8], next: &[u32], first: u32, frame: &[u8]) -> u32
+fn fill(bytes: &mut Vec<u8>, next: &[u32], first: u32, frame: &[u8]) -> u32
     requires most { length frame.now ≤ MOST_FRAME }
-    requires room { length bytes.old ≡ 64 * length next.now }
+    requires room { 64 * length next.now ≤ vec_capacity bytes.old }
     requires within { (k : ℕ) → k < needed (length frame.now) → block next.now first k < length next.now }
     requires apart { (i j : ℕ) → i < needed (length frame.now) → j < needed (length frame.now)
         → block next.now first i ≡ block next.now first j → i ≡ j }
     ensures end { result ≡ block next.now first (needed (length frame.now)) }
-    ensures written { IsWritten next.now first frame.now bytes.old bytes.new }
+    ensures room { vec_capacity bytes.old ≤ vec_capacity bytes.new }
+    ensures written { IsWritten next.now first frame.now bytes.old.items bytes.new.items }
 {
     let mut block = first;
     'blocks: for k in 0..needed(frame.len()) as usize {
@@ -149,8 +169,8 @@ fn fill(bytes: &mut [u8], next: &[u32], first: u32, frame: &[u8]) -> u32
 // Sets the buffer to so many bytes of a chain.
 fn gather(bytes: &[u8], next: &[u32], first: u32, len: usize, out: &mut FrameBuf)
     requires most { len ≤ MOST_FRAME }
-    requires room { length bytes.now ≡ 64 * length next.now }
     requires within { (k : ℕ) → k < needed len → block next.now first k < length next.now }
+    requires written { (k : ℕ) → k < needed len → 64 * block next.now first k + 64 ≤ length bytes.now }
     ensures { out.new ≡ chain_bytes bytes.now next.now first len }
 {
     out.clear();
@@ -182,7 +202,7 @@ impl Region {
     {
         let next = following(alloc, blocks)?;
         let lens = vec![in alloc; 0u16; blocks as usize]?;
-        let bytes = vec![in alloc; 0u8; BLOCK * blocks as usize]?;
+        let bytes = Vec::with_capacity(alloc, BLOCK * blocks as usize)?;
         Ok(Region {
             bytes,
             next,

@@ -123,7 +123,8 @@ fn next_hop<V: HopView>(packet: Packet, view: &V) -> Hop
                 let port = packet.last_port();
                 delivery(port, view.host(packet.at, port), packet)
             } else {
-                onward(table.exits(packet.row_entry(), number), view, packet)
+                let exits = table.exits(packet.row_entry(), number).list();
+                onward(exits.as_slice(), view, packet)
             }
         }
     }

@@ -1,18 +1,14 @@
 -- The first line of bytes, and words of which none is empty.
-use Rattle.std.proofs.Common.{◌≡◌, ◌≢◌, ◌∙◌, sym, ap, refl, ℕ, ◌+◌, ◌-◌, ◌<◌, ◌≤◌, List, [], ◌∷◌, ◌++◌, length, length-take, get_or, take, drop, drop-cons, add-one, Some, None, true, false, eqb, All, arith, map, not, subst, Bor}
-use Rattle.std.specs.List.{position}
+use Rattle.std.proofs.Common.{◌≡◌, ◌≢◌, ◌∙◌, sym, ap, refl, ℕ, ◌+◌, ◌-◌, ◌<◌, ◌≤◌, List, [], ◌∷◌, ◌++◌, append_assoc, length, length-take, get_or, take, drop, drop-cons, add-one, Some, None, true, false, eqb, All, arith, map, not, subst, Bor}
+use Rattle.std.specs.List.{position, slice_split}
 use Rattle.std.proofs.lemmas.Bool.Decides.{Decides-eqb, nat_tests}
-use Rattle.std.proofs.lemmas.List.{take_rest, take_all, take-append-drop, get_or-take, length-map, get_or-map}
+use Rattle.std.proofs.lemmas.List.{take_rest, take_all, take-append-drop, get_or-take, length-map, get_or-map, map_push}
 use Rattle.std.proofs.lemmas.List.Folds.{list_all_more, list_all_at}
 use Rattle.std.proofs.lemmas.List.Elements.{All-from_get_or}
 use Rattle.std.proofs.lemmas.List.Quantifiers.{position-Some}
-use Rattle.std.specs.Prelude.{Result, OnOk, MatchResult, Option}
-use Rattle.std.specs.Iterator.{Drains, Yields}
-use Rattle.std.proofs.lemmas.Iterator.{YieldsList}
-use Rattle.std.proofs.lemmas.Iterator.Adapters.{fact_from_extend}
-use Rattle.std.proofs.lemmas.Iterator.Consumers.{YieldsList-at}
+use Rattle.std.proofs.lemmas.List.Splits.{slice_split_none, slice_split_at}
 use Rattle.text_lines.proofs.LineLemmas.{position_none}
-use Rattle.journal.specs.Words.{has_words}
+use Rattle.journal.specs.Words.{words_of, has_words}
 use Rattle.journal.specs.Texts.{IsFirstLine}
 
 no_feed : (c : ℕ) → eqb c 10 ≡ false → c ≢ 10
@@ -34,6 +30,38 @@ first_is bytes i at =
       no_feed = All-from_get_or (λ c. c ≢ 10) (take i bytes) 0 (λ k low. let below : k < i = omega (arith, length-take i bytes) in no_feed (get_or (take i bytes) k 0) (ap (λ (c : ℕ). eqb c 10) (get_or-take i bytes k 0 below) ∙ here.2 k below));
     }
 
+-- the first of two or more words, up to the first space
+pub first_word_is : (line : List ℕ) (i : ℕ) → position (λ c. eqb c 32) line ≡ Some i → words_of line ≡ take i line ∷ words_of (take (length line - (i + 1)) (drop (i + 1) line))
+unfolding words_of
+first_word_is line i at =
+    let here = position-Some (λ (c : ℕ). eqb c 32) line i 0 at in
+    let within : i < length line = here.0 in
+    let space : get_or line i 0 ≡ 32 = (Decides-eqb (get_or line i 0) 32).0 here.1 in
+    let rest : drop i line ≡ 32 ∷ drop (i + 1) line = rw (add-one, drop-cons line i 0 within, space) refl in
+    let parts : line ≡ take i line ++ 32 ∷ drop (i + 1) line = sym (take-append-drop i line) ∙ ap (λ (xs : List ℕ). take i line ++ xs) rest in
+    let free : All (λ c. eqb c 32 ≡ false) (take i line) = All-from_get_or (λ c. eqb c 32 ≡ false) (take i line) 0 (λ k low. let below : k < i = omega (arith, length-take i line) in ap (λ (c : ℕ). eqb c 32) (get_or-take i line k 0 below) ∙ here.2 k below) in
+    ap (slice_split (λ c. eqb c 32)) parts
+    ∙ slice_split_at (λ c. eqb c 32) (take i line) 32 (drop (i + 1) line) free refl
+    ∙ ap (λ (xs : List ℕ). take i line ∷ slice_split (λ c. eqb c 32) xs) (sym (take_rest line (i + 1)))
+
+-- a line without a space is one word
+pub one_word_is : (line : List ℕ) → position (λ c. eqb c 32) line ≡ None → words_of line ≡ line ∷ []
+unfolding words_of
+one_word_is line none = slice_split_none (λ c. eqb c 32) line (All-from_get_or (λ c. eqb c 32 ≡ false) line 0 (position_none (λ (c : ℕ). eqb c 32) line 0 none))
+
+-- one more word of a line was cut off
+pub cut_more : (words : List (Bor (List ℕ))) (word : Bor (List ℕ)) (all parts rest : List (List ℕ)) → map (λ w. w.now) words ++ parts ≡ all → parts ≡ word.now ∷ rest → map (λ w. w.now) (words ++ word ∷ []) ++ rest ≡ all
+cut_more words word all parts rest so_far cut =
+    ap (λ (ws : List (List ℕ)). ws ++ rest) (map_push (λ (w : Bor (List ℕ)). w.now) words word)
+    ∙ append_assoc (map (λ (w : Bor (List ℕ)). w.now) words) (word.now ∷ []) rest
+    ∙ ap (λ (ws : List (List ℕ)). map (λ (w : Bor (List ℕ)). w.now) words ++ ws) (sym cut)
+    ∙ so_far
+
+-- and then the last
+pub cut_all : (words : List (Bor (List ℕ))) (word : Bor (List ℕ)) (all parts : List (List ℕ)) → map (λ w. w.now) words ++ parts ≡ all → parts ≡ word.now ∷ [] → map (λ w. w.now) (words ++ word ∷ []) ≡ all
+cut_all words word all parts so_far last =
+    map_push (λ (w : Bor (List ℕ)). w.now) words word ∙ ap (λ (ws : List (List ℕ)). map (λ (w : Bor (List ℕ)). w.now) words ++ ws) (sym last) ∙ so_far
+
 -- the words so far, with one more, where none is empty
 pub words_more : (words : List (Bor (List ℕ))) (i : ℕ) (d : Bor (List ℕ)) → i < length words → has_words (take i (map (λ w. w.now) words)) ≡ true → eqb (length (get_or words i d).now) 0 ≡ false → has_words (take (i + 1) (map (λ w. w.now) words)) ≡ true
 words_more words i d within so_far some =
@@ -52,9 +80,3 @@ words_fail words i d within none =
 -- all words
 pub words_all : (words : List (Bor (List ℕ))) (i : ℕ) → length words ≤ i → has_words (take i (map (λ w. w.now) words)) ≡ true → has_words (map (λ w. w.now) words) ≡ true
 words_all words i past so_far = subst (λ (ws : List (List ℕ)). has_words ws ≡ true) (take_all i (map (λ (w : Bor (List ℕ)). w.now) words) (omega (arith, length-map words (λ (w : Bor (List ℕ)). w.now)))) so_far
-
--- what `extend` made of all that a chain gives
-pub made_by_extend : {T A C E Q : Type 0} {steps : T → Option A → T → Type 0} {all : List C} {P : List A → Type 0} {s : T} (v : A → C) (r : Result (Unit {0}) E)
-    → ((it : T) × (xs : List A) × (it ≡ s) × P xs × MatchResult r (λ _. Drains steps it xs) (λ _. (t : T) × Yields steps it xs t))
-    → YieldsList steps v s all → ((xs : List A) → map v xs ≡ all → P xs → Q) → OnOk r Q
-made_by_extend v r ran road = fact_from_extend v r ran (λ it same. YieldsList-at same road)

@@ -1,4 +1,4 @@
-use Rattle.std.proofs.Common.{◌≡◌, ◌≢◌, ◌∙◌, sym, ap, ℕ, ◌+◌, List, [], ◌∷◌, ◌++◌, append_assoc, append-nil, map, arith, codes, Result, Ok, Err, inr, Bool, true, false}
+use Rattle.std.proofs.Common.{◌≡◌, ◌≢◌, ◌∙◌, sym, ap, subst, refl, ℕ, ◌+◌, List, [], ◌∷◌, ◌++◌, append_assoc, append-nil, map, arith, codes, Result, Ok, Err, inl, inr, Bool, true, false, if◌then◌else◌}
 use Rattle.std.specs.List.{flat_map, join_with_byte}
 use Rattle.std.specs.Str.{bytes_eq}
 use Rattle.std.proofs.lemmas.Slice.Eq.{bytes_eq-Decides}
@@ -15,8 +15,9 @@ use Rattle.journal.specs.Lines.{Line, line_words}
 use Rattle.journal.specs.Steps.{JournalStop, ReadsForm, ReadsWords, ReadsLine, IsRefusal}
 use Rattle.text_lines.specs.Stops.{refusal_at}
 use Rattle.text_lines.specs.declared.stop.Stop.TheVariants.{Fault, OutOfMemory}
-use Rattle.journal.specs.Words.{words_of}
-use Rattle.journal.specs.Texts.{IsFirstLine, IsJournal}
+use Rattle.journal.specs.declared.cause.JournalCause.TheVariants.{UnknownWord}
+use Rattle.journal.specs.Words.{words_of, is_shaped}
+use Rattle.journal.specs.Texts.{IsFirstLine, IsJournal, AreWrong, IsWrongLine}
 use Rattle.journal.specs.Reading.{IsRead}
 
 -- the text of events with one more
@@ -82,3 +83,12 @@ refused s bytes rest first after events line (Fault c) read next not_last wrong 
   wrong = inr (inr (record { line = first; after = after; first = next; not_last = not_last; wrong = wrong }));
 }))
 refused s bytes rest first after events line OutOfMemory read next not_last wrong = tt
+
+-- a line is wrong by what is wrong with its words, where it has the shape of a line
+pub wrong_by : (s : ScriptOf) (line : List ℕ) (ws : List (List ℕ)) (cause found : JournalCause) → AreWrong s ws cause → ws ≡ words_of line → found ≡ (if is_shaped line then cause else UnknownWord) → IsWrongLine s line found
+wrong_by s line ws cause found wrong cut is = by (is_shaped line) refl
+  where
+    by : (shaped : Bool) → is_shaped line ≡ shaped → IsWrongLine s line found
+    by true fits =
+        inr (fits, subst (λ (c : JournalCause). AreWrong s (words_of line) c) (sym (is ∙ ap (λ (b : Bool). if b then cause else UnknownWord) fits)) (subst (λ (words : List (List ℕ)). AreWrong s words cause) cut wrong))
+    by false fails = inl (fails, is ∙ ap (λ (b : Bool). if b then cause else UnknownWord) fails)

@@ -1,11 +1,13 @@
 //! The lines of a journal, and the words of a line.
 
-ghost use Rattle.std.specs.Prelude.{◌≡◌, ◌≢◌, ◌==◌, ◌<◌, length, map, position, All, IfSome, IfNone, OnOk};
+ghost use Rattle.std.specs.Prelude.{◌≡◌, ◌≢◌, ◌==◌, ◌<◌, [], ◌∷◌, length, map, position, All, IfSome, IfNone, OnOk};
 ghost use Rattle.std.specs.List.{list_all};
 ghost use Rattle.journal.specs.Words.{words_of, is_line_byte, has_words};
 ghost use Rattle.journal.specs.Texts.{IsFirstLine};
 
 use an_base::memory::OutOfMemory;
+use memchr::memchr;
+use text_lines::line::first_of;
 
 /// The most bytes of a line, without its line feed.
 pub const MOST_LINE: usize = 200;
@@ -25,7 +27,7 @@ pub fn first_line(bytes: &[u8]) -> Option<(&[u8], &[u8])>
 fn first_feed(bytes: &[u8]) -> Option<usize>
     ensures { result ≡ position (λ c. c == 10) bytes.now }
 {
-    bytes.iter().position(|c| *c == b'\n')
+    memchr(b'\n', bytes)
 }
 
 /// Whether each byte may stand in a line.
@@ -47,8 +49,23 @@ pub fn set_words<'a>(words: &mut Vec<&'a [u8]>, line: &'a [u8]) -> Result<(), Ou
     ensures { OnOk result (map (λ w. w.now) words.new.items ≡ words_of line.now) }
 {
     words.clear();
-    words.extend(line.split(|c| *c == b' '))?;
+    let mut rest = line;
+    'words: while let Some((word, after)) = first_word(rest) {
+        words.push(word)?;
+        rest = after;
+    }
+    words.push(rest)?;
     Ok(())
+}
+
+// The first of two or more words, and what stands behind the space after it.
+fn first_word(line: &[u8]) -> Option<(&[u8], &[u8])>
+    ensures some { IfSome result (λ r. words_of line.now ≡ r.0.now ∷ words_of r.1.now) }
+    ensures less { IfSome result (λ r. length r.1.now < length line.now) }
+    ensures none { IfNone result (words_of line.now ≡ line.now ∷ []) }
+{
+    let end = first_of(line, b' ')?;
+    Some((&line[..end], &line[end + 1..]))
 }
 
 /// Whether no word is empty.

@@ -1,10 +1,13 @@
 //! The reader of journals.
 
-ghost use Rattle.std.specs.Prelude.{◌≡◌, ◌≢◌, ◌<◌, ◌-◌, ◌^◌, ◌++◌, [], List, ℕ, length, All, IfOk, IfErr, IfSome, IfNone, OnErr, OnOk};
+ghost use Rattle.std.specs.Prelude.{◌≡◌, ◌≢◌, ◌<◌, ◌≤◌, ◌-◌, ◌^◌, ◌++◌, [], List, ℕ, length, map, if◌then◌else◌, All, IfOk, IfErr, IfSome, IfNone, OnErr, OnOk};
 ghost use Rattle.an_base.specs.declared.event.Event.{Event};
 ghost use Rattle.net_script.specs.Scripts.{ScriptOf};
 ghost use Rattle.text_lines.specs.Lines.{line_text};
 ghost use Rattle.text_lines.specs.declared.stop.Stop.TheVariants.{Fault};
+ghost use Rattle.journal.specs.declared.cause.JournalCause.TheVariants.{UnknownWord};
+ghost use Rattle.journal.specs.declared.line.TheConstants.{MOST_LINE};
+ghost use Rattle.journal.specs.Words.{words_of, is_shaped};
 ghost use Rattle.journal.specs.Events.{first_words};
 ghost use Rattle.journal.specs.Texts.{IsJournal};
 ghost use Rattle.journal.specs.Steps.{ReadsLine, IsRefusal};
@@ -171,13 +174,25 @@ fn read_line<'a>(
 ) -> Result<Event, JournalStop>
     ensures { ReadsLine script.now line.now result }
 {
-    if line.len() > MOST_LINE || !are_line_bytes(line) {
+    if line.len() > MOST_LINE {
         return Err(Stop::Fault(JournalCause::UnknownWord));
     }
     set_words(words, line)?;
-    if !have_bytes(words) {
-        return Err(Stop::Fault(JournalCause::UnknownWord));
+    match read_words(script, words) {
+        Ok(event) => Ok(event),
+        Err(cause) => Err(Stop::Fault(wrong_line(line, words, cause))),
     }
-    let event = read_words(script, words)?;
-    Ok(event)
+}
+
+// What is wrong with a line of at most 200 bytes whose words are none of an event, by what is wrong with its words.
+// The bytes of a line that is one of an event need no look: its words are names, numbers and fixed words.
+fn wrong_line(line: &[u8], words: &[&[u8]], cause: JournalCause) -> JournalCause
+    requires short { length line.now ≤ MOST_LINE }
+    requires words { map (λ w. w.now) words.now ≡ words_of line.now }
+    ensures { result ≡ (if is_shaped line.now then cause else UnknownWord) }
+{
+    if are_line_bytes(line) && have_bytes(words) {
+        return cause;
+    }
+    JournalCause::UnknownWord
 }

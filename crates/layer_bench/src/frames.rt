@@ -1,6 +1,7 @@
 //! Frames written and read.
 
 use an_base::frame::Frame;
+use an_base::memory::OutOfMemory;
 use frame_codec::reading::{DecodeRefusal, decode};
 use frame_codec::writing::encode;
 use frame_region::buffer::FrameBuf;
@@ -56,31 +57,47 @@ fn push_entries(bytes: &mut Vec<u8>) -> Result<(), AllocError> {
     Ok(())
 }
 
-// The bytes of a frame.
-fn frame(alloc: Global, kind: Kind) -> Result<Vec<u8>, AllocError> {
-    let mut bytes = Vec::with_capacity(alloc, 22_591)?;
-    bytes.extend_from_slice(&[1, 0, 0, 0, 0, 0, 0, 0, 2])?;
-    push_end(&mut bytes, 1, 1)?;
-    push_end(&mut bytes, 2, 1)?;
-    bytes.extend_from_slice(&[0, 0, 0, 1])?;
+// Appends the numbers of 126 entries.
+fn push_numbers(bytes: &mut Vec<u8>) -> Result<(), AllocError> {
+    for number in 1..127u8 {
+        bytes.push(number)?;
+    }
+    Ok(())
+}
+
+// Appends a body.
+fn push_body(bytes: &mut Vec<u8>, kind: Kind) -> Result<(), AllocError> {
     match kind {
         Kind::Position => {
             bytes.extend_from_slice(&[1, 0, 0, 0, 1])?;
-            push_life(&mut bytes, 1)?;
-            bytes.extend_from_slice(&[0, 0])?;
+            push_life(bytes, 1)?;
+            bytes.extend_from_slice(&[0, 0])
         }
         Kind::Report => {
-            bytes.push(3)?;
-            push_entries(&mut bytes)?;
+            bytes.extend_from_slice(&[3])?;
+            push_entries(bytes)
         }
         Kind::Topology => {
-            bytes.push(4)?;
-            push_entries(&mut bytes)?;
-            for number in 1..127u8 {
-                bytes.push(number)?;
-            }
+            bytes.extend_from_slice(&[4])?;
+            push_entries(bytes)?;
+            push_numbers(bytes)
         }
     }
+}
+
+// Appends a frame.
+fn push_frame(bytes: &mut Vec<u8>, kind: Kind) -> Result<(), AllocError> {
+    bytes.extend_from_slice(&[1, 0, 0, 0, 0, 0, 0, 0, 2])?;
+    push_end(bytes, 1, 1)?;
+    push_end(bytes, 2, 1)?;
+    bytes.extend_from_slice(&[0, 0, 0, 1])?;
+    push_body(bytes, kind)
+}
+
+// The bytes of a frame.
+fn frame(alloc: Global, kind: Kind) -> Result<Vec<u8>, AllocError> {
+    let mut bytes = Vec::with_capacity(alloc, 22_591)?;
+    push_frame(&mut bytes, kind)?;
     Ok(bytes)
 }
 
@@ -93,6 +110,49 @@ fn read(alloc: Global, bytes: &[u8]) -> io::Result<Frame> {
     }
 }
 
+// How long it takes to read the frame that bytes spell so many times.
+fn reading<R: Clock>(rt: &R, alloc: Global, bytes: &[u8], times: u64) -> io::Result<Duration> {
+    let start = Instant::now(rt)?;
+    for _ in 0..times {
+        drop(read(alloc, bytes)?);
+    }
+    start.elapsed(rt)
+}
+
+// How long it takes to write a frame to a buffer so many times.
+fn writing<R: Clock>(
+    rt: &R,
+    frame: &Frame,
+    out: &mut FrameBuf,
+    times: u64,
+) -> io::Result<Duration> {
+    let start = Instant::now(rt)?;
+    for _ in 0..times {
+        encode(frame, out);
+    }
+    start.elapsed(rt)
+}
+
+// How long it takes to write a frame so many times.
+fn written<R: Clock>(rt: &R, alloc: Global, frame: &Frame, times: u64) -> io::Result<Duration> {
+    match FrameBuf::new(alloc) {
+        Ok(mut out) => writing(rt, frame, &mut out, times),
+        Err(OutOfMemory) => Err(io::Error::from(io::ErrorKind::OutOfMemory)),
+    }
+}
+
+// How long it takes to read the frame that bytes spell so many times, and to write it as often.
+fn both<R: Clock>(
+    rt: &R,
+    alloc: Global,
+    bytes: &[u8],
+    times: u64,
+) -> io::Result<(Duration, Duration)> {
+    let reading = reading(rt, alloc, bytes, times)?;
+    let frame = read(alloc, bytes)?;
+    Ok((reading, written(rt, alloc, &frame, times)?))
+}
+
 /// How long it takes to read a frame so many times, and to write it as often.
 pub fn measured<R: Clock>(
     rt: &R,
@@ -101,18 +161,5 @@ pub fn measured<R: Clock>(
     times: u64,
 ) -> io::Result<(Duration, Duration)> {
     let bytes = frame(alloc, kind)?;
-    let start = Instant::now(rt)?;
-    for _ in 0..times {
-        let _frame = read(alloc, &bytes)?;
-    }
-    let reading = start.elapsed(rt)?;
-    let frame = read(alloc, &bytes)?;
-    let Ok(mut out) = FrameBuf::new(alloc) else {
-        return Err(io::Error::from(io::ErrorKind::OutOfMemory));
-    };
-    let start = Instant::now(rt)?;
-    for _ in 0..times {
-        encode(&frame, &mut out);
-    }
-    Ok((reading, start.elapsed(rt)?))
+    both(rt, alloc, &bytes, times)
 }

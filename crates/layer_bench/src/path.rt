@@ -56,33 +56,74 @@ fn put(ways: &mut VecDeque<Way>, from: usize, sends: Sends) -> Result<(), OutOfM
     Ok(())
 }
 
-// How many bodies the cores of a path accept until none is left, oldest first.
-fn drive(alloc: Global, switches: usize) -> Result<u64, OutOfMemory> {
-    let mut cores = Vec::new(alloc);
-    let mut ways = VecDeque::new(alloc);
-    for place in 0..switches {
+// The cores of a path, and the bodies on their way, the oldest first.
+#[derive(Drop)]
+struct Path {
+    cores: Vec<Core>,
+    ways: VecDeque<Way>,
+}
+
+impl Path {
+    // Adds the core of a place, which joins the epoch.
+    fn join(&mut self, alloc: Global, place: usize, switches: usize) -> Result<(), OutOfMemory> {
         let mut sends = Sends::new(alloc);
         let links = links(place, switches);
-        cores.push(Core::join(alloc, life(place), 1, 1, &links, &mut sends)?)?;
-        put(&mut ways, place, sends)?;
+        self.cores
+            .push(Core::join(alloc, life(place), 1, 1, &links, &mut sends)?)?;
+        put(&mut self.ways, place, sends)
     }
-    let mut count = 0u64;
-    for _ in 0..u64::MAX {
-        let Some(way) = ways.pop_front() else {
-            break;
-        };
-        let Some(core) = cores.get_mut(way.to) else {
-            break;
+
+    // Adds so many cores.
+    fn join_all(&mut self, alloc: Global, switches: usize) -> Result<(), OutOfMemory> {
+        for place in 0..switches {
+            self.join(alloc, place, switches)?;
+        }
+        Ok(())
+    }
+
+    // A body comes. Answers whether it is accepted.
+    fn accept(&mut self, alloc: Global, way: Way) -> Result<bool, OutOfMemory> {
+        let Some(core) = self.cores.get_mut(way.to) else {
+            return Ok(false);
         };
         if core.version() > MOST_VERSION || way.port > 12 {
-            break;
+            return Ok(false);
         }
         let mut sends = Sends::new(alloc);
         core.accept(way.port, way.body, &mut sends)?;
-        put(&mut ways, way.to, sends)?;
-        count = count.wrapping_add(1);
+        put(&mut self.ways, way.to, sends)?;
+        Ok(true)
     }
-    Ok(count)
+
+    // The oldest body comes. Answers whether there was one, and is accepted.
+    fn accept_oldest(&mut self, alloc: Global) -> Result<bool, OutOfMemory> {
+        match self.ways.pop_front() {
+            Some(way) => self.accept(alloc, way),
+            None => Ok(false),
+        }
+    }
+
+    // How many bodies the cores accept until none is left, the oldest first.
+    fn accept_all(&mut self, alloc: Global) -> Result<u64, OutOfMemory> {
+        let mut count = 0u64;
+        for _ in 0..u64::MAX {
+            if !self.accept_oldest(alloc)? {
+                break;
+            }
+            count = count.wrapping_add(1);
+        }
+        Ok(count)
+    }
+}
+
+// How many bodies the cores of a path accept until none is left.
+fn drive(alloc: Global, switches: usize) -> Result<u64, OutOfMemory> {
+    let mut path = Path {
+        cores: Vec::new(alloc),
+        ways: VecDeque::new(alloc),
+    };
+    path.join_all(alloc, switches)?;
+    path.accept_all(alloc)
 }
 
 /// How many bodies the cores of a path of so many switches accept in one epoch, and how long it takes.

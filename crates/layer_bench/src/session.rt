@@ -25,25 +25,72 @@ impl Session {
         (self.drawn >> 33) % 10 < self.lost
     }
 
-    // Sends the body with this number, which the receiver acknowledges.
-    fn send(&mut self, alloc: Global, k: u32, body: &Body) -> Result<(), OutOfMemory> {
-        let body = body.copy(alloc)?;
-        if self.is_lost() {
-            return Ok(());
-        }
-        match self.receiver.on_carry(k, body) {
-            Verdict::Accepted(_) => self.accepted = self.accepted.wrapping_add(1),
-            Verdict::Held { wanted: _, got: _ } | Verdict::Repeat { last: _ } => {}
-            Verdict::Ahead { wanted: _, got: _ } => return Ok(()),
-        }
+    // Counts the bodies that were held for this one, at most eight.
+    fn take_held(&mut self) {
         for _ in 0..8 {
             if self.receiver.next().is_none() {
                 break;
             }
             self.accepted = self.accepted.wrapping_add(1);
         }
+    }
+
+    // The body with this number comes to the receiver, unless it is lost.
+    fn send(&mut self, k: u32) {
+        if self.is_lost() {
+            return;
+        }
+        match self.receiver.on_carry(k, body()) {
+            Verdict::Accepted(_) => self.accepted = self.accepted.wrapping_add(1),
+            Verdict::Held { wanted: _, got: _ } | Verdict::Repeat { last: _ } => {}
+            Verdict::Ahead { wanted: _, got: _ } => return,
+        }
+        self.take_held();
+    }
+
+    // Acknowledges, unless that is lost. Answers whether something else goes out then.
+    fn acknowledge(&mut self) -> bool {
+        let n = self.receiver.last();
+        !self.is_lost() && self.sender.on_ack(n, self.now).is_some()
+    }
+
+    // Acknowledges, and sends again what is due, until no body is outstanding.
+    fn settle(&mut self) {
+        for _ in 0..10_000 {
+            if !self.sender.unacked() || self.acknowledge() {
+                break;
+            }
+            self.now = self.now.wrapping_add(1) % 1_000_000_000;
+            if let Some(k) = self.sender.due(self.now) {
+                self.send(k);
+            }
+        }
+    }
+
+    // Pushes a body, which is sent where the window has room.
+    fn push(&mut self) -> Result<(), OutOfMemory> {
+        if self.sender.pushed() >= 1_000_000_000 {
+            return Ok(());
+        }
+        if let Some(k) = self.sender.push(body(), self.now)? {
+            self.send(k);
+        }
         Ok(())
     }
+
+    // Pushes so many bodies. Answers how many are accepted.
+    fn push_all(&mut self, bodies: u32) -> Result<u64, OutOfMemory> {
+        for _ in 0..bodies {
+            self.push()?;
+            self.settle();
+        }
+        Ok(self.accepted)
+    }
+}
+
+// Each body.
+fn body() -> Body {
+    Body::Answer(AnswerBody::new(1, false))
 }
 
 // How many bodies are accepted when so many are pushed, as soon as the window has room.
@@ -56,37 +103,7 @@ fn drive(alloc: Global, bodies: u32, lost: u64) -> Result<u64, OutOfMemory> {
         lost,
         accepted: 0,
     };
-    let body = Body::Answer(AnswerBody::new(1, false));
-    for _ in 0..bodies {
-        if session.sender.pushed() >= 1_000_000_000 {
-            break;
-        }
-        let sent = session.sender.push(body.copy(alloc)?, session.now)?;
-        if let Some(k) = sent {
-            session.send(alloc, k, &body)?;
-        }
-        settle(alloc, &mut session, &body)?;
-    }
-    Ok(session.accepted)
-}
-
-// Acknowledges, and sends again what is due, until no body is outstanding.
-fn settle(alloc: Global, session: &mut Session, body: &Body) -> Result<(), OutOfMemory> {
-    for _ in 0..10_000 {
-        if !session.sender.unacked() {
-            break;
-        }
-        let n = session.receiver.last();
-        let now = session.now;
-        if !session.is_lost() && session.sender.on_ack(n, now).is_some() {
-            break;
-        }
-        session.now = now.wrapping_add(1) % 1_000_000_000;
-        if let Some(k) = session.sender.due(session.now) {
-            session.send(alloc, k, body)?;
-        }
-    }
-    Ok(())
+    session.push_all(bodies)
 }
 
 /// How many bodies a session hands over when so many are pushed and so many of ten frames are lost,

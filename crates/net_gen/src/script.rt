@@ -225,6 +225,23 @@ fn add_failure(script: &mut Script, count: u8) -> Result<(), OutOfMemory>
     })
 }
 
+// Makes of an empty script the one that is drawn from a seed.
+fn fill(alloc: Global, script: &mut Script, seed: u64, count: u8) -> Result<(), OutOfMemory>
+    requires empty { script.old ≡ empty_script }
+    requires least { 1 ≤ count }
+    requires most { count ≤ 100 }
+    ensures { OnOk result (script.new ≡ generated seed count) }
+{
+    let mut draw = Draw::new(seed);
+    add_switches(alloc, script, count)?;
+    add_tree(script, &mut draw, count)?;
+    add_links(script, &mut draw, count)?;
+    add_hosts(alloc, script, count)?;
+    add_sends(script, count, 10)?;
+    add_failure(script, count)?;
+    add_sends(script, count, 80)
+}
+
 /// The script that is drawn from a seed: a tree of so many switches with some more links, a host at each of
 /// them, and packets before and behind a failure of the first link and its repair.
 pub fn script_of(alloc: Global, seed: u64, count: u8) -> Result<Script, OutOfMemory>
@@ -233,13 +250,6 @@ pub fn script_of(alloc: Global, seed: u64, count: u8) -> Result<Script, OutOfMem
     ensures { IfOk result (λ script. script ≡ generated seed count) }
 {
     let mut script = Script::new(alloc);
-    let mut draw = Draw::new(seed);
-    add_switches(alloc, &mut script, count)?;
-    add_tree(&mut script, &mut draw, count)?;
-    add_links(&mut script, &mut draw, count)?;
-    add_hosts(alloc, &mut script, count)?;
-    add_sends(&mut script, count, 10)?;
-    add_failure(&mut script, count)?;
-    add_sends(&mut script, count, 80)?;
+    fill(alloc, &mut script, seed, count)?;
     Ok(script)
 }

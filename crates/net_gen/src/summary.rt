@@ -75,20 +75,25 @@ struct Tally {
     tick: u32,
 }
 
-// The line on a run, of so many events, that came to this.
-fn line_of(alloc: Global, end: &Ending, events: usize, tally: Tally) -> Result<Vec<u8>, OutOfMemory>
-    ensures { IfOk result (λ text. text.items
-        ≡ line_on end.now tally.tick events tally.delivered tally.dropped) }
+// Appends the line on a run, of so many events, that came to this.
+fn push_line(
+    alloc: Global,
+    text: &mut Vec<u8>,
+    end: &Ending,
+    events: usize,
+    tally: Tally,
+) -> Result<(), OutOfMemory>
+    ensures { OnOk result (text.new.items ≡ text.old.items
+        ++ line_on end.now tally.tick events tally.delivered tally.dropped) }
 {
-    let mut text = Vec::new(alloc);
     text.extend_from_slice(b"# ")?;
     text.extend_from_slice(end_word(end))?;
-    push_count(alloc, &mut text, b"tick", u64::from(tally.tick))?;
-    push_count(alloc, &mut text, b"events", events as u64)?;
-    push_count(alloc, &mut text, b"delivered", tally.delivered as u64)?;
-    push_count(alloc, &mut text, b"dropped", tally.dropped as u64)?;
+    push_count(alloc, text, b"tick", u64::from(tally.tick))?;
+    push_count(alloc, text, b"events", events as u64)?;
+    push_count(alloc, text, b"delivered", tally.delivered as u64)?;
+    push_count(alloc, text, b"dropped", tally.dropped as u64)?;
     text.push(b'\n')?;
-    Ok(text)
+    Ok(())
 }
 
 // The line on a run with what was told of the events of its driver.
@@ -102,7 +107,9 @@ fn line_of_run(alloc: Global, all: &ToldRun) -> Result<Vec<u8>, OutOfMemory>
         dropped: count_drops(lines),
         tick: all.tick,
     };
-    line_of(alloc, &all.run.end, all.run.journal.len(), tally)
+    let mut text = Vec::new(alloc);
+    push_line(alloc, &mut text, &all.run.end, all.run.journal.len(), tally)?;
+    Ok(text)
 }
 
 /// One line, as a comment, on how the run of a script on one thread ends: the end, its tick, how many events

@@ -12,7 +12,7 @@ use Rattle.fabric_state.specs.Fabric.{FabricOf}
 use Rattle.fabric_state.specs.declared.ending.Ending.{Ending}
 use Rattle.fabric_state.specs.Lawful.{is_lawful}
 use Rattle.fabric_world.specs.World.{WorldOf, after_all, begun, step, world_after}
-use Rattle.fabric_world.specs.Histories.{AreLawful, IsFirstFault, IsLawful, IsLegal}
+use Rattle.fabric_world.specs.Histories.{AreLawful, IsLawful, IsLegal}
 use Rattle.fabric_world.proofs.CountLemmas.{lawful_events}
 use Rattle.fabric_world.proofs.InductionLemmas.{world_script}
 use Rattle.fabric_book.specs.Nets.{NetOf, history_of, with_step}

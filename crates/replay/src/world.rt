@@ -8,7 +8,7 @@ ghost use Rattle.fabric_world.specs.Histories.{IsLawful, IsLegal, world_of};
 ghost use Rattle.fabric_world.specs.Lines.{lines_of};
 ghost use Rattle.fabric_settling.specs.Claims.{HoldsAndSettles};
 ghost use Rattle.fabric_book.specs.Nets.{history_of, with_step};
-ghost use Rattle.replay.specs.Replays.{HasNoEnd, IfIllegal, IsNoReplay, IsRefusal, IsUnlawfulNext, line_behind};
+ghost use Rattle.replay.specs.Replays.{HasMade, HasNoEnd, IfIllegal, IsNoReplay, IsRefusal, IsUnlawfulNext, line_behind};
 
 use crate::refusal::ReplayRefusal;
 use an_base::event::{Event, Journal};
@@ -113,6 +113,20 @@ pub fn refused(reader: &mut Reader, why: ReplayRefusal) -> ReplayRefusal
     }
 }
 
+// Makes the events of a journal over a network that has made none yet, and tells to what they come.
+fn make_all(net: &mut Net, lines: &mut Lines, journal: &Journal) -> Result<World, ReplayRefusal>
+    requires { HasMade net.old.script [] net.old }
+    ensures legal { IfOk result (IsLegal net.old.script journal.now) }
+    ensures claims { OnOk result (HoldsAndSettles net.old.script journal.now) }
+    ensures refused { IfErr result (IsRefusal net.old.script journal.now) }
+{
+    let events = journal.as_slice();
+    'events: for event in events {
+        step(net, event, lines)?;
+    }
+    Ok(World { end: end_of(net)? })
+}
+
 /// Replays a journal over the network of a script. It answers where each event is lawful after those before
 /// it and the last one leads to an end. All that is claimed of a lawful history then holds of the journal: at
 /// each moment of it, where it ends settled, and of how soon it settles.
@@ -123,9 +137,5 @@ pub fn replay(alloc: Global, script: &Script, journal: &Journal) -> Result<World
 {
     let mut net = Net::begin(alloc, script)?;
     let mut lines = Lines::new(alloc);
-    let events = journal.as_slice();
-    'events: for event in events {
-        step(&mut net, event, &mut lines)?;
-    }
-    Ok(World { end: end_of(&net)? })
+    make_all(&mut net, &mut lines, journal)
 }

@@ -10,7 +10,7 @@ use Rattle.std.proofs.lemmas.Bool.{cases_Bool, eqb-true}
 use Rattle.std.proofs.lemmas.List.Elements.{All-head, All-tail}
 use Rattle.std.proofs.lemmas.Grind.{flat_map-append}
 use Rattle.an_base.specs.declared.event.Event.{Event}
-use Rattle.an_base.specs.declared.event.Event.TheVariants.{Tick, Clock, Take, Handle, Load, Fail, Repair, Lose, Again, Swap, Noise, Send, Move, Restart}
+use Rattle.an_base.specs.declared.event.Event.TheVariants.{Tick, Load, Send, Move}
 use Rattle.an_base.specs.Values.{TopoOf}
 use Rattle.net_script.specs.Scripts.{IsScript, ScriptOf}
 use Rattle.host_traffic.specs.declared.hop.Hop.{Hop}
@@ -25,7 +25,7 @@ use Rattle.fabric_state.specs.Fits.{IsPacketSound}
 use Rattle.fabric_state.specs.Lawful.{is_lawful}
 use Rattle.fabric_state.proofs.FitsLemmas.{event_fits}
 use Rattle.fabric_state.proofs.LawfulLemmas.{lawful_is}
-use Rattle.fabric_world.specs.Histories.{AreLawful, IsLawful, IsLegal}
+use Rattle.fabric_world.specs.Histories.{AreLawful, IsLawful}
 use Rattle.fabric_world.specs.Lines.{hop_line, lines_of, move_lines}
 use Rattle.fabric_world.specs.World.{WorldOf, after_all, begun, effect, loads_with, step, world_after}
 use Rattle.fabric_world.proofs.FabricLemmas.{world_fits}

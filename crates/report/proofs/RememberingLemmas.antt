@@ -1,21 +1,21 @@
 -- What is kept of packets and hosts is kept through each event.
-use Rattle.std.proofs.Common.{◌≡◌, ◌≢◌, ◌∙◌, sym, ap, subst, refl, ℕ, zero, suc, ◌+◌, ◌-◌, ◌<◌, ◌≤◌, List, [], ◌∷◌, ◌++◌, Option, Some, None, Bool, true, false, cond, arith, length, length-append, append-nil, map, get_or, inl, inr}
-use Rattle.std.specs.Prelude.{◌==◌, ◌⊎◌, All, count_by, replicate, set, slice_get, slice_index_or, slice_set, unwrap_or}
+use Rattle.std.proofs.Common.{◌≡◌, ◌≢◌, ◌∙◌, sym, ap, subst, refl, ℕ, zero, suc, ◌+◌, ◌-◌, ◌<◌, ◌≤◌, List, [], ◌∷◌, ◌++◌, Option, Some, None, Bool, true, false, cond, arith, length, append-nil, map, inl, inr}
+use Rattle.std.specs.Prelude.{◌==◌, All, count_by, replicate, set, slice_get, unwrap_or}
 use Rattle.std.specs.Option.{option_map, option_map_or, option_or}
-use Rattle.std.proofs.lemmas.Bool.{cases_Bool, cases_eq, cases_lt, eqb-true}
+use Rattle.std.proofs.lemmas.Bool.{cases_eq}
 use Rattle.std.proofs.lemmas.Bool.Decides.{nat_tests}
-use Rattle.std.proofs.lemmas.List.{get_or-set_same, get_or-set_other, get_or_past, get_or-replicate, get_or_default, length-map, length-replicate, length-set, length_push, map_push, map-set, set-get_or, set_past, get_or-map}
+use Rattle.std.proofs.lemmas.List.{get_or-set_same, get_or-set_other, length-map, length-replicate, length-set, length_push, map_push, map-set, set-get_or, get_or-map}
 use Rattle.std.specs.List.{flat_map}
 use Rattle.std.proofs.lemmas.List.Elements.{All-nil, All-weaker}
 use Rattle.std.proofs.lemmas.List.Sums.{count_by-le-length}
-use Rattle.std.proofs.lemmas.Option.{slice_get_past, slice_get-get_or}
+use Rattle.std.proofs.lemmas.Option.{slice_get-get_or}
 use Rattle.an_base.specs.declared.event.Event.{Event}
 use Rattle.an_base.specs.declared.event.Event.TheVariants.{Send, Move}
 use Rattle.net_graph.specs.declared.wiring.HostOn.{HostOn}
 use Rattle.net_script.specs.Scripts.{IsScript, ScriptOf}
 use Rattle.host_names.specs.Caches.{ArrivalOf, choice_of, kept_of, with_arrival}
 use Rattle.host_names.proofs.KeptLaws.{one_more}
-use Rattle.fabric_state.specs.Fabric.{FabricOf, table_at}
+use Rattle.fabric_state.specs.Fabric.{FabricOf}
 use Rattle.fabric_state.specs.Effects.{address_of}
 use Rattle.fabric_book.specs.Nets.{NetOf, history_of, with_step}
 use Rattle.replay.proofs.ReplayLemmas.{kept_there}

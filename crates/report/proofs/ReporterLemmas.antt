@@ -1,5 +1,5 @@
 -- A report is made event by event.
-use Rattle.std.proofs.Common.{◌≡◌, ◌∙◌, sym, ap, subst, refl, ℕ, ◌+◌, ◌<◌, ◌≤◌, List, [], ◌∷◌, ◌++◌, arith, length, length-append, append_assoc, append-nil, get_or, take, drop, take-append-drop, codes, false}
+use Rattle.std.proofs.Common.{◌≡◌, ◌∙◌, sym, ap, subst, refl, ℕ, ◌+◌, ◌<◌, List, [], ◌∷◌, ◌++◌, arith, length, length-append, append_assoc, append-nil, get_or, take, drop, take-append-drop, codes, false, Result, Ok, Err, IfOk, OnOk, IfErr}
 use Rattle.std.proofs.lemmas.List.{take_more}
 use Rattle.std.proofs.Math.Seq.{take-append_seam}
 use Rattle.an_base.specs.declared.event.Event.{Event}
@@ -15,9 +15,10 @@ use Rattle.fabric_world.specs.declared.line.Line.{Line}
 use Rattle.fabric_world.proofs.WorldLemmas.{world_after-event}
 use Rattle.fabric_settling.specs.Claims.{HoldsAndSettles}
 use Rattle.fabric_book.specs.Nets.{NetOf, history_of, with_step}
-use Rattle.replay.specs.Replays.{HasMade}
-use Rattle.replay.proofs.ReplayLemmas.{made_next}
-use Rattle.report.specs.Events.{all_told, event_text, events_text, last_line, line_of_end, report_text}
+use Rattle.replay.specs.Replays.{HasMade, HasNoEnd, IfIllegal, IsRefusal}
+use Rattle.replay.specs.declared.refusal.ReplayRefusal.{ReplayRefusal}
+use Rattle.replay.proofs.ReplayLemmas.{made_next, refused_behind}
+use Rattle.report.specs.Events.{IsReport, all_told, event_text, events_text, last_line, line_of_end, report_text}
 
 -- four texts in a row
 four_joined : (a b c d : List ℕ) → (a ++ (b ++ c)) ++ d ≡ (a ++ b) ++ (c ++ d)
@@ -138,6 +139,23 @@ ended_text script own journal net end written text new same made legal says last
     let one = there (λ s n. new ≡ text ++ line_of_end s (fabric_of (history_of n)) end) script own journal net same made last in
     whole script journal end (written ++ text) (written ++ new) (ended_legal script own journal net end same made legal) says
     (ap (λ (t : List ℕ). written ++ t) one ∙ sym (append_assoc written text (line_of_end script (world_after script journal).fabric end)))
+
+-- where its end is asked for
+pub ended_report : (script own : ScriptOf) (journal : List Event) (net : NetOf) (text new : List ℕ) (result : Result Ending ReplayRefusal) → own ≡ script → HasMade script journal net → text ≡ so_far script journal → IfOk result (IsLegal own net.events) → OnOk result (HoldsAndSettles own net.events) → IfOk result (λ end. new ≡ text ++ line_of_end own (fabric_of (history_of net)) end) → IfOk result (λ end. IsReport script journal end new)
+ended_report script own journal net text new (Ok end) same made says legal claims last = record {
+  legal = ended_legal script own journal net end same made legal;
+  says = ended_text script own journal net end [] text new same made legal says last;
+  claims = ended_claims script own journal net same made claims;
+}
+ended_report script own journal net text new (Err why) same made says legal claims last = tt
+
+pub ended_tick : (script : ScriptOf) (journal : List Event) (net new : NetOf) (result : Result Ending ReplayRefusal) → HasMade script journal net → OnOk result (new ≡ net) → OnOk result ((fabric_of (history_of new)).tick ≡ (world_after script journal).fabric.tick)
+ended_tick script journal net new (Ok end) made kept = ap (λ (n : NetOf). (fabric_of (history_of n)).tick) (kept ∙ made.net_is)
+ended_tick script journal net new (Err why) made kept = tt
+
+pub unended_refused : (script : ScriptOf) (journal : List Event) (net : NetOf) (result : Result Ending ReplayRefusal) → HasMade script journal net → IfErr result (λ why. IfIllegal why (HasNoEnd (history_of net))) → IfErr result (IsRefusal script journal)
+unended_refused script journal net (Ok end) made none = tt
+unended_refused script journal net (Err why) made none = refused_behind script journal net why made none
 
 -- A REPORT IN THE MAKING
 

@@ -3,6 +3,7 @@
 ghost use Rattle.std.specs.Prelude.{◌≡◌, ◌<◌, ◌-◌, ◌^◌, ◌∷◌, ◌++◌, [], List, ℕ, length, IfErr, OnOk};
 ghost use Rattle.an_base.specs.declared.event.Event.{Event};
 ghost use Rattle.net_script.specs.Scripts.{ScriptOf};
+ghost use Rattle.journal.specs.Reading.{HasRead};
 ghost use Rattle.fabric_state.specs.declared.ending.Ending.{Ending};
 ghost use Rattle.fabric_book.specs.Nets.{history_of};
 ghost use Rattle.replay.specs.Replays.{HasMade, IfIllegal, IsNoReplay, IsUnlawfulNext};
@@ -56,6 +57,32 @@ pub(crate) trait Account {
             ++ last net.now.script net.now.events end.now) };
 }
 
+// Makes the events of a journal, of which a reader has read none yet, and tells of them and of their end.
+fn tell_events<A: Account>(
+    reader: &mut Reader,
+    net: &mut Net,
+    account: &mut A,
+    text: &mut Vec<u8>,
+) -> Result<(), ReplayRefusal>
+    requires made { HasMade net.old.script [] net.old }
+    requires first { text.old.items ≡ A.first }
+    requires stands { A.stands account.old net.old.script [] }
+    ensures told { (bytes : List ℕ) → HasRead net.old.script bytes [] reader.old
+        → OnOk result (IsToldOf net.old.script bytes A.first (A.told net.old.script)
+        (A.last net.old.script) text.new.items) }
+    ensures refused { (bytes : List ℕ) → HasRead net.old.script bytes [] reader.old
+        → IfErr result (λ why. IfIllegal why (IsNoReplay net.old.script bytes)) }
+{
+    'events: while let Some(event) = reader.next()? {
+        if let Err(why) = account.step(net, &event, text) {
+            return Err(refused(reader, why));
+        }
+    }
+    let end = end_of(net)?;
+    account.finish(net, &end, text)?;
+    Ok(())
+}
+
 /// Tells of the journal with whose text the bytes begin, if it is legal. Its events are made as they are read.
 pub(crate) fn tell<A: Account>(
     alloc: Global,
@@ -73,12 +100,5 @@ pub(crate) fn tell<A: Account>(
 {
     let mut reader = Reader::begin(alloc, script, bytes)?;
     let mut net = Net::begin(alloc, script)?;
-    'events: while let Some(event) = reader.next()? {
-        if let Err(why) = account.step(&mut net, &event, text) {
-            return Err(refused(&mut reader, why));
-        }
-    }
-    let end = end_of(&net)?;
-    account.finish(&net, &end, text)?;
-    Ok(())
+    tell_events(&mut reader, &mut net, account, text)
 }

@@ -1,6 +1,7 @@
 //! The report of a journal.
 
-ghost use Rattle.std.specs.Prelude.{◌≡◌, ◌<◌, ◌-◌, ◌^◌, ◌∷◌, ◌++◌, [], codes, length, IfErr, IfOk, OnErr, OnOk, Err};
+ghost use Rattle.std.specs.Prelude.{◌≡◌, ◌<◌, ◌-◌, ◌^◌, ◌∷◌, ◌++◌, [], List, ℕ, codes, length, IfErr, IfOk, OnErr, OnOk, Err};
+ghost use Rattle.journal.specs.Reading.{HasRead};
 ghost use Rattle.fabric_world.specs.Histories.{IsLegal, fabric_of, world_of};
 ghost use Rattle.fabric_world.specs.World.{world_after};
 ghost use Rattle.fabric_settling.specs.Claims.{HoldsAndSettles};
@@ -83,7 +84,7 @@ struct Reporter<'a> {
 impl<'a> Reporter<'a> {
     // At the beginning: the first line.
     fn begin(alloc: Global, script: &'a Script) -> Result<Self, OutOfMemory>
-        ensures made { IfOk result (λ reporter. HasMade script.now [] reporter.net) }
+        ensures made { IfOk result (λ reporter. HasMade reporter.script.now [] reporter.net) }
         ensures script { IfOk result (λ reporter. reporter.script.now ≡ script.now) }
         ensures text { IfOk result (λ reporter. reporter.text.items ≡ codes "report 1\n") }
     {
@@ -154,6 +155,97 @@ impl<'a> Reporter<'a> {
         self.text.clear();
         Ok(())
     }
+
+    // The events of a journal, and the end.
+    fn tell(&mut self, journal: &Journal) -> Result<Ending, ReplayRefusal>
+        requires made { HasMade self.old.script.now [] self.old.net }
+        requires first { self.old.text.items ≡ codes "report 1\n" }
+        ensures report { IfOk result (λ end.
+            IsReport self.old.script.now journal.now end self.new.text.items) }
+        ensures tick { OnOk result ((fabric_of (history_of self.new.net)).tick
+            ≡ (world_after self.old.script.now journal.now).fabric.tick) }
+        ensures refused { IfErr result (IsRefusal self.old.script.now journal.now) }
+    {
+        let events = journal.as_slice();
+        'events: for event in events {
+            self.step(event)?;
+        }
+        self.finish()
+    }
+
+    // The events of a journal, of which a reader has read none yet, and the end.
+    fn tell_events(&mut self, reader: &mut Reader) -> Result<Ending, ReplayRefusal>
+        requires made { HasMade self.old.script.now [] self.old.net }
+        requires first { self.old.text.items ≡ codes "report 1\n" }
+        ensures report { (bytes : List ℕ) → HasRead self.old.script.now bytes [] reader.old
+            → IfOk result (λ end. IsReportOf self.old.script.now bytes end
+            (fabric_of (history_of self.new.net)).tick self.new.text.items) }
+        ensures refused { (bytes : List ℕ) → HasRead self.old.script.now bytes [] reader.old
+            → IfErr result (λ why. IfIllegal why (IsNoReplay self.old.script.now bytes)) }
+    {
+        'events: while let Some(event) = reader.next()? {
+            if let Err(why) = self.step(&event) {
+                return Err(refused(reader, why));
+            }
+        }
+        self.finish()
+    }
+
+    // The journal with whose text the bytes begin, and its end.
+    fn tell_text(&mut self, bytes: &[u8]) -> Result<Ending, ReplayRefusal>
+        requires few { length bytes.now < 2 ^ 32 - 1 }
+        requires made { HasMade self.old.script.now [] self.old.net }
+        requires first { self.old.text.items ≡ codes "report 1\n" }
+        ensures report { IfOk result (λ end. IsReportOf self.old.script.now bytes.now end
+            (fabric_of (history_of self.new.net)).tick self.new.text.items) }
+        ensures refused { IfErr result (λ why.
+            IfIllegal why (IsNoReplay self.old.script.now bytes.now)) }
+    {
+        let mut reader = Reader::begin(self.alloc, self.script, bytes)?;
+        self.tell_events(&mut reader)
+    }
+
+    // The report, with this end.
+    fn into_report(self, end: Ending) -> Report
+        ensures text { result.text.items ≡ self.entry.text.items }
+        ensures end { result.end ≡ end }
+        ensures tick { result.tick ≡ (fabric_of (history_of self.entry.net)).tick }
+    {
+        Report {
+            end,
+            tick: self.net.now(),
+            text: self.text,
+        }
+    }
+
+    // The report of a legal journal, piece by piece.
+    fn write_events<K: Sink>(&mut self, journal: &Journal, sink: &mut K) -> Result<(), ReportStop>
+        requires made { HasMade self.old.script.now [] self.old.net }
+        requires first { self.old.text.items ≡ codes "report 1\n" }
+        requires legal { HasLegalEnd self.old.script.now journal.now }
+        ensures claims { OnOk result (HoldsAndSettles self.old.script.now journal.now) }
+        ensures all { OnOk result (Gains (K.seen sink.old) (K.seen sink.new)
+            (report_text self.old.script.now journal.now)) }
+        ensures front { GainsFront (K.seen sink.old) (K.seen sink.new)
+            (report_text self.old.script.now journal.now) }
+        ensures fault { result ≡ Err stop.WriteFault → Failed (K.seen sink.old) (K.seen sink.new) }
+        ensures kept { IsNoLess (K.seen sink.old) (K.seen sink.new) }
+    {
+        let events = journal.as_slice();
+        'events: for event in events {
+            if let Err(why) = self.step(event) {
+                return Err(stop_of(why));
+            }
+            if self.text.len() >= PIECE {
+                self.write(sink)?;
+            }
+        }
+        if let Err(why) = self.finish() {
+            return Err(stop_of(why));
+        }
+        self.write(sink)?;
+        Ok(())
+    }
 }
 
 // Why a report stops at a legal journal, which is refused for want of memory alone.
@@ -183,20 +275,7 @@ pub fn write<K: Sink>(
     ensures kept { IsNoLess (K.seen sink.old) (K.seen sink.new) }
 {
     let mut reporter = Reporter::begin(alloc, script)?;
-    let events = journal.as_slice();
-    'events: for event in events {
-        if let Err(why) = reporter.step(event) {
-            return Err(stop_of(why));
-        }
-        if reporter.text.len() >= PIECE {
-            reporter.write(sink)?;
-        }
-    }
-    if let Err(why) = reporter.finish() {
-        return Err(stop_of(why));
-    }
-    reporter.write(sink)?;
-    Ok(())
+    reporter.write_events(journal, sink)
 }
 
 /// The report of a journal, if it is legal.
@@ -206,16 +285,8 @@ pub fn reported(alloc: Global, script: &Script, journal: &Journal) -> Result<Rep
     ensures refused { IfErr result (IsRefusal script.now journal.now) }
 {
     let mut reporter = Reporter::begin(alloc, script)?;
-    let events = journal.as_slice();
-    'events: for event in events {
-        reporter.step(event)?;
-    }
-    let end = reporter.finish()?;
-    Ok(Report {
-        end,
-        tick: reporter.net.now(),
-        text: reporter.text,
-    })
+    let end = reporter.tell(journal)?;
+    Ok(reporter.into_report(end))
 }
 
 /// The report of the journal with whose text the bytes begin, if it is legal. Its events are made as they are read.
@@ -225,19 +296,9 @@ pub fn reported_text(alloc: Global, script: &Script, bytes: &[u8]) -> Result<Rep
         IsReportOf script.now bytes.now report.end report.tick report.text.items) }
     ensures refused { IfErr result (λ why. IfIllegal why (IsNoReplay script.now bytes.now)) }
 {
-    let mut reader = Reader::begin(alloc, script, bytes)?;
     let mut reporter = Reporter::begin(alloc, script)?;
-    'events: while let Some(event) = reader.next()? {
-        if let Err(why) = reporter.step(&event) {
-            return Err(refused(&mut reader, why));
-        }
-    }
-    let end = reporter.finish()?;
-    Ok(Report {
-        end,
-        tick: reporter.net.now(),
-        text: reporter.text,
-    })
+    let end = reporter.tell_text(bytes)?;
+    Ok(reporter.into_report(end))
 }
 
 /// The name of a life, as it is printed.

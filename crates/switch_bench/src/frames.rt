@@ -41,19 +41,23 @@ fn push_head(bytes: &mut Vec<u8>, kind: u8, epoch: u64, number: u32) -> Result<(
     bytes.extend_from_slice(&number.to_be_bytes())
 }
 
+// Appends a frame without a body.
+fn push_plain(bytes: &mut Vec<u8>, kind: u8, epoch: u64) -> Result<(), AllocError> {
+    if kind == ACK {
+        return push_head(bytes, ACK, epoch, 0);
+    }
+    bytes.push(kind)?;
+    push_end(bytes, FAR, 1)?;
+    if kind == REPLY {
+        push_end(bytes, NEAR, 1)?;
+    }
+    bytes.extend_from_slice(&[0; 8])
+}
+
 /// A frame without a body. The nonce is one that was never sent, and the acknowledgement's number too.
 pub fn plain(alloc: Global, kind: u8, epoch: u64) -> Result<Vec<u8>, AllocError> {
     let mut bytes = Vec::with_capacity(alloc, 40)?;
-    if kind == ACK {
-        push_head(&mut bytes, ACK, epoch, 0)?;
-        return Ok(bytes);
-    }
-    bytes.push(kind)?;
-    push_end(&mut bytes, FAR, 1)?;
-    if kind == REPLY {
-        push_end(&mut bytes, NEAR, 1)?;
-    }
-    bytes.extend_from_slice(&[0; 8])?;
+    push_plain(&mut bytes, kind, epoch)?;
     Ok(bytes)
 }
 
@@ -86,19 +90,30 @@ fn push_entry(bytes: &mut Vec<u8>, uid: u8) -> Result<(), AllocError> {
     Ok(())
 }
 
+// Appends 126 entries.
+fn push_entries(bytes: &mut Vec<u8>) -> Result<(), AllocError> {
+    for uid in 1..127u8 {
+        push_entry(bytes, uid)?;
+    }
+    Ok(())
+}
+
+// Appends the numbers of 126 entries.
+fn push_numbers(bytes: &mut Vec<u8>) -> Result<(), AllocError> {
+    for number in 1..127u8 {
+        bytes.push(number)?;
+    }
+    Ok(())
+}
+
 /// Becomes the first body of an epoch, a topology of 126 entries with twelve links each, the longest
 /// frame. It names the near switch.
 pub fn topology(bytes: &mut Vec<u8>, epoch: u64) -> Result<(), AllocError> {
     bytes.clear();
     push_head(bytes, CARRY, epoch, 1)?;
     bytes.extend_from_slice(&[4, 126])?;
-    for uid in 1..127u8 {
-        push_entry(bytes, uid)?;
-    }
-    for number in 1..127u8 {
-        bytes.push(number)?;
-    }
-    Ok(())
+    push_entries(bytes)?;
+    push_numbers(bytes)
 }
 
 /// The number in a frame of a session, 0 where there is none.

@@ -6,7 +6,7 @@ mod frames;
 mod pair;
 mod timed;
 
-use pair::Pair;
+use pair::{Pair, wanted};
 use std::time::Duration;
 use std::{env, io};
 
@@ -16,37 +16,73 @@ fn per_second(count: u32, time: Duration) -> u64 {
     u64::try_from(rate).unwrap_or(u64::MAX)
 }
 
-// Prints the rate of clocks with so many good links.
-fn print_clocks(rt: &HostRuntime, links: u8, times: u32) -> io::Result<()> {
-    let mut pair = Pair::joined(rt.alloc(), links)?;
-    let rate = per_second(times, timed::clocks(rt, &mut pair, times)?);
-    println!(rt; "clocks with {links:2} good links: {rate:8}")
+// Prints the rate of what was done so often in this time.
+fn print_rate(rt: &HostRuntime, name: &str, count: u32, time: Duration) -> io::Result<()> {
+    let rate = per_second(count, time);
+    println!(rt; "{name:16}: {rate:8}")
+}
+
+// Prints the rate of frames of a kind without a body.
+fn print_frames(
+    rt: &HostRuntime,
+    pair: &mut Pair,
+    name: &str,
+    kind: u8,
+    times: u32,
+) -> io::Result<()> {
+    print_rate(rt, name, times, timed::frames(rt, pair, kind, times)?)
+}
+
+// Prints the rates of all kinds of frames.
+fn print_all_frames(rt: &HostRuntime, pair: &mut Pair, times: u32) -> io::Result<()> {
+    print_frames(rt, pair, "probes", frames::PROBE, times)?;
+    print_frames(rt, pair, "replies", frames::REPLY, times)?;
+    print_frames(rt, pair, "acknowledgements", frames::ACK, times)?;
+    let name = "positions, each with the acknowledgement of its answer";
+    print_rate(rt, name, times, timed::bodies(rt, pair, times)?)?;
+    let name = "topologies of 126 entries, each with the join of its epoch";
+    let times = times / 1000;
+    print_rate(rt, name, times, timed::topologies(rt, pair, times)?)
+}
+
+// Prints the rate of clocks under this name, or else the rates of all kinds of frames.
+fn print_of(rt: &HostRuntime, pair: &mut Pair, clocks: Option<&str>, times: u32) -> io::Result<()> {
+    pair.join()?;
+    match clocks {
+        Some(name) => print_rate(rt, name, times, timed::clocks(rt, pair, times)?),
+        None => print_all_frames(rt, pair, times),
+    }
+}
+
+// Prints so of a new pair with so many good links.
+fn print_pair(rt: &HostRuntime, links: u8, clocks: Option<&str>, times: u32) -> io::Result<()> {
+    match Pair::new(rt.alloc(), links) {
+        Ok(mut pair) => print_of(rt, &mut pair, clocks, times),
+        Err(memory) => Err(wanted(memory)),
+    }
+}
+
+// Prints all rates, of so many of each kind.
+fn measure(rt: &HostRuntime, times: u32) -> io::Result<()> {
+    println!(rt; "per second")?;
+    print_pair(rt, 0, Some("clocks with  0 good links"), times)?;
+    print_pair(rt, 2, Some("clocks with  2 good links"), times)?;
+    print_pair(rt, 12, Some("clocks with 12 good links"), times)?;
+    print_pair(rt, 2, None, times)
+}
+
+// The number that the program is called with, where it is one.
+fn times_asked(rt: &HostRuntime) -> io::Result<Option<u32>> {
+    let mut words = env::args(rt)?;
+    words.next();
+    Ok(words.next().and_then(|word| word.parse::<u32>().ok()))
 }
 
 fn main(rt: HostRuntime) -> io::Result<()> {
-    let mut words = env::args(&rt)?;
-    words.next();
-    let Some(Ok(times)) = words.next().map(|word| word.parse::<u32>()) else {
-        return println!(rt;
+    match times_asked(&rt)? {
+        Some(times) => measure(&rt, times),
+        None => println!(rt;
             "usage: switch_bench TIMES, below 2^32, how many of each kind are measured"
-        );
-    };
-    println!(rt; "per second")?;
-    for links in [0, 2, 12] {
-        print_clocks(&rt, links, times)?;
+        ),
     }
-    let mut pair = Pair::joined(rt.alloc(), 2)?;
-    for (name, kind) in [
-        ("probes", frames::PROBE),
-        ("replies", frames::REPLY),
-        ("acknowledgements", frames::ACK),
-    ] {
-        let rate = per_second(times, timed::frames(&rt, &mut pair, kind, times)?);
-        println!(rt; "{name:16}: {rate:8}")?;
-    }
-    let rate = per_second(times, timed::bodies(&rt, &mut pair, times)?);
-    println!(rt; "positions, each with the acknowledgement of its answer: {rate:8}")?;
-    let times = times / 1000;
-    let rate = per_second(times, timed::topologies(&rt, &mut pair, times)?);
-    println!(rt; "topologies of 126 entries, each with the join of its epoch: {rate:8}")
 }

@@ -7,11 +7,11 @@ use an_base::port::Sample;
 use std::alloc::{AllocError, Global};
 use std::collections::VecDeque;
 use std::io;
-use switch_core::out::Out;
+use switch_core::out::{FrameOut, Out};
 use switch_core::switch::{ClockRefusal, MOST_WORKS, Switch};
 
-// Memory was wanted.
-fn wanted(_memory: OutOfMemory) -> io::Error {
+/// Memory was wanted.
+pub fn wanted(_memory: OutOfMemory) -> io::Error {
     io::Error::from(io::ErrorKind::OutOfMemory)
 }
 
@@ -60,6 +60,31 @@ struct Way {
     bytes: Vec<u8>,
 }
 
+impl Way {
+    // The way of a frame that goes out.
+    fn of(alloc: Global, to_near: bool, frame: &FrameOut) -> Result<Way, AllocError> {
+        Ok(Way {
+            to_near,
+            port: frame.port(),
+            bytes: Vec::from_slice(alloc, frame.bytes())?,
+        })
+    }
+}
+
+// What is at each port, with links at so many.
+fn samples(links: u8) -> [Sample; 12] {
+    let mut samples = [Sample::Down; 12];
+    for sample in samples.iter_mut().take(usize::from(links)) {
+        *sample = Sample::Switch;
+    }
+    samples
+}
+
+// A switch at power-on.
+fn switch(alloc: Global, uid: u8) -> Result<Switch, OutOfMemory> {
+    Switch::start(alloc, Life::new(u64::from(uid), 1), 0, 1, false)
+}
+
 /// Two switches with links between them, and the frames on their way.
 #[derive(Drop)]
 pub struct Pair {
@@ -73,33 +98,29 @@ pub struct Pair {
 }
 
 impl Pair {
-    // Two switches at power-on, with links at so many ports.
-    fn new(alloc: Global, links: u8) -> Result<Pair, OutOfMemory> {
-        let mut samples = [Sample::Down; 12];
-        for sample in samples.iter_mut().take(usize::from(links)) {
-            *sample = Sample::Switch;
-        }
+    /// Two switches at power-on, with links at so many ports.
+    pub fn new(alloc: Global, links: u8) -> Result<Pair, OutOfMemory> {
         Ok(Pair {
             alloc,
-            near: Switch::start(alloc, Life::new(u64::from(NEAR), 1), 0, 1, false)?,
-            far: Switch::start(alloc, Life::new(u64::from(FAR), 1), 0, 1, false)?,
-            samples,
+            near: switch(alloc, NEAR)?,
+            far: switch(alloc, FAR)?,
+            samples: samples(links),
             now: 0,
             out: Out::new(alloc),
             ways: VecDeque::new(alloc),
         })
     }
 
-    /// Two switches that know one another at so many ports, and have finished their epoch.
-    pub fn joined(alloc: Global, links: u8) -> io::Result<Pair> {
-        let mut pair = Pair::new(alloc, links).map_err(wanted)?;
+    /// Clocks come to both, and all that follows, until they know one another at their ports with links and have
+    /// finished their epoch.
+    pub fn join(&mut self) -> io::Result<()> {
         for _ in 0..8 {
-            clock(&mut pair.far, pair.now, &pair.samples, &mut pair.out)?;
-            pair.put(true)?;
-            pair.clock()?;
-            pair.hand_over()?;
+            clock(&mut self.far, self.now, &self.samples, &mut self.out)?;
+            self.put(true)?;
+            self.clock()?;
+            self.hand_over()?;
         }
-        Ok(pair)
+        Ok(())
     }
 
     /// The epoch of the near switch.
@@ -127,13 +148,30 @@ impl Pair {
     // Puts what went out last on its way to the other switch.
     fn put(&mut self, to_near: bool) -> Result<(), AllocError> {
         for frame in self.out.frames.as_slice() {
-            self.ways.push_back(Way {
-                to_near,
-                port: frame.port(),
-                bytes: Vec::from_slice(self.alloc, frame.bytes())?,
-            })?;
+            self.ways.push_back(Way::of(self.alloc, to_near, frame)?)?;
         }
         Ok(())
+    }
+
+    // A frame comes, and what goes out is put on its way.
+    fn arrive(&mut self, way: &Way) -> io::Result<()> {
+        if way.to_near {
+            handle(&mut self.near, &way.bytes, way.port, &mut self.out)?;
+        } else {
+            handle(&mut self.far, &way.bytes, way.port, &mut self.out)?;
+        }
+        Ok(self.put(!way.to_near)?)
+    }
+
+    // The oldest frame comes. Answers whether there was one.
+    fn hand_one(&mut self) -> io::Result<bool> {
+        match self.ways.pop_front() {
+            Some(way) => {
+                self.arrive(&way)?;
+                Ok(true)
+            }
+            None => Ok(false),
+        }
     }
 
     /// Hands what the near switch sent last to the far one, and all that follows, until no frame is on
@@ -141,15 +179,9 @@ impl Pair {
     pub fn hand_over(&mut self) -> io::Result<()> {
         self.put(false)?;
         for _ in 0..1_000_000 {
-            let Some(way) = self.ways.pop_front() else {
+            if !self.hand_one()? {
                 break;
-            };
-            if way.to_near {
-                handle(&mut self.near, &way.bytes, way.port, &mut self.out)?;
-            } else {
-                handle(&mut self.far, &way.bytes, way.port, &mut self.out)?;
             }
-            self.put(!way.to_near)?;
         }
         Ok(())
     }

@@ -17,6 +17,15 @@ pub fn clocks<R: Clock>(rt: &R, pair: &mut Pair, times: u32) -> io::Result<Durat
     Ok(time)
 }
 
+// How long it takes that these bytes come so often.
+fn handled<R: Clock>(rt: &R, pair: &mut Pair, bytes: &[u8], times: u32) -> io::Result<Duration> {
+    let start = Instant::now(rt)?;
+    for _ in 0..times {
+        pair.handle(bytes)?;
+    }
+    start.elapsed(rt)
+}
+
 /// How long so many frames of a kind without a body take.
 pub fn frames<R: Clock + AllocGlobal>(
     rt: &R,
@@ -25,11 +34,7 @@ pub fn frames<R: Clock + AllocGlobal>(
     times: u32,
 ) -> io::Result<Duration> {
     let bytes = plain(rt.alloc(), kind, pair.epoch())?;
-    let start = Instant::now(rt)?;
-    for _ in 0..times {
-        pair.handle(&bytes)?;
-    }
-    start.elapsed(rt)
+    handled(rt, pair, &bytes, times)
 }
 
 // The number in the last frame that went out, 0 where none did.
@@ -47,19 +52,57 @@ fn accepted(pair: &mut Pair, bytes: &mut Vec<u8>, epoch: u64) -> io::Result<u32>
     Ok(last_number(pair))
 }
 
-/// How long so many positions take that change nothing, each with the acknowledgement of its answer.
-pub fn bodies<R: Clock + AllocGlobal>(rt: &R, pair: &mut Pair, times: u32) -> io::Result<Duration> {
+// A position comes, and the acknowledgement of its answer.
+fn body(pair: &mut Pair, bytes: &mut Vec<u8>, epoch: u64, number: u32) -> io::Result<()> {
+    position(bytes, epoch, number)?;
+    pair.handle(bytes)?;
+    acknowledge(bytes, epoch, last_number(pair))?;
+    pair.handle(bytes)
+}
+
+// How long so many bodies take, in a buffer.
+fn bodies_in<R: Clock>(
+    rt: &R,
+    pair: &mut Pair,
+    bytes: &mut Vec<u8>,
+    times: u32,
+) -> io::Result<Duration> {
     let epoch = pair.epoch();
-    let mut bytes = Vec::new(rt.alloc());
-    let last = accepted(pair, &mut bytes, epoch)?;
+    let last = accepted(pair, bytes, epoch)?;
     let start = Instant::now(rt)?;
     for i in 0..times {
-        position(&mut bytes, epoch, last.wrapping_add(1).wrapping_add(i))?;
-        pair.handle(&bytes)?;
-        acknowledge(&mut bytes, epoch, last_number(pair))?;
-        pair.handle(&bytes)?;
+        body(pair, bytes, epoch, last.wrapping_add(1).wrapping_add(i))?;
     }
     start.elapsed(rt)
+}
+
+/// How long so many positions take that change nothing, each with the acknowledgement of its answer.
+pub fn bodies<R: Clock + AllocGlobal>(rt: &R, pair: &mut Pair, times: u32) -> io::Result<Duration> {
+    let mut bytes = Vec::new(rt.alloc());
+    bodies_in(rt, pair, &mut bytes, times)
+}
+
+// How long a frame takes.
+fn one<R: Clock>(rt: &R, pair: &mut Pair, bytes: &[u8]) -> io::Result<Duration> {
+    let start = Instant::now(rt)?;
+    pair.handle(bytes)?;
+    start.elapsed(rt)
+}
+
+// How long so many topologies take, in a buffer.
+fn topologies_in<R: Clock>(
+    rt: &R,
+    pair: &mut Pair,
+    bytes: &mut Vec<u8>,
+    times: u32,
+) -> io::Result<Duration> {
+    let first = pair.epoch().wrapping_add(1);
+    let mut time = Duration::ZERO;
+    for i in 0..times {
+        topology(bytes, first.wrapping_add(u64::from(i)))?;
+        time = time.saturating_add(one(rt, pair, bytes)?);
+    }
+    Ok(time)
 }
 
 /// How long so many topologies of 126 entries take, each the first body of an epoch that is joined by it.
@@ -68,14 +111,6 @@ pub fn topologies<R: Clock + AllocGlobal>(
     pair: &mut Pair,
     times: u32,
 ) -> io::Result<Duration> {
-    let epoch = pair.epoch();
     let mut bytes = Vec::new(rt.alloc());
-    let mut time = Duration::ZERO;
-    for i in 0..times {
-        topology(&mut bytes, epoch.wrapping_add(1).wrapping_add(u64::from(i)))?;
-        let start = Instant::now(rt)?;
-        pair.handle(&bytes)?;
-        time = time.saturating_add(start.elapsed(rt)?);
-    }
-    Ok(time)
+    topologies_in(rt, pair, &mut bytes, times)
 }

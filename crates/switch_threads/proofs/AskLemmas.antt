@@ -26,7 +26,8 @@ use Rattle.fabric_book.specs.Nets.{PowerOf}
 use Rattle.fabric_book.specs.declared.asking.BookReply.{BookReply}
 use Rattle.fabric_book.specs.declared.asking.BookReply.TheVariants as book_reply
 use Rattle.switch_threads.specs.declared.desk.Pending.TheVariants as pending
-use Rattle.switch_threads.specs.Workers.{IsAtPlace, IsDriving, done_with}
+use Rattle.switch_threads.specs.Workers.{IsDriving, done_with}
+use Rattle.switch_threads.proofs.StayLemmas.{IsAtPlace}
 
 -- what may be asked is fit
 fit_of : (view : View Event ScriptOf) (script : ScriptOf) (asked : Ask) → view.start ≡ Some script → IsFit script view.seen view.number asked → IsFitFor IsFit view asked

@@ -24,7 +24,7 @@ use Rattle.fabric_book.specs.contracts.asking.BookReply as BookReply
 use Rattle.fabric_book.specs.contracts.book.Book as Book
 use Rattle.fabric_book.specs.contracts.book.BookStaged.TheImpl.{ghosts}
 use Rattle.switch_threads.proofs.desk.Desk.TheSendSync as desk
-use Rattle.switch_threads.proofs.desk.Pending.TheSendSync as pending
+use Rattle.switch_threads.proofs.desk.Next.TheSendSync as next
 use Rattle.switch_threads.specs.contracts.driver.Driver as Driver
 use Rattle.switch_threads.specs.contracts.worker.Worker as Worker
 
@@ -44,7 +44,7 @@ pub turnstile_sync : IsSync (Turnstile.the_row Book.the_row BookAsk.the_row Book
 turnstile_sync = turnstile.the_sync Book.the_row BookAsk.the_row BookReply.the_row Event.the_row Script.the_row ghosts book_send
 
 pub worker_send : IsSend Worker.the_row
-worker_send = search (sendable, crosses, seat_send, desk.the_send, pending.the_send) depth 30 fits 3000
+worker_send = search (sendable, crosses, seat_send, desk.the_send, next.the_send) depth 30 fits 3000
 
 pub driver_send : IsSend Driver.the_row
 driver_send = search (sendable, crosses, seat_send, ending.the_send) depth 30 fits 3000

@@ -1,6 +1,6 @@
 -- What a worker has keeps up with the world when events of others come.
 
-use Rattle.std.specs.Prelude.{◌≡◌, ◌≢◌, ◌+◌, ◌<◌, ◌≤◌, ℕ, List, [], ◌∷◌, ◌++◌, All, length, not, slice_index_or, refl}
+use Rattle.std.specs.Prelude.{◌≡◌, ◌≢◌, ◌+◌, ◌<◌, ◌≤◌, ℕ, List, [], ◌∷◌, ◌++◌, All, length, not, slice_index_or, Some, refl}
 use Rattle.std.proofs.Common.{sym, ◌∙◌, ap, subst, arith, append_assoc}
 use Rattle.std.proofs.lemmas.List.{append-nil}
 use Rattle.an_base.specs.declared.event.Event.{Event}
@@ -11,6 +11,7 @@ use Rattle.switch_core.specs.Steps.{Step, loaded}
 use Rattle.switch_core.specs.Switch.{SwitchOf, note_of}
 use Rattle.fabric_state.specs.Fabric.{StationOf, held_bytes, is_empty, station}
 use Rattle.fabric_turn.specs.History.{NoneOf}
+use Rattle.fabric_turn.specs.declared.view.View.{View}
 use Rattle.fabric_world.specs.declared.ask.Ask.TheVariants as ask
 use Rattle.fabric_world.specs.Histories.{owner_of}
 use Rattle.fabric_world.specs.Turns.{IsDone, IsToLoad}
@@ -20,9 +21,11 @@ use Rattle.fabric_world.proofs.ElsewhereLemmas.{AreSameAt, world_elsewhere}
 use Rattle.fabric_world.proofs.FitLemmas.{fit_stays, others_from_none, world_hand_elsewhere}
 use Rattle.fabric_world.proofs.InductionLemmas.{kept_by}
 use Rattle.fabric_book.specs.Nets.{PowerOf}
+use Rattle.switch_threads.specs.declared.desk.Desk.{Desk}
+use Rattle.switch_threads.specs.declared.desk.Next.TheVariants as next
 use Rattle.switch_threads.specs.declared.desk.Pending.{Pending}
 use Rattle.switch_threads.specs.declared.desk.Pending.TheVariants as pending
-use Rattle.switch_threads.specs.Workers.{IsPending, KeepsUp, done_with}
+use Rattle.switch_threads.specs.Workers.{IsInStep, IsPending, KeepsUp, done_with}
 
 -- there are never fewer events
 grow_one : (script : ScriptOf) → IsScript script → (h : List Event) (e : Event) → (world_after script h).fabric.events ≤ (world_after script (h ++ e ∷ [])).fabric.events
@@ -79,3 +82,13 @@ module _ (script : ScriptOf) (kept : IsScript script) (h more : List Event) (s :
         works = omega (arith, grow, works);
         fits = fits_stay switch next is.fits;
       }
+
+-- what a worker has to ask for keeps up with the world, by the parts of its desk
+pub record IsAtPlace (view : View Event ScriptOf) (place : ℕ) (power : PowerOf) (switch : KeptOf) (pending : Pending) : Type 0 where
+  pub script : ScriptOf
+  pub begun : view.start ≡ Some script
+  pub number : view.number ≡ place + 1
+  pub keeps_up : KeepsUp script (world_after script view.seen) place power switch pending
+
+abbrev pub at_place : (view : View Event ScriptOf) (desk : Desk) (pending : Pending) → IsInStep view desk (next.Ask pending) → IsAtPlace view desk.s desk.power_on desk.switch.value pending
+at_place view desk pending step = record { script = step.script; begun = step.begun; number = step.number; keeps_up = step.fits }

@@ -44,12 +44,14 @@ use Rattle.fabric_book.specs.declared.asking.BookAsk.{BookAsk}
 use Rattle.fabric_book.specs.declared.asking.BookReply.{BookReply}
 use Rattle.fabric_book.proofs.HandLemmas.{done_is, stands_is}
 use Rattle.switch_threads.specs.declared.desk.Desk.{Desk}
+use Rattle.switch_threads.specs.declared.desk.Next.{Next}
+use Rattle.switch_threads.specs.declared.desk.Next.TheVariants as next
 use Rattle.switch_threads.specs.declared.desk.Pending.{Pending}
 use Rattle.switch_threads.specs.declared.desk.Pending.TheVariants as pending
-use Rattle.switch_threads.specs.Workers.{HasInHand, IsAtPlace, IsDriving, IsInStep, IsToDo, KeepsUp}
+use Rattle.switch_threads.specs.Workers.{HasInHand, IsDriving, IsInStep, IsNext, IsToDo, IsUpTo, KeepsUp, next_after}
 use Rattle.switch_threads.proofs.EndLemmas.{end_told, told_extends}
 use Rattle.switch_threads.proofs.OwnLemmas.{clock_taken, frame_taken, life_begun, load_own, put_own, taken_comes, taken_of}
-use Rattle.switch_threads.proofs.StayLemmas.{others_came}
+use Rattle.switch_threads.proofs.StayLemmas.{IsAtPlace, at_place, others_came}
 
 -- At first
 first_empty : (script : ScriptOf) (s : ℕ) → s < length script.wires.switches → is_full_at (begun script).fabric s ≡ false
@@ -185,12 +187,12 @@ put_step view after place power switch out done back step called =
     (put_own step.script (view.seen ++ called.between) place power switch out (moment view after (ask.Put place done) (reply.Put back) called place power switch (pending.Put out) step))
 
 -- a table was to be loaded
-abbrev pub next_after : LoadReply → Pending
-next_after load.Loaded = pending.Work
-next_after (load.NotNow table) = pending.Load table
+abbrev pub asked_after : LoadReply → Pending
+asked_after load.Loaded = pending.Work
+asked_after (load.NotNow table) = pending.Load table
 
 pub load_step : (view after : View Event ScriptOf) (place : ℕ) (power : PowerOf) (switch : KeptOf) (table : TableFor) (note : NoteOf) (came : LoadReply) → IsAtPlace view place power switch (pending.Load table)
-    → Called owner_of AnswersBook view (ask.Load place table note) (reply.Load came) after → IsAtPlace after place power switch (next_after came)
+    → Called owner_of AnswersBook view (ask.Load place table note) (reply.Load came) after → IsAtPlace after place power switch (asked_after came)
 load_step view after place power switch table note came step called =
     by (is_barred (world_after step.script (view.seen ++ called.between)).fabric) refl (answered view after (ask.Load place table note) (reply.Load came) called step.script step.begun)
   where
@@ -200,12 +202,16 @@ load_step view after place power switch table note came step called =
     on : (seen : List Event) → after.seen ≡ seen → (then : Pending) → KeepsUp step.script (world_after step.script seen) place power switch then → IsAtPlace after place power switch then
     on seen is then keeps = steps_on view after (ask.Load place table note) (reply.Load came) called place power switch (pending.Load table) step seen is switch then keeps
 
-    by : (b : Bool) → is_barred (world_after step.script (view.seen ++ called.between)).fabric ≡ b → LoadsOrNot b table came place (view.seen ++ called.between) after.seen → IsAtPlace after place power switch (next_after came)
+    by : (b : Bool) → is_barred (world_after step.script (view.seen ++ called.between)).fabric ≡ b → LoadsOrNot b table came place (view.seen ++ called.between) after.seen → IsAtPlace after place power switch (asked_after came)
     by false free does =
-        subst (λ (c : LoadReply). IsAtPlace after place power switch (next_after c)) (sym does.0)
+        subst (λ (c : LoadReply). IsAtPlace after place power switch (asked_after c)) (sym does.0)
         (on ((view.seen ++ called.between) ++ Load place ∷ []) does.1 pending.Work (load_own step.script (view.seen ++ called.between) place power switch table now free))
     by true barred does =
-        subst (λ (c : LoadReply). IsAtPlace after place power switch (next_after c)) (sym does.0) (on (view.seen ++ called.between) does.1 (pending.Load table) now)
+        subst (λ (c : LoadReply). IsAtPlace after place power switch (asked_after c)) (sym does.0) (on (view.seen ++ called.between) does.1 (pending.Load table) now)
+
+pub loaded_step : (view : View Event ScriptOf) (desk : Desk) (came : LoadReply) → IsAtPlace view desk.s desk.power_on desk.switch.value (asked_after came) → IsInStep view desk (next_after came)
+loaded_step view desk load.Loaded at = record { script = at.script; begun = at.begun; number = at.number; fits = at.keeps_up }
+loaded_step view desk (load.NotNow table) at = record { script = at.script; begun = at.begun; number = at.number; fits = at.keeps_up }
 
 -- work was taken
 pub to_do : (script : ScriptOf) (h seen : List Event) (desk : Desk) (buffer : List ℕ) (job : Work) → KeepsUp script (world_after script h) desk.s desk.power_on desk.switch.value pending.Work → TakesWork script h desk.s job buffer seen
@@ -225,48 +231,47 @@ to_do script h seen desk buffer (work.Restart life) now takes = λ new started.
     (life_begun script h desk.s desk.power_on desk.switch.value now life (taken_of script h desk.s (work.Restart life) buffer seen takes)
     (taken_comes script h desk.s (work.Restart life) (Restart desk.s) buffer seen now.powered.within now.fits.0 takes refl) new started)
 
-pub take_step : (view after : View Event ScriptOf) (desk : Desk) (out buffer : List ℕ) (job : Work) (step : IsInStep view desk pending.Work) → Called owner_of AnswersBook view (ask.Take desk.s out) (reply.Take job buffer) after
-    → IsToDo step.script after.seen (record desk { buffer = buffer }) job
-take_step view after desk out buffer job step called =
-    to_do step.script (view.seen ++ called.between) after.seen desk buffer job
-    (moment view after (ask.Take desk.s out) (reply.Take job buffer) called desk.s desk.power_on desk.switch.value pending.Work step)
-    (answered view after (ask.Take desk.s out) (reply.Take job buffer) called step.script step.begun)
-
--- and done
-pub done_step : (view after : View Event ScriptOf) (desk new : Desk) (asked : Ask) (answer : Reply) (next : Pending) (step : IsInStep view desk pending.Work) → Called owner_of AnswersBook view asked answer after → new.s ≡ desk.s
-    → KeepsUp step.script (world_after step.script after.seen) new.s new.power_on new.switch.value next → IsInStep after new next
-done_step view after desk new asked answer next step called place keeps = record {
+pub take_step : (view after : View Event ScriptOf) (desk : Desk) (out buffer : List ℕ) (job : Work) → IsInStep view desk (next.Ask pending.Work)
+    → Called owner_of AnswersBook view (ask.Take desk.s out) (reply.Take job buffer) after → IsInStep after (record desk { buffer = buffer }) (next.Do job)
+take_step view after desk out buffer job step called = record {
   script = step.script;
   begun = ap (λ (v : View Event ScriptOf). v.start) called.same ∙ step.begun;
-  number = ap (λ (v : View Event ScriptOf). v.number) called.same ∙ step.number ∙ ap (λ (n : ℕ). n + 1) (sym place);
-  keeps_up = keeps;
+  number = ap (λ (v : View Event ScriptOf). v.number) called.same ∙ step.number;
+  fits =
+      to_do step.script (view.seen ++ called.between) after.seen desk buffer job
+      (moment view after (ask.Take desk.s out) (reply.Take job buffer) called desk.s desk.power_on desk.switch.value pending.Work (at_place view desk pending.Work step))
+      (answered view after (ask.Take desk.s out) (reply.Take job buffer) called step.script step.begun);
 }
 
--- or made ready
-pub ready_step : (view : View Event ScriptOf) (desk new : Desk) (next then : Pending) (step : IsInStep view desk next) → new.s ≡ desk.s
-    → KeepsUp step.script (world_after step.script view.seen) new.s new.power_on new.switch.value then → IsInStep view new then
-ready_step view desk new next then step place keeps = record {
+-- what is to be done before a turn was done
+pub ready_step : (view : View Event ScriptOf) (desk new : Desk) (before then : Next) (step : IsInStep view desk before) → new.s ≡ desk.s
+    → IsNext step.script view.seen new then → IsInStep view new then
+ready_step view desk new before then step place fits = record {
   script = step.script;
   begun = step.begun;
   number = step.number ∙ ap (λ (n : ℕ). n + 1) (sym place);
-  keeps_up = keeps;
+  fits = fits;
 }
+
+-- what a worker has is in step
+pub taken_desk : (view : View Event ScriptOf) (has : Option (Desk × Next)) (desk : Desk) (then : Next) → has ≡ Some (desk, then) → IfSome has (λ d. IsInStep view d.0 d.1) → IsInStep view desk then
+taken_desk view has desk then is step = subst (λ (o : Option (Desk × Next)). IfSome o (λ d. IsInStep view d.0 d.1)) is step
 
 -- a worker that begins
 pub begun_step : (view : View Event ScriptOf) (script : ScriptOf) (s : ℕ) (desk : Desk) → view.start ≡ Some script → view.number ≡ s + 1 → view.seen ≡ [] → desk.s ≡ s
-    → KeepsUp script (world_after script []) desk.s desk.power_on desk.switch.value pending.Work → IsInStep view desk pending.Work
+    → IsUpTo script [] desk pending.Work → IsInStep view desk (next.Ask pending.Work)
 begun_step view script s desk begun number first place keeps = record {
   script = script;
   begun = begun;
   number = number ∙ ap (λ (n : ℕ). n + 1) (sym place);
-  keeps_up = subst (λ (h : List Event). KeepsUp script (world_after script h) desk.s desk.power_on desk.switch.value pending.Work) (sym first) keeps;
+  fits = subst (λ (h : List Event). IsUpTo script h desk pending.Work) (sym first) keeps;
 }
 
 -- the number of a worker's place
-pub place_few : (view : View Event ScriptOf) (desk : Desk) (next : Pending) → IsInStep view desk next → desk.s + 1 ≤ 126
-place_few view desk next step =
-    let within = step.keeps_up.powered.within in
-    let lives : length step.script.wires.switches + restarts_of step.script.commands ≤ 126 = step.keeps_up.powered.kept.lives in
+pub place_few : (script : ScriptOf) (history : List Event) (desk : Desk) (pending : Pending) → IsUpTo script history desk pending → desk.s + 1 ≤ 126
+place_few script history desk pending up =
+    let within = up.powered.within in
+    let lives : length script.wires.switches + restarts_of script.commands ≤ 126 = up.powered.kept.lives in
     omega (arith, within, lives)
 
 -- the driver did something, or waits, or was told an end

@@ -15,12 +15,16 @@ use Rattle.fabric_state.specs.declared.work.Work.{Work}
 use Rattle.fabric_state.specs.declared.work.Work.TheVariants as work
 use Rattle.fabric_state.specs.Fabric.{is_full_at, station}
 use Rattle.fabric_world.specs.declared.ask.Done.{Done}
+use Rattle.fabric_world.specs.declared.ask.LoadReply.{LoadReply}
+use Rattle.fabric_world.specs.declared.ask.LoadReply.TheVariants as load
 use Rattle.fabric_world.specs.World.{WorldOf, handled, start_of, world_after}
 use Rattle.fabric_world.specs.Histories.{end_of}
 use Rattle.fabric_world.specs.Turns.{IsDone, IsToLoad}
 use Rattle.fabric_book.specs.Nets.{IsStarted, IsSwitchKept, PowerOf, power_of, start_with}
 use Rattle.fabric_turn.specs.declared.view.View.{View}
 use Rattle.switch_threads.specs.declared.desk.Desk.{Desk}
+use Rattle.switch_threads.specs.declared.desk.Next.{Next}
+use Rattle.switch_threads.specs.declared.desk.Next.TheVariants as next
 use Rattle.switch_threads.specs.declared.desk.Pending.{Pending}
 use Rattle.switch_threads.specs.declared.desk.Pending.TheVariants as pending
 
@@ -40,6 +44,11 @@ IsPending world place switch (pending.Put out) =
 IsPending world place switch (pending.Load table) =
     IsToLoad world place table (note_of (loaded table.table.number (world.switches place)))
     × StandsFor switch (loaded table.table.number (world.switches place))
+
+-- what there is to do after a table was to be loaded
+abbrev pub next_after : LoadReply → Next
+next_after load.Loaded = next.Ask pending.Work
+next_after (load.NotNow table) = next.Later (pending.Load table)
 
 -- This is with what the switch at a place of a script is started.
 pub record IsPowerAt (script : ScriptOf) (place : ℕ) (power : PowerOf) : Type 0 where
@@ -85,17 +94,19 @@ IsToDo script history desk (work.Restart life) = (switch : KeptOf)
     → IsStarted (start_with desk.power_on life) switch
     → KeepsUp script (world_after script history) desk.s desk.power_on switch pending.Work
 
--- The worker of a seat is in step: the seat's number is that of its place, and it keeps up with the world
--- after what the seat has seen.
-pub record IsAtPlace (view : View Event ScriptOf) (place : ℕ) (power : PowerOf) (switch : KeptOf)
-    (next : Pending) : Type 0 where
+-- What a worker is to do next fits: to ask for something now or later, or to do the work that it took.
+abbrev pub IsNext : ScriptOf → List Event → Desk → Next → Type 0
+IsNext script history desk (next.Ask pending) = IsUpTo script history desk pending
+IsNext script history desk (next.Later pending) = IsUpTo script history desk pending
+IsNext script history desk (next.Do job) = IsToDo script history desk job
+
+-- The worker of a seat is in step: the seat's number is that of its place, and what it is to do next fits the
+-- world after what the seat has seen.
+pub record IsInStep (view : View Event ScriptOf) (desk : Desk) (then : Next) : Type 0 where
   pub script : ScriptOf
   pub begun : view.start ≡ Some script
-  pub number : view.number ≡ place + 1
-  pub keeps_up : KeepsUp script (world_after script view.seen) place power switch next
-
-abbrev pub IsInStep : View Event ScriptOf → Desk → Pending → Type 0
-IsInStep view desk next = IsAtPlace view desk.s desk.power_on desk.switch.value next
+  pub number : view.number ≡ desk.s + 1
+  pub fits : IsNext script view.seen desk then
 
 -- The driver has the number 0. Where it was told an end, that is the end of what its seat has seen.
 pub record IsDriving (view : View Event ScriptOf) (told : Option Ending) : Type 0 where

@@ -7,9 +7,11 @@ ghost use Rattle.switch_core.specs.Kept.{StandsFor};
 ghost use Rattle.switch_core.specs.Switch.{SwitchOf, note_of};
 ghost use Rattle.fabric_state.specs.declared.work.Work.TheVariants.{Restart};
 ghost use Rattle.fabric_turn.specs.Names.{turnstile_id};
+ghost use Rattle.switch_threads.specs.declared.desk.Desk.{Desk as DeskOf};
+ghost use Rattle.switch_threads.specs.declared.desk.Next.TheVariants as next;
 ghost use Rattle.switch_threads.specs.declared.desk.Pending.TheVariants as pending;
 ghost use Rattle.switch_threads.specs.Runs.{HasCalled};
-ghost use Rattle.switch_threads.specs.Workers.{IsInStep, IsToDo, IsToHandle, IsUpTo, done_with};
+ghost use Rattle.switch_threads.specs.Workers.{IsInStep, IsNext, IsToDo, IsToHandle, IsUpTo, done_with, next_after};
 
 use an_base::life::Life;
 use an_base::memory::OutOfMemory;
@@ -19,6 +21,7 @@ use fabric_book::book::Book;
 use fabric_book::handling::work;
 use fabric_book::power::PowerOn;
 use fabric_state::hand::Hand;
+use fabric_state::station::started_note;
 use fabric_state::work::Work;
 use fabric_turn::{Seat, Turnstile};
 use fabric_world::ask::{Done, LoadReply};
@@ -31,7 +34,7 @@ use switch_core::out::{Frames, Out};
 use switch_core::switch::{Switch, TableFor};
 
 /// What a worker has to ask for next.
-#[derive(Debug, Drop)]
+#[derive(Drop)]
 pub(crate) enum Pending {
     /// For work.
     Work,
@@ -39,6 +42,35 @@ pub(crate) enum Pending {
     Put(Out),
     /// To load a table.
     Load(TableFor),
+}
+
+/// What a worker is to do next.
+#[derive(Drop)]
+pub(crate) enum Next {
+    /// To ask for this.
+    Ask(Pending),
+    /// To ask for this in the next round.
+    Later(Pending),
+    /// To do the work that it took.
+    Do(Work),
+}
+
+impl Next {
+    /// What there is to do at this turn of a round, which may be its first.
+    pub fn in_round(self, is_first: bool) -> Next
+        ensures { (script : ScriptOf) (history : List Event) (desk : DeskOf)
+            → IsNext script history desk self → IsNext script history desk result }
+    {
+        match self {
+            Next::Later(pending) if is_first => Next::Ask(pending),
+            next => next,
+        }
+    }
+
+    /// Whether there is something to ask for.
+    pub fn is_ask(&self) -> bool {
+        matches!(self, Next::Ask(_))
+    }
 }
 
 /// What a worker works with.
@@ -61,6 +93,19 @@ pub(crate) struct Desk {
     pub note: Box<Note>,
 }
 
+// The boxes for what came of what a switch had in hand, and for what it shows while a table is loaded. Both are
+// filled before they are read.
+fn boxes(alloc: Global, life: Life) -> Result<(Box<Done>, Box<Note>), OutOfMemory> {
+    let note = Box::new(alloc, started_note(life, 0))?;
+    let done = Done {
+        frames: Frames::new(alloc),
+        noframe: false,
+        note: note.copy(),
+        spent: false,
+    };
+    Ok((Box::new(alloc, done)?, note))
+}
+
 // The box with what came of what a switch had in hand, and with what the switch shows then.
 fn filled(switch: &Switch, out: Out, mut done: Box<Done>) -> Box<Done>
     ensures { (x : SwitchOf) → StandsFor switch.now x → result.value ≡ done_with out x }
@@ -81,6 +126,27 @@ fn shown(switch: &Switch, mut note: Box<Note>) -> Box<Note>
     note
 }
 
+// What there is to do after work was taken. Where there is none it is to be asked for in the next round.
+fn after_take(work: Work) -> Next
+    ensures { (script : ScriptOf) (history : List Event) (desk : DeskOf)
+        → IsToDo script history desk work → IsNext script history desk result }
+{
+    match work {
+        Work::Nothing { why: _ } => Next::Later(Pending::Work),
+        work => Next::Do(work),
+    }
+}
+
+// What there is to do after a table was to be loaded. One that was handed back is to be asked for in the next round.
+fn after_load(reply: LoadReply) -> Next
+    ensures { result ≡ next_after reply }
+{
+    match reply {
+        LoadReply::Loaded => Next::Ask(Pending::Work),
+        LoadReply::NotNow(table) => Next::Later(Pending::Load(table)),
+    }
+}
+
 impl Desk {
     /// The desk of a switch that begins its first life.
     pub fn new(alloc: Global, script: &Script, s: u8) -> Result<Desk, OutOfMemory>
@@ -89,72 +155,84 @@ impl Desk {
         ensures up { IfOk result (λ desk. IsUpTo script.now [] desk pending.Work) }
     {
         let power_on = PowerOn::of(script, s);
-        let started = power_on.start(alloc, script.wiring().life(s))?;
+        let life = script.wiring().life(s);
+        let buffer = FrameBuf::new(alloc)?;
+        let (done, note) = boxes(alloc, life)?;
+        let started = power_on.start(alloc, life)?;
         let switch = Box::new(alloc, started)?;
-        let done = Done {
-            frames: Frames::new(alloc),
-            noframe: false,
-            note: switch.note(),
-            spent: false,
-        };
-        let note = switch.note();
         Ok(Desk {
             alloc,
             s,
             power_on,
             switch,
-            buffer: FrameBuf::new(alloc)?,
+            buffer,
             out: Out::new(alloc),
-            done: Box::new(alloc, done)?,
-            note: Box::new(alloc, note)?,
+            done,
+            note,
         })
     }
 
-    /// What there is to ask for next: that a table be loaded, where one is due and nothing else is to be
-    /// asked for.
-    pub fn ready(&mut self, next: Pending) -> Result<Pending, OutOfMemory>
+    // What there is to ask for: that a table be loaded, where one is due and nothing else is to be asked for.
+    fn due(&mut self, pending: Pending) -> Result<Pending, OutOfMemory>
         ensures place { self.new.s ≡ self.old.s }
-        ensures up { (script : ScriptOf) (history : List Event) → IsUpTo script history self.old next
+        ensures up { (script : ScriptOf) (history : List Event) → IsUpTo script history self.old pending
             → IfOk result (IsUpTo script history self.new) }
     {
-        match next {
+        match pending {
             Pending::Work if self.switch.load_due() => Ok(Pending::Load(self.switch.load()?)),
-            next => Ok(next),
+            pending => Ok(pending),
         }
     }
 
-    /// Asks for what is to be asked for next. Answers what there is to ask for then, and whether that may be
-    /// done at once.
+    /// Does what is to be done before there is something to ask for: the work that was taken, and a table
+    /// that is due. Answers what is to be asked for then, and when.
+    pub fn ready(&mut self, next: Next) -> Result<Next, OutOfMemory>
+        requires { (script : ScriptOf) × (history : List Event) × IsNext script history self.old next }
+        ensures place { self.new.s ≡ self.old.s }
+        ensures up { (script : ScriptOf) (history : List Event) → IsNext script history self.old next
+            → IfOk result (IsNext script history self.new) }
+    {
+        match next {
+            Next::Ask(pending) => Ok(Next::Ask(self.due(pending)?)),
+            Next::Later(pending) => Ok(Next::Later(pending)),
+            Next::Do(work) => {
+                let pending = self.work(&work)?;
+                Ok(Next::Ask(self.due(pending)?))
+            }
+        }
+    }
+
+    /// Asks for what is to be asked for. Answers what there is to do next.
     pub fn ask<R: Wait>(
         self,
         rt: &R,
         turnstile: &Turnstile<Book>,
         seat: &mut Seat<Book>,
-        next: Pending,
-    ) -> Result<(Desk, Pending, bool), OutOfMemory>
+        pending: Pending,
+    ) -> (Desk, Next)
         requires turnstile { seat.old.0 ≡ turnstile_id turnstile.now }
-        requires step { IsInStep seat.old.1 self next }
+        requires step { IsInStep seat.old.1 self (next.Ask pending) }
         ensures called { HasCalled seat.old seat.new }
-        ensures step { IfOk result (λ r. IsInStep seat.new.1 r.0 r.1) }
+        ensures step { IsInStep seat.new.1 result.0 result.1 }
     {
-        match next {
+        match pending {
             Pending::Work => self.take(rt, turnstile, seat),
-            Pending::Put(out) => Ok((self.put(rt, turnstile, seat, out), Pending::Work, true)),
-            Pending::Load(table) => Ok(self.load(rt, turnstile, seat, table)),
+            Pending::Put(out) => self.put(rt, turnstile, seat, out),
+            Pending::Load(table) => self.load(rt, turnstile, seat, table),
         }
     }
 
-    // Asks for work, and does it.
+    // Asks for work.
     fn take<R: Wait>(
         self,
         rt: &R,
         turnstile: &Turnstile<Book>,
         seat: &mut Seat<Book>,
-    ) -> Result<(Desk, Pending, bool), OutOfMemory>
+    ) -> (Desk, Next)
         requires turnstile { seat.old.0 ≡ turnstile_id turnstile.now }
-        requires step { IsInStep seat.old.1 self pending.Work }
+        requires step { IsInStep seat.old.1 self (next.Ask pending.Work) }
         ensures called { HasCalled seat.old seat.new }
-        ensures step { IfOk result (λ r. IsInStep seat.new.1 r.0 r.1) }
+        ensures step { IsInStep seat.new.1 result.0 result.1 }
     {
         let ask = BookAsk::Take {
             s: self.s,
@@ -163,12 +241,11 @@ impl Desk {
         let BookReply::Take { work, out } = turnstile.call(rt, seat, ask) else {
             unreachable!()
         };
-        let mut desk = Desk {
+        let desk = Desk {
             buffer: out,
             ..self
         };
-        let next = desk.work(&work)?;
-        Ok((desk, next, !matches!(work, Work::Nothing { why: _ })))
+        (desk, after_take(work))
     }
 
     // Does the work that it took.
@@ -218,11 +295,11 @@ impl Desk {
         turnstile: &Turnstile<Book>,
         seat: &mut Seat<Book>,
         out: Out,
-    ) -> Desk
+    ) -> (Desk, Next)
         requires turnstile { seat.old.0 ≡ turnstile_id turnstile.now }
-        requires step { IsInStep seat.old.1 self (pending.Put out) }
+        requires step { IsInStep seat.old.1 self (next.Ask (pending.Put out)) }
         ensures called { HasCalled seat.old seat.new }
-        ensures step { IsInStep seat.new.1 result pending.Work }
+        ensures step { IsInStep seat.new.1 result.0 result.1 }
     {
         let s = self.s;
         let room = self.done;
@@ -234,19 +311,19 @@ impl Desk {
             frames: replace(&mut done.frames, Frames::new(self.alloc)),
             noframe: false,
         };
-        Desk { out, done, ..self }
+        (Desk { out, done, ..self }, Next::Ask(Pending::Work))
     }
 
-    // Asks for a table to be used. Where it is handed back it is to be asked for again, and not at once.
+    // Asks for a table to be used.
     fn load<R: Wait>(
         self,
         rt: &R,
         turnstile: &Turnstile<Book>,
         seat: &mut Seat<Book>,
         table: TableFor,
-    ) -> (Desk, Pending, bool)
+    ) -> (Desk, Next)
         requires turnstile { seat.old.0 ≡ turnstile_id turnstile.now }
-        requires step { IsInStep seat.old.1 self (pending.Load table) }
+        requires step { IsInStep seat.old.1 self (next.Ask (pending.Load table)) }
         ensures called { HasCalled seat.old seat.new }
         ensures step { IsInStep seat.new.1 result.0 result.1 }
     {
@@ -259,10 +336,6 @@ impl Desk {
         let BookReply::Load { reply, note } = turnstile.call(rt, seat, ask) else {
             unreachable!()
         };
-        let desk = Desk { note, ..self };
-        match reply {
-            LoadReply::Loaded => (desk, Pending::Work, true),
-            LoadReply::NotNow(table) => (desk, Pending::Load(table), false),
-        }
+        (Desk { note, ..self }, after_load(reply))
     }
 }

@@ -1,6 +1,6 @@
 //! A run: rounds of workers and driver, until the driver is told an end.
 
-ghost use Rattle.std.specs.Prelude.{◌≡◌, ◌+◌, ◌<◌, [], All, Some, length, IfOk, vec_len};
+ghost use Rattle.std.specs.Prelude.{◌≡◌, ◌+◌, ◌<◌, [], All, Some, length, IfOk, OnOk, vec_len};
 ghost use Rattle.net_script.specs.Scripts.{IsScript, ScriptOf};
 ghost use Rattle.fabric_world.specs.Histories.{IsLegal, end_of};
 ghost use Rattle.fabric_settling.specs.Claims.{HoldsAndSettles};
@@ -26,6 +26,9 @@ use std::thread::{Threads, for_each_chunk_mut, for_each_mut, join_mut};
 
 // The most threads that the workers have.
 const THREADS: usize = 4;
+
+// The most turns of a worker in one round.
+const TURNS: u32 = 64;
 
 // The most rounds that threads stay for.
 const ROUNDS: u32 = 64;
@@ -55,13 +58,27 @@ fn open(
     Ok((seat, workers))
 }
 
-// The workers of a thread make their turns of a round, one worker after the other.
-fn work<R: Threads + Wait + Sync, G: Gate>(
+// The workers of a thread get ready for a turn each.
+fn prepare<R: Threads + Wait + Sync, G: Gate>(
     rt: &R,
-    turnstile: &Turnstile<Book>,
     gate: &G,
+    is_first: bool,
     workers: &mut [Worker],
 )
+    ensures { HaveCalled workers.old workers.new }
+{
+    for_each_mut(
+        rt,
+        workers,
+        1,
+        &|_: usize, worker: &mut Worker|
+            ensures { HasCalled worker.entry.now worker.exit.now }
+        { worker.prepare(rt, gate, is_first) },
+    );
+}
+
+// Those that are to make a turn make it, one after the other.
+fn ask<R: Threads + Wait + Sync>(rt: &R, turnstile: &Turnstile<Book>, workers: &mut [Worker])
     requires workers { All (λ worker. worker.0 ≡ turnstile_id turnstile.now) workers.old }
     ensures { HaveCalled workers.old workers.new }
 {
@@ -72,8 +89,46 @@ fn work<R: Threads + Wait + Sync, G: Gate>(
         &|_: usize, worker: &mut Worker|
             requires { worker.now.0 ≡ turnstile_id turnstile.now }
             ensures { HasCalled worker.entry.now worker.exit.now }
-        { worker.turns(rt, turnstile, gate) },
+        { worker.turn(rt, turnstile) },
     );
+}
+
+// And end it.
+fn finish<R: Threads + Wait + Sync, G: Gate>(rt: &R, gate: &G, workers: &mut [Worker])
+    ensures { HaveCalled workers.old workers.new }
+{
+    for_each_mut(
+        rt,
+        workers,
+        1,
+        &|_: usize, worker: &mut Worker|
+            ensures { HasCalled worker.entry.now worker.exit.now }
+        { worker.finish(rt, gate) },
+    );
+}
+
+// The workers of a thread make their turns of a round: in turn, until none has something to ask for, or so many times.
+// What is large in the book comes to a processor once for all of them, since the other threads wait at the door.
+fn work<R: Threads + Wait + Sync, G: Gate>(
+    rt: &R,
+    turnstile: &Turnstile<Book>,
+    gate: &G,
+    shift: &Shift,
+    workers: &mut [Worker],
+)
+    requires workers { All (λ worker. worker.0 ≡ turnstile_id turnstile.now) workers.old }
+    ensures { HaveCalled workers.old workers.new }
+{
+    'turns: for turn in 0..TURNS {
+        prepare(rt, gate, turn == 0, workers);
+        if !workers.iter().any(|worker| worker.is_asking()) {
+            return;
+        }
+        let behind_the_door = shift.enter(rt);
+        ask(rt, turnstile, workers);
+        drop(behind_the_door);
+        finish(rt, gate, workers);
+    }
 }
 
 // The workers of a thread make the rounds of a shift.
@@ -88,7 +143,7 @@ fn stay<R: Threads + Wait + Sync, G: Gate>(
     ensures { HaveCalled workers.old workers.new }
 {
     'rounds: for round in 0..shift.begin(rt) {
-        work(rt, turnstile, gate, workers);
+        work(rt, turnstile, gate, shift, workers);
         if !shift.end_round(rt, round) {
             return;
         }
@@ -226,6 +281,29 @@ fn close(turnstile: Turnstile<Book>, seat: Seat<Book>, end: Ending) -> Run
     }
 }
 
+// The run with this turnstile, which has its first seat alone. Answers the seat that has seen the whole history.
+fn run_with<R: Threads + Wait + Sync, G: Gate>(
+    rt: &R,
+    alloc: Global,
+    script: &Script,
+    gate: &G,
+    turnstile: &Turnstile<Book>,
+    seat: Seat<Book>,
+) -> Result<(Seat<Book>, Ending), OutOfMemory>
+    requires first { seat ≡ first_seat (turnstile_id turnstile.now) script.now }
+    ensures turnstile { IfOk result (λ r. r.0.0 ≡ turnstile_id turnstile.now) }
+    ensures all { IfOk result (λ r. HasAllNumbers r.0.1) }
+    ensures start { IfOk result (λ r. r.0.1.start ≡ Some script.now) }
+    ensures end { IfOk result (λ r. end_of script.now r.0.1.seen ≡ Some r.1) }
+    ensures script { OnOk result (IsScript script.now) }
+{
+    let (seat, mut workers) = open(alloc, script, turnstile, seat)?;
+    let mut driver = Driver::new(seat);
+    let end = shifts(rt, turnstile, gate, &mut driver, workers.as_mut_slice())?;
+    let seat = joined(turnstile, driver.into_seat(), workers);
+    Ok((seat, end))
+}
+
 /// A run of the network of a script: a worker for each switch and the driver, side by side, until the driver
 /// is told an end. `gate` is called round each turn of a worker. It gives a legal history and its end; and
 /// all that is claimed of a lawful history holds of it, also how soon it settles.
@@ -244,9 +322,6 @@ pub fn run<R: Threads + Wait + Sync, G: Gate>(
     let book = Book::begin(alloc, script)?;
     let callers = u32::from(script.wiring().count()) + 1;
     let (turnstile, seat) = Turnstile::new(alloc, book, callers)?;
-    let (seat, mut workers) = open(alloc, script, &turnstile, seat)?;
-    let mut driver = Driver::new(seat);
-    let end = shifts(rt, &turnstile, gate, &mut driver, workers.as_mut_slice())?;
-    let seat = joined(&turnstile, driver.into_seat(), workers);
+    let (seat, end) = run_with(rt, alloc, script, gate, &turnstile, seat)?;
     Ok(close(turnstile, seat, end))
 }

@@ -3,16 +3,29 @@
 //! To begin a thread costs more than what there is to do in a round. So the threads of a shift stay for many rounds, at
 //! the end of each of which they wait for one another. That needs a thread for each of them: where one lacks others,
 //! all make a single round.
+//!
+//! Within a round one party at a time asks, of all its workers one after the other: a book that goes from one processor to
+//! another at each turn costs more than the turn. That is the door.
 
-use std::sync::Wait;
+use std::hint::spin_loop;
 use std::sync::atomic::{AtomicU64, Ordering};
+use std::sync::{Mutex, MutexGuard, Wait};
 use std::thread::yield_now;
 
 // How often a party looks whether all others have begun.
 const LOOKS: u32 = 2_000;
 
-// How often one that has made a round looks whether all others have, before it sleeps.
-const ROUND_LOOKS: u32 = 32;
+// How often one that has made a round looks whether all others have, before it sleeps. To be woken takes longer than
+// all of these looks, where a processor has nothing else to do.
+const ROUND_LOOKS: u32 = 4_000;
+
+// How often one that stands at the door looks whether it is open before it sleeps, how often before it gives way, and how
+// long it waits for a look then.
+const DOOR_LOOKS: u32 = 1_000;
+
+const NEAR_LOOKS: u32 = 16;
+
+const SPINS: u32 = 32;
 
 // The number of no round.
 const NO_ROUND: u32 = u32::MAX;
@@ -23,6 +36,17 @@ const OPEN: u64 = 0;
 const BESIDE: u64 = 1;
 
 const APART: u64 = 2;
+
+// Waits a little at the door, after so many looks in vain.
+fn stand(looks: u32) {
+    if looks >= NEAR_LOOKS {
+        yield_now();
+        return;
+    }
+    for _ in 0..SPINS {
+        spin_loop();
+    }
+}
 
 /// Rounds that so many parties make, each where it can in a thread of its own.
 #[derive(Drop)]
@@ -37,6 +61,8 @@ pub(crate) struct Shift {
     made: AtomicU64,
     // The number of the round that is the last one, though there were to be more.
     last: AtomicU64,
+    // Behind it is one party at a time.
+    door: Mutex<()>,
 }
 
 impl Shift {
@@ -50,6 +76,7 @@ impl Shift {
             come: AtomicU64::new(0),
             made: AtomicU64::new(0),
             last: AtomicU64::new(u64::from(NO_ROUND)),
+            door: Mutex::new(()),
         }
     }
 
@@ -100,6 +127,17 @@ impl Shift {
             self.meet(rt);
         }
         u64::from(round) < self.last.load(Ordering::SeqCst)
+    }
+
+    /// Waits until no party is behind the door. It stays closed behind this one as long as the guard is kept.
+    pub fn enter<R: Wait>(&self, rt: &R) -> MutexGuard<'_, ()> {
+        for looks in 0..DOOR_LOOKS {
+            if let Some(guard) = self.door.try_lock() {
+                return guard;
+            }
+            stand(looks);
+        }
+        self.door.lock(rt)
     }
 
     // Waits until all parties have come. The last one to come lets them all go on.

@@ -4,7 +4,7 @@ ghost use Rattle.std.specs.Prelude.{◌≡◌, ◌+◌, ◌<◌, [], length, IfO
 ghost use Rattle.fabric_turn.specs.Names.{turnstile_id};
 ghost use Rattle.switch_threads.specs.Runs.{HasCalled};
 
-use crate::desk::{Desk, Pending};
+use crate::desk::{Desk, Next, Pending};
 use crate::gate::Gate;
 use an_base::memory::OutOfMemory;
 use fabric_book::book::Book;
@@ -14,17 +14,16 @@ use std::alloc::Global;
 use std::marker::Model;
 use std::sync::Wait;
 
-// The most turns in one round.
-const TURNS: u32 = 64;
-
-/// The worker of a switch: its seat, how many turns it made, and what it works with, with what it has to ask
-/// for next. Contracts see its seat. While it makes a turn it has nothing to work with, and after want of
-/// memory it has nothing any more: its switch and the book have parted then.
+/// The worker of a switch: its number, its seat, how many turns it made, whether it makes one, and what it works
+/// with, with what it is to do next. Contracts see its seat. While it asks it has nothing to work with, and
+/// after want of memory it has nothing any more: its switch and the book have parted then.
 #[derive(Drop)]
 pub(crate) struct Worker {
+    number: u8,
     seat: Seat<Book>,
     turns: u64,
-    desk: Option<(Desk, Pending)>,
+    is_asking: bool,
+    desk: Option<(Desk, Next)>,
 }
 
 impl Model for Worker {
@@ -56,9 +55,11 @@ impl Worker {
     {
         let desk = Desk::new(alloc, script, s)?;
         Ok(Worker {
+            number: desk.s + 1,
             seat,
             turns: 0,
-            desk: Some((desk, Pending::Work)),
+            is_asking: false,
+            desk: Some((desk, Next::Ask(Pending::Work))),
         })
     }
 
@@ -74,39 +75,56 @@ impl Worker {
         self.seat
     }
 
-    // One turn. Whether there may be another one at once.
-    fn turn<R: Wait, G: Gate>(
-        &mut self,
-        rt: &R,
-        turnstile: &Turnstile<Book>,
-        gate: &G,
-    ) -> Result<bool, OutOfMemory>
-        requires { self.old.0 ≡ turnstile_id turnstile.now }
+    /// Whether it is to make a turn.
+    pub fn is_asking(&self) -> bool {
+        self.is_asking
+    }
+
+    /// Gets ready for a turn, if there is to be one in this round. Whether it is the first of the round.
+    pub fn prepare<R: Wait, G: Gate>(&mut self, rt: &R, gate: &G, is_first: bool)
         ensures { HasCalled self.old self.new }
     {
         let Some((mut desk, next)) = self.desk.take() else {
-            return Err(OutOfMemory);
+            return;
         };
-        let next = desk.ready(next)?;
-        let number = desk.s + 1;
-        self.turns = self.turns.saturating_add(1);
-        gate.before(rt, number, self.turns);
-        let (desk, next, more) = desk.ask(rt, turnstile, &mut self.seat, next)?;
-        gate.after(rt, number, self.turns);
+        let Ok(next) = desk.ready(next.in_round(is_first)) else {
+            return;
+        };
+        self.is_asking = next.is_ask();
         self.desk = Some((desk, next));
-        Ok(more)
+        self.begin(rt, gate);
     }
 
-    /// The turns of a round: until there is nothing to do, or so many were done, or memory was wanting.
-    pub fn turns<R: Wait, G: Gate>(&mut self, rt: &R, turnstile: &Turnstile<Book>, gate: &G)
+    // Begins the turn, if there is to be one.
+    fn begin<R: Wait, G: Gate>(&mut self, rt: &R, gate: &G)
+        ensures { self.new ≡ self.old }
+    {
+        if self.is_asking {
+            self.turns = self.turns.saturating_add(1);
+            gate.before(rt, self.number, self.turns);
+        }
+    }
+
+    /// Makes the turn, if there is to be one.
+    pub fn turn<R: Wait>(&mut self, rt: &R, turnstile: &Turnstile<Book>)
         requires { self.old.0 ≡ turnstile_id turnstile.now }
         ensures { HasCalled self.old self.new }
     {
-        'turns: for _ in 0..TURNS {
-            match self.turn(rt, turnstile, gate) {
-                Ok(true) => {}
-                Ok(false) | Err(OutOfMemory) => return,
-            }
+        if let Some((desk, next)) = self.desk.take() {
+            self.desk = Some(match next {
+                Next::Ask(pending) => desk.ask(rt, turnstile, &mut self.seat, pending),
+                next => (desk, next),
+            });
+        }
+    }
+
+    /// Ends the turn that it made.
+    pub fn finish<R: Wait, G: Gate>(&mut self, rt: &R, gate: &G)
+        ensures { HasCalled self.old self.new }
+    {
+        if self.is_asking {
+            self.is_asking = false;
+            gate.after(rt, self.number, self.turns);
         }
     }
 }

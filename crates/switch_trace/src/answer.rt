@@ -83,7 +83,8 @@ pub fn push_note(text: &mut String, switch: &Switch) -> Result<(), AllocError> {
 // Adds the exits of a row, a line where there are none.
 fn push_exits(text: &mut String, exits: &Exits) -> Result<(), AllocError> {
     let mut mark = ":";
-    for exit in exits.as_slice() {
+    let ports = exits.list();
+    for exit in ports.as_slice() {
         write!(text, "{mark}{exit}")?;
         mark = "/";
     }

@@ -1,8 +1,10 @@
-use Rattle.std.proofs.Common.{◌≡◌, ◌≢◌, ◌∙◌, sym, subst, refl, ℕ, suc, ◌+◌, ◌<◌, ◌≤◌, List, [], ◌∷◌, ◌++◌, Option, Some, None, Bool, true, false, arith, length, length-append, Contains, IsTrue, inl, inr, ◌↔◌}
-use Rattle.std.proofs.lemmas.Bool.{cases_eq, eqb-true, eq-eqb}
-use Rattle.std.proofs.lemmas.List.Elements.{All-nil, All-push, All-weaker, Contains-append_left, Contains-push}
-use Rattle.std.proofs.lemmas.List.Quantifiers.{all_pairs_push}
+use Rattle.std.proofs.Common.{◌≡◌, ◌≢◌, ◌∙◌, sym, subst, refl, ℕ, suc, ◌+◌, ◌<◌, ◌≤◌, List, [], ◌∷◌, Option, Some, None, Bool, true, false, arith, length, IsTrue, inl, inr, ◌↔◌}
+use Rattle.std.proofs.lemmas.Bool.{eqb-true, eq-eqb}
+use Rattle.std.proofs.lemmas.List.Elements.{All-nil, All-weaker}
 use Rattle.an_base.specs.Values.{EntryOf}
+use Rattle.an_base.specs.Rows.{ports_of}
+use Rattle.an_base.proofs.ListLemmas.{All-from_members}
+use Rattle.an_base.proofs.PortSetLemmas.{port_is, is_port, ports_rise, rising_few}
 use Rattle.topo_graph.specs.Topology.{far_of, IsGraph}
 use Rattle.topo_graph.proofs.FarLemmas.{one_far}
 use Rattle.updown.specs.Routes.{is_up_end, HasLegal, HasDown, IsLeast}
@@ -115,40 +117,14 @@ no_port Has none = record {
   few = omega arith;
 }
 
--- at first there are none
-pub no_ports : (Has : ℕ → Type 0) → ((p : ℕ) → Has p → 1 ≤ p) → ArePortsBelow Has 1 []
-no_ports Has least = record {
-  rising = λ i j d lt low. absurd (omega arith);
-  each = All-nil Has;
-  below = All-nil (λ p. p < 1);
-  whole = λ p low is. absurd (let l = least p is in omega arith);
-  few = omega arith;
-}
-
--- a port that has it
-pub one_port : (Has : ℕ → Type 0) (port : ℕ) (ports : List ℕ) → ArePortsBelow Has port ports → Has port → ArePortsBelow Has (port + 1) (ports ++ port ∷ [])
-one_port Has port ports so_far has = record {
-  rising = all_pairs_push (λ p q. p < q) ports port so_far.rising so_far.below;
-  each = All-push Has ports port so_far.each has;
-  below = All-push (λ p. p < port + 1) ports port (All-weaker (λ p. p < port) (λ p. p < port + 1) (λ p low. omega arith) ports so_far.below) (omega arith);
-  whole = λ p low is. elim (cases_eq p port) [
-    | inl same ↦ subst (λ (n : ℕ). Contains (ports ++ port ∷ []) n) (sym same) (Contains-push ports port)
-    | inr other ↦ Contains-append_left ports (port ∷ []) p (so_far.whole p (omega arith) is)
-  ];
-  few = let h = so_far.few in omega (arith, length-append ports (port ∷ []));
-}
-
--- a port that has it not
-pub other_port : (Has : ℕ → Type 0) (port : ℕ) (ports : List ℕ) → ArePortsBelow Has port ports → (Has port → ⊥) → ArePortsBelow Has (port + 1) ports
-other_port Has port ports so_far none = record {
-  rising = so_far.rising;
-  each = so_far.each;
-  below = All-weaker (λ p. p < port) (λ p. p < port + 1) (λ p low. omega arith) ports so_far.below;
-  whole = λ p low is. elim (cases_eq p port) [
-    | inl same ↦ absurd (none (subst Has same is))
-    | inr other ↦ so_far.whole p (omega arith) is
-  ];
-  few = let h = so_far.few in omega arith;
+-- the ports by which best ways begin
+pub best_ports : (b : Best) → ArePortsBelow (IsExitOf (Some b)) 13 (ports_of b.ports)
+best_ports b = record {
+  rising = ports_rise b.ports;
+  each = All-from_members (IsExitOf (Some b)) (ports_of b.ports) (λ p has. let h = port_is b.ports p has in (h.0, h.2));
+  below = All-from_members (λ (p : ℕ). p < 13) (ports_of b.ports) (λ p has. let h = port_is b.ports p has in let most = h.1 in omega arith);
+  whole = λ p low is. is_port b.ports p is.0 (omega arith) is.1;
+  few = let most = rising_few 12 1 (ports_of b.ports) (ports_rise b.ports) (λ p has. let h = port_is b.ports p has in (h.0, (let most = h.1 in omega arith))) in omega arith;
 }
 
 -- a port by which best ways begin is an exit

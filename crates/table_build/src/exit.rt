@@ -32,26 +32,12 @@ pub fn is_entry(graph: &Graph, x: u8, entry: u8) -> bool
     graph.far_place(x, entry).is_some()
 }
 
-// Whether a port is among these, a bit for each.
-fn has_port(ports: u16, port: u8) -> bool
-    requires { port ≤ 12 }
-    ensures { IsTrue result ↔ HasPort ports port }
-{
-    (ports >> port) & 1 == 1
-}
-
 /// The ports by which best ways begin, rising.
 pub fn exits(best: Option<Best>) -> Exits
     ensures { ArePortsBelow (IsExitOf best) 13 result }
 {
-    let mut exits = Exits::new();
-    let Some(best) = best else {
-        return exits;
-    };
-    'ports: for port in 1..13u8 {
-        if has_port(best.ports, port) {
-            exits.push(port);
-        }
+    match best {
+        None => Exits::new(),
+        Some(best) => Exits::of_set(best.ports),
     }
-    exits
 }

@@ -9,7 +9,7 @@ use crate::way::{Way, ways_of};
 use an_base::life::Life;
 use an_base::memory::OutOfMemory;
 use an_base::numbers::Numbers;
-use an_base::row::Row;
+use an_base::row::{Exits, Row};
 use std::alloc::Global;
 use std::marker::Model;
 use topo_graph::graph::Graph;
@@ -130,8 +130,8 @@ impl Table {
 
     /// The exits for what comes in at an entry and goes to a number, rising. There are none where
     /// the table has no such row.
-    pub fn exits(&self, entry: u8, number: u8) -> &[u8]
-        ensures { result.now ≡ exits_of self.now entry number }
+    pub fn exits(&self, entry: u8, number: u8) -> Exits
+        ensures { result ≡ exits_of self.now entry number }
     {
         let found = self
             .rows
@@ -139,9 +139,9 @@ impl Table {
         match found {
             Ok(i) => {
                 let row = &self.rows[i];
-                row.exits.as_slice()
+                row.exits.copy()
             }
-            Err(_) => &[],
+            Err(_) => Exits::new(),
         }
     }
 

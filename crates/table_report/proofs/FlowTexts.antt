@@ -22,7 +22,7 @@ use Rattle.flow_channels.specs.Layout.{LayoutOf}
 use Rattle.flow_channels.specs.Moves.{IsTurn}
 use Rattle.flow_channels.specs.Runs.{Turns}
 use Rattle.table_report.specs.Flows.{FlowLine, Ends, Local, Unjoined, end_line, entered_flow, entries_of, fate_lines, flow_text, flow_told, flow_words, FlowPart, IsFlowOf, IsFlowPart, is_out, layout_in, part_lines, start_of, went_line}
-use Rattle.table_report.specs.FlowRuns.{IsToldRun}
+use Rattle.table_report.specs.FlowRuns.{IsToldPart, IsToldRun}
 use Rattle.table_report.specs.Sends.{entering, homes_of, is_joined, is_local, numbers_in, sends_of}
 use Rattle.table_report.proofs.FlowTurns.{IsRun, turns_push}
 
@@ -102,22 +102,22 @@ fates_told script homes sends i sent base text new low is so_far one =
 
 -- the lines of a component whose packets ran, and how many moves go out behind those so far
 pub part_done : (script : ScriptOf) (room : ℕ) (any : Bool) (es graph entries : List EntryOf) (switches : List SwitchAt) (home : List ℕ) (those sends : List Sent) (moves : List Went) (before out : ℕ) (text new : List ℕ) → any ≡ script.any_routes → graph ≡ es → entries ≡ es → switches ≡ script.wires.switches → home ≡ numbers_in switches es → those ≡ entering home sends → sends ≡ sends_of script → IsRun any room graph home those moves → new ≡ text ++ flow_told (map (went_line script entries) moves) → out ≡ before + count_by is_out moves
-    → (part : FlowPart) × (entries_of part ≡ es) × IsFlowPart script room part × (new ≡ text ++ flow_told (part_lines script part)) × (out ≡ before + count_by is_out part.moves)
+    → IsToldPart script room es text new before out
 part_done script room any es graph entries switches home those sends moves before out text new any_is graph_is entries_is switches_are home_is those_are sends_are ran told counted =
     let run : IsRun script.any_routes room es home those moves = subst (λ (a : Bool). IsRun a room es home those moves) any_is (subst (λ (g : List EntryOf). IsRun any room g home those moves) graph_is ran) in
     let own : home ≡ numbers_in script.wires.switches es = home_is ∙ ap (λ (w : List SwitchAt). numbers_in w es) switches_are in
     let start : entered_flow home those ≡ start_of script es = ap (entered_flow home) (those_are ∙ ap (entering home) sends_are) ∙ ap (λ (h : List ℕ). entered_flow h (entering h (sends_of script))) own in
-    let part : FlowPart = record { part = record { entries = es; tables = run.tables }; moves = moves; end = run.run.end } in (
-      part,
-      refl,
-      record {
+    let part : FlowPart = record { part = record { entries = es; tables = run.tables }; moves = moves; end = run.run.end } in record {
+      part = part;
+      entries_are = refl;
+      is_part = record {
         tables = run.are;
         turns = subst (λ (f : FlowOf). Turns (layout_in room part.part) f moves run.run.end) start run.run.turns;
         done = run.run.done;
-      },
-      told ∙ ap (λ (e : List EntryOf). text ++ flow_told (map (went_line script e) moves)) entries_is,
-      counted,
-    )
+      };
+      text_is = told ∙ ap (λ (e : List EntryOf). text ++ flow_told (map (went_line script e) moves)) entries_is;
+      out_is = counted;
+    }
 
 -- what has been said of the components so far
 pub record AreToldParts (script : ScriptOf) (room : ℕ) (forest : List (List EntryOf)) (base text : List ℕ) (out : ℕ) : Type 0 where
@@ -131,18 +131,19 @@ pub none_told : (script : ScriptOf) (room : ℕ) (text : List ℕ) → AreToldPa
 none_told script room text = record { parts = []; entries = refl; flows = All-nil (IsFlowPart script room); text_is = sym (append-nil text); out_is = refl }
 
 -- one component more
-pub parts_told : (script : ScriptOf) (room : ℕ) (forest : List (List EntryOf)) (i : ℕ) (es : List EntryOf) (part : FlowPart) (base text new : List ℕ) (out more : ℕ) → i < length forest → es ≡ get_or forest i es → entries_of part ≡ es → IsFlowPart script room part → new ≡ text ++ flow_told (part_lines script part) → more ≡ out + count_by is_out part.moves → AreToldParts script room (take i forest) base text out → AreToldParts script room (take (i + 1) forest) base new more
-parts_told script room forest i es part base text new out more low at is flows one counted so_far =
+pub parts_told : (script : ScriptOf) (room : ℕ) (forest : List (List EntryOf)) (i : ℕ) (es : List EntryOf) (base text new : List ℕ) (out more : ℕ) → i < length forest → es ≡ get_or forest i es → IsToldPart script room es text new out more → AreToldParts script room (take i forest) base text out → AreToldParts script room (take (i + 1) forest) base new more
+parts_told script room forest i es base text new out more low at told so_far =
+    let part = told.part in
     let lines : FlowPart → List FlowLine = part_lines script in
     let went : FlowPart → List Went = λ p. p.moves in
     let all = so_far.parts ++ part ∷ [] in
     record {
       parts = all;
-      entries = map-append entries_of so_far.parts (part ∷ []) ∙ ap (λ (f : List (List EntryOf)). f ++ entries_of part ∷ []) so_far.entries ∙ ap (λ (e : List EntryOf). take i forest ++ e ∷ []) (is ∙ at) ∙ sym (take_more forest i es low);
-      flows = All-push (IsFlowPart script room) so_far.parts part so_far.flows flows;
-      text_is = go_on flow_words (flat_map lines so_far.parts) (lines part) base text new so_far.text_is one
+      entries = map-append entries_of so_far.parts (part ∷ []) ∙ ap (λ (f : List (List EntryOf)). f ++ entries_of part ∷ []) so_far.entries ∙ ap (λ (e : List EntryOf). take i forest ++ e ∷ []) (told.entries_are ∙ at) ∙ sym (take_more forest i es low);
+      flows = All-push (IsFlowPart script room) so_far.parts part so_far.flows told.is_part;
+      text_is = go_on flow_words (flat_map lines so_far.parts) (lines part) base text new so_far.text_is told.text_is
           ∙ ap (λ (ls : List FlowLine). base ++ flow_told ls) (sym (flat_map-append lines so_far.parts (part ∷ []) ∙ ap (λ (ls : List FlowLine). flat_map lines so_far.parts ++ ls) (append-nil (lines part))));
-      out_is = counted ∙ ap (λ (n : ℕ). n + count_by is_out part.moves) so_far.out_is
+      out_is = told.out_is ∙ ap (λ (n : ℕ). n + count_by is_out part.moves) so_far.out_is
           ∙ sym (ap (count_by is_out) (flat_map-append went so_far.parts (part ∷ []) ∙ ap (λ (ms : List Went). flat_map went so_far.parts ++ ms) (append-nil part.moves)) ∙ sum_by-append (λ (w : Went). cond (is_out w) 1 0) (flat_map went so_far.parts) part.moves);
     }
 

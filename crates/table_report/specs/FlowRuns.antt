@@ -2,7 +2,10 @@ use Rattle.std.specs.Prelude.{◌≡◌, ◌+◌, ◌<◌, ◌≤◌, ◌++◌, 
 use Rattle.an_base.specs.Values.{EntryOf}
 use Rattle.an_base.specs.Numbers.{AreNumbers}
 use Rattle.an_base.specs.Rows.{RowOf}
+use Rattle.std.specs.List.{flat_map}
 use Rattle.net_script.specs.Scripts.{ScriptOf}
+use Rattle.switch_numbering.specs.Numbering.{numbering}
+use Rattle.table_build.specs.Tables.{TableOf}
 use Rattle.topo_graph.specs.Topology.{IsGraph, IsTree}
 use Rattle.dep_check.specs.Channels.{IsChannel, LeadsTo}
 use Rattle.dep_check.specs.Cycles.{AreRanks}
@@ -15,7 +18,8 @@ use Rattle.flow_channels.specs.Runs.{Turns}
 use Rattle.flow_channels.specs.View.{FlowView, IsOver}
 use Rattle.table_report.specs.declared.sent.Sent.{Sent}
 use Rattle.table_report.specs.Check.{name_of}
-use Rattle.table_report.specs.Flows.{entered_flow, flow_told, is_out, went_line}
+use Rattle.table_report.specs.Expect.{AreTables}
+use Rattle.table_report.specs.Flows.{entered_flow, entries_of, flow_told, FlowPart, IsFlowPart, is_out, part_lines, went_line}
 
 -- What private functions alone cite: a run of the packets that enter a component.
 
@@ -31,6 +35,15 @@ pub record AreOwnRows (any : Bool) (entries : List EntryOf) (numbers : List ℕ)
     : Type 0 where
   pub numbered : IsNumbered entries numbers
   pub tables : AllTables entries numbers any rows
+
+-- the graph of a component, the numbers of its members, and the rows of their tables
+pub record AreTabled (any : Bool) (entries graph : List EntryOf) (numbers : List ℕ) (rows : List RowOf)
+    : Type 0 where
+  pub graph_is : graph ≡ entries
+  pub numbers_are : numbers ≡ numbering graph
+  pub tables : List TableOf
+  pub are : AreTables graph any (length graph) tables
+  pub rows_are : rows ≡ flat_map (λ table. table.rows) tables
 
 -- a flow that no packet entered yet, with room for these
 pub record IsReady (layout : LayoutOf) (sends : List Sent) (view : FlowView) : Type 0 where
@@ -82,3 +95,13 @@ pub record IsToldRun (layout : LayoutOf) (script : ScriptOf) (entries : List Ent
   pub run : IsRunFrom layout start moves
   pub text_is : text ≡ base ++ flow_told (map (went_line script entries) moves)
   pub out_is : out ≡ before + count_by is_out moves
+
+-- the moves of the packets that enter a component, with their lines behind a text and those that go out counted
+pub record IsToldPart (script : ScriptOf) (room : ℕ) (entries : List EntryOf) (base text : List ℕ)
+    (before out : ℕ)
+    : Type 0 where
+  pub part : FlowPart
+  pub entries_are : entries_of part ≡ entries
+  pub is_part : IsFlowPart script room part
+  pub text_is : text ≡ base ++ flow_told (part_lines script part)
+  pub out_is : out ≡ before + count_by is_out part.moves

@@ -5,6 +5,7 @@ ghost use Rattle.std.specs.List.{zip};
 ghost use Rattle.text_lines.specs.Lines.{line_text};
 ghost use Rattle.table_script.specs.TableForms.{table_words};
 ghost use Rattle.switch_numbering.specs.Numbering.{numbering};
+ghost use Rattle.table_build.specs.Routing.{IsRouting};
 ghost use Rattle.table_build.specs.Tables.{TableOf};
 ghost use Rattle.table_report.specs.Expect.{AreTables, component_form, expect_text, IsExpectOf, member_form, number_form, Part, part_forms, table_text};
 ghost use Rattle.table_report.specs.Rows.{table_forms};
@@ -15,13 +16,14 @@ use crate::row::push_row_lines;
 use an_base::entry::{Entries, Entry};
 use an_base::memory::OutOfMemory;
 use an_base::numbers::Numbers;
+use itoa::Buffer;
 use net_graph::forest::trees;
 use net_script::script::Script;
 use std::alloc::Global;
 use switch_numbering::numbering::number;
 use table_build::routing::Routing;
 use table_build::table::Table;
-use text_lines::spelling::{decimal, push_line};
+use text_lines::spelling::push_line;
 use topo_graph::graph::Graph;
 
 // Appends the line of a member: its level and, below the root, its parent and its port to it.
@@ -35,16 +37,17 @@ fn push_member(
         (text.new.items ≡ text.old.items ++ line_text (table_words (member_form script.now entry.now))) }
 {
     let name = life_word(alloc, script, entry.life)?;
-    let level = decimal(alloc, u64::from(entry.position.level))?;
+    let (mut level, mut port) = (Buffer::new(), Buffer::new());
+    let level = level.format(entry.position.level).as_bytes();
     if entry.position.level == 0 {
-        return push_line(text, &[b"member", &name, b"level", &level]);
+        return push_line(text, &[b"member", &name, b"level", level]);
     }
     let parent = life_word(alloc, script, entry.position.parent)?;
-    let port = decimal(alloc, u64::from(entry.position.port))?;
+    let port = port.format(entry.position.port).as_bytes();
     push_line(
         text,
         &[
-            b"member", &name, b"level", &level, b"parent", &parent, b"port", &port,
+            b"member", &name, b"level", level, b"parent", &parent, b"port", port,
         ],
     )
 }
@@ -77,8 +80,8 @@ fn push_numbered(
         ++ line_text (table_words (number_form script.now (entry.now, number)))) }
 {
     let name = life_word(alloc, script, entry.life)?;
-    let number = decimal(alloc, u64::from(number))?;
-    push_line(text, &[b"number", &name, &number])
+    let mut digits = Buffer::new();
+    push_line(text, &[b"number", &name, digits.format(number).as_bytes()])
 }
 
 // Appends the lines of the numbers of the members.
@@ -95,6 +98,30 @@ fn push_numbers(
 {
     'numbers: for (i, entry) in entries.iter().enumerate() {
         push_numbered(alloc, text, script, entry, numbers[i])?;
+    }
+    Ok(())
+}
+
+// Appends the lines of the tables of the members, from what these share.
+fn push_shared(
+    alloc: Global,
+    text: &mut Vec<u8>,
+    script: &Script,
+    decimals: &Decimals,
+    graph: &Graph,
+    numbers: &Numbers,
+    routing: &Routing,
+    any: bool,
+) -> Result<(), OutOfMemory>
+    requires numbers { numbers.now ≡ numbering graph.now }
+    requires routing { IsRouting graph.now numbers.now routing.now }
+    ensures { OnOk result ((ts : List TableOf)
+        × AreTables graph.now any (length graph.now) ts
+        × (text.new.items ≡ text.old.items ++ table_text (table_forms script.now graph.now 0 ts))) }
+{
+    'members: for x in 0..graph.count() {
+        let table = Table::of(alloc, graph, numbers, routing, x, any)?;
+        push_row_lines(alloc, text, script, decimals, graph, x, table.as_slice())?;
     }
     Ok(())
 }
@@ -116,12 +143,9 @@ fn push_tables(
 {
     let graph = Graph::of(alloc, component)?;
     let routing = Routing::of(alloc, &graph, numbers)?;
-    let count = graph.count();
-    'members: for x in 0..count {
-        let table = Table::of(alloc, &graph, numbers, &routing, x, any)?;
-        push_row_lines(alloc, text, script, decimals, &graph, x, table.as_slice())?;
-    }
-    Ok(())
+    push_shared(
+        alloc, text, script, decimals, &graph, numbers, &routing, any,
+    )
 }
 
 // Appends the line of a component.
@@ -138,8 +162,9 @@ fn push_head(
 {
     let first = &entries[0];
     let root = life_word(alloc, script, first.position.root)?;
-    let count = decimal(alloc, entries.len() as u64)?;
-    push_line(text, &[b"component", &root, b"members", &count])
+    let mut digits = Buffer::new();
+    let count = digits.format(entries.len()).as_bytes();
+    push_line(text, &[b"component", &root, b"members", count])
 }
 
 // Appends the lines of a component.

@@ -1,11 +1,12 @@
 //! How broadcasts go in a script's network.
 
-ghost use Rattle.std.specs.Prelude.{◌≡◌, ◌++◌, List, All, length, map, IfOk, OnOk};
+ghost use Rattle.std.specs.Prelude.{◌≡◌, ◌++◌, ◌∷◌, List, [], All, codes, length, map, IfOk, OnOk};
+ghost use Rattle.std.specs.Fmt.{decimal};
 ghost use Rattle.an_base.specs.Values.{EntryOf};
 ghost use Rattle.text_lines.specs.Lines.{line_text};
 ghost use Rattle.topo_graph.specs.Topology.{IsTree};
 ghost use Rattle.broadcast_flood.specs.declared.hop.FloodHop.{FloodHop as FloodHopOf};
-ghost use Rattle.table_report.specs.Floods.{AreFloods, Copies, flood_lines, flood_text, FloodPart, From, Goes};
+ghost use Rattle.table_report.specs.Floods.{AreFloods, flood_lines, flood_text, FloodPart, From, Goes};
 ghost use Rattle.table_report.specs.Floods.{IsFloodOf, line_words, lines_told, part_lines};
 
 use crate::piece::life_word;
@@ -14,10 +15,11 @@ use an_base::life::Life;
 use an_base::memory::OutOfMemory;
 use broadcast_flood::flood::Flood;
 use broadcast_flood::hop::FloodHop;
+use itoa::Buffer;
 use net_graph::forest::trees;
 use net_script::script::Script;
 use std::alloc::Global;
-use text_lines::spelling::{decimal, push_line};
+use text_lines::spelling::push_line;
 use topo_graph::graph::Graph;
 
 // Appends the line of a hop.
@@ -31,11 +33,12 @@ fn push_hop(
         ≡ text.old.items ++ line_text (line_words script.now (Goes hop.now))) }
 {
     let name = life_word(alloc, script, hop.at)?;
-    let port = decimal(alloc, u64::from(hop.port))?;
+    let mut digits = Buffer::new();
+    let port = digits.format(hop.port).as_bytes();
     if hop.up {
-        return push_line(text, &[b"up", &name, &port]);
+        return push_line(text, &[b"up", &name, port]);
     }
-    push_line(text, &[b"down", &name, &port])
+    push_line(text, &[b"down", &name, port])
 }
 
 // Appends the lines of hops.
@@ -68,17 +71,12 @@ fn push_from(
 }
 
 // Appends the line that says how many members get a copy.
-fn push_copies(
-    alloc: Global,
-    text: &mut Vec<u8>,
-    script: &Script,
-    members: usize,
-) -> Result<(), OutOfMemory>
-    ensures { OnOk result (text.new.items
-        ≡ text.old.items ++ line_text (line_words script.now (Copies members))) }
+fn push_copies(text: &mut Vec<u8>, members: usize) -> Result<(), OutOfMemory>
+    ensures { OnOk result (text.new.items ≡ text.old.items
+        ++ line_text (codes "copies" ∷ decimal members ∷ [])) }
 {
-    let count = decimal(alloc, members as u64)?;
-    push_line(text, &[b"copies", &count])
+    let mut digits = Buffer::new();
+    push_line(text, &[b"copies", digits.format(members).as_bytes()])
 }
 
 // Appends the lines of the broadcast from a member.
@@ -95,10 +93,32 @@ fn push_flood(
 {
     push_from(alloc, text, script, from)?;
     push_hops(alloc, text, script, hops)?;
-    push_copies(alloc, text, script, members)
+    push_copies(text, members)
 }
 
-// Appends the lines of the broadcasts from the members of a component.
+// Appends the lines of the broadcasts from the members of a component, which go so.
+fn push_broadcasts(
+    alloc: Global,
+    text: &mut Vec<u8>,
+    script: &Script,
+    component: &Entries,
+    flood: &Flood,
+) -> Result<(), OutOfMemory>
+    requires { flood.now ≡ component.now }
+    ensures { OnOk result ((floods : List (List FloodHopOf))
+        × AreFloods component.now (length component.now) floods
+        × (text.new.items ≡ text.old.items
+        ++ lines_told script.now (part_lines (record { entries = component.now; floods = floods })))) }
+{
+    let members = component.len();
+    'members: for entry in component.as_slice() {
+        let hops = flood.hops(alloc, entry.life)?;
+        push_flood(alloc, text, script, members, entry.life, &hops)?;
+    }
+    Ok(())
+}
+
+// The same, where it is found how they go.
 fn push_floods(
     alloc: Global,
     text: &mut Vec<u8>,
@@ -113,12 +133,7 @@ fn push_floods(
 {
     let graph = Graph::of(alloc, component)?;
     let flood = Flood::of(alloc, &graph)?;
-    let members = component.len();
-    'members: for entry in component.as_slice() {
-        let hops = flood.hops(alloc, entry.life)?;
-        push_flood(alloc, text, script, members, entry.life, &hops)?;
-    }
-    Ok(())
+    push_broadcasts(alloc, text, script, component, &flood)
 }
 
 // The text of the components.

@@ -6,25 +6,26 @@ ghost use Rattle.std.specs.Fmt.{decimal};
 ghost use Rattle.std.specs.List.{flat_map};
 ghost use Rattle.an_base.specs.Values.{EntryOf};
 ghost use Rattle.net_graph.specs.Forest.{IsComponent, IsForest};
-ghost use Rattle.net_script.specs.Scripts.{ScriptOf};
+ghost use Rattle.net_script.specs.Scripts.{IsScript, ScriptOf};
 ghost use Rattle.text_lines.specs.Lines.{line_text};
 ghost use Rattle.switch_numbering.specs.Numbering.{numbering};
-ghost use Rattle.table_build.specs.Tables.{TableOf};
+ghost use Rattle.table_build.specs.Routing.{IsRouting};
+ghost use Rattle.table_build.specs.Tables.{IsTable, TableOf};
 ghost use Rattle.dep_check.specs.declared.refusal.CheckRefusal.TheVariants as why;
 ghost use Rattle.dep_check.specs.Answer.{Passes};
 ghost use Rattle.dep_check.specs.Channels.{place_in};
-ghost use Rattle.flow_channels.specs.Layout.{LayoutOf};
+ghost use Rattle.flow_channels.specs.Layout.{LayoutOf, layout_of};
 ghost use Rattle.flow_channels.specs.View.{IsOver};
 ghost use Rattle.table_report.specs.Check.{name_of};
 ghost use Rattle.table_report.specs.Expect.{AreTables};
-ghost use Rattle.table_report.specs.Flows.{entries_of, fate_lines, flow_told, flow_words, FlowPart};
-ghost use Rattle.table_report.specs.Flows.{IsFlowOf, IsFlowPart, is_out, part_lines, went_line};
+ghost use Rattle.table_report.specs.Flows.{entered_flow, fate_lines, flow_told, flow_words};
+ghost use Rattle.table_report.specs.Flows.{IsFlowOf, is_out, went_line};
 ghost use Rattle.table_report.specs.Flows.FlowLine.{Arrives, Ends, Moves};
 ghost use Rattle.table_report.specs.FlowRuns.{AreNames, AreOwnRows, HasEntered, IsRanked};
-ghost use Rattle.table_report.specs.FlowRuns.{IsBegun, IsReady, IsToldRun};
-ghost use Rattle.table_report.specs.Sends.{homes_of, is_entering, is_local, MayAllEnter, numbers_in, sends_of};
+ghost use Rattle.table_report.specs.FlowRuns.{AreTabled, IsBegun, IsReady, IsToldPart, IsToldRun};
+ghost use Rattle.table_report.specs.Sends.{entering, homes_of, is_entering, is_local, MayAllEnter, numbers_in, sends_of};
 
-use crate::piece::life_word;
+use crate::piece::push_life;
 use crate::sent::{Home, Sent, count_local, entering, homes_of, is_joined, sends_of};
 use an_base::entry::{Entries, Entry};
 use an_base::memory::OutOfMemory;
@@ -43,8 +44,30 @@ use switch_numbering::numbering::number;
 use table_build::routing::Routing;
 use table_build::table::Table;
 use text_lines::names::Names;
-use text_lines::spelling::{decimal, push_line};
+use text_lines::spelling::push_line;
 use topo_graph::graph::Graph;
+
+// Appends the rows of the table of the member at a place.
+fn push_table(
+    alloc: Global,
+    rows: &mut Vec<Row>,
+    graph: &Graph,
+    numbers: &Numbers,
+    routing: &Routing,
+    x: u8,
+    any: bool,
+) -> Result<(), OutOfMemory>
+    requires routing { IsRouting graph.now numbers.now routing.now }
+    requires count { length numbers.now ≡ length graph.now }
+    requires within { x < length graph.now }
+    ensures { OnOk result ((table : TableOf) × IsTable graph.now numbers.now any x table
+        × (rows.new.items ≡ rows.old.items ++ table.rows)) }
+{
+    let table = Table::of(alloc, graph, numbers, routing, x, any)?;
+    let mut more = table.rows(alloc)?;
+    rows.append(&mut more)?;
+    Ok(())
+}
 
 // The rows of the tables of all members.
 fn rows_of(
@@ -60,11 +83,33 @@ fn rows_of(
     let routing = Routing::of(alloc, graph, numbers)?;
     let mut rows = Vec::new(alloc);
     'members: for x in 0..graph.count() {
-        let table = Table::of(alloc, graph, numbers, &routing, x, any)?;
-        let mut more = table.rows(alloc)?;
-        rows.append(&mut more)?;
+        push_table(alloc, &mut rows, graph, numbers, &routing, x, any)?;
     }
     Ok(rows)
+}
+
+// The graph of a component, the numbers of its members, and the rows of their tables.
+#[derive(Drop)]
+struct Tabled {
+    graph: Graph,
+    numbers: Numbers,
+    rows: Vec<Row>,
+}
+
+impl Tabled {
+    // Those of a component.
+    fn of(alloc: Global, component: &Entries, any: bool) -> Result<Self, OutOfMemory>
+        ensures { IfOk result (λ tabled. AreTabled any component.now tabled.graph tabled.numbers tabled.rows.items) }
+    {
+        let graph = Graph::of(alloc, component)?;
+        let numbers = number(alloc, component)?;
+        let rows = rows_of(alloc, &graph, &numbers, any)?;
+        Ok(Tabled {
+            graph,
+            numbers,
+            rows,
+        })
+    }
 }
 
 // A refusal that can only be want of memory.
@@ -133,22 +178,24 @@ fn place_in(numbers: &[u8], number: u8) -> Option<usize>
     numbers.iter().position(|other| *other == number)
 }
 
-// The name of the switch that has a number.
-fn name_of(
+// Appends the name of the switch that has a number.
+fn push_name(
     alloc: Global,
+    text: &mut Vec<u8>,
     script: &Script,
     entries: &[Entry],
     numbers: &[u8],
     number: u8,
-) -> Result<Vec<u8>, OutOfMemory>
+) -> Result<(), OutOfMemory>
     requires { length numbers.now ≡ length entries.now }
-    ensures { IfOk result (λ name. name.items ≡ name_of script.now entries.now numbers.now number) }
+    ensures { OnOk result (text.new.items ≡ text.old.items
+        ++ name_of script.now entries.now numbers.now number) }
 {
     let Some(place) = place_in(numbers, number) else {
-        return Ok(Vec::new(alloc));
+        return Ok(());
     };
     let entry = &entries[place];
-    Ok(life_word(alloc, script, entry.life)?)
+    Ok(push_life(alloc, text, script, entry.life)?)
 }
 
 // A space, and the name of the switch that has a number.
@@ -162,10 +209,9 @@ fn spaced_name(
     requires { length numbers.now ≡ length entries.now }
     ensures { IfOk result (λ word. word.items ≡ 32 ∷ name_of script.now entries.now numbers.now number) }
 {
-    let mut name = name_of(alloc, script, entries, numbers, number)?;
-    let mut word = Vec::with_capacity(alloc, name.len() + 1)?;
+    let mut word = Vec::new(alloc);
     word.push(b' ')?;
-    word.append(&mut name)?;
+    push_name(alloc, &mut word, script, entries, numbers, number)?;
     Ok(word)
 }
 
@@ -301,7 +347,62 @@ fn push_turns(
     Ok(())
 }
 
-// Appends the lines of the moves of the packets that enter a component, and adds how many go out of a switch.
+// Appends the lines of the moves of packets where these are the tables, and adds how many go out of a switch.
+fn push_run(
+    alloc: Global,
+    text: &mut Vec<u8>,
+    out: &mut usize,
+    script: &Script,
+    tabled: &Tabled,
+    home: &Home,
+    those: &[Sent],
+    b: u16,
+) -> Result<(), OutOfMemory>
+    requires numbered { tabled.now.numbers ≡ numbering tabled.now.graph }
+    requires own { (any : Bool) × AreOwnRows any tabled.now.graph tabled.now.numbers tabled.now.rows.items }
+    requires those { MayAllEnter tabled.now.numbers home.now those.now }
+    requires room { 1 ≤ b }
+    requires few { out.old ≤ length text.old.items }
+    ensures told { OnOk result (IsToldRun (layout_of tabled.now.graph tabled.now.numbers tabled.now.rows.items b)
+        script.now tabled.now.graph (entered_flow home.now those.now) text.old.items text.new.items out.old out.new) }
+    ensures few { OnOk result (out.new ≤ length text.new.items) }
+{
+    let (graph, numbers) = (&tabled.graph, &tabled.numbers);
+    let entries = graph.entries().as_slice();
+    let names = names_of(alloc, script, entries, numbers.as_slice())?;
+    let (mut flow, ranks) = begun(alloc, graph, numbers, &tabled.rows, home, those, b)?;
+    push_turns(text, out, &names, &mut flow, &ranks)
+}
+
+// Appends the lines of the moves of those packets that enter a component, and adds how many go out of a switch.
+fn push_entering(
+    alloc: Global,
+    text: &mut Vec<u8>,
+    out: &mut usize,
+    script: &Script,
+    component: &Entries,
+    home: &Home,
+    those: &[Sent],
+    b: u16,
+) -> Result<(), OutOfMemory>
+    requires kept { IsScript script.now }
+    requires component { (root : ℕ) × IsComponent script.now.wires root component.now }
+    requires home { home.now ≡ numbers_in script.now.wires.switches component.now }
+    requires those { those.now ≡ entering home.now (sends_of script.now) }
+    requires room { 1 ≤ b }
+    requires few { out.old ≤ length text.old.items }
+    ensures told { OnOk result
+        (IsToldPart script.now b component.now text.old.items text.new.items out.old out.new) }
+    ensures few { OnOk result (out.new ≤ length text.new.items) }
+{
+    let tabled = Tabled::of(alloc, component, script.any_routes())?;
+    if those.is_empty() {
+        return Ok(());
+    }
+    push_run(alloc, text, out, script, &tabled, home, those, b)
+}
+
+// The same of those of the packets that enter it.
 fn push_part(
     alloc: Global,
     text: &mut Vec<u8>,
@@ -317,26 +418,14 @@ fn push_part(
         × (sends.now ≡ filter (is_entering homes) (sends_of script.now)) }
     requires room { 1 ≤ b }
     requires few { out.old ≤ length text.old.items }
-    ensures told { OnOk result ((part : FlowPart) × (entries_of part ≡ component.now) × IsFlowPart script.now b part
-        × (text.new.items ≡ text.old.items ++ flow_told (part_lines script.now part))
-        × (out.new ≡ out.old + count_by is_out part.moves)) }
+    ensures told { OnOk result
+        (IsToldPart script.now b component.now text.old.items text.new.items out.old out.new) }
     ensures few { OnOk result (out.new ≤ length text.new.items) }
 {
     let switches = script.wiring().switches();
     let home = Home::of(alloc, switches, component)?;
     let those = entering(alloc, &home, sends)?;
-    let graph = Graph::of(alloc, component)?;
-    let numbers = number(alloc, component)?;
-    let rows = rows_of(alloc, &graph, &numbers, script.any_routes())?;
-    if those.is_empty() {
-        return Ok(());
-    }
-    let (mut flow, ranks) = begun(alloc, &graph, &numbers, &rows, &home, &those, b)?;
-    let entries = component.as_slice();
-    let named = numbers.as_slice();
-    let names = names_of(alloc, script, entries, named)?;
-    push_turns(text, out, &names, &mut flow, &ranks)?;
-    Ok(())
+    push_entering(alloc, text, out, script, component, &home, &those, b)
 }
 
 // The name of the switch at a place.
@@ -397,7 +486,6 @@ fn push_fates(
 
 // Appends the last line, where so many moves go out of a switch, and so many packets enter a component.
 fn push_end(
-    alloc: Global,
     text: &mut Vec<u8>,
     sends: &[Sent],
     entered: usize,
@@ -409,22 +497,20 @@ fn push_end(
 {
     let stay = count_local(sends);
     let nowhere = sends.len() - stay - entered;
-    let out = decimal(alloc, out as u64)?;
-    let entered = decimal(alloc, entered as u64)?;
-    let local = decimal(alloc, stay as u64)?;
-    let unjoined = decimal(alloc, nowhere as u64)?;
+    let (mut moves, mut arrived) = (Buffer::new(), Buffer::new());
+    let (mut local, mut unjoined) = (Buffer::new(), Buffer::new());
     push_line(
         text,
         &[
             b"end",
             b"moves",
-            &out,
+            moves.format(out).as_bytes(),
             b"arrived",
-            &entered,
+            arrived.format(entered).as_bytes(),
             b"local",
-            &local,
+            local.format(stay).as_bytes(),
             b"unjoined",
-            &unjoined,
+            unjoined.format(nowhere).as_bytes(),
         ],
     )
 }
@@ -450,7 +536,7 @@ fn text_with(
     'components: for component in forest {
         push_part(alloc, &mut text, &mut out, script, component, &those, b)?;
     }
-    push_end(alloc, &mut text, sends, those.len(), out)?;
+    push_end(&mut text, sends, those.len(), out)?;
     Ok(text)
 }
 

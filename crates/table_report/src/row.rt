@@ -47,7 +47,8 @@ fn push_exits(text: &mut Vec<u8>, decimals: &Decimals, exits: &[u8])
 fn push_row(text: &mut Vec<u8>, decimals: &Decimals, row: &Row) -> Result<(), AllocError>
     ensures { OnOk result (text.new.items ≡ text.old.items ++ spaced_pair row.now) }
 {
-    let exits = row.exits.as_slice();
+    let list = row.exits.list();
+    let exits = list.as_slice();
     text.reserve(6 + 4 * exits.len())?;
     text.push_reserved(b' ');
     decimals.push_reserved(text, row.to);

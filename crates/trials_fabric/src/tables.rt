@@ -37,7 +37,8 @@ fn exits_in_ring(
         return Err("numbers".into());
     }
     let table = Table::build(rt.alloc(), &graph, &numbers, me, any)?;
-    Ok(Vec::from_slice(rt.alloc(), table.exits(entry_port, to))?)
+    let exits = table.exits(entry_port, to).list();
+    Ok(Vec::from_slice(rt.alloc(), exits.as_slice())?)
 }
 
 #[test]

@@ -18,6 +18,6 @@ fn numbers_stand_by_place_and_rows_in_order(rt: HostRuntime) -> Result<(), Fail>
     assert_eq!(rt; rows.len(), 2);
     let row = &rows[1];
     assert_eq!(rt; (row.at, row.entry, row.to), (1, 12, 126));
-    assert_eq!(rt; row.exits.as_slice(), [1, 2, 12].as_slice());
+    assert_eq!(rt; row.exits.list().as_slice(), [1, 2, 12].as_slice());
     Ok(())
 }

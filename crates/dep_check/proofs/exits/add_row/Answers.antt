@@ -1,4 +1,4 @@
-use Rattle.std.proofs.Common.{◌≡◌, ◌∙◌, sym, ap, subst, arith}
+use Rattle.std.proofs.Common.{◌≡◌, ◌∙◌, sym, ap, subst, refl, arith}
 use Rattle.an_base.specs.Rows.{RowOf}
 use Rattle.dep_check.specs.Tables.{Counts}
 use Rattle.dep_check.proofs.ExitLemmas.{exits_same, row_added}
@@ -23,4 +23,4 @@ pub returns : goal.returns
 returns c = λ rows to k is counts so_far.
     let i = c.row.inside in
     let r : RowOf = record { at = i.at; entry = i.entry; to = i.to; exits = i.exits } in
-    row_added rows to k c.place_of-place.result r c.as_slice.result.now c.args.table.now.items c.index.result.now c.with.result (is ∙ sym c.row.view_is) (subst (λ (x : RowOf). Counts to x) (sym c.row.view_is) counts) c.if-row-gt-MOST_NUMBER.false c.if-row-gt-LAST_PORT.false c.as_slice.ensures.all c.as_slice.ensures.ports c.place_of-place.ensures.place c.index.ensures (λ p low. told_with c.with.result c.index.result.now c.as_slice.result.now c.with.ensures p) so_far
+    row_added rows to k c.place_of-place.result r i.exits c.args.table.now.items c.index.result.now c.with.result (is ∙ sym c.row.view_is) (subst (λ (x : RowOf). Counts to x) (sym c.row.view_is) counts) c.if-row-gt-MOST_NUMBER.false c.if-row-gt-LAST_PORT.false refl c.as_set.ensures.ports c.place_of-place.ensures.place c.index.ensures (λ p low. told_with c.with.result c.index.result.now c.as_set.result i.exits c.with.ensures c.as_set.ensures.each p) so_far

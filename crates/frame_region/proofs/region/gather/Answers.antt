@@ -16,3 +16,6 @@ blocks-2-preserved c = record {
       ∙ gather_more c.args.bytes.now c.args.next.now c.front_of.result.now c.args.first c.blocks-2.k c.args.len (omega (arith, c.needed-k-end.ensures)) c.front_of.ensures.length
       (λ m small. c.front_of.ensures.bytes m small ∙ ap (λ b. slice_index_or c.args.bytes.now (64 * b + m) 0) c.blocks-2.invariant.here);
 }
+
+pub front_of-requires : goal.front_of-requires
+front_of-requires c = omega (arith, c.requires.written c.blocks-2.k (omega (arith, c.needed-k-end.ensures)), ap (λ q. 64 * q) c.blocks-2.invariant.here)

@@ -1,22 +1,19 @@
-use Rattle.std.proofs.Common.{arith, refl, subst, List}
-use Rattle.std.proofs.lemmas.Result.{err_from_is_err_and}
-use Rattle.an_base.specs.declared.event.Event.{Event}
-use Rattle.replay.specs.Replays.{IsRefusal}
-use Rattle.replay.proofs.ReplayLemmas.{made_all, refused_at, refused_behind}
+use Rattle.std.proofs.Common.{[], refl, subst, sym, OnOk, IfOk, IfErr}
+use Rattle.fabric_world.specs.Histories.{IsLegal}
+use Rattle.fabric_settling.specs.Claims.{HoldsAndSettles}
+use Rattle.fabric_book.specs.Nets.{NetOf}
+use Rattle.replay.specs.Replays.{HasMade, IsRefusal}
 use Rattle.replay.proofs.world.replay.Goals as goal
 
-pub returns-in_err-step-clause-refused : goal.returns-in_err-step-clause-refused
-returns-in_err-step-clause-refused c =
-    let p = err_from_is_err_and c.from_residual-in_err-step.result c.from_residual-in_err-step.ensures.1 in
-    let refused = refused_at c.args.script.now c.as_slice-events.result.now c.events.event-index _ _ c.events.net c.in_err-step.field-0.0 c.events-test.true refl c.events.invariant c.in_err-step.ensures.refused in
-    rw (p.1, p.2) (subst (λ (events : List Event). IsRefusal c.args.script.now events c.in_err-step.field-0.0) c.as_slice-events.ensures refused)
+-- the network is that of the script
+pub make_all-requires : goal.make_all-requires
+make_all-requires c = subst (λ (n : NetOf). HasMade n.script [] n) (sym c.in_ok-net.ensures) (record { net_is = refl; lawful = tt })
 
-pub returns-in_err-end_of-clause-refused : goal.returns-in_err-end_of-clause-refused
-returns-in_err-end_of-clause-refused c =
-    let p = err_from_is_err_and c.from_residual-in_err-end_of.result c.from_residual-in_err-end_of.ensures.1 in
-    let script = c.args.script.now in
-    let events = c.as_slice-events.result.now in
-    let over = c.events-test.false in
-    let made = made_all script events c.events.event-index c.events.net (omega (arith, over)) c.events.invariant in
-    let refused = refused_behind script events c.events.net c.in_err-end_of.field-0.0 made c.in_err-end_of.ensures.unended in
-    rw (p.1, p.2) (subst (λ (events : List Event). IsRefusal script events c.in_err-end_of.field-0.0) c.as_slice-events.ensures refused)
+pub returns-clause-legal : goal.returns-clause-legal
+returns-clause-legal c = subst (λ (n : NetOf). IfOk c.make_all.result (IsLegal n.script c.args.journal.now)) c.in_ok-net.ensures c.make_all.ensures.legal
+
+pub returns-clause-claims : goal.returns-clause-claims
+returns-clause-claims c = subst (λ (n : NetOf). OnOk c.make_all.result (HoldsAndSettles n.script c.args.journal.now)) c.in_ok-net.ensures c.make_all.ensures.claims
+
+pub returns-clause-refused : goal.returns-clause-refused
+returns-clause-refused c = subst (λ (n : NetOf). IfErr c.make_all.result (IsRefusal n.script c.args.journal.now)) c.in_ok-net.ensures c.make_all.ensures.refused

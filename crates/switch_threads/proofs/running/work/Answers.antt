@@ -1,12 +1,8 @@
--- A worker may go to another thread, and the turnstile may be shared.
+-- A turn of each goes on from those before it.
 
-use denote.Param.Send.{sendable}
-use Rattle.std.proofs.Crossing.{crosses}
-use Rattle.switch_threads.proofs.SendLemmas.{turnstile_sync, worker_send}
+use Rattle.fabric_turn.specs.Names.{turnstile_id}
+use Rattle.switch_threads.proofs.RunLemmas.{have_called_none, have_called_then, turnstiles_stay}
 use Rattle.switch_threads.proofs.running.work.Goals as goal
 
-pub for_each_mut-requires-send-T : goal.for_each_mut-requires-send-T
-for_each_mut-requires-send-T g c κs within = search (sendable, worker_send) depth 10
-
-pub for_each_mut-requires-sync-F : goal.for_each_mut-requires-sync-F
-for_each_mut-requires-sync-F g c κs within = search (sendable, crosses, turnstile_sync) depth 30
+pub turns-init : goal.turns-init
+turns-init g c = have_called_none c.args.workers.now

@@ -27,11 +27,10 @@ push_part-requires-clause-sends c =
     (homes, subst (λ (hs : List (List ℕ)). Contains hs (numbers_in switches es)) (sym c.requires.homes) has, c.deref.ensures.value ∙ c.in_ok-those.ensures.those ∙ ap (filter (is_entering homes)) c.requires.sends)
 
 pub components-preserved : goal.components-preserved
-components-preserved c =
-    let p = c.in_ok-push_part.ensures.told in (
-      parts_told c.args.script.now c.args.b c.args.forest.now c.components.component-index c.component-item.result p.0 _ c.components.text.items c.push_part.new.text.items c.components.out c.push_part.new.out (omega arith) c.component-item.is p.1 p.2 p.3 p.4 c.components.invariant.0,
-      c.in_ok-push_part.ensures.few,
-    )
+components-preserved c = (
+  parts_told c.args.script.now c.args.b c.args.forest.now c.components.component-index c.component-item.result _ c.components.text.items c.push_part.new.text.items c.components.out c.push_part.new.out (omega arith) c.component-item.is c.in_ok-push_part.ensures.told c.components.invariant.0,
+  c.in_ok-push_part.ensures.few,
+)
 
 -- how many enter
 entered : (homes : List (List ℕ)) (those sends : List Sent) (n : ℕ) → n ≡ length those → those ≡ filter (is_entering homes) sends → n ≡ count_by (is_entering homes) sends

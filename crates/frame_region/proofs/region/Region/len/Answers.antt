@@ -19,4 +19,4 @@ returns-clause-least c =
 pub returns-clause-most : goal.returns-clause-most
 returns-clause-most c =
     let u = under _ _ _ _ _ _ _ c.self.view_is c.slip.view_is c.requires in
-    omega (arith, c.self.invariant.short c.slip.inside.first, c.from.ensures, c.index.ensures, get_or_default_zero c.self.inside.lens.items c.slip.inside.first c.index.result.now u.below)
+    omega (arith, c.self.invariant.0.short c.slip.inside.first, c.from.ensures, c.index.ensures, get_or_default_zero c.self.inside.lens.items c.slip.inside.first c.index.result.now u.below)

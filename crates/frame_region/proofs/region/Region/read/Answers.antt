@@ -1,4 +1,4 @@
-use Rattle.std.proofs.Common.{ℕ, ◌<◌, ◌∙◌, List, length, sym, ap, subst, arith}
+use Rattle.std.proofs.Common.{ℕ, ◌+◌, ◌*◌, ◌<◌, ◌≤◌, ◌∙◌, List, length, sym, ap, subst, arith}
 use Rattle.frame_region.specs.Blocks.{needed, block, chain_bytes}
 use Rattle.frame_region.proofs.ShownLemmas.{under}
 use Rattle.frame_region.proofs.region.Region.read.Goals as goal
@@ -6,7 +6,13 @@ use Rattle.frame_region.proofs.region.Region.read.Goals as goal
 pub gather-requires-clause-within : goal.gather-requires-clause-within
 gather-requires-clause-within c =
     let u = under _ _ _ _ _ _ _ c.self.view_is c.slip.view_is c.requires in
-    λ k below. subst (λ (l : List ℕ). block l c.slip.inside.first k < length l) (sym c.deref-2.ensures.value) (c.self.invariant.within c.slip.inside.first k (omega (arith, below, ap needed u.len, ap needed c.len.ensures.len)))
+    λ k below. subst (λ (l : List ℕ). block l c.slip.inside.first k < length l) (sym c.deref-2.ensures.value) (c.self.invariant.0.within c.slip.inside.first k (omega (arith, below, ap needed u.len, ap needed c.len.ensures.len)))
+
+pub gather-requires-clause-written : goal.gather-requires-clause-written
+gather-requires-clause-written c =
+    let u = under _ _ _ _ _ _ _ c.self.view_is c.slip.view_is c.requires in
+    λ k below. subst (λ (l : List ℕ). 64 * block c.deref-2.result.now c.slip.inside.first k + 64 ≤ length l) (sym c.deref.ensures.value)
+    (subst (λ (l : List ℕ). 64 * block l c.slip.inside.first k + 64 ≤ length c.self.inside.bytes.items) (sym c.deref-2.ensures.value) (c.self.invariant.0.written c.slip.inside.first k (omega (arith, below, ap needed u.len, ap needed c.len.ensures.len))))
 
 pub returns : goal.returns
 returns c =

@@ -9,7 +9,7 @@ use Rattle.switch_threads.proofs.desk.Desk.new.Goals as goal
 
 pub returns-clause-up : goal.returns-clause-up
 returns-clause-up c =
-    let life = c.life.ensures ∙ ap (λ (w : Wires). (network w).life c.args.s) c.wiring.ensures.wires in
+    let life = c.life-life.ensures ∙ ap (λ (w : Wires). (network w).life c.args.s) c.wiring.ensures.wires in
     let started = subst (λ (life : LifeId). IsStarted (start_with c.of-power_on.result life) c.in_ok-started.started) life c.in_ok-started.ensures in
     begun_fits c.args.script.now c.args.s c.of-power_on.result c.in_ok-switch.switch.value c.wiring.ensures.kept c.requires c.of-power_on.ensures
     (subst (IsStarted (start_with c.of-power_on.result ((network c.args.script.now.wires).life c.args.s))) (sym c.in_ok-switch.ensures.ok) started)

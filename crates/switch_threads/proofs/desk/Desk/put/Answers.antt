@@ -7,13 +7,15 @@ use Rattle.fabric_book.specs.Asking.{reply_of}
 use Rattle.fabric_book.specs.declared.asking.BookAsk.TheVariants as book_ask
 use Rattle.fabric_book.specs.declared.asking.BookReply.TheVariants as book_reply
 use Rattle.switch_threads.proofs.AskLemmas.{put_fit, replies_put}
+use Rattle.switch_threads.specs.declared.desk.Pending.TheVariants as pending
+use Rattle.switch_threads.proofs.StayLemmas.{at_place}
 use Rattle.switch_threads.proofs.TurnLemmas.{answered, as_asked, calls_differ, put_step}
 use Rattle.switch_threads.proofs.desk.Desk.put.Goals as goal
 
 pub call-requires-clause-fit : goal.call-requires-clause-fit
 call-requires-clause-fit g c =
     let desk = c.args.self in
-    put_fit c.args.seat.now.1 desk.s desk.power_on desk.switch.value c.args.out c.filled-done.result.value c.requires.step
+    put_fit c.args.seat.now.1 desk.s desk.power_on desk.switch.value c.args.out c.filled-done.result.value (at_place c.args.seat.now.1 desk (pending.Put c.args.out) c.requires.step)
     (λ x stands. c.filled-done.ensures x (subst (λ (k : KeptOf). StandsFor k x) (sym c.deref.ensures) stands))
 
 pub unreachable-requires : goal.unreachable-requires
@@ -40,4 +42,5 @@ returns-clause-step g c =
     let view = c.args.seat.now.1 in
     let after = c.call.new.seat.1 in
     let done = c.filled-done.result in
-    put_step view after desk.s desk.power_on desk.switch.value c.args.out done.value c.in-Put.done.value c.requires.step (as_asked view after (book_ask.Put desk.s done) (book_reply.Put c.in-Put.done) c.in-Put.ensures.called)
+    let at = put_step view after desk.s desk.power_on desk.switch.value c.args.out done.value c.in-Put.done.value (at_place view desk (pending.Put c.args.out) c.requires.step) (as_asked view after (book_ask.Put desk.s done) (book_reply.Put c.in-Put.done) c.in-Put.ensures.called) in
+    record { script = at.script; begun = at.begun; number = at.number; fits = at.keeps_up }

@@ -1,19 +1,10 @@
--- A table that is due was made.
+-- What was to be done was done.
 
-use Rattle.std.proofs.Common.{◌∙◌, ap, sym, subst}
-use Rattle.switch_core.specs.Kept.{KeptOf, StandsFor}
-use Rattle.switch_threads.specs.Workers.{IsUpTo}
-use Rattle.fabric_world.specs.World.{world_after}
-use Rattle.switch_threads.proofs.TurnLemmas.{due_fits}
+use Rattle.std.proofs.Common.{subst}
+use Rattle.switch_threads.specs.Workers.{IsNext}
 use Rattle.switch_threads.proofs.desk.Desk.ready.Goals as goal
 
-pub returns-in_ok-load-in-Work-clause-up : goal.returns-in_ok-load-in-Work-clause-up
-returns-in_ok-load-in-Work-clause-up c script history is =
-    let desk = c.args.self.now in
-    let x = (world_after script history).switches desk.s in
-    let now = subst (IsUpTo script history desk) c.in-Work.is is in
-    let same = c.deref_mut.ensures.value in
-    let due = sym (c.load_due.ensures.stands x (subst (λ (k : KeptOf). StandsFor k x) (sym c.deref.ensures) now.fits.1)) ∙ c.if-load_due.true in
-    let stood = subst (λ (k : KeptOf). StandsFor k x) (sym same) now.fits.1 in
-    due_fits script history desk.s desk.power_on desk.switch.value c.load.new.self c.in_ok-load-in-Work.field-0 now due (c.in_ok-load-in-Work.ensures.epoch x stood) (c.in_ok-load-in-Work.ensures.ok x stood)
-    (c.load.ensures.start ∙ ap (λ (k : KeptOf). k.start) same) (c.load.ensures.works ∙ ap (λ (k : KeptOf). k.works) same)
+pub work-requires : goal.work-requires
+work-requires c =
+    let is = c.requires in
+    (is.0, is.1, subst (IsNext is.0 is.1 c.args.self.now) c.in-Do.is is.2)

@@ -2,18 +2,19 @@
 
 use Rattle.std.proofs.Common.{◌++◌}
 use Rattle.fabric_world.specs.declared.ask.Ask.TheVariants as ask
-use Rattle.fabric_world.specs.declared.ask.Reply.TheVariants as reply
 use Rattle.fabric_book.specs.Asking.{reply_of}
 use Rattle.fabric_book.specs.declared.asking.BookAsk.TheVariants as book_ask
 use Rattle.fabric_book.specs.declared.asking.BookReply.TheVariants as book_reply
+use Rattle.switch_threads.specs.declared.desk.Pending.TheVariants as pending
 use Rattle.switch_threads.proofs.AskLemmas.{replies_take, take_fit}
-use Rattle.switch_threads.proofs.TurnLemmas.{answered, as_asked, calls_differ, done_step, take_step}
+use Rattle.switch_threads.proofs.StayLemmas.{at_place}
+use Rattle.switch_threads.proofs.TurnLemmas.{answered, as_asked, calls_differ, take_step}
 use Rattle.switch_threads.proofs.desk.Desk.take.Goals as goal
 
 pub call-requires-clause-fit : goal.call-requires-clause-fit
 call-requires-clause-fit g c =
     let desk = c.args.self in
-    take_fit c.args.seat.now.1 desk.s desk.power_on desk.switch.value desk.buffer c.requires.step
+    take_fit c.args.seat.now.1 desk.s desk.power_on desk.switch.value desk.buffer (at_place c.args.seat.now.1 desk pending.Work c.requires.step)
 
 pub unreachable-requires : goal.unreachable-requires
 unreachable-requires g c =
@@ -23,15 +24,6 @@ unreachable-requires g c =
     let after = c.call.new.seat.1 in
     let called = as_asked view after (book_ask.Take desk.s desk.buffer) c.call.result c.call.ensures.called in
     replies_take step.script (view.seen ++ called.between) desk.s c.call.result after.seen (answered view after (ask.Take desk.s desk.buffer) (reply_of c.call.result) called step.script step.begun) c.in_default.not-Take
-
-pub work-requires : goal.work-requires
-work-requires g c =
-    let desk = c.args.self in
-    let step = c.requires.step in
-    let view = c.args.seat.now.1 in
-    let after = c.call.new.seat.1 in
-    let called = as_asked view after (book_ask.Take desk.s desk.buffer) (book_reply.Take c.in-Take.work c.in-Take.out) c.in-Take.ensures.called in
-    (step.script, after.seen, take_step view after desk desk.buffer c.in-Take.out c.in-Take.work step called)
 
 pub returns-clause-called : goal.returns-clause-called
 returns-clause-called g c =
@@ -43,9 +35,8 @@ returns-clause-called g c =
 pub returns-clause-step : goal.returns-clause-step
 returns-clause-step g c =
     let desk = c.args.self in
-    let step = c.requires.step in
     let view = c.args.seat.now.1 in
     let after = c.call.new.seat.1 in
     let called = as_asked view after (book_ask.Take desk.s desk.buffer) (book_reply.Take c.in-Take.work c.in-Take.out) c.in-Take.ensures.called in
-    done_step view after desk c.work.new.self (ask.Take desk.s desk.buffer) (reply.Take c.in-Take.work c.in-Take.out) c.in_ok-next.next step called c.work.ensures.place
-    (c.in_ok-next.ensures.done step.script after.seen (take_step view after desk desk.buffer c.in-Take.out c.in-Take.work step called))
+    let took = take_step view after desk desk.buffer c.in-Take.out c.in-Take.work c.requires.step called in
+    record { script = took.script; begun = took.begun; number = took.number; fits = c.after_take.ensures took.script after.seen (record desk { buffer = c.in-Take.out }) took.fits }

@@ -1,0 +1,12 @@
+use Rattle.std.proofs.Common.{◌∙◌, ◌++◌, sym, ap, arith, ℕ, List}
+use Rattle.an_base.specs.Values.{EntryOf}
+use Rattle.table_report.specs.Names.{life_text}
+use Rattle.table_report.proofs.CheckLemmas.{name_is}
+use Rattle.table_report.proofs.flow.push_name.Goals as goal
+
+pub returns : goal.returns
+returns c =
+    let s = c.args.script.now in
+    c.in_ok-push_life.ensures ∙ ap (λ (t : List ℕ). c.args.text.now.items ++ t)
+    (ap (λ (d : EntryOf). life_text s d.life) c.entry.view_is
+    ∙ name_is s c.args.entries.now c.args.numbers.now c.args.number c.in-Some.place c.index-entries-place.result (sym c.in-Some.ensures.place) (omega (arith, c.in-Some.ensures.range)) c.index-entries-place.is)
