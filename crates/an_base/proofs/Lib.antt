@@ -9,4 +9,5 @@ pub mod PigeonLemmas
 pub mod TestLemmas
 pub mod WalkLemmas
 pub mod PlaceLaws
+pub mod RangeLemmas
 pub mod PortSetLemmas

@@ -1,80 +1,26 @@
 -- Sets of ports, as bits of a number, and the lists of their ports.
-use Rattle.std.proofs.Common.{◌≡◌, ◌≢◌, ◌∙◌, sym, ap, subst, refl, ℕ, zero, suc, ◌+◌, ◌*◌, ◌%◌, ◌^◌, ◌<◌, ◌≤◌, ◌==◌, List, [], ◌∷◌, ◌++◌, Bool, true, arith, length, get_or, inl, inr, ◌⊎◌, ◌↔◌}
-use Rattle.std.specs.Prelude.{All, Contains, filter}
+use Rattle.std.proofs.Common.{◌≡◌, ◌≢◌, ◌∙◌, sym, ap, subst, refl, ℕ, zero, suc, ◌+◌, ◌*◌, ◌%◌, ◌^◌, ◌<◌, ◌≤◌, ◌==◌, List, [], ◌∷◌, ◌++◌, Bool, arith, length, inl, inr, ◌⊎◌, ◌↔◌}
+use Rattle.std.specs.Prelude.{All, Contains}
 use Rattle.std.specs.Int.{bit_at, bit_not, w16, trailing_zeros}
 use Rattle.std.specs.Int.RustNames.{bit_and, bit_or}
 use Rattle.std.specs.List.{range_with_len}
 use Rattle.std.proofs.lemmas.Bool.{cases_Bool, cases_eq, cases_lt, eq-eqb, eqb-true}
-use Rattle.std.proofs.lemmas.List.Elements.{All-contains, All-contains_itself, All-filter, filter_passes, Contains-append_left, Contains-push, Contains-push_cases}
-use Rattle.std.proofs.lemmas.List.FromFn.{get_or-range_with_len, length-range_with_len}
+use Rattle.std.proofs.lemmas.List.Elements.{All-contains, Contains-append_left, Contains-push, Contains-push_cases}
 use Rattle.std.proofs.lemmas.List.Quantifiers.{all_pairs_push}
 use Rattle.std.proofs.lemmas.Nat.{and_le_l}
 use Rattle.std.proofs.lemmas.Nat.Bits.{bit_at-zero, bit_at_above, bit_at_and, bit_at_mask_inside, bit_at_mask_below, bit_at_mask_above, bit_at_set_same, bit_at_set_other, bit_at_clear_same, bit_at_clear_other, bit_at-lt, bit_at-trailing_zeros, same_from_bits}
 use Rattle.an_base.specs.Rows.{ArePorts, ExitsRise, HasPortsAlone, IsWithout, ports_of}
 use Rattle.an_base.proofs.ListLemmas.{AllPairs-head, AllPairs-tail, All-from_members}
-use Rattle.an_base.proofs.MemberLemmas.{Contains-here, Contains-later, Contains-cons_cases, one_rising}
-
--- what a test keeps of a range rises
-first_above : (a : ℕ) (xs : List ℕ) → ((k d : ℕ) → k < length xs → a + 1 ≤ get_or xs k d) → (k d : ℕ) → k < length (a ∷ xs) → a ≤ get_or (a ∷ xs) k d
-first_above a xs rest zero d low = omega arith
-first_above a xs rest (suc k) d low = let high = rest k d (omega arith) in omega arith
-
-above : (p : ℕ → Bool) (n a k d : ℕ) → k < length (filter p (range_with_len a n)) → a ≤ get_or (filter p (range_with_len a n)) k d
-above p zero a k d low = absurd (omega arith)
-above p (suc n) a k d low = elim (cases_Bool (p a)) [
-  | inl passes ↦ rw passes (first_above a (filter p (range_with_len (a + 1) n)) (λ j e below. above p n (a + 1) j e below) k d (rw passes at low))
-  | inr fails ↦ rw fails (let rest = above p n (a + 1) k d (rw fails at low) in omega arith)
-]
-
-first_rises : (a : ℕ) (xs : List ℕ) → ((k d : ℕ) → k < length xs → a + 1 ≤ get_or xs k d) → ExitsRise xs → (i j d : ℕ) → i < j → j < length (a ∷ xs) → get_or (a ∷ xs) i d < get_or (a ∷ xs) j d
-first_rises a xs high rise i zero d less low = absurd (omega arith)
-first_rises a xs high rise zero (suc j) d less low = let h = high j d (omega arith) in omega arith
-first_rises a xs high rise (suc i) (suc j) d less low = rise i j d (omega arith) (omega arith)
-
-pub range_rises : (p : ℕ → Bool) (n a : ℕ) → ExitsRise (filter p (range_with_len a n))
-range_rises p zero a = λ i j d less low. absurd (omega arith)
-range_rises p (suc n) a = elim (cases_Bool (p a)) [
-  | inl passes ↦ rw passes (first_rises a (filter p (range_with_len (a + 1) n)) (λ j e below. above p n (a + 1) j e below) (range_rises p n (a + 1)))
-  | inr fails ↦ rw fails (range_rises p n (a + 1))
-]
-
--- what passes a test is kept
-pub Contains-kept : (p : ℕ → Bool) (xs : List ℕ) (x : ℕ) → Contains xs x → p x ≡ true → Contains (filter p xs) x
-Contains-kept p [] x has passes = absurd (let l = has.1 in omega arith)
-Contains-kept p (y ∷ ys) x has passes = elim (cases_Bool (p y)) [
-  | inl here ↦ rw here (elim (Contains-cons_cases y x ys has) [
-    | inl same ↦ subst (λ (v : ℕ). Contains (y ∷ filter p ys) v) same (Contains-here y (filter p ys))
-    | inr later ↦ Contains-later y x (filter p ys) (Contains-kept p ys x later passes)
-  ])
-  | inr fails ↦ rw fails (elim (Contains-cons_cases y x ys has) [
-    | inl same ↦ absurd (let passed : p y ≡ true = subst (λ (v : ℕ). p v ≡ true) (sym same) passes in cc)
-    | inr later ↦ Contains-kept p ys x later passes
-  ])
-]
-
--- the members of a range
-pub within_range : (n a x : ℕ) → Contains (range_with_len a n) x → (a ≤ x) × (x < a + n)
-within_range n a x (k, low, is) =
-    let size = length-range_with_len a n in
-    let at = get_or-range_with_len a n k x (omega arith) in
-    (omega arith, omega arith)
-
-pub in_range : (n a x : ℕ) → a ≤ x → x < a + n → Contains (range_with_len a n) x
-in_range zero a x low high = absurd (omega arith)
-in_range (suc n) a x low high = elim (cases_eq x a) [
-  | inl same ↦ (zero, omega arith, sym same)
-  | inr other ↦ (let rest = in_range n (a + 1) x (omega arith) (omega arith) in (suc rest.0, omega (arith, rest.1), rest.2))
-]
+use Rattle.an_base.proofs.MemberLemmas.{Contains-here, Contains-later}
+use Rattle.an_base.proofs.RangeLemmas.{Contains-kept, in_range, kept_member, kept_passes, kept_range, range_rises, within_range}
 
 -- the ports of a set are those whose bits are set
 pub port_is : (set p : ℕ) → Contains (ports_of set) p → (1 ≤ p) × (p ≤ 12) × (bit_at set p ≡ 1)
 unfolding ports_of
 port_is set p has =
     let test : ℕ → Bool = λ port. bit_at set port == 1 in
-    let range = range_with_len 1 12 in
-    let within = within_range 12 1 p (All-contains (Contains range) (ports_of set) p (All-filter test (Contains range) range (All-contains_itself range)) has) in
-    let passes = All-contains (λ (x : ℕ). (bit_at set x == 1) ≡ true) (ports_of set) p (filter_passes test range) has in
-    (within.0, (let most = within.1 in omega arith), eqb-true (bit_at set p) 1 passes)
+    let within = within_range 12 1 p (kept_member test (range_with_len 1 12) p has) in
+    (within.0, (let most = within.1 in omega arith), eqb-true (bit_at set p) 1 (kept_passes test (range_with_len 1 12) p has))
 
 pub is_port : (set p : ℕ) → 1 ≤ p → p ≤ 12 → bit_at set p ≡ 1 → Contains (ports_of set) p
 unfolding ports_of
@@ -89,14 +35,17 @@ ports_are set = All-from_members (λ port. (1 ≤ port) × (port ≤ 12)) (ports
 
 -- a rising list of the same ports is the same
 pub same_ports : (set : ℕ) (xs : List ℕ) → ExitsRise xs → ((p : ℕ) → Contains xs p → (1 ≤ p) × (p ≤ 12) × (bit_at set p ≡ 1)) → ((p : ℕ) → 1 ≤ p → p ≤ 12 → bit_at set p ≡ 1 → Contains xs p) → ports_of set ≡ xs
-same_ports set xs rise has only = one_rising (λ before after. before < after) (ports_of set) xs (λ x y first second less more. omega arith) (ports_rise set) rise (λ p here. let h = port_is set p here in only p h.0 h.1 h.2) (λ p there. let h = has p there in is_port set p h.0 h.1 h.2)
+unfolding ports_of
+same_ports set xs rise has only = kept_range (λ port. bit_at set port == 1) 12 1 xs rise
+    (λ p there. let h = has p there in (h.0, (let most = h.1 in omega arith), eq-eqb (bit_at set p) 1 h.2))
+    (λ p least most passes. only p least (omega arith) (eqb-true (bit_at set p) 1 passes))
 
 -- where a set has ports alone, each bit is a port
 pub bit_ports : (set p : ℕ) → HasPortsAlone set → ((bit_at set p ≡ 1) ↔ Contains (ports_of set) p)
 bit_ports set p alone = (λ is. let h = alone p is in is_port set p h.0 h.1 is, λ has. (port_is set p has).2)
 
--- the empty set
-no_bit : (set p : ℕ) → set ≡ 0 → bit_at set p ≡ 1 → ⊥
+-- no bit of the empty set
+pub no_bit : (set p : ℕ) → set ≡ 0 → bit_at set p ≡ 1 → ⊥
 no_bit set p none is = absurd (let z = bit_at-zero p in let e : bit_at set p ≡ bit_at 0 p = ap (λ (n : ℕ). bit_at n p) none in omega arith)
 
 pub no_ports : ports_of 0 ≡ []

@@ -1,8 +1,4 @@
-ghost use Rattle.std.specs.Prelude.{◌≡◌, ◌==◌, ◌∷◌, ◌++◌, [], length, OnOk, OnErr};
-
-use crate::memory::OutOfMemory;
-use std::alloc::Global;
-use std::marker::Model;
+use crate::items::Items;
 
 /// One event of a network. A switch `s` and a host are named by their places in the script, from 0;
 /// a port is one of a switch, 1 to 12.
@@ -101,72 +97,5 @@ pub enum Event {
     },
 }
 
-/// The events of a run in their order, which contracts see as a list.
-#[derive(Debug, Drop)]
-pub struct Journal {
-    events: Vec<Event>,
-}
-
-impl Model for Journal {
-    ghost use Rattle.std.specs.Prelude.{List};
-    ghost use Rattle.an_base.specs.declared.event.Event.{Event};
-
-    ghost Value = { List Event };
-
-    ghost view = { λ j. j.events.items };
-}
-
-impl Journal {
-    /// No events, without taking memory. The allocator is kept for the events that come.
-    pub fn new(alloc: Global) -> Self
-        ensures { result ≡ [] }
-    {
-        Journal {
-            events: Vec::new(alloc),
-        }
-    }
-
-    /// The events of a vector, without taking memory.
-    pub fn of(events: Vec<Event>) -> Self
-        ensures { result ≡ events.items }
-    {
-        Journal { events }
-    }
-
-    /// How many events there are.
-    pub fn len(&self) -> usize
-        ensures { result ≡ length self.now }
-    {
-        self.events.len()
-    }
-
-    /// Whether there are no events.
-    pub fn is_empty(&self) -> bool
-        ensures { result ≡ (length self.now == 0) }
-    {
-        self.events.is_empty()
-    }
-
-    /// The events in their order.
-    pub fn as_slice(&self) -> &[Event]
-        ensures { result.now ≡ self.now }
-    {
-        &self.events
-    }
-
-    /// The events as a vector, without taking memory.
-    pub fn into_vec(self) -> Vec<Event>
-        ensures { result.items ≡ self }
-    {
-        self.events
-    }
-
-    /// Adds an event at the end. After want of memory the events are as they were.
-    pub fn push(&mut self, event: Event) -> Result<(), OutOfMemory>
-        ensures ok { OnOk result (self.new ≡ self.old ++ event ∷ []) }
-        ensures err { OnErr result (self.new ≡ self.old) }
-    {
-        self.events.push(event)?;
-        Ok(())
-    }
-}
+/// The events of a run in their order.
+pub type Journal = Items<Event>;

@@ -1,9 +1,9 @@
-ghost use Rattle.std.specs.Prelude.{◌≡◌, ◌≢◌, ◌==◌, ◌<◌, ◌≤◌, ℕ, [], ◌∷◌, ◌++◌, length, All};
-ghost use Rattle.std.specs.Int.{bit_at};
-ghost use Rattle.an_base.specs.Rows.{HasPortsAlone, IsWithout, ports_of};
+ghost use Rattle.std.specs.Prelude.{◌≡◌, ◌==◌, ◌<◌, ◌≤◌, [], ◌∷◌, ◌++◌, length, All};
+ghost use Rattle.an_base.specs.Rows.{HasPortsAlone, ports_of};
 ghost use Rattle.an_base.specs.declared.limits.TheConstants.{LAST_PORT, PORTS};
 
 use crate::limits::PORTS;
+use crate::port_set::{lowest, without};
 use std::marker::Model;
 
 /// Ports, 1 to 12, rising, one after the other, to go over them. Contracts see a list.
@@ -40,20 +40,6 @@ impl ExitList {
         }
     }
 
-    /// How many there are, 0 to 12.
-    pub fn len(&self) -> usize
-        ensures { result ≡ length self.now }
-    {
-        self.as_slice().len()
-    }
-
-    /// Whether there are none.
-    pub fn is_empty(&self) -> bool
-        ensures { result ≡ (length self.now == 0) }
-    {
-        self.as_slice().is_empty()
-    }
-
     /// The ports, rising.
     pub fn as_slice(&self) -> &[u8]
         ensures all { result.now ≡ self.now }
@@ -75,26 +61,6 @@ impl ExitList {
         self.ports[usize::from(self.len)] = port;
         self.len += 1;
     }
-}
-
-// The lowest port of a set that is not empty.
-fn lowest(set: u16) -> u8
-    requires { set ≢ 0 }
-    ensures has { bit_at set result ≡ 1 }
-    ensures lowest { (port : ℕ) → bit_at set port ≡ 1 → result ≤ port }
-    ensures below { result < 16 }
-{
-    set.trailing_zeros() as u8
-}
-
-// The set without one of its ports.
-fn without(set: u16, port: u8) -> u16
-    requires below { port < 16 }
-    requires has { bit_at set port ≡ 1 }
-    ensures ports { IsWithout set port result }
-    ensures less { result < set }
-{
-    set & !(1u16 << port)
 }
 
 // The ports of a set one after the other.

@@ -1,6 +1,7 @@
 ghost use Rattle.std.specs.Prelude.{◌≡◌, ◌==◌, ◌++◌, length, IfOk, OnOk, OnErr};
 ghost use Rattle.std.specs.Fmt.{decimal};
 
+use crate::items::Items;
 use crate::memory::OutOfMemory;
 use std::alloc::{AllocError, Global};
 use std::marker::Model;
@@ -15,42 +16,8 @@ pub fn push_decimal(alloc: Global, text: &mut Vec<u8>, number: u64) -> Result<()
     text.extend_from_slice(digits.as_bytes())
 }
 
-/// Bytes on the heap, which contracts see as a list.
-#[derive(Debug, Drop)]
-pub struct Bytes {
-    items: Vec<u8>,
-}
-
-impl Model for Bytes {
-    ghost use Rattle.std.specs.Prelude.{List, ℕ};
-
-    ghost Value = { List ℕ };
-
-    ghost view = { λ b. b.items.items };
-}
-
-impl Bytes {
-    /// The bytes of a vector, without taking memory.
-    pub fn new(items: Vec<u8>) -> Self
-        ensures { result ≡ items.items }
-    {
-        Bytes { items }
-    }
-
-    /// The bytes in order.
-    pub fn as_slice(&self) -> &[u8]
-        ensures { result.now ≡ self.now }
-    {
-        &self.items
-    }
-
-    /// The bytes as a vector, without taking memory.
-    pub fn into_vec(self) -> Vec<u8>
-        ensures { result.items ≡ self }
-    {
-        self.items
-    }
-}
+/// Bytes on the heap.
+pub type Bytes = Items<u8>;
 
 /// A text, which contracts see as the list of its bytes.
 #[derive(Debug, Drop)]

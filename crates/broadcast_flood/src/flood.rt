@@ -13,7 +13,7 @@ use an_base::row::ExitList;
 use std::alloc::Global;
 use std::marker::Model;
 use topo_graph::graph::Graph;
-use updown::order::Descent;
+use updown::order::descent_of;
 
 // Adds the hops of a member to its children.
 fn push_hops(hops: &mut Vec<FloodHop>, at: Life, ports: &[u8]) -> Result<(), OutOfMemory>
@@ -39,7 +39,7 @@ fn hops_down(
     requires children { AreChildren graph.now (length graph.now) children.now }
     ensures { IfOk result (λ hops. AreHopsDown graph.now hops.items) }
 {
-    let descent = Descent::of(alloc, graph)?;
+    let descent = descent_of(alloc, graph)?;
     let mut hops = Vec::with_capacity(alloc, children.len())?;
     'heights: for height in descent.as_slice() {
         let ports = &children[usize::from(height.place)];

@@ -50,7 +50,7 @@ module _ (gives wanted : Gives) (refuses : Refuses) (whole : List ℕ) (old new 
   stop_wanted : (status : Status) → IsStop input_limit refuses old.source new.source status → IsStop input_limit refuses_nothing old.source new.source status
   stop_wanted status (unread u) = unread u
   stop_wanted status (refused input) = absurd (never status (subst (λ (b : List ℕ). refuses b status) (is_whole input.bytes input.gave input.end) input.holds))
-  stop_wanted status (want is) = want is
+  stop_wanted status (want is taken) = want is taken
 
   cause_wanted : (status : Status) → IsCause input_limit gives refuses old.source new.source old.out new.out status → IsCause input_limit wanted refuses_nothing old.source new.source old.out new.out status
   cause_wanted status (given g) = given (record { text = g.text; input = input_wanted status g.text g.input; gains = g.gains; ends = g.ends })

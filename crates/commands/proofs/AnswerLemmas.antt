@@ -1,9 +1,9 @@
-use Rattle.std.proofs.Common.{◌≡◌, sym, subst, ℕ, ◌+◌, ◌-◌, ◌^◌, ◌<◌, ◌==◌, ◌⊎◌, List, refl, take, length-take, count_by, rules, Fits, w32, inl, inr}
+use Rattle.std.proofs.Common.{◌≡◌, sym, subst, ℕ, ◌+◌, ◌-◌, ◌^◌, ◌<◌, ◌==◌, arith, ◌⊎◌, List, refl, take, length-take, count_by, rules, Fits, w32, inl, inr}
 use Rattle.std.proofs.lemmas.List.Sums.{count_by-le-length}
-use Rattle.outside.specs.Told.{Seen}
+use Rattle.outside.specs.Told.{GaveAtMost, Seen}
 use Rattle.commands.specs.declared.status.Status.{Status}
 use Rattle.commands.specs.declared.status.Status.TheVariants.{Ok, Usage, ScriptRefused, ReadFault, WriteFault, TablesRefused, Unsettled, EpochsSpent, JournalRefused, JournalFull, OutOfMemory}
-use Rattle.commands.specs.Answer.{Streams, Gives, Refuses, IsAnswer, IsCause, IsEnding, IsInput, IsTold, IsToldOrWant, given, cut, stopped, want}
+use Rattle.commands.specs.Answer.{Streams, Gives, Refuses, IsAnswer, IsCause, IsEnding, IsInput, IsStop, IsTold, IsToldOrWant, given, cut, stopped, fault, most_read, over, refused, unread, want, wanting}
 
 -- what was told is the line of the status, or want of memory
 told_or_want : (old new : Seen) (status : Status) (answer : ℕ) → IsToldOrWant old new status answer → IsTold old new status answer ⊎ IsTold old new OutOfMemory answer
@@ -39,6 +39,18 @@ told_cut old new status answer is told =
     let fault : IsTold old new WriteFault answer = subst (λ (s : Status). IsToldOrWant old new s answer) is told in
     subst (λ (s : Status). IsTold old new s answer) (sym is) fault
 
+-- an input is within the limit, so no more was read
+pub input_taken : (limit : ℕ) (P : List ℕ → Type 0) (old new : Seen) → IsInput limit P old new → GaveAtMost old new (most_read limit)
+input_taken limit P old new input = (input.bytes, omega (arith, input.within), input.gave)
+
+-- nor where there is none
+stop_taken : (limit : ℕ) (refuses : Refuses) (old new : Seen) (status : Status) → IsStop limit refuses old new status → GaveAtMost old new (most_read limit)
+stop_taken limit refuses old new status (unread (fault is failed (bytes, few, gave))) = (bytes, omega (arith, few), gave)
+stop_taken limit refuses old new status (unread (over many)) = many.taken
+stop_taken limit refuses old new status (unread (wanting is taken)) = taken
+stop_taken limit refuses old new status (refused input) = input_taken limit (λ bytes. refuses bytes status) old new input
+stop_taken limit refuses old new status (want is taken) = taken
+
 -- a status that came about by its cause and was told is an answer, and so is want of memory in place of the line of a refused script
 pub answered : (limit : ℕ) (gives : Gives) (refuses : Refuses) (old new : Streams) (answer : ℕ) (status : Status) → IsCause limit gives refuses old.source new.source old.out new.out status → IsToldOrWant old.err new.err status answer → IsAnswer limit gives refuses old new answer
 answered limit gives refuses old new answer status (given g) told =
@@ -47,7 +59,7 @@ answered limit gives refuses old new answer status (cut is c) told =
     record { status = status; cause = cut is c; told = told_cut old.err new.err status answer is told }
 answered limit gives refuses old new answer status (stopped stop kept) told = elim (told_or_want old.err new.err status answer told) [
   | inl line ↦ record { status = status; cause = stopped stop kept; told = line }
-  | inr line ↦ record { status = OutOfMemory; cause = stopped (want refl) kept; told = line }
+  | inr line ↦ record { status = OutOfMemory; cause = stopped (want refl (stop_taken limit refuses old.source new.source status stop)) kept; told = line }
 ]
 
 -- the line of a byte fits, where there are few bytes before it

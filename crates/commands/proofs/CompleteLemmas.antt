@@ -17,23 +17,25 @@ use Rattle.fabric_world.specs.Histories.{IsLegal}
 use Rattle.replay.specs.Replays.{IsIllegal, IsNoReplay, no_journal, not_legal}
 use Rattle.replay.proofs.OneDivision.{one_division}
 use Rattle.table_report.specs.Check.{IsJudged}
-use Rattle.table_report.specs.Expect.{IsExpectOf}
+use Rattle.report.specs.Beliefs.{AreNames}
 use Rattle.commands.specs.declared.status.Status.{Status}
 use Rattle.commands.specs.declared.status.Status.TheVariants.{Ok, Usage, ScriptRefused, ReadFault, WriteFault, TablesRefused, Unsettled, EpochsSpent, JournalRefused, JournalFull, OutOfMemory}
 use Rattle.commands.specs.Answer.{Streams, IsAnswer, input_limit, refuses_nothing}
 use Rattle.commands.specs.Check.{gives_judged, refuses_tables}
-use Rattle.commands.specs.Complete.{gives_expected_of, gives_judged_of, gives_report_of}
-use Rattle.commands.specs.Expect.{gives_expected, refuses_script}
-use Rattle.commands.specs.Replay.{IfJournalRefused, IsNoScript, IsReplayedOf, IsScriptWith, IsUnreplayed, gives_replayed, refuses_journal}
+use Rattle.commands.specs.Complete.{gives_judged_of, gives_names_of, gives_report_of}
+use Rattle.commands.specs.Names.{gives_names}
+use Rattle.commands.specs.Replay.{IfJournalRefused, IsJournaled, IsNoScript, IsScriptWith, IsUnreplayed, gives_replayed, refuses_journal}
 use Rattle.commands.specs.Reported.{IsReported}
-use Rattle.commands.specs.Words.{IsCheckAnswer, IsExpectAnswer, IsReplayAnswer}
+use Rattle.commands.specs.Scripted.{Says, gives_said, refuses_script}
+use Rattle.commands.specs.Words.{IsCheckAnswer, IsNamesAnswer, IsReplayAnswer}
 use Rattle.commands.proofs.AllToldLemmas.{answered_as, not_refused}
 use Rattle.commands.proofs.RunLemmas.{never_illegal}
 
-pub text_is_expected : (answer : ℕ) (bytes : List ℕ) (script : ScriptOf) (old new : Streams) → IsText bytes script → old.source.told ≡ Some bytes → length bytes ≤ input_limit → IsExpectAnswer old new answer → IsAnswer input_limit (gives_expected_of script) refuses_nothing old new answer
-text_is_expected answer bytes script old new is_text told few is =
-    answered_as gives_expected (gives_expected_of script) refuses_script bytes old new told
-    (λ status text (ok, of). (ok, subst (λ (s : ScriptOf). IsExpectOf s text) (one_text bytes of.script script of.is_text is_text) of.expected))
+-- a command that reads a script alone
+pub text_is_said : (says : Says) (answer : ℕ) (bytes : List ℕ) (script : ScriptOf) (old new : Streams) → IsText bytes script → old.source.told ≡ Some bytes → length bytes ≤ input_limit → IsAnswer input_limit (gives_said says) refuses_script old new answer → IsAnswer input_limit (λ b status text. (status ≡ Ok) × says script text) refuses_nothing old new answer
+text_is_said says answer bytes script old new is_text told few is =
+    answered_as (gives_said says) (λ b status text. (status ≡ Ok) × says script text) refuses_script bytes old new told
+    (λ status text (ok, of). (ok, subst (λ (s : ScriptOf). says s text) (one_text bytes of.script script of.is_text is_text) of.said))
     (λ status. not_refused status (IsFault bytes) (λ line cause fault. no_fault bytes script line cause is_text fault))
     answer is
 
@@ -72,13 +74,16 @@ module _ (bytes behind : List ℕ) (script : ScriptOf) (journal : List Event) (e
   same_journal : (other : List Event) → IsJournal script behind other → other ≡ journal
   same_journal other is = one_journal script behind other journal (text_kept input.first script input.is_text) is is_journal
 
-  reported_same : (status : Status) (text : List ℕ) → IsReplayedOf status text bytes → IsReported script journal status text
-  reported_same status text of =
-      let read = of.read in
-      let same = same_script of.script read.behind read.input in
-      let there = subst (λ (b : List ℕ). IsJournal script b of.journal) same.1 (subst (λ (s : ScriptOf). IsJournal s read.behind of.journal) same.0 read.is_journal) in
-      subst (λ (j : List Event). IsReported script j status text) (same_journal of.journal there)
-      (subst (λ (s : ScriptOf). IsReported s of.journal status text) same.0 of.reported)
+  same_read : (other : ScriptOf) (events : List Event) → IsJournaled bytes other events → (other ≡ script) × (events ≡ journal)
+  same_read other events read =
+      let same = same_script other read.behind read.input in
+      (same.0, same_journal events (subst (λ (b : List ℕ). IsJournal script b events) same.1 (subst (λ (s : ScriptOf). IsJournal s read.behind events) same.0 read.is_journal)))
+
+  -- so what is said of the ones that were read is said of them
+  said_same : (says : ScriptOf → List Event → Type 0) (other : ScriptOf) (events : List Event) → IsJournaled bytes other events → says other events → says script journal
+  said_same says other events read said =
+      let same = same_read other events read in
+      subst (λ (j : List Event). says script j) same.1 (subst (λ (s : ScriptOf). says s events) same.0 said)
 
   has_script : (status : Status) → IsNoScript bytes status → ⊥
   has_script status none =
@@ -100,4 +105,12 @@ module _ (bytes behind : List ℕ) (script : ScriptOf) (journal : List Event) (e
 
   pub legal_is_replayed : (answer : ℕ) (old new : Streams) → old.source.told ≡ Some bytes → length bytes ≤ input_limit → IsReplayAnswer old new answer → IsAnswer input_limit (gives_report_of script journal) refuses_nothing old new answer
   legal_is_replayed answer old new told few is =
-      answered_as gives_replayed (gives_report_of script journal) refuses_journal bytes old new told reported_same not_refused_here answer is
+      answered_as gives_replayed (gives_report_of script journal) refuses_journal bytes old new told
+      (λ status text of. said_same (λ s j. IsReported s j status text) of.script of.journal of.read of.reported)
+      not_refused_here answer is
+
+  pub legal_is_named : (answer : ℕ) (old new : Streams) → old.source.told ≡ Some bytes → length bytes ≤ input_limit → IsNamesAnswer old new answer → IsAnswer input_limit (gives_names_of script journal) refuses_nothing old new answer
+  legal_is_named answer old new told few is =
+      answered_as gives_names (gives_names_of script journal) refuses_journal bytes old new told
+      (λ status text (ok, of). (ok, said_same (λ s j. AreNames s j text) of.script of.journal of.read of.names))
+      not_refused_here answer is

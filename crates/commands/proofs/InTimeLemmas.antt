@@ -12,8 +12,8 @@ use Rattle.fabric_settling.proofs.Whole.{ends_in_time}
 use Rattle.commands.specs.declared.status.Status.{Status}
 use Rattle.commands.specs.declared.status.Status.TheVariants.{Ok, Usage, ScriptRefused, ReadFault, WriteFault, TablesRefused, Unsettled, EpochsSpent, JournalRefused, JournalFull, OutOfMemory}
 use Rattle.commands.specs.Status.{code_of, line_of}
-use Rattle.commands.specs.Answer.{Gives, Refuses, Streams, IsAnswer, IsCause, IsGiven, IsInput, IsStop, IsTold, IsUnread, input_limit, given, cut, stopped, unread, refused, want, fault, over, wanting}
-use Rattle.commands.specs.Expect.{refuses_script}
+use Rattle.commands.specs.Answer.{Gives, Refuses, Streams, IsAnswer, IsCause, IsGiven, IsStop, IsUnread, input_limit, given, cut, stopped, unread, refused, want, fault, over, wanting}
+use Rattle.commands.specs.Scripted.{refuses_script}
 use Rattle.commands.specs.InTime.{IsUnsettledAnswer, gives_late_replay, gives_late_run}
 use Rattle.commands.specs.Replay.{gives_replayed, refuses_journal}
 use Rattle.commands.specs.Reported.{IsReported, status_of_end}
@@ -41,14 +41,14 @@ module _ (gives wanted : Gives) (refuses : Refuses) (old new : Streams)
     (gives_it : (bytes : List ℕ) (tick : ℕ) (text : List ℕ) → gives bytes (Unsettled tick) text → wanted bytes (Unsettled tick) text)
     (never : (bytes : List ℕ) (tick : ℕ) → refuses bytes (Unsettled tick) → ⊥) where
   not_unread : (tick : ℕ) → IsUnread input_limit old.source new.source (Unsettled tick) → ⊥
-  not_unread tick (fault is failed) = absurd (cc)
+  not_unread tick (fault is failed within) = absurd (cc)
   not_unread tick (over o) = let is = o.refused in absurd (cc)
-  not_unread tick (wanting is) = absurd (cc)
+  not_unread tick (wanting is taken) = absurd (cc)
 
   not_stopped : (tick : ℕ) → IsStop input_limit refuses old.source new.source (Unsettled tick) → ⊥
   not_stopped tick (unread u) = not_unread tick u
   not_stopped tick (refused input) = never input.bytes tick input.holds
-  not_stopped tick (want is) = absurd (cc)
+  not_stopped tick (want is taken) = absurd (cc)
 
   given_wanted : (tick : ℕ) → IsGiven input_limit gives old.source new.source old.out new.out (Unsettled tick) → IsGiven input_limit wanted old.source new.source old.out new.out (Unsettled tick)
   given_wanted tick g = record {

@@ -10,3 +10,5 @@ pub mod TopLemmas
 pub mod RunLemmas
 pub mod InTimeLemmas
 pub mod CompleteLemmas
+pub mod BehindLemmas
+pub mod CommentLemmas

@@ -30,7 +30,7 @@ judged_fine bytes text status false are is judged =
 pub own_passes : (answer : ℕ) (bytes text : List ℕ) (old new : Streams) → IsExpectedOf text (bytes ++ 10 ∷ []) → old.source.told ≡ Some (bytes ++ 10 ∷ text) → length (bytes ++ 10 ∷ text) ≤ input_limit → IsCheckAnswer old new answer → IsAnswer input_limit gives_passing refuses_nothing old new answer
 own_passes answer bytes text old new expected told few is =
     let whole = bytes ++ 10 ∷ text in
-    let (t, from, fine) = own_tables_pass bytes expected.script text expected.is_text expected.expected in
+    let (t, from, fine) = own_tables_pass bytes expected.script text expected.is_text expected.said in
     let are : AreFine whole = record { script = expected.script; tables = t; is_text = from; fine = fine } in
     answered_as gives_judged gives_passing refuses_tables whole old new told
     (λ status out (passed, is_status, judged). judged_fine whole out status passed are is_status judged)

@@ -24,7 +24,7 @@ use Rattle.replay.specs.Replays.{IsIllegal}
 use Rattle.replay.specs.declared.refusal.ReplayRefusal.TheVariants.{Illegal, OutOfMemory}
 use Rattle.replay.proofs.ReplayLemmas.{legal_is_not_refused}
 use Rattle.commands.specs.Answer.{Streams, IsAnswer, input_limit, refuses_nothing}
-use Rattle.commands.specs.Expect.{refuses_script}
+use Rattle.commands.specs.Scripted.{refuses_script}
 use Rattle.commands.specs.Run.{IsRun, gives_run, gives_run_of}
 use Rattle.commands.specs.Words.{IsRunAnswer}
 use Rattle.commands.proofs.AllToldLemmas.{answered_as, not_refused}

@@ -1,7 +1,7 @@
 -- The answer of a command: a status that came about by its cause, and was told.
 
 use Rattle.std.specs.Prelude.{◌≡◌, ◌≢◌, ◌⊎◌, ℕ, ◌+◌, ◌<◌, ◌≤◌, ◌==◌, ◌^◌, List, length, take, count_by}
-use Rattle.outside.specs.Told.{Seen, Gave, IsAtEnd, Gains, GainsFront, IsKept, Failed}
+use Rattle.outside.specs.Told.{Seen, Gave, GaveAtMost, IsAtEnd, Gains, GainsFront, IsKept, Failed}
 use Rattle.net_script.specs.declared.cause.ScriptCause.{ScriptCause}
 use Rattle.net_script.specs.declared.cause.ScriptCause.TheVariants.{TooMany}
 use Rattle.net_script.specs.Steps.{ReadRefusal}
@@ -39,24 +39,30 @@ pub record IsInput (limit : ℕ) (Holds : List ℕ → Type 0) (old new : Seen) 
   pub within : length bytes ≤ limit
   pub holds : Holds bytes
 
+-- the most bytes that are read: one piece more than the limit
+abbrev pub most_read : ℕ → ℕ
+most_read limit = limit + 4096
+
 -- A source gave more bytes than the limit, and refused is the line of the first byte too many.
 pub record IsOverLimit (limit : ℕ) (old new : Seen) (status : Status) : Type 0 where
   pub bytes : List ℕ
   pub gave : Gave old new bytes
   pub over : limit < length bytes
+  pub taken : GaveAtMost old new (most_read limit)
   pub refused : status ≡ ScriptRefused (1 + count_by (λ byte. byte == 10) (take limit bytes)) TooMany
 
--- why there is no input: a fault of the source, the limit, or want of memory
+-- Why there is no input: a fault of the source, before which it gave no more than the limit; the limit; or
+-- want of memory.
 pub data IsUnread (limit : ℕ) (old new : Seen) (status : Status) : Type 0 where
-  fault : status ≡ ReadFault → Failed old new → IsUnread limit old new status
+  fault : status ≡ ReadFault → Failed old new → GaveAtMost old new limit → IsUnread limit old new status
   over : IsOverLimit limit old new status → IsUnread limit old new status
-  wanting : status ≡ OutOfMemory → IsUnread limit old new status
+  wanting : status ≡ OutOfMemory → GaveAtMost old new (most_read limit) → IsUnread limit old new status
 
 -- why there is no text to be written: there is no input, it is refused, or memory is wanting
 pub data IsStop (limit : ℕ) (refuses : Refuses) (old new : Seen) (status : Status) : Type 0 where
   unread : IsUnread limit old new status → IsStop limit refuses old new status
   refused : IsInput limit (λ bytes. refuses bytes status) old new → IsStop limit refuses old new status
-  want : status ≡ OutOfMemory → IsStop limit refuses old new status
+  want : status ≡ OutOfMemory → GaveAtMost old new (most_read limit) → IsStop limit refuses old new status
 
 -- the statuses of a call that wrote its text
 abbrev pub IsEnding : Status → Type 0

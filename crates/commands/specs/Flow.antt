@@ -2,21 +2,13 @@
 
 use Rattle.std.specs.Prelude.{◌≡◌, ℕ, true, List, [], ◌∷◌, codes}
 use Rattle.text_lines.specs.Words.{is_number_in, number_value}
-use Rattle.net_script.specs.Scripts.{ScriptOf}
-use Rattle.net_script.specs.Texts.{IsText}
 use Rattle.table_report.specs.Flows.{IsFlowOf}
-use Rattle.commands.specs.declared.status.Status.TheVariants.{Ok}
 use Rattle.commands.specs.Answer.{Gives}
-
--- the bytes are the text of a script of whose packets this becomes
-pub record IsFlowedOf (room : ℕ) (text bytes : List ℕ) : Type 0 where
-  pub script : ScriptOf
-  pub is_text : IsText bytes script
-  pub flowed : IsFlowOf script room text
+use Rattle.commands.specs.Scripted.{gives_said}
 
 -- it gives the text that says what becomes of them, with status 0
 abbrev pub gives_flow : ℕ → Gives
-gives_flow room bytes status text = (status ≡ Ok) × IsFlowedOf room text bytes
+gives_flow room bytes status text = gives_said (λ script said. IsFlowOf script room said) bytes status text
 
 -- the words `flow B`, with B from 1 to 16
 pub record AreFlowWords (words : List (List ℕ)) (room : ℕ) : Type 0 where

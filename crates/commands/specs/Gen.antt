@@ -3,6 +3,7 @@
 use Rattle.std.specs.Prelude.{◌≡◌, ◌-◌, ◌^◌, ℕ, List, [], ◌∷◌, ◌++◌, true, codes}
 use Rattle.outside.specs.Told.{Seen, Gains, GainsFront, IsKept, Failed}
 use Rattle.text_lines.specs.Words.{is_number_in, number_value}
+use Rattle.net_script.specs.Texts.{IsText}
 use Rattle.script_text.specs.Canonical.{canonical_text}
 use Rattle.net_gen.specs.Generated.{generated}
 use Rattle.net_gen.specs.Summary.{IsSummary}
@@ -20,11 +21,13 @@ pub record AreGenWords (words : List (List ℕ)) (seed count : ℕ) : Type 0 whe
   pub count_range : is_number_in 1 100 count_word ≡ true
   pub count_is : count ≡ number_value count_word
 
--- the text is that of the script, and behind it the line on how its run on one thread ends
+-- The text is that of the script, and behind it the line on how its run on one thread ends; so it is a
+-- network file of the script.
 pub record IsGenerated (seed count : ℕ) (text : List ℕ) : Type 0 where
   pub line : List ℕ
   pub says : text ≡ canonical_text (generated seed count) ++ line
   pub summary : IsSummary (generated seed count) line
+  pub is_text : IsText text (generated seed count)
 
 -- out failed, and has a front of that text
 pub record IsGenCutOff (seed count : ℕ) (old new : Seen) : Type 0 where

@@ -1,5 +1,6 @@
 pub mod Status
 pub mod Answer
+pub mod Scripted
 pub mod Expect
 pub mod Check
 pub mod Flood

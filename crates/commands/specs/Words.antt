@@ -2,7 +2,7 @@
 
 use Rattle.std.specs.Prelude.{◌≡◌, ◌≢◌, ℕ, List, [], ◌∷◌, codes}
 use Rattle.commands.specs.Answer.{Streams, IsAnswer, IsUsageAnswer, input_limit}
-use Rattle.commands.specs.Expect.{gives_expected, refuses_script}
+use Rattle.commands.specs.Expect.{gives_expected}
 use Rattle.commands.specs.Check.{gives_judged, refuses_tables}
 use Rattle.commands.specs.Flood.{gives_flooded}
 use Rattle.commands.specs.Flow.{AreFlowWords, gives_flow}
@@ -10,6 +10,7 @@ use Rattle.commands.specs.Gen.{AreGenWords, IsGenAnswer}
 use Rattle.commands.specs.Names.{gives_names}
 use Rattle.commands.specs.Replay.{gives_replayed, refuses_journal}
 use Rattle.commands.specs.Run.{gives_run}
+use Rattle.commands.specs.Scripted.{refuses_script}
 
 -- the answer to `expect`
 abbrev pub IsExpectAnswer : Streams → Streams → ℕ → Type 0

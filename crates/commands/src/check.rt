@@ -1,20 +1,20 @@
-ghost use Rattle.std.specs.Prelude.{◌≡◌};
+ghost use Rattle.std.specs.Prelude.{◌≡◌, Bool, IfOk};
+ghost use Rattle.table_script.specs.Tables.{AreTablesOf};
+ghost use Rattle.table_report.specs.Check.{IsJudged};
 ghost use Rattle.commands.specs.Check.{gives_judged, refuses_tables, status_of};
-ghost use Rattle.commands.specs.Answer.{streams};
-ghost use Rattle.commands.specs.Words.{IsCheckAnswer};
 
-use crate::command::{Command, Given, answer};
-use crate::input::refused;
+use crate::command::{Command, Given};
 use crate::status::Status;
-use outside::sink::Sink;
-use outside::source::Source;
+use an_base::memory::OutOfMemory;
+use net_script::script::Script;
 use std::alloc::Global;
 use table_report::check::judge;
 use table_script::table_reader::read_with_tables;
+use table_script::tables::Tables;
 
 /// The command `check`: for a script with routing tables, the ranks of the channels and `ok`, or the
 /// line that says why the tables are refused.
-#[derive(Clone, Copy, Debug)]
+#[derive(Clone, Copy)]
 pub struct Check;
 
 // The status of tables that pass, and of those that do not.
@@ -28,38 +28,26 @@ fn status_of(passed: bool) -> Status
     }
 }
 
+// What comes of checking the tables of a script, with its status.
+fn judged(alloc: Global, script: Script, tables: Tables) -> Result<Given, OutOfMemory>
+    requires { AreTablesOf script.wires tables }
+    ensures { IfOk result (λ given. (passed : Bool) × (given.status ≡ status_of passed)
+        × IsJudged script tables passed given.text.items) }
+{
+    let judgement = judge(alloc, &script, tables)?;
+    Ok(Given {
+        status: status_of(judgement.passed),
+        text: judgement.text,
+    })
+}
+
 impl Command for Check {
     ghost gives = { λ _. gives_judged };
 
     ghost refuses = { λ _. refuses_tables };
 
     fn given(&self, alloc: Global, bytes: &[u8]) -> Result<Given, Status> {
-        let (script, tables) = match read_with_tables(alloc, bytes) {
-            Ok(read) => read,
-            Err(refusal) => return Err(refused(refusal)),
-        };
-        match judge(alloc, &script, tables) {
-            Ok(judgement) => Ok(Given {
-                status: status_of(judgement.passed),
-                text: judgement.text,
-            }),
-            Err(_memory) => Err(Status::OutOfMemory),
-        }
+        let (script, tables) = read_with_tables(alloc, bytes)?;
+        Ok(judged(alloc, script, tables)?)
     }
-}
-
-/// Answers `check`: reads a script and routing tables from the source, and writes to out the ranks of
-/// the channels and `ok`, or the line that says why the tables are refused. The answer is the number
-/// of a status, whose line goes to err.
-pub fn autonet_check<S: Source, O: Sink, E: Sink>(
-    alloc: Global,
-    source: &mut S,
-    out: &mut O,
-    err: &mut E,
-) -> u8
-    ensures { IsCheckAnswer
-        (streams (S.seen source.old) (O.seen out.old) (E.seen err.old))
-        (streams (S.seen source.new) (O.seen out.new) (E.seen err.new)) result }
-{
-    answer(&Check, alloc, source, out, err)
 }

@@ -13,7 +13,7 @@ use outside::source::Source;
 use std::alloc::Global;
 
 /// What a command gives for an input.
-#[derive(Debug, Drop)]
+#[derive(Drop)]
 pub struct Given {
     /// The status with which the call ends once the text is written.
     pub status: Status,

@@ -1,4 +1,7 @@
-ghost use Rattle.std.specs.Prelude.{◌≡◌, ◌≢◌, ◌≤◌, ℕ, List, [], ◌∷◌, IfOk, IfSome, MatchOption};
+ghost use Rattle.std.specs.Prelude.{◌≡◌, ◌≢◌, ◌≤◌, ◌++◌, ℕ, List, [], ◌∷◌, IfOk, IfSome, MatchOption, OnOk};
+ghost use Rattle.net_gen.specs.Summary.{IsComment, IsSummary};
+ghost use Rattle.net_script.specs.Texts.{IsText};
+ghost use Rattle.script_text.specs.Canonical.{canonical_text};
 ghost use Rattle.commands.specs.Gen.{AreGenWords, IsGenAnswerOn, IsGenCause, IsGenerated};
 
 use crate::status::{Status, finish};
@@ -6,6 +9,7 @@ use an_base::memory::OutOfMemory;
 use an_base::text::Word;
 use net_gen::script::script_of;
 use net_gen::summary::summary;
+use net_script::script::Script;
 use outside::all::write_all;
 use outside::sink::Sink;
 use script_text::printer::print;
@@ -40,6 +44,26 @@ pub fn gen_words(words: &[Word]) -> Option<(u64, u8)>
     Some((seed, count as u8))
 }
 
+// Appends the line on how the run of a script on one thread ends.
+fn push_summary(alloc: Global, text: &mut Vec<u8>, script: &Script) -> Result<(), OutOfMemory>
+    ensures { OnOk result ((line : List ℕ) × IsSummary script.now line × IsComment line
+        × (text.new.items ≡ text.old.items ++ line)) }
+{
+    let line = summary(alloc, script)?;
+    text.extend_from_slice(&line)?;
+    Ok(())
+}
+
+// The text of a script, and the line on how its run on one thread ends.
+fn summed(alloc: Global, script: &Script) -> Result<Vec<u8>, OutOfMemory>
+    ensures { IfOk result (λ text. (line : List ℕ) × IsSummary script.now line × IsText text.items script.now
+        × (text.items ≡ canonical_text script.now ++ line)) }
+{
+    let mut text = print(alloc, script)?;
+    push_summary(alloc, &mut text, script)?;
+    Ok(text)
+}
+
 // The text of the script of a seed, and the line on how its run on one thread ends.
 fn generated(alloc: Global, seed: u64, count: u8) -> Result<Vec<u8>, OutOfMemory>
     requires least { 1 ≤ count }
@@ -47,10 +71,7 @@ fn generated(alloc: Global, seed: u64, count: u8) -> Result<Vec<u8>, OutOfMemory
     ensures { IfOk result (λ text. IsGenerated seed count text.items) }
 {
     let script = script_of(alloc, seed, count)?;
-    let mut text = print(alloc, &script)?;
-    let line = summary(alloc, &script)?;
-    text.extend_from_slice(&line)?;
-    Ok(text)
+    summed(alloc, &script)
 }
 
 // Writes them to out, or answers why they are not there.
@@ -59,12 +80,12 @@ fn status_of<O: Sink>(alloc: Global, seed: u64, count: u8, out: &mut O) -> Statu
     requires most { count ≤ 100 }
     ensures { IsGenCause seed count (O.seen out.old) (O.seen out.new) result }
 {
-    let Ok(text) = generated(alloc, seed, count) else {
-        return Status::OutOfMemory;
-    };
-    match write_all(out, &text) {
-        Ok(()) => Status::Ok,
-        Err(_fault) => Status::WriteFault,
+    match generated(alloc, seed, count) {
+        Ok(text) => match write_all(out, &text) {
+            Ok(()) => Status::Ok,
+            Err(_fault) => Status::WriteFault,
+        },
+        Err(OutOfMemory) => Status::OutOfMemory,
     }
 }
 

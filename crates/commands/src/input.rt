@@ -47,12 +47,13 @@ pub fn read_input<S: Source>(alloc: Global, source: &mut S, limit: usize) -> Res
     }
 }
 
-/// The status of a refused script.
-pub fn refused(refusal: ReadRefusal) -> Status
-    ensures { result ≡ refused_as refusal }
-{
-    match refusal {
-        ReadRefusal::Fault { line, cause } => Status::ScriptRefused { line, cause },
-        ReadRefusal::OutOfMemory => Status::OutOfMemory,
+impl From<ReadRefusal> for Status {
+    ghost from_gives = { λ refusal result. result ≡ refused_as refusal };
+
+    fn from(refusal: ReadRefusal) -> Self {
+        match refusal {
+            ReadRefusal::Fault { line, cause } => Status::ScriptRefused { line, cause },
+            ReadRefusal::OutOfMemory => Status::OutOfMemory,
+        }
     }
 }

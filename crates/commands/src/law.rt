@@ -11,12 +11,13 @@ ghost use Rattle.fabric_state.specs.declared.ending.Ending.{Ending};
 ghost use Rattle.fabric_world.specs.Histories.{IsLegal};
 ghost use Rattle.commands.specs.Answer.{input_limit, refuses_nothing, IsAnswer, Streams};
 ghost use Rattle.commands.specs.Check.{gives_passing};
-ghost use Rattle.commands.specs.Complete.{gives_expected_of, gives_judged_of, gives_report_of};
+ghost use Rattle.commands.specs.Complete.{gives_expected_of, gives_flooded_of, gives_flow_of, gives_judged_of, gives_names_of, gives_report_of, gives_text};
 ghost use Rattle.commands.specs.Expect.{IsExpectedOf};
 ghost use Rattle.commands.specs.InTime.{IsUnsettledAnswer, gives_late_replay, gives_late_run};
 ghost use Rattle.commands.specs.Replay.{IsScriptWith};
-ghost use Rattle.commands.specs.Run.{gives_run_of};
-ghost use Rattle.commands.specs.Words.{IsCheckAnswer, IsExpectAnswer, IsReplayAnswer, IsRunAnswer};
+ghost use Rattle.commands.specs.Run.{IsRun, gives_run_of};
+ghost use Rattle.commands.specs.declared.status.Status.{Status};
+ghost use Rattle.commands.specs.Words.{IsCheckAnswer, IsExpectAnswer, IsFloodAnswer, IsFlowAnswer, IsNamesAnswer, IsReplayAnswer, IsRunAnswer};
 
 /// A source that tells its bytes has a network file whose last line is ended by a line feed (10), and
 /// behind it all that is expected of it, both together within the limit. Then `check` refuses neither
@@ -38,15 +39,23 @@ pub fn a_script_is_run()
         → IsRunAnswer old new answer → IsAnswer input_limit (gives_run_of script) refuses_nothing old new answer }
 {}
 
-/// A source that tells its bytes has the text of a script, for `check` with tables, and for `replay` with a
-/// legal journal behind it, within the limit. Then the command does not refuse it: out gains the text that the
-/// definition gives for it, a front of it where out fails, or nothing where the source fails or memory is
-/// wanting; and with the text comes its own status, for `replay` that of the journal's end.
+/// A source that tells its bytes has the text of a script, for `check` with tables, and for `replay` and
+/// `names` with a legal journal behind it, within the limit. Then the command does not refuse it: out gains
+/// the text that the definition gives for it, a front of it where out fails, or nothing where the source
+/// fails or memory is wanting; and with the text comes its own status, for `replay` that of the journal's end.
 pub fn a_text_is_answered()
     ensures expect { (answer : ℕ) (bytes : List ℕ) (script : ScriptOf) (old new : Streams)
         → IsText bytes script → old.source.told ≡ Some bytes → length bytes ≤ input_limit
         → IsExpectAnswer old new answer
         → IsAnswer input_limit (gives_expected_of script) refuses_nothing old new answer }
+    ensures flood { (answer : ℕ) (bytes : List ℕ) (script : ScriptOf) (old new : Streams)
+        → IsText bytes script → old.source.told ≡ Some bytes → length bytes ≤ input_limit
+        → IsFloodAnswer old new answer
+        → IsAnswer input_limit (gives_flooded_of script) refuses_nothing old new answer }
+    ensures flow { (answer room : ℕ) (bytes : List ℕ) (script : ScriptOf) (old new : Streams)
+        → IsText bytes script → old.source.told ≡ Some bytes → length bytes ≤ input_limit
+        → IsFlowAnswer room old new answer
+        → IsAnswer input_limit (gives_flow_of script room) refuses_nothing old new answer }
     ensures check { (answer : ℕ) (bytes : List ℕ) (script : ScriptOf) (tables : TablesOf) (old new : Streams)
         → IsTextWith bytes script tables → old.source.told ≡ Some bytes → length bytes ≤ input_limit
         → IsCheckAnswer old new answer
@@ -56,6 +65,23 @@ pub fn a_text_is_answered()
         → IsJournal script behind journal → IsLegal script journal end
         → old.source.told ≡ Some bytes → length bytes ≤ input_limit → IsReplayAnswer old new answer
         → IsAnswer input_limit (gives_report_of script journal) refuses_nothing old new answer }
+    ensures names { (answer : ℕ) (bytes behind : List ℕ) (script : ScriptOf) (journal : List Event)
+        (end : Ending) (old new : Streams) → IsScriptWith bytes script behind
+        → IsJournal script behind journal → IsLegal script journal end
+        → old.source.told ≡ Some bytes → length bytes ≤ input_limit → IsNamesAnswer old new answer
+        → IsAnswer input_limit (gives_names_of script journal) refuses_nothing old new answer }
+{}
+
+/// A source that tells its bytes has a network file whose last line is ended by a line feed (10), and behind
+/// it the output of a run of its network, both together within the limit. Then `replay` refuses neither: out
+/// gains the report that stands in that output, a front of it where out fails, or nothing where the source
+/// fails or memory is wanting; and with the report comes the status of the run.
+pub fn a_run_is_replayed()
+    ensures { (answer : ℕ) (bytes text : List ℕ) (script : ScriptOf) (status : Status) (old new : Streams)
+        (run : IsRun script status text) → IsText (bytes ++ 10 ∷ []) script
+        → old.source.told ≡ Some (bytes ++ 10 ∷ text) → length (bytes ++ 10 ∷ text) ≤ input_limit
+        → IsReplayAnswer old new answer
+        → IsAnswer input_limit (gives_text status run.report) refuses_nothing old new answer }
 {}
 
 /// An answer of 1 to `run` or `replay` says that the journal of which out gained the report had no time to

@@ -6,15 +6,14 @@
 
 mod check;
 mod command;
-mod expect;
-mod flood;
-mod flow;
 mod generate;
 mod input;
 pub mod law;
 mod names;
 mod replaying;
 mod reported;
+mod room;
 mod run;
+mod scripted;
 pub mod status;
 pub mod top;

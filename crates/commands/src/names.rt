@@ -1,19 +1,30 @@
-ghost use Rattle.commands.specs.Answer.{streams};
+ghost use Rattle.std.specs.Prelude.{◌≤◌, length, IfErr, IfOk};
+ghost use Rattle.replay.specs.Replays.{IfIllegal, IsNoReplay};
+ghost use Rattle.report.specs.Beliefs.{AreNamesIn};
+ghost use Rattle.commands.specs.Answer.{input_limit};
 ghost use Rattle.commands.specs.Names.{gives_names};
 ghost use Rattle.commands.specs.Replay.{refuses_journal};
-ghost use Rattle.commands.specs.Words.{IsNamesAnswer};
 
-use crate::command::{Command, Given, answer};
-use crate::replaying::{read_first, replay_refused};
+use crate::command::{Command, Given};
+use crate::replaying::{Journaled, read_first};
 use crate::status::Status;
-use outside::sink::Sink;
-use outside::source::Source;
+use replay::refusal::ReplayRefusal;
 use report::naming;
 use std::alloc::Global;
 
 /// The command `names`: for a script with a journal behind it, what hosts believe about where others are.
-#[derive(Clone, Copy, Debug)]
+#[derive(Clone, Copy)]
 pub struct Names;
+
+// What hosts believe in what stands behind a script.
+fn named(alloc: Global, input: Journaled) -> Result<Vec<u8>, ReplayRefusal>
+    requires few { length input.behind.now ≤ input_limit }
+    ensures names { IfOk result (λ text. AreNamesIn input.entry.script input.entry.behind.now text.items) }
+    ensures refused { IfErr result (λ why. IfIllegal why
+        (IsNoReplay input.entry.script input.entry.behind.now)) }
+{
+    naming::names(alloc, &input.script, input.behind)
+}
 
 impl Command for Names {
     ghost gives = { λ _. gives_names };
@@ -22,27 +33,10 @@ impl Command for Names {
 
     fn given(&self, alloc: Global, bytes: &[u8]) -> Result<Given, Status> {
         let input = read_first(alloc, bytes)?;
-        match naming::names(alloc, &input.script, input.behind) {
-            Ok(text) => Ok(Given {
-                status: Status::Ok,
-                text,
-            }),
-            Err(refusal) => Err(replay_refused(refusal)),
-        }
+        let text = named(alloc, input)?;
+        Ok(Given {
+            status: Status::Ok,
+            text,
+        })
     }
-}
-
-/// Answers `names`: reads a script and a journal from the source, and writes to out what hosts believe about
-/// where others are. The answer is the number of a status, whose line goes to err.
-pub fn autonet_names<S: Source, O: Sink, E: Sink>(
-    alloc: Global,
-    source: &mut S,
-    out: &mut O,
-    err: &mut E,
-) -> u8
-    ensures { IsNamesAnswer
-        (streams (S.seen source.old) (O.seen out.old) (E.seen err.old))
-        (streams (S.seen source.new) (O.seen out.new) (E.seen err.new)) result }
-{
-    answer(&Names, alloc, source, out, err)
 }

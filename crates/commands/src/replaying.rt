@@ -1,38 +1,36 @@
 ghost use Rattle.std.specs.Prelude.{◌≡◌, ◌⊎◌, ◌≤◌, length, IfErr, IfOk};
 ghost use Rattle.commands.specs.declared.status.Status.TheVariants as ended;
-ghost use Rattle.commands.specs.Answer.{input_limit, streams};
+ghost use Rattle.replay.specs.Replays.{IfIllegal, IsNoReplay};
+ghost use Rattle.commands.specs.Answer.{IsEnding, input_limit};
 ghost use Rattle.commands.specs.Replay.{IsScriptWith, gives_replayed, refuses_journal, replay_refused_as};
-ghost use Rattle.commands.specs.Words.{IsReplayAnswer};
+ghost use Rattle.commands.specs.Reported.{IsReportedText};
 
-use crate::command::{Command, Given, answer};
-use crate::input::refused;
+use crate::command::{Command, Given};
 use crate::reported::told_text;
 use crate::status::Status;
-use an_base::memory::OutOfMemory;
 use net_script::reader::read;
 use net_script::script::Script;
-use outside::sink::Sink;
-use outside::source::Source;
 use replay::division::divide;
 use replay::refusal::ReplayRefusal;
 use std::alloc::Global;
 
 /// The command `replay`: for a script with a journal behind it, the report of the journal.
-#[derive(Clone, Copy, Debug)]
+#[derive(Clone, Copy)]
 pub struct Replay;
 
-/// The status of a text that is no journal, or whose journal is not legal.
-pub fn replay_refused(refusal: ReplayRefusal) -> Status
-    ensures { result ≡ replay_refused_as refusal }
-{
-    match refusal {
-        ReplayRefusal::Illegal { line, cause } => Status::JournalRefused { line, cause },
-        ReplayRefusal::OutOfMemory => Status::OutOfMemory,
+impl From<ReplayRefusal> for Status {
+    ghost from_gives = { λ refusal result. result ≡ replay_refused_as refusal };
+
+    fn from(refusal: ReplayRefusal) -> Self {
+        match refusal {
+            ReplayRefusal::Illegal { line, cause } => Status::JournalRefused { line, cause },
+            ReplayRefusal::OutOfMemory => Status::OutOfMemory,
+        }
     }
 }
 
 /// A script, and the bytes that stand behind it.
-#[derive(Debug, Drop)]
+#[derive(Drop)]
 pub struct Journaled<'a> {
     /// The script.
     pub script: Script,
@@ -48,14 +46,21 @@ pub fn read_first(alloc: Global, bytes: &[u8]) -> Result<Journaled, Status>
     ensures stopped { IfErr result (λ status.
         refuses_journal bytes.now status ⊎ (status ≡ ended.OutOfMemory)) }
 {
-    let (first, behind) = match divide(alloc, bytes) {
-        Ok(parts) => parts,
-        Err(OutOfMemory) => return Err(Status::OutOfMemory),
-    };
-    match read(alloc, first) {
-        Ok(script) => Ok(Journaled { script, behind }),
-        Err(refusal) => Err(refused(refusal)),
-    }
+    let (first, behind) = divide(alloc, bytes)?;
+    let script = read(alloc, first)?;
+    Ok(Journaled { script, behind })
+}
+
+// The report of what stands behind a script, with the status of its end.
+fn replayed(alloc: Global, input: Journaled) -> Result<Given, ReplayRefusal>
+    requires few { length input.behind.now ≤ input_limit }
+    ensures reported { IfOk result (λ given.
+        IsReportedText input.entry.script input.entry.behind.now given.status given.text.items) }
+    ensures ends { IfOk result (λ given. IsEnding given.status) }
+    ensures refused { IfErr result (λ why. IfIllegal why
+        (IsNoReplay input.entry.script input.entry.behind.now)) }
+{
+    told_text(alloc, &input.script, input.behind)
 }
 
 impl Command for Replay {
@@ -65,24 +70,6 @@ impl Command for Replay {
 
     fn given(&self, alloc: Global, bytes: &[u8]) -> Result<Given, Status> {
         let input = read_first(alloc, bytes)?;
-        match told_text(alloc, &input.script, input.behind) {
-            Ok(given) => Ok(given),
-            Err(refusal) => Err(replay_refused(refusal)),
-        }
+        Ok(replayed(alloc, input)?)
     }
-}
-
-/// Answers `replay`: reads a script and a journal from the source, and writes the report of the journal to
-/// out. The answer is the number of a status, whose line goes to err.
-pub fn autonet_replay<S: Source, O: Sink, E: Sink>(
-    alloc: Global,
-    source: &mut S,
-    out: &mut O,
-    err: &mut E,
-) -> u8
-    ensures { IsReplayAnswer
-        (streams (S.seen source.old) (O.seen out.old) (E.seen err.old))
-        (streams (S.seen source.new) (O.seen out.new) (E.seen err.new)) result }
-{
-    answer(&Replay, alloc, source, out, err)
 }

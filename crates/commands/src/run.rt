@@ -5,13 +5,13 @@ ghost use Rattle.net_script.specs.Scripts.{IsScript};
 ghost use Rattle.report.specs.Events.{HasLegalEnd};
 ghost use Rattle.commands.specs.declared.status.Status.TheVariants as ended;
 ghost use Rattle.commands.specs.Answer.{streams, IsCause, IsEnding, IsInput, IsStop, input_limit};
-ghost use Rattle.commands.specs.Expect.{refuses_script};
 ghost use Rattle.commands.specs.Reported.{IsReported};
 ghost use Rattle.commands.specs.Run.{IsRun, gives_run};
+ghost use Rattle.commands.specs.Scripted.{refuses_script};
 ghost use Rattle.commands.specs.Words.{IsRunAnswer};
 
 use crate::command::Given;
-use crate::input::{INPUT_LIMIT, read_input, refused};
+use crate::input::{INPUT_LIMIT, read_input};
 use crate::reported::told;
 use crate::status::{Status, finish};
 use an_base::event::Journal;
@@ -58,8 +58,23 @@ fn printed(alloc: Global, script: &Script, journal: &Journal) -> Result<Given, O
     })
 }
 
-// The same for a run of the network of a script, whose text the bytes are, or the status that says why there is
-// none.
+// The same for a run of the network of a script.
+fn ran<R: Threads + Wait + Sync, G: Gate>(
+    rt: &R,
+    gate: &G,
+    alloc: Global,
+    script: Script,
+) -> Result<Given, OutOfMemory>
+    requires { IsScript script }
+    ensures run { IfOk result (λ given. IsRun script given.status given.text.items) }
+    ensures ends { IfOk result (λ given. IsEnding given.status) }
+{
+    let run = switch_threads::run(rt, alloc, &script, gate)?;
+    printed(alloc, &script, &run.journal)
+}
+
+// The same for a script whose text the bytes are, or the status that says why there is none.
+#[tactic(auto, using(net_script::proofs::ScriptKept::text_kept))]
 fn given<R: Threads + Wait + Sync, G: Gate>(
     rt: &R,
     gate: &G,
@@ -72,17 +87,8 @@ fn given<R: Threads + Wait + Sync, G: Gate>(
     ensures stopped { IfErr result (λ status.
         refuses_script bytes.now status ⊎ (status ≡ ended.OutOfMemory)) }
 {
-    let script = match read(alloc, bytes) {
-        Ok(script) => script,
-        Err(refusal) => return Err(refused(refusal)),
-    };
-    let Ok(run) = switch_threads::run(rt, alloc, &script, gate) else {
-        return Err(Status::OutOfMemory);
-    };
-    match printed(alloc, &script, &run.journal) {
-        Ok(given) => Ok(given),
-        Err(OutOfMemory) => Err(Status::OutOfMemory),
-    }
+    let script = read(alloc, bytes)?;
+    Ok(ran(rt, gate, alloc, script)?)
 }
 
 // The same for what the source gives.
@@ -124,10 +130,10 @@ fn status_of<R: Threads + Wait + Sync, G: Gate, S: Source, O: Sink>(
     }
 }
 
-/// Answers `run`: reads a script from the source, runs its network with a thread for each switch, and writes
-/// the journal of the run, and behind it its report, to out. `gate` is called round each turn of a worker. The
-/// answer is the number of a status, whose line goes to err. It may never answer, as `switch_threads::run` may
-/// never return.
+/// Answers `run`: reads a script from the source, runs its network with a worker for each switch, up to four
+/// at the same time in threads, and writes the journal of the run, and behind it its report, to out. `gate` is
+/// called round each turn of a worker. The answer is the number of a status, whose line goes to err. It may
+/// never answer, as `switch_threads::run` may never return.
 pub fn autonet_run<R: Threads + Wait + Sync, G: Gate, S: Source, O: Sink, E: Sink>(
     rt: &R,
     gate: &G,

@@ -1,10 +1,12 @@
 ghost use Rattle.std.specs.Prelude.{◌≡◌, IfOk, OnErr, OnOk};
 ghost use Rattle.std.specs.List.{flat_map};
+ghost use Rattle.commands.specs.declared.status.Status.TheVariants as ended;
 ghost use Rattle.commands.specs.declared.status.Status.TheVariants.{ScriptRefused};
 ghost use Rattle.commands.specs.Status.{code_of, line_of};
 ghost use Rattle.commands.specs.Answer.{IsTold, IsToldOrWant};
 ghost use Rattle.outside.specs.Told.{Failed, Gains, GainsFront};
 
+use an_base::memory::OutOfMemory;
 use an_base::text::{Word, push_decimal};
 use itoa::Buffer;
 use journal::cause::JournalCause;
@@ -14,11 +16,11 @@ use outside::sink::Sink;
 use std::alloc::{AllocError, Global};
 
 /// How a call ended.
-#[derive(Debug, Drop)]
+#[derive(Drop)]
 pub enum Status {
     /// The command was answered.
     Ok,
-    /// The words are no command that is built.
+    /// The words are those of no command.
     Usage,
     /// The input is no script, or has more bytes than the limit.
     ScriptRefused {
@@ -54,6 +56,14 @@ pub enum Status {
     JournalFull,
     /// No memory was found.
     OutOfMemory,
+}
+
+impl From<OutOfMemory> for Status {
+    ghost from_gives = { λ _ result. result ≡ ended.OutOfMemory };
+
+    fn from(_value: OutOfMemory) -> Self {
+        Status::OutOfMemory
+    }
 }
 
 impl Status {

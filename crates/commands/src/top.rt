@@ -1,16 +1,16 @@
-ghost use Rattle.std.specs.Prelude.{◌≡◌, ◌≢◌, ◌≤◌, ◌↔◌, ℕ, List, [], ◌∷◌, IfSome, IsTrue, MatchOption};
+ghost use Rattle.std.specs.Prelude.{◌≡◌, ◌≢◌, ◌↔◌, ℕ, List, [], ◌∷◌, IsTrue, MatchOption};
 ghost use Rattle.commands.specs.Answer.{streams};
 ghost use Rattle.commands.specs.Flow.{AreFlowWords};
 ghost use Rattle.commands.specs.Words.{IsAnswerTo};
 
-use crate::check::autonet_check;
-use crate::expect::autonet_expect;
-use crate::flood::autonet_flood;
-use crate::flow::autonet_flow;
+use crate::check::Check;
+use crate::command::answer;
 use crate::generate::{autonet_gen, gen_words};
-use crate::names::autonet_names;
-use crate::replaying::autonet_replay;
+use crate::names::Names;
+use crate::replaying::Replay;
+use crate::room::Room;
 use crate::run::autonet_run;
+use crate::scripted::Scripted;
 use crate::status::{Status, finish};
 use an_base::text::Word;
 use outside::sink::Sink;
@@ -46,19 +46,21 @@ fn word_after<'a>(words: &'a [Word], bytes: &[u8]) -> Option<&'a Word>
 }
 
 // B, where the words are `flow B` with B from 1 to 16.
-fn room_of(words: &[Word]) -> Option<u16>
-    ensures words { MatchOption result ((room : ℕ) → ¬ AreFlowWords words.now room) (AreFlowWords words.now) }
-    ensures range { IfSome result (λ room. (1 ≤ room) × (room ≤ 16)) }
+fn room_of(words: &[Word]) -> Option<Room>
+    ensures { MatchOption result ((room : ℕ) → ¬ AreFlowWords words.now room)
+        (λ room. AreFlowWords words.now room.packets) }
 {
     let word = word_after(words, b"flow")?;
     let room = number_between(word.as_bytes(), 1, 16)?;
-    Some(room as u16)
+    Some(Room {
+        packets: room as u16,
+    })
 }
 
 /// Answers the words after the program's name. The answer is the number of a status, whose line
 /// goes to err. Words that are no command leave the source and out alone. Only `run` starts threads, and
 /// only it calls the gate.
-#[tactic(auto, using(crate::proofs::TopLemmas::answers_expect, crate::proofs::TopLemmas::answers_check, crate::proofs::TopLemmas::answers_flood, crate::proofs::TopLemmas::answers_run, crate::proofs::TopLemmas::answers_replay, crate::proofs::TopLemmas::answers_names, crate::proofs::TopLemmas::answers_flow, crate::proofs::TopLemmas::answers_gen, crate::proofs::TopLemmas::answers_usage))]
+#[tactic(auto, using(crate::proofs::TopLemmas::answers_gen, crate::proofs::TopLemmas::answers_usage))]
 pub fn autonet<R: Threads + Wait + Sync, S: Source, O: Sink, E: Sink, G: Gate>(
     rt: &R,
     alloc: Global,
@@ -73,25 +75,25 @@ pub fn autonet<R: Threads + Wait + Sync, S: Source, O: Sink, E: Sink, G: Gate>(
         (streams (S.seen source.new) (O.seen out.new) (E.seen err.new)) result }
 {
     if is_word(words, b"expect") {
-        return autonet_expect(alloc, source, out, err);
+        return answer(&Scripted::Expect, alloc, source, out, err);
     }
     if is_word(words, b"check") {
-        return autonet_check(alloc, source, out, err);
+        return answer(&Check, alloc, source, out, err);
     }
     if is_word(words, b"flood") {
-        return autonet_flood(alloc, source, out, err);
+        return answer(&Scripted::Flood, alloc, source, out, err);
     }
     if is_word(words, b"run") {
         return autonet_run(rt, gate, alloc, source, out, err);
     }
     if is_word(words, b"replay") {
-        return autonet_replay(alloc, source, out, err);
+        return answer(&Replay, alloc, source, out, err);
     }
     if is_word(words, b"names") {
-        return autonet_names(alloc, source, out, err);
+        return answer(&Names, alloc, source, out, err);
     }
     if let Some(room) = room_of(words) {
-        return autonet_flow(alloc, room, source, out, err);
+        return answer(&Scripted::Flow(room), alloc, source, out, err);
     }
     if let Some((seed, count)) = gen_words(words) {
         return autonet_gen(alloc, seed, count, out, err);

@@ -1,12 +1,12 @@
 -- Sets of ports, as bits of a number.
-use Rattle.std.proofs.Common.{◌≡◌, ◌≢◌, ◌∙◌, sym, subst, ℕ, ◌*◌, ◌%◌, ◌^◌, ◌<◌, List, true, arith, inl, inr, ◌⊎◌, ◌↔◌, ap, false, ◌==◌}
+use Rattle.std.proofs.Common.{◌≡◌, subst, ℕ, ◌<◌, List, true, arith, inl, inr, ◌⊎◌, ◌↔◌, ap, false, ◌==◌}
 use Rattle.std.specs.Prelude.{Contains}
-use Rattle.std.specs.Int.{bit_at, bit_not, w16, trailing_zeros}
+use Rattle.std.specs.Int.{bit_at}
 use Rattle.std.specs.Int.RustNames.{bit_and, bit_or}
 use Rattle.std.proofs.lemmas.Bool.{cases_eq, cases_lt, eq-eqb, eqb-true}
-use Rattle.std.proofs.lemmas.Nat.{and_le_l}
-use Rattle.std.proofs.lemmas.Nat.Bits.{bit_at-zero, bit_at-lt, bit_at_above, bit_at_and, bit_at_or, bit_at_ones, bit_at_ones_above, bit_at_clear_same, bit_at_clear_other, bit_at-trailing_zeros}
-use Rattle.dep_check.specs.Ports.{HasOnlyPorts, IsWithout}
+use Rattle.std.proofs.lemmas.Nat.Bits.{bit_at-zero, bit_at-lt, bit_at_and, bit_at_or, bit_at_ones, bit_at_ones_above}
+use Rattle.an_base.specs.Rows.{IsWithout}
+use Rattle.dep_check.specs.Ports.{HasOnlyPorts}
 use Rattle.dep_check.specs.Tables.{has_port}
 
 -- the ports of two sets
@@ -59,43 +59,6 @@ only_same set p low =
     let most = bit_at-lt set p in
     let same : bit_at (bit_and set 8191) p ≡ bit_at set p = omega arith in
     ap (λ (bit : ℕ). bit == 1) same
-
--- the lowest port
-pub lowest_is : (set : ℕ) → set ≢ 0 → set < 2 ^ 16 → (bit_at set (trailing_zeros w16 set) ≡ 1) × (trailing_zeros w16 set < 16)
-lowest_is set some fits = let h = bit_at-trailing_zeros w16 set (omega arith) fits in (h.1, h.0)
-
--- a set without one port
-abbrev pub cleared : ℕ → ℕ → ℕ
-cleared set port = bit_and set (bit_not w16 (1 * 2 ^ port % 2 ^ 16))
-
-pub cleared_is : (set port : ℕ) → set < 2 ^ 16 → port < 16 → IsWithout set port (cleared set port)
-cleared_is set port fits low p = elim (cases_eq p port) [
-  | inl same ↦ (
-    λ is. absurd (let z = bit_at_clear_same w16 set port low in let e : bit_at (cleared set port) p ≡ bit_at (cleared set port) port = ap (bit_at (cleared set port)) same in omega arith),
-    λ both. absurd (both.1 same),
-  )
-  | inr other ↦ elim (cases_lt p 16) [
-    | inl p_low ↦ (let e = bit_at_clear_other w16 set port low p p_low other in (λ is. (sym e ∙ is, other), λ both. e ∙ both.0))
-    | inr high ↦ (
-        let z = bit_at_above set 16 p fits high in
-        let le = and_le_l set (bit_not w16 (1 * 2 ^ port % 2 ^ 16)) in
-        let small : cleared set port < 2 ^ 16 = omega arith in
-        let y = bit_at_above (cleared set port) 16 p small high in
-        (λ is. absurd (omega arith), λ both. absurd (let b = both.0 in omega arith)))
-  ]
-]
-
-pub cleared_less : (set port : ℕ) → port < 16 → bit_at set port ≡ 1 → cleared set port < set
-cleared_less set port low has =
-    let le = and_le_l set (bit_not w16 (1 * 2 ^ port % 2 ^ 16)) in
-    elim (cases_eq (cleared set port) set) [
-      | inl same ↦ absurd (let z = bit_at_clear_same w16 set port low in let e : bit_at (cleared set port) port ≡ bit_at set port = ap (λ (n : ℕ). bit_at n port) same in omega arith)
-      | inr other ↦ omega arith
-    ]
-
--- no bit of the empty set
-pub no_bit : (set p : ℕ) → set ≡ 0 → bit_at set p ≡ 1 → ⊥
-no_bit set p none is = absurd (let z = bit_at-zero p in let e : bit_at set p ≡ bit_at 0 p = ap (λ (n : ℕ). bit_at n p) none in omega arith)
 
 -- the bit of a port that a set has
 pub bit_of : (set p : ℕ) → has_port set p ≡ true → bit_at set p ≡ 1

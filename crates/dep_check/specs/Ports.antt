@@ -1,11 +1,7 @@
 -- Sets of ports, as bits of a number. Only private functions cite this.
-use Rattle.std.specs.Prelude.{◌≡◌, ◌≢◌, ◌<◌, ◌↔◌, ℕ}
+use Rattle.std.specs.Prelude.{◌≡◌, ◌<◌, ℕ}
 use Rattle.std.specs.Int.{bit_at}
 
 -- a set has only ports, 0 to 12
 abbrev pub HasOnlyPorts : ℕ → Type 0
 HasOnlyPorts set = (p : ℕ) → bit_at set p ≡ 1 → p < 13
-
--- a set has what another one has but one port
-abbrev pub IsWithout : ℕ → ℕ → ℕ → Type 0
-IsWithout set port new = (p : ℕ) → ((bit_at new p ≡ 1) ↔ ((bit_at set p ≡ 1) × (p ≢ port)))

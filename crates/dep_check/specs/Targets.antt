@@ -6,7 +6,8 @@ use Rattle.dep_check.specs.declared.targets.ByTarget.{ByTarget}
 use Rattle.dep_check.specs.Tables.{AreExitsBelow}
 
 -- the table of a number, over all spots: the exits of the first rows towards it, if the topology has it
-pub record IsTableBelow (rows : List RowOf) (numbers : List ℕ) (end number : ℕ) (table : List ℕ) : Type 0 where
+pub record IsTableBelow (rows : List RowOf) (numbers : List ℕ) (end number : ℕ) (table : List ℕ)
+    : Type 0 where
   pub exits : Contains numbers number → AreExitsBelow rows (Some number) end table
   pub none : (Contains numbers number → ⊥) → length table ≡ 0
 

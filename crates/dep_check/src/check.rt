@@ -129,9 +129,10 @@ pub fn ranks_over(
 /// whose number is the switch's own or no switch's, count for cycles and illegal exits and not for
 /// pairs. A host's port and a link of a switch to itself are exits without a link.
 ///
-/// The time is linear in the rows and their exits: it looks a few times at each row and at each step from
-/// channel to channel, and once at each step of packets, which is by an exit of a row towards their number.
-/// Beside that each number of the topology takes a fixed time, and a shortest cycle one search.
+/// As the code is written, and by no clause, the time is linear in the rows and their exits: it looks a few
+/// times at each row and at each step from channel to channel, and once at each step of packets, which is by
+/// an exit of a row towards their number. Beside that each number of the topology takes a fixed time, and a
+/// least cycle one search from each channel that leads to its own tier, up to the least one on a cycle.
 ///
 /// It refuses, in this order, a cycle of channels, a pair that is not joined, and an illegal exit, each
 /// the least there is; and else gives the ranks of the channels.

@@ -89,7 +89,7 @@ fn cycle_from(
         channels.push(channel)?;
         level -= 1;
     }
-    Ok(Channels::new(channels))
+    Ok(Channels::of(channels))
 }
 
 /// The least cycle, where there is one. It looks at each step a few times, but for each channel that

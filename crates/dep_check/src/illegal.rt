@@ -11,13 +11,13 @@ ghost use Rattle.dep_check.specs.Worst.{is_at_spot, up_at};
 
 use crate::channel::Channel;
 use crate::exits::exits_at;
-use crate::ports::{lowest, without};
 use crate::spot::{SPOTS, place_of, spot_at};
 use crate::steps::Steps;
 use crate::wires::place_in;
 use an_base::limits::{LAST_PORT, MOST_NUMBER};
 use an_base::memory::OutOfMemory;
 use an_base::numbers::Numbers;
+use an_base::port_set::{lowest, without};
 use an_base::row::Row;
 use std::alloc::Global;
 use topo_graph::graph::Graph;

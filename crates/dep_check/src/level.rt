@@ -7,10 +7,10 @@ ghost use Rattle.dep_check.specs.Rounds.{AddsDue, AreDue, AreGoals, AreLevels, A
 ghost use Rattle.dep_check.specs.Rounds.{LeadsToOne};
 
 use crate::channel::Channel;
-use crate::ports::{lowest, without};
 use crate::spot::{SPOTS, place_of, spot_at};
 use crate::steps::Steps;
 use an_base::memory::OutOfMemory;
+use an_base::port_set::{lowest, without};
 use std::alloc::Global;
 
 /// When a spot without a level gets one.

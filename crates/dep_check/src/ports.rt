@@ -1,6 +1,6 @@
-ghost use Rattle.std.specs.Prelude.{◌≡◌, ◌≢◌, ◌<◌, ◌⊎◌, ◌↔◌, ℕ};
+ghost use Rattle.std.specs.Prelude.{◌≡◌, ◌<◌, ◌⊎◌, ◌↔◌, ℕ};
 ghost use Rattle.std.specs.Int.{bit_at};
-ghost use Rattle.dep_check.specs.Ports.{HasOnlyPorts, IsWithout};
+ghost use Rattle.dep_check.specs.Ports.{HasOnlyPorts};
 ghost use Rattle.dep_check.specs.Tables.{has_port};
 
 /// The set with the ports of another too: bit `p` of a set says that it has port `p`.
@@ -26,23 +26,4 @@ pub fn only_ports(set: u16) -> u16
     ensures same { (p : ℕ) → p < 13 → has_port result p ≡ has_port set p }
 {
     set & 8191
-}
-
-/// The lowest port of a set that is not empty.
-pub fn lowest(set: u16) -> u8
-    requires { set ≢ 0 }
-    ensures has { bit_at set result ≡ 1 }
-    ensures below { result < 16 }
-{
-    set.trailing_zeros() as u8
-}
-
-/// The set without one of its ports.
-pub fn without(set: u16, port: u8) -> u16
-    requires below { port < 16 }
-    requires has { bit_at set port ≡ 1 }
-    ensures ports { IsWithout set port result }
-    ensures less { result < set }
-{
-    set & !(1u16 << port)
 }

@@ -4,11 +4,11 @@ ghost use Rattle.dep_check.specs.Tiers.{AreTiers, HasPeer, HasPeerBy, RisesFrom,
 
 use crate::channel::Channel;
 use crate::deep::{leave_all, walk_deep};
-use crate::ports::{lowest, without};
 use crate::spot::{SPOTS, place_of, spot_at};
 use crate::steps::Steps;
 use crate::walk::{is_seen, none_seen};
 use an_base::memory::OutOfMemory;
+use an_base::port_set::{lowest, without};
 use std::alloc::Global;
 
 // The tier of a spot.

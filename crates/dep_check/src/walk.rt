@@ -5,10 +5,10 @@ ghost use Rattle.dep_check.specs.Search.{IsStep, IsStuck, Step};
 ghost use Rattle.dep_check.specs.Walks.{IsWalked, seen_at, Sees};
 
 use crate::channel::Channel;
-use crate::ports::{lowest, without};
 use crate::spot::{SPOTS, place_of};
 use crate::steps::Steps;
 use an_base::memory::OutOfMemory;
+use an_base::port_set::{lowest, without};
 use std::alloc::Global;
 
 /// No spot is seen.

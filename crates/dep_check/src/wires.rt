@@ -1,11 +1,11 @@
-ghost use Rattle.std.specs.Prelude.{◌≡◌, ◌<◌, length, IfOk, IfSome};
+ghost use Rattle.std.specs.Prelude.{◌≡◌, ◌+◌, ◌*◌, ◌<◌, length, IfOk, IfSome, OnOk};
 ghost use Rattle.an_base.specs.Numbers.{AreNumbers};
 ghost use Rattle.topo_graph.specs.Topology.{IsGraph};
 ghost use Rattle.dep_check.specs.Channels.{far_at, place_in};
-ghost use Rattle.dep_check.specs.Tables.{AreWires, IsSpot};
+ghost use Rattle.dep_check.specs.Tables.{AreWires, AreWiresBelow, IsSpot};
 
 use crate::channel::Channel;
-use crate::spot::{SPOTS, spot_at};
+use crate::spot::SPOTS;
 use an_base::memory::OutOfMemory;
 use an_base::numbers::Numbers;
 use std::alloc::Global;
@@ -28,6 +28,18 @@ pub fn place_in(numbers: &Numbers, number: u8) -> Option<u8>
     Some(place as u8)
 }
 
+// The number and the port at the far side of a port of the switch at a place, which has the number of the spot.
+fn far_from(graph: &Graph, numbers: &Numbers, place: Option<u8>, spot: Channel) -> Option<Channel>
+    requires same { length numbers.now ≡ length graph.now }
+    requires place { place ≡ place_in numbers.now spot.at }
+    ensures far { result ≡ far_at graph.now numbers.now spot }
+    ensures spot { IfSome result IsSpot }
+{
+    let (y, port) = graph.far_place(place?, spot.port)?;
+    let at = numbers.as_slice()[usize::from(y)];
+    Some(Channel { at, port })
+}
+
 /// The number and the port at the far side of a port of the switch that has a number, if a link is
 /// there.
 pub fn far_at(graph: &Graph, numbers: &Numbers, spot: Channel) -> Option<Channel>
@@ -35,10 +47,27 @@ pub fn far_at(graph: &Graph, numbers: &Numbers, spot: Channel) -> Option<Channel
     ensures far { result ≡ far_at graph.now numbers.now spot }
     ensures spot { IfSome result IsSpot }
 {
-    let x = place_in(numbers, spot.at)?;
-    let (y, port) = graph.far_place(x, spot.port)?;
-    let at = numbers.as_slice()[usize::from(y)];
-    Some(Channel { at, port })
+    far_from(graph, numbers, place_in(numbers, spot.at), spot)
+}
+
+// Adds the far sides of the spots of a number.
+fn push_wires(
+    wires: &mut Vec<Option<Channel>>,
+    graph: &Graph,
+    numbers: &Numbers,
+    at: u8,
+) -> Result<(), OutOfMemory>
+    requires same { length numbers.now ≡ length graph.now }
+    requires at { at < 127 }
+    requires below { AreWiresBelow (far_at graph.now numbers.now) (at * 13) wires.old.items }
+    ensures { OnOk result (AreWiresBelow (far_at graph.now numbers.now) ((at + 1) * 13) wires.new.items) }
+{
+    let place = place_in(numbers, at);
+    'ports: for port in 0..13u8 {
+        let spot = Channel { at, port };
+        wires.push(far_from(graph, numbers, place, spot))?;
+    }
+    Ok(())
 }
 
 /// The far side of each spot.
@@ -53,8 +82,8 @@ pub fn wires_of(
     let _count = graph.count();
     let _names = numbers.as_slice();
     let mut wires = Vec::with_capacity(alloc, usize::from(SPOTS))?;
-    'spots: for place in 0..SPOTS {
-        wires.push(far_at(graph, numbers, spot_at(place)))?;
+    'members: for at in 0..127u8 {
+        push_wires(&mut wires, graph, numbers, at)?;
     }
     Ok(wires)
 }

@@ -1,7 +1,8 @@
 -- What follows from what a life accepted in an epoch: its position and version, whether it is stable, its
 -- report, with what it finishes, and what it sends.
 
-use Rattle.std.specs.Prelude.{◌==◌, ◌&&◌, ◌||◌, ℕ, suc, List, [], ◌∷◌, ◌++◌, map, filter, reverse, Option, Some, None, is_some, Bool, false, not, if◌then◌else◌}
+use Rattle.std.specs.Prelude.{◌==◌, ◌&&◌, ◌||◌, ℕ, suc, List, [], ◌∷◌, ◌++◌, map, filter, reverse, Option}
+use Rattle.std.specs.Prelude.{Some, None, is_some, Bool, false, not, if◌then◌else◌}
 use Rattle.std.specs.List.{list_all, list_any, flat_map}
 use Rattle.std.specs.Ordering.{is_eq}
 use Rattle.an_base.specs.Values.{LifeId, Place, PeerAt, EntryOf, PosOf, TopoOf}
@@ -11,7 +12,8 @@ use Rattle.an_base.specs.declared.body.Body.TheVariants.{Pos, Answer, Stable, To
 use Rattle.tree_position.specs.Position.{OfferOf, position_of, self_root}
 use Rattle.topo_report.specs.Report.{report_of}
 use Rattle.switch_numbering.specs.Numbering.{numbering}
-use Rattle.epoch_core.specs.Log.{CardOf, OnPort, Log, on_port, last_pos, is_claimed, answered, last_report, fresh_report}
+use Rattle.epoch_core.specs.Log.{CardOf, OnPort, Log, on_port, last_pos, is_claimed, answered, last_report}
+use Rattle.epoch_core.specs.Log.{fresh_report}
 
 -- the offer on a port is root and level of the last position there
 abbrev pub offer_of : Option PosOf → Option OfferOf

@@ -1,6 +1,7 @@
 -- What one more body does to what is kept of an epoch, part by part: the private functions of the core.
 
-use Rattle.std.specs.Prelude.{◌≡◌, suc, ⊤, List, [], ◌∷◌, ◌++◌, map, Option, Some, None, Bool, not, if◌then◌else◌}
+use Rattle.std.specs.Prelude.{◌≡◌, suc, ⊤, List, [], ◌∷◌, ◌++◌, map, Option, Some, None, Bool, not}
+use Rattle.std.specs.Prelude.{if◌then◌else◌}
 use Rattle.std.specs.List.{flat_map}
 use Rattle.an_base.specs.Values.{Place, TopoOf, EntryOf}
 use Rattle.an_base.specs.declared.body.Body.{Body}
@@ -8,7 +9,8 @@ use Rattle.an_base.specs.declared.body.Body.TheVariants.{Pos, Answer, Stable, To
 use Rattle.tree_position.specs.Position.{position_of}
 use Rattle.epoch_core.specs.Log.{OnPort, Log}
 use Rattle.topo_report.specs.Report.{report_of}
-use Rattle.epoch_core.specs.Epoch.{position, version, is_same, is_stable, finish, or_else, topology_of, reported_on, claiming_among, passed_on, positions_of, sent_up, sent_down}
+use Rattle.epoch_core.specs.Epoch.{position, version, is_same, is_stable, finish, or_else, topology_of}
+use Rattle.epoch_core.specs.Epoch.{reported_on, claiming_among, passed_on, positions_of, sent_up, sent_down}
 use Rattle.epoch_core.specs.Heard.{HasHeard}
 use Rattle.epoch_core.specs.StandsFor.{CoreOf, StandsFor, offers_of}
 

@@ -14,7 +14,7 @@ ghost use Rattle.epoch_core.specs.Steps.{Settles, FinishesAsRoot, repositioned, 
 
 use crate::card::Card;
 use crate::ports::Ports;
-use crate::sends::Sends;
+use crate::sends::{Outgoing, Sends};
 use an_base::body::{AnswerBody, Body, PosBody, TopoBody};
 use an_base::entry::Entries;
 use an_base::life::Life;
@@ -79,9 +79,10 @@ fn tell_position(
     ensures { OnOk result (sends.new ≡ sends.old ++ positions_of version position.now links.now) }
 {
     'links: for link in links.as_slice() {
-        let to_parent = link.port() == position.port();
-        let told = PosBody::new(version, position.root(), position.level(), to_parent);
-        sends.push(link.port(), Body::Pos(told))?;
+        let port = link.port();
+        let to_parent = port == position.port();
+        let told = Body::Pos(PosBody::new(version, position.root(), position.level(), to_parent));
+        sends.push(Outgoing { port, body: told })?;
     }
     Ok(())
 }
@@ -199,7 +200,8 @@ impl Core {
         self.reposition(sends)?;
         let to_parent = port == self.position.port();
         let answer = AnswerBody::new(told.version(), to_parent);
-        sends.push(port, Body::Answer(answer))?;
+        let body = Body::Answer(answer);
+        sends.push(Outgoing { port, body })?;
         self.settle(sends)
     }
 
@@ -299,7 +301,9 @@ impl Core {
         ensures { (log : Log) → HasHeard self.now.ports log → OnOk result (sends.new ≡ sends.old ++ record { port = self.now.position.port; body = Stable (report_of self.now.card.me (entry_of self.now ∷ flat_map (reported_on log) (claiming_among self.now.card.links log))) } ∷ []) }
     {
         let entries = self.report()?;
-        sends.push(self.position.port(), Body::Stable { entries })
+        let port = self.position.port();
+        let body = Body::Stable { entries };
+        sends.push(Outgoing { port, body })
     }
 
     /// Finishes with the report and its numbering, if the life has not finished.

@@ -7,7 +7,7 @@ ghost use Rattle.epoch_core.specs.Log.{Log, on_port, last_report};
 ghost use Rattle.epoch_core.specs.Epoch.{names, is_settled, claiming_among, reported_on, passed_on};
 ghost use Rattle.epoch_core.specs.Heard.{HasHeard, heard_of};
 
-use crate::sends::Sends;
+use crate::sends::{Outgoing, Sends};
 use an_base::body::{AnswerBody, Body, PosBody, TopoBody};
 use an_base::entry::{Entries, Entry};
 use an_base::links::Links;
@@ -163,8 +163,10 @@ impl Ports {
         ensures { (log : Log) → HasHeard self.now log → OnOk result (sends.new ≡ sends.old ++ map (passed_on topo.now) (claiming_among links.now log)) }
     {
         'links: for link in links.as_slice() {
-            if self.heard_on(link.port()).is_claimed {
-                sends.push(link.port(), Body::Topo(topo.copy(alloc)?))?;
+            let port = link.port();
+            if self.heard_on(port).is_claimed {
+                let body = Body::Topo(topo.copy(alloc)?);
+                sends.push(Outgoing { port, body })?;
             }
         }
         Ok(())

@@ -9,7 +9,7 @@ use Rattle.std.proofs.lemmas.List.FromFn.{fill_by_all, get_or-map-range_with_len
 use Rattle.an_base.specs.Ports.{NoteOf}
 use Rattle.an_base.specs.Values.{LifeId, TopoOf}
 use Rattle.an_base.specs.declared.event.Event.{Event}
-use Rattle.an_base.specs.declared.event.Event.TheVariants.{Tick, Clock, Take, Handle, Load, Fail, Repair, Lose, Again, Swap, Noise, Send, Move, Restart}
+use Rattle.an_base.specs.declared.event.Event.TheVariants.{Tick, Clock, Take, Handle, Load, Move, Restart}
 use Rattle.net_script.specs.Commands.{IsCommandEvent, is_restart}
 use Rattle.net_script.specs.Scripts.{ScriptOf, IsScript}
 use Rattle.table_build.proofs.MadeTables.{only_table}

@@ -13,7 +13,7 @@ use Rattle.fabric_world.specs.Sound.{AllMayCome}
 use Rattle.fabric_world.specs.Turns.{Drives, LoadsOrNot}
 use Rattle.fabric_world.specs.World.{world_after}
 use Rattle.an_base.specs.declared.event.Event.{Event}
-use Rattle.an_base.specs.declared.event.Event.TheVariants.{Tick, Clock, Take, Handle, Load, Fail, Repair, Lose, Again, Swap, Noise, Send, Move, Restart}
+use Rattle.an_base.specs.declared.event.Event.TheVariants.{Tick, Clock, Take, Handle, Load, Move, Restart}
 use Rattle.net_script.specs.Commands.{is_restart}
 use Rattle.host_traffic.specs.Packets.{first_packet}
 use Rattle.fabric_state.specs.declared.ending.Ending.{Ending}

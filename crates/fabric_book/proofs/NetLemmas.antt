@@ -14,7 +14,7 @@ use Rattle.switch_core.specs.Switch.{SwitchOf}
 use Rattle.switch_core.specs.Kept.{KeptOf, StandsFor}
 use Rattle.fabric_state.specs.Fabric.{FabricOf, StationOf, clock_due_at, count, is_full_at, is_switch, load_due_at, station, held_bytes, vacant}
 use Rattle.fabric_state.specs.Lawful.{is_command, is_lawful}
-use Rattle.fabric_world.specs.World.{WorldOf, begun, first_station, start_of, world_after}
+use Rattle.fabric_world.specs.World.{begun, first_station, start_of, world_after}
 use Rattle.net_script.specs.Commands.{is_restart}
 use Rattle.fabric_world.specs.Histories.{HistoryOf, IsLawful, fabric_of, owner_of, with_event, world_of}
 use Rattle.fabric_book.specs.Kept.{IsPlainCommand, with_events as more_events}
@@ -22,7 +22,7 @@ use Rattle.fabric_book.specs.Nets.{AreStarted, HasFrame, IsNetKept, IsSameOrNext
 use Rattle.fabric_book.proofs.DriveLemmas.{driver_owns, plain_is}
 use Rattle.fabric_world.proofs.CountLemmas.{world_counts}
 use Rattle.fabric_book.proofs.WorldFacts.{fits_after, world_script, ready_is, station_stays, switch_stays, hand_stays}
-use Rattle.fabric_book.proofs.BookLemmas.{is_lawful-more, restart_below, take_below, world_more}
+use Rattle.fabric_book.proofs.BookLemmas.{is_lawful-more, restart_below, take_below}
 
 -- what a switch is started with stays
 start_stays : (script : ScriptOf) (h more : List Event) (place : ℕ) (x y : SwitchOf) → x.life.boot ≡ y.life.boot → start_of (world_after script more).fabric.script place x.life.boot ≡ start_of (world_after script h).fabric.script place y.life.boot

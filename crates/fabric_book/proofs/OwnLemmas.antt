@@ -21,7 +21,7 @@ use Rattle.fabric_state.specs.Starts.{life_of, next_life_at}
 use Rattle.fabric_state.proofs.ReadyLemmas.{empty_at}
 use Rattle.fabric_world.specs.World.{WorldOf, effect, handled, loads_with, next_life, start_of, table_for, world_after}
 use Rattle.fabric_book.specs.Nets.{HasFrame, IsStarted, IsSwitchKept, power_of, start_with}
-use Rattle.fabric_book.proofs.WorldFacts.{world_script, fits_after, place_sound, event_counts, handled_life}
+use Rattle.fabric_book.proofs.WorldFacts.{world_script, fits_after, place_sound, handled_life}
 use Rattle.fabric_book.proofs.BookLemmas.{world_more}
 
 pub at_same : (s : ℕ) (x : SwitchOf) (switches : ℕ → SwitchOf) → at_port s x switches s ≡ x

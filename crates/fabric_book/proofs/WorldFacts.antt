@@ -5,7 +5,7 @@ use Rattle.std.specs.Option.{option_map_or}
 use Rattle.std.proofs.Common.{sym, ◌∙◌, ap, arith, true≢false}
 use Rattle.an_base.specs.Ports.{NoteOf}
 use Rattle.an_base.specs.declared.event.Event.{Event}
-use Rattle.an_base.specs.declared.event.Event.TheVariants.{Tick, Clock, Take, Handle, Load, Fail, Repair, Lose, Again, Swap, Noise, Send, Move, Restart}
+use Rattle.an_base.specs.declared.event.Event.TheVariants.{Handle, Load}
 use Rattle.net_script.specs.Commands.{IsCommandEvent}
 use Rattle.net_script.specs.Scripts.{ScriptOf, IsScript, restarts_of}
 use Rattle.wire_set.specs.WireState.{hand_of}

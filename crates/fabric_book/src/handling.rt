@@ -22,6 +22,7 @@ use crate::telling::{tell_finish, tell_losses, tell_noise, tell_port, tell_ports
 use an_base::memory::OutOfMemory;
 use an_base::port::Note;
 use fabric_state::hand::Hand;
+use fabric_state::station::write_note;
 use fabric_world::line::Line;
 use switch_core::out::Out;
 use switch_core::switch::{ClockRefusal, Switch};
@@ -93,7 +94,7 @@ fn show(
 {
     match hand {
         Hand::Frame { port } => {
-            *note = before.copy();
+            write_note(note, before);
             switch.show_port(port, note);
             let old = before.ports.get(port);
             let new = note.ports.get(port);

@@ -315,7 +315,10 @@ impl Net {
         lines.push(hop_line(packet, s, epoch, entry, hop))
     }
 
-    // A switch begins its next life.
+    // A switch begins its next life. It stands apart from `make`, which would else have room for a new switch at each
+    // call, though a restart is rare.
+    #[cold]
+    #[inline(never)]
     fn restart(&mut self, s: u8, lines: &mut Lines) -> Result<(), OutOfMemory>
         requires here { self.old.lost ≡ false }
         requires lawful { is_lawful (fabric_of (history_of self.old)) (events.Restart s) ≡ true }

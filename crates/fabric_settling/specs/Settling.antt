@@ -56,8 +56,8 @@ AreBodiesThrough script = (history : List Event) → IsLawful script history →
 abbrev pub last_told : ScriptOf → List Event → ℕ
 last_told script history = last_disturbance is_told script history
 
--- At a moment of a history, 512 ticks after that tick, the network agrees, and no state and no peer of a
--- port is another at the end of the history.
+-- At a moment of a history, more than 512 ticks after that tick, the network agrees, and no state and no
+-- peer of a port is another at the end of the history.
 pub record AgreesAt (script : ScriptOf) (before later : List Event) : Type 0 where
   pub agree : agrees (world_after script before).fabric ≡ true
   pub stay : ports_shown (world_after script (before ++ later)).fabric

@@ -69,8 +69,8 @@ pub fn each_link_is_cut()
 {}
 
 /// Without a pace, 259 ticks after each disturbance the network agrees, no switch is spent, and no event
-/// but a disturbance changes a port. So 512 ticks after the last command done or told loss it agrees for
-/// good, where nothing was lost for want of room.
+/// but a disturbance changes a port. So more than 512 ticks after the last command done or told loss it
+/// agrees for good, where nothing was lost for want of room.
 pub fn the_ports_are_final()
     ensures fixed { (script : ScriptOf) → IsScript script → script.pace ≡ None → ArePortsFinal script }
     ensures settle { (script : ScriptOf) → IsScript script → (history : List Event) → IsLawful script history

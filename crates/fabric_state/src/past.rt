@@ -3,13 +3,16 @@ ghost use Rattle.std.specs.Prelude.{◌≡◌, ◌+◌, ◌<◌, ◌^◌};
 /// How many commands are done, and how many events there were: since the last tick, and in all.
 #[derive(Clone, Copy)]
 pub struct Past {
+    /// How many commands are done.
     pub done: usize,
+    /// How many events there were since the last tick.
     pub since: u32,
+    /// How many events there were in all.
     pub events: u32,
 }
 
 impl Past {
-    // At the beginning.
+    /// At the beginning.
     pub fn begin() -> Self
         ensures { result ≡ record { done = 0; since = 0; events = 0 } }
     {
@@ -20,7 +23,7 @@ impl Past {
         }
     }
 
-    // A tick has come.
+    /// A tick has come.
     pub fn tick(&mut self)
         requires { self.old.events < 2 ^ 31 }
         ensures { self.new ≡ record self.old { since = 0; events = self.old.events + 1 } }
@@ -29,7 +32,7 @@ impl Past {
         self.events += 1;
     }
 
-    // Another event has come.
+    /// Another event has come.
     pub fn event(&mut self)
         requires events { self.old.events < 2 ^ 31 }
         requires since { self.old.since < 2 ^ 31 }
@@ -39,7 +42,7 @@ impl Past {
         self.events += 1;
     }
 
-    // A command is done, which is an event.
+    /// A command is done, which is an event.
     pub fn command(&mut self)
         requires events { self.old.events < 2 ^ 31 }
         requires since { self.old.since < 2 ^ 31 }

@@ -9,8 +9,11 @@ use wire_set::wires::WireSet;
 /// What a hop reads of a fabric: the script, the links, and the places of the switches.
 #[derive(Clone, Copy)]
 pub struct Seen<'a> {
+    /// The script, as far as a hop reads it.
     pub plan: &'a Plan,
+    /// The links.
     pub wires: &'a WireSet,
+    /// The places of the switches.
     pub stations: &'a Stations,
 }
 

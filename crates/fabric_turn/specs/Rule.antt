@@ -88,14 +88,14 @@ module _ {E : Type 0} (drawn served : ℕ) (log : List E) (holder : ℕ → ℕ)
 module _ {S E D : Type 0} (history : S → List E) (start_of : S → D) (owner : E → ℕ) (callers : ℕ) (start : D)
   where
     -- the numbers of view i are its alone: its own, those from the next on that it may give, and ended ones
-    pub record HasPlaces (log : List E) (place : ℕ → ℕ × ℕ) (i number next : ℕ) (ended : List (Ended E)) : Type 0
-      where
-        pub limit : next ≤ callers
-        pub acts : place number ≡ (i, acting)
-        pub spares : (n : ℕ) → next ≤ n → n < callers → place n ≡ (i, spare)
-        pub ends :
-            (k : ℕ) (x : Ended E) → get_elem? ended k ≡ some x
-            → (place x.number ≡ (i, over)) × (own_entries owner log x.number ≡ x.mine)
+    pub record HasPlaces (log : List E) (place : ℕ → ℕ × ℕ) (i number next : ℕ) (ended : List (Ended E))
+        : Type 0 where
+      pub limit : next ≤ callers
+      pub acts : place number ≡ (i, acting)
+      pub spares : (n : ℕ) → next ≤ n → n < callers → place n ≡ (i, spare)
+      pub ends :
+          (k : ℕ) (x : Ended E) → get_elem? ended k ≡ some x
+          → (place x.number ≡ (i, over)) × (own_entries owner log x.number ≡ x.mine)
 
     -- its caller's entries were all seen, and what was seen, and what a seat had that was joined to it, are
     -- beginnings of the history
@@ -145,7 +145,8 @@ module _ {S E D : Type 0} (history : S → List E) (start_of : S → D) (owner :
       -- each number is some view's, and some view has seen all of the history
       pub covers :
           (n : ℕ) → n < callers
-          → (i : ℕ) × (v : View E D) × (get_elem? s.views i ≡ some v) × (is_live v.stage ≡ true) × HasNumber v n
+          → (i : ℕ) × (v : View E D) × (get_elem? s.views i ≡ some v)
+          × (is_live v.stage ≡ true) × HasNumber v n
       pub latest :
           (i : ℕ) × (v : View E D) × (get_elem? s.views i ≡ some v) × (is_live v.stage ≡ true)
           × ((v.seen ≡ log) ⊎ (v.heard ≡ log))

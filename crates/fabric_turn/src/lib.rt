@@ -19,3 +19,4 @@ pub use seat::Seat;
 pub use staged::Staged;
 pub use turnstile::Turnstile;
 pub use view::{Ended, Stage, View};
+pub use waiting::Patience;

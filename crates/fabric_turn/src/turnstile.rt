@@ -56,8 +56,8 @@ impl<B: Staged> Turnstile<B> {
         Turnstile::with_patience(alloc, book, callers, USUAL)
     }
 
-    // The same with callers that look so often before they sleep.
-    pub(crate) fn with_patience(
+    /// The same, with callers that look so often before they sleep. No clause says how a caller waits.
+    pub fn with_patience(
         alloc: Global,
         book: B,
         callers: u32,

@@ -31,7 +31,7 @@ pub const USUAL: Patience = Patience {
 impl Patience {
     /// What a caller does that looked in vain so often before: it looks again at once for a while,
     /// then gives way for a while, and then sleeps.
-    pub fn pause_after(self, looks: u32) -> Pause
+    pub(crate) fn pause_after(self, looks: u32) -> Pause
         ensures { result ≡ (if nat_lt looks self.spins then Spin
             else if nat_lt looks self.looks then Yield else Sleep) }
     {

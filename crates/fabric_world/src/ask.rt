@@ -1,4 +1,5 @@
-//! What may be asked of a book, and what it replies.
+//! What may be asked of a book, and what it replies, as definitions name it; calls hand it over in boxes
+//! (`fabric_book::asking`).
 
 use an_base::port::Note;
 use fabric_state::work::{Drive, Work};

@@ -4,8 +4,8 @@
 //!
 //! It has no code that runs but types. It stands on `switch_core`, whose definitions say what a switch does
 //! with a clock, a frame and a load, on `wire_set` for links and frames, `net_script` for what a network is
-//! begun with, and `table_build` for tables. `specs/World` has the world and its step, `specs/Lawful` and
-//! `specs/Effects` one line for each event.
+//! begun with, and `table_build` for tables. `specs/World` has the world and its step; `specs/Lawful` and
+//! `specs/Effects` of `fabric_state` have one line for each event.
 //!
 //! Its laws: after any events the world keeps its invariant, and each switch is sound; where no end has
 //! come some event may come next; what a turn of a worker or of the driver appends may come next, and

@@ -1,17 +1,17 @@
 -- Sets of ports as numbers, and the rising lists of their ports.
-use Rattle.std.proofs.Common.{◌≡◌, ◌≢◌, ◌∙◌, sym, ap, subst, refl, ℕ, ◌+◌, ◌*◌, ◌%◌, ◌^◌, ◌<◌, List, [], ◌∷◌, ◌++◌, arith, length, get_or, take, inl, inr, ◌==◌}
+use Rattle.std.proofs.Common.{◌≡◌, ◌≢◌, ◌∙◌, sym, ap, subst, refl, ℕ, ◌+◌, ◌*◌, ◌%◌, ◌^◌, ◌<◌, ◌≤◌, List, [], ◌∷◌, ◌++◌, arith, length, get_or, take, inl, inr, ◌==◌}
 use Rattle.std.specs.Prelude.{Contains, bit_and}
 use Rattle.std.specs.Int.{bit_at, w16, trailing_zeros}
 use Rattle.std.specs.Int.RustNames.{bit_or}
 use Rattle.std.specs.List.{range_with_len}
 use Rattle.std.proofs.lemmas.Bool.{cases_eq, cases_lt, eqb-true, eq-eqb}
 use Rattle.std.proofs.lemmas.List.{take_more}
-use Rattle.std.proofs.lemmas.List.Elements.{Contains-append_left, Contains-push, Contains-push_cases}
+use Rattle.std.proofs.lemmas.List.Elements.{All-contains, Contains-append_left, Contains-push, Contains-push_cases}
 use Rattle.std.proofs.lemmas.Nat.Bits.{bit_at_and, bit_at-zero, bit_at-lt, bit_at_set_same, bit_at_set_other, bit_at-trailing_zeros, same_from_bits}
 use Rattle.an_base.specs.Rows.{ArePorts, ExitsRise}
+use Rattle.an_base.proofs.RangeLemmas.{Contains-kept, in_range, kept_passes, kept_range}
 use Rattle.fcfc_router.specs.Router.{CanGo, Gets, IsLowest}
 use Rattle.fcfc_router.specs.Shown.{ports_of}
-use Rattle.fcfc_router.proofs.RangeLemmas.{filter_range, in_range, kept, passed}
 
 -- the bits of a set are these ports
 pub record HasBits (set : ℕ) (ports : List ℕ) : Type 0 where
@@ -41,7 +41,9 @@ one_more_bit ports i set low small bits = rw (take_more ports i 0 low) (record {
 
 -- the ports of a set are the rising list that it was made of
 pub ports_of_is : (set : ℕ) (ports : List ℕ) → ArePorts ports → ExitsRise ports → HasBits set ports → ports_of set ≡ ports
-ports_of_is set ports are rise bits = filter_range (λ port. bit_at set port == 1) 16 0 ports rise (λ k d low. let h = are k d low in (omega arith, omega arith)) (λ p high has. eq-eqb (bit_at set p) 1 (bits.named p has)) (λ p high passes. bits.only p (eqb-true (bit_at set p) 1 passes))
+ports_of_is set ports are rise bits = kept_range (λ port. bit_at set port == 1) 16 0 ports rise
+    (λ p has. let h = All-contains (λ port. (1 ≤ port) × (port ≤ 12)) ports p are has in (omega arith, omega arith, eq-eqb (bit_at set p) 1 (bits.named p has)))
+    (λ p least most passes. bits.only p (eqb-true (bit_at set p) 1 passes))
 
 pub lowest_is : (set : ℕ) → set ≢ 0 → set < 2 ^ 16 → IsLowest set (trailing_zeros w16 set) × (trailing_zeros w16 set < 16)
 lowest_is set some fits =
@@ -67,12 +69,10 @@ bit_of_both : (set free port : ℕ) → bit_at set port ≡ 1 → bit_at free po
 bit_of_both set free port first second = let e = bit_at_and set free port in omega arith
 
 bit_of : (set port : ℕ) → Contains (ports_of set) port → bit_at set port ≡ 1
-bit_of set port has = eqb-true (bit_at set port) 1 (passed (λ p. bit_at set p == 1) (range_with_len 0 16) port has)
+bit_of set port has = eqb-true (bit_at set port) 1 (kept_passes (λ p. bit_at set p == 1) (range_with_len 0 16) port has)
 
 has_bit : (set port : ℕ) → port < 16 → bit_at set port ≡ 1 → Contains (ports_of set) port
-has_bit set port low is =
-    let place = in_range 16 0 port (omega arith) (omega arith) in
-    kept (λ p. bit_at set p == 1) (range_with_len 0 16) place.0 port place.1 place.2 (eq-eqb (bit_at set port) 1 is)
+has_bit set port low is = Contains-kept (λ p. bit_at set p == 1) (range_with_len 0 16) port (in_range 16 0 port (omega arith) (omega arith)) (eq-eqb (bit_at set port) 1 is)
 
 -- a request that shares no port with the free ones cannot go
 pub blocked : (set free packet : ℕ) → bit_and set free ≡ 0 → CanGo free (record { packet = packet; ports = ports_of set }) → ⊥

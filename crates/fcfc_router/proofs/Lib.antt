@@ -1,4 +1,3 @@
-pub mod RangeLemmas
 pub mod BitLemmas
 pub mod CountLaws
 pub mod OrderLaws

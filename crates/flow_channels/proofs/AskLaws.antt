@@ -1,12 +1,11 @@
 -- Who may ask: where a flow is sound once a packet has asked, it waited nowhere before, and has exits.
-use Rattle.std.proofs.Common.{◌≡◌, ◌≢◌, ◌∙◌, sym, ap, subst, refl, ℕ, zero, suc, ◌+◌, ◌<◌, ◌≤◌, List, [], ◌∷◌, ◌++◌, Some, Bool, arith, length, get_or, inl, inr}
-use Rattle.std.specs.Prelude.{All, Contains, ◌⊎◌, filter}
-use Rattle.std.specs.List.{range_with_len}
-use Rattle.std.proofs.lemmas.Bool.{cases_Bool, cases_eq}
+use Rattle.std.proofs.Common.{◌≡◌, ◌≢◌, ◌∙◌, sym, ap, subst, refl, ℕ, ◌+◌, ◌<◌, ◌≤◌, List, [], ◌∷◌, ◌++◌, Some, arith, length, get_or, inl, inr}
+use Rattle.std.specs.Prelude.{All, Contains, ◌⊎◌}
+use Rattle.std.proofs.lemmas.Bool.{cases_eq}
 use Rattle.std.proofs.lemmas.List.{get_or_append_left, get_or_push, length_push, length-set}
 use Rattle.std.proofs.lemmas.List.Elements.{All-head, Contains-get_or}
 use Rattle.std.proofs.lemmas.Option.{same_Some}
-use Rattle.an_base.specs.Rows.{ArePorts, ExitsRise}
+use Rattle.an_base.specs.Rows.{ArePorts}
 use Rattle.dep_check.specs.declared.channel.Channel.{Channel}
 use Rattle.dep_check.specs.Packets.{AllAreJoined}
 use Rattle.dep_check.proofs.SpotLemmas.{option_cases}
@@ -17,30 +16,6 @@ use Rattle.flow_channels.proofs.ExitLemmas.{exit_has, has_way_on, no_gap}
 use Rattle.flow_channels.proofs.FewLaws.{few_waiting}
 use Rattle.flow_channels.proofs.SoundLaws.{brought, near, not_start, starts_there}
 use Rattle.flow_channels.proofs.StateLemmas.{waiting_here, waiting_there}
-
--- what a test keeps of a range rises
-first_above : (a : ℕ) (xs : List ℕ) → ((k d : ℕ) → k < length xs → a + 1 ≤ get_or xs k d) → (k d : ℕ) → k < length (a ∷ xs) → a ≤ get_or (a ∷ xs) k d
-first_above a xs rest zero d low = omega arith
-first_above a xs rest (suc k) d low = let high = rest k d (omega arith) in omega arith
-
-above : (p : ℕ → Bool) (n a k d : ℕ) → k < length (filter p (range_with_len a n)) → a ≤ get_or (filter p (range_with_len a n)) k d
-above p zero a k d low = absurd (omega arith)
-above p (suc n) a k d low = elim (cases_Bool (p a)) [
-  | inl passes ↦ rw passes (first_above a (filter p (range_with_len (a + 1) n)) (λ j e below. above p n (a + 1) j e below) k d (rw passes at low))
-  | inr fails ↦ rw fails (let rest = above p n (a + 1) k d (rw fails at low) in omega arith)
-]
-
-first_rises : (a : ℕ) (xs : List ℕ) → ((k d : ℕ) → k < length xs → a + 1 ≤ get_or xs k d) → ExitsRise xs → (i j d : ℕ) → i < j → j < length (a ∷ xs) → get_or (a ∷ xs) i d < get_or (a ∷ xs) j d
-first_rises a xs high rise i zero d less low = absurd (omega arith)
-first_rises a xs high rise zero (suc j) d less low = let h = high j d (omega arith) in omega arith
-first_rises a xs high rise (suc i) (suc j) d less low = rise i j d (omega arith) (omega arith)
-
-pub range_rises : (p : ℕ → Bool) (n a : ℕ) → ExitsRise (filter p (range_with_len a n))
-range_rises p zero a = λ i j d less low. absurd (omega arith)
-range_rises p (suc n) a = elim (cases_Bool (p a)) [
-  | inl passes ↦ rw passes (first_rises a (filter p (range_with_len (a + 1) n)) (λ j e below. above p n (a + 1) j e below) (range_rises p n (a + 1)))
-  | inr fails ↦ rw fails (range_rises p n (a + 1))
-]
 
 module _ (layout : LayoutOf) (wired : IsWired layout) (joined : AllAreJoined layout.far layout.numbers layout.rows) (known : List ℕ) where
   -- one that waits at two switches waits at one

@@ -13,6 +13,7 @@ use Rattle.dep_check.proofs.SpotLemmas.{place_low}
 use Rattle.fcfc_router.specs.Router.{RequestOf}
 use Rattle.fcfc_router.specs.Shown.{ports_of, RouterOf}
 use Rattle.an_base.specs.Rows.{ArePorts, ExitsRise}
+use Rattle.an_base.proofs.RangeLemmas.{range_rises}
 use Rattle.fcfc_router.specs.Calls.{MayAsk}
 use Rattle.flow_channels.specs.declared.board.Board.{Board}
 use Rattle.flow_channels.specs.declared.board.Packet.{Packet}
@@ -22,7 +23,7 @@ use Rattle.flow_channels.specs.Flows.{FlowOf, PacketOf, WaitOf, asks, asks_at, e
 use Rattle.std.specs.List.{list_any}
 use Rattle.flow_channels.specs.Layout.{LayoutOf, exits_of, has_exit, spot}
 use Rattle.flow_channels.specs.Queue.{QueueOf}
-use Rattle.flow_channels.proofs.AskLaws.{exits_are_ports, has_exits, range_rises, room_left, waits_nowhere}
+use Rattle.flow_channels.proofs.AskLaws.{exits_are_ports, has_exits, room_left, waits_nowhere}
 
 abbrev pub made : Vec Packet Global → Vec ℕ Global → Vec QueueOf Global → Vec RouterOf Global → Board
 made p e q r = record { packets = p; entries = e; queues = q; routers = r }

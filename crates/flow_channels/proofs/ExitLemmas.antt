@@ -7,11 +7,11 @@ use Rattle.std.proofs.lemmas.List.{get_or_default}
 use Rattle.std.proofs.lemmas.Option.{same_Some}
 use Rattle.std.proofs.lemmas.List.Folds.{Any-from_list_any, list_any-from_Any}
 use Rattle.an_base.specs.Rows.{RowOf}
+use Rattle.an_base.proofs.RangeLemmas.{Contains-kept, in_range, kept_passes}
 use Rattle.dep_check.specs.declared.channel.Channel.{Channel}
 use Rattle.dep_check.specs.Channels.{HasExit}
 use Rattle.dep_check.specs.Packets.{AllAreJoined, IsGap}
 use Rattle.dep_check.proofs.SpotLemmas.{option_cases}
-use Rattle.fcfc_router.proofs.RangeLemmas.{in_range, kept, passed}
 use Rattle.flow_channels.specs.Layout.{LayoutOf, spot, has_exit, exits_of, IsWired}
 use Rattle.flow_channels.specs.Sound.{IsOnWay}
 
@@ -52,15 +52,14 @@ row_test came to exit row at entry target has =
 
 pub exit_has : (layout : LayoutOf) (came : Channel) (to exit : ℕ) → Contains (exits_of layout came to) exit → HasExit layout.rows came.at came.port to exit
 exit_has layout came to exit named =
-    let test = passed (λ p. list_any (has_exit came to p) layout.rows) (range_with_len 0 13) exit named in
+    let test = kept_passes (λ p. list_any (has_exit came to p) layout.rows) (range_with_len 0 13) exit named in
     let some = Any-from_list_any (has_exit came to exit) layout.rows test in
     (some.0, some.1, some.2, some.3, row_has came to exit some.1 some.4)
 
 pub has_named : (layout : LayoutOf) (came : Channel) (to exit : ℕ) → exit < 13 → HasExit layout.rows came.at came.port to exit → Contains (exits_of layout came to) exit
 has_named layout came to exit low (k, row, below, is, has) =
-    let range = in_range 13 0 exit (omega arith) (omega arith) in
     let test = list_any-from_Any (has_exit came to exit) layout.rows (k, row, below, is, row_test came to exit row has.0 has.1 has.2 has.3) in
-    kept (λ p. list_any (has_exit came to p) layout.rows) (range_with_len 0 13) range.0 exit range.1 range.2 test
+    Contains-kept (λ p. list_any (has_exit came to p) layout.rows) (range_with_len 0 13) exit (in_range 13 0 exit (omega arith) (omega arith)) test
 
 -- an exit with a link
 pub record Exit (layout : LayoutOf) (came : Channel) (to : ℕ) : Type 0 where

@@ -1,20 +1,16 @@
 -- The sets of exits, made row by row.
 use Rattle.std.proofs.Common.{◌≡◌, ◌∙◌, sym, ap, subst, refl, ℕ, zero, suc, ◌+◌, ◌*◌, ◌<◌, List, [], ◌∷◌, ◌++◌, arith, length, get_or, set, take, inl, inr, ◌↔◌, Bool, ◌==◌}
-use Rattle.std.specs.Prelude.{All, Contains, filter, replicate, ◌⊎◌}
+use Rattle.std.specs.Prelude.{All, Contains, replicate, ◌⊎◌}
 use Rattle.std.specs.List.{list_any, range_with_len}
-use Rattle.std.proofs.lemmas.List.FromFn.{get_or-range_with_len, length-range_with_len}
 use Rattle.std.specs.Int.{bit_at}
 use Rattle.std.proofs.lemmas.Bool.{cases_eq, eq-eqb, eqb-true}
 use Rattle.std.proofs.lemmas.List.{get_or-replicate, get_or-set_same, get_or-set_other, get_or_append_left, get_or_default, get_or_push, length-set, length_push, take_more}
 use Rattle.std.proofs.lemmas.Nat.Bits.{bit_at-zero}
-use Rattle.std.proofs.lemmas.List.Elements.{All-filter}
-use Rattle.an_base.specs.Rows.{RowOf}
-use Rattle.an_base.specs.Rows.{ArePorts}
+use Rattle.an_base.specs.Rows.{ArePorts, RowOf}
 use Rattle.an_base.specs.Values.{EntryOf}
+use Rattle.an_base.proofs.RangeLemmas.{kept_member, kept_range, range_rises, within_range}
 use Rattle.fcfc_router.specs.Shown.{ports_of}
-use Rattle.fcfc_router.proofs.RangeLemmas.{filter_range}
 use Rattle.flow_channels.specs.Layout.{exits_of, has_exit, layout_of}
-use Rattle.flow_channels.proofs.AskLaws.{range_rises}
 use Rattle.flow_channels.proofs.ExitLemmas.{exit_has, has_named}
 use Rattle.dep_check.specs.declared.channel.Channel.{Channel}
 use Rattle.dep_check.specs.Channels.{HasExit}
@@ -92,20 +88,18 @@ more_sets rows i row old new low is sets added = rw (take_more rows i row low) (
               inl (known (k, r, before, sym (get_or_append_left (take i rows) (get_or rows i row ∷ []) r k before) ∙ reads, has)))
         ]
 
--- what a range keeps is in the range
-kept_low : (p : ℕ → Bool) (n a k d : ℕ) → k < length (filter p (range_with_len a n)) → get_or (filter p (range_with_len a n)) k d < a + n
-kept_low p n a k d low = All-filter p (λ (x : ℕ). x < a + n) (range_with_len a n) (λ j e below. let size = length-range_with_len a n in let is = get_or-range_with_len a n j e (omega arith) in omega arith) k d low
-
 -- the ports of a set are the exits of the rows
 pub exits_are_set : (es : List EntryOf) (numbers : List ℕ) (rows : List RowOf) (most : ℕ) (sets : List ℕ) → AreSets rows sets → All (λ row. ArePorts row.exits) rows → (came : Channel) (to : ℕ) → IsSpot came → to < 127 → ports_of (exit_set sets came to) ≡ exits_of (layout_of es numbers rows most) came to
 exits_are_set es numbers rows most sets are ports came to spot low =
     let layout = layout_of es numbers rows most in
     let exits = exits_of layout came to in
-    filter_range (λ port. bit_at (exit_set sets came to) port == 1) 16 0 exits
-    (range_rises (λ exit. list_any (has_exit came to exit) rows) 13 0)
-    (λ k d below. let inside = kept_low (λ exit. list_any (has_exit came to exit) rows) 13 0 k d below in (omega arith, omega arith))
-    (λ p high has. eq-eqb (bit_at (exit_set sets came to) p) 1 ((are came to p spot low).1 (exit_has layout came to p has)))
-    (λ p high passes.
+    let test : ℕ → Bool = λ exit. list_any (has_exit came to exit) rows in
+    kept_range (λ port. bit_at (exit_set sets came to) port == 1) 16 0 exits (range_rises test 13 0)
+    (λ p has.
+    let inside = within_range 13 0 p (kept_member test (range_with_len 0 13) p has) in
+    let named = (are came to p spot low).1 (exit_has layout came to p has) in
+    (omega arith, omega arith, eq-eqb (bit_at (exit_set sets came to) p) 1 named))
+    (λ p least most passes.
     let exit = (are came to p spot low).0 (eqb-true (bit_at (exit_set sets came to) p) 1 passes) in
     has_named layout came to p (exit_low p exit) exit)
   where

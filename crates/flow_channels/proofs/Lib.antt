@@ -15,7 +15,6 @@ pub mod BoardLemmas
 pub mod ComeLemmas
 pub mod TurnLemmas
 pub mod DepartLemmas
-pub mod MarkLemmas
 pub mod SpotMarkLemmas
 pub mod AheadLemmas
 pub mod WatchLemmas

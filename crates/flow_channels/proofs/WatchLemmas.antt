@@ -269,10 +269,10 @@ nothing_arrives tables = record {
   only = λ place has. absurd (nothing_in 2048 place has);
 }
 
-pub nobody_awake : (tables : Tables) → AreAwake tables empty_flow (replicate 128 0)
+pub nobody_awake : (tables : Tables) → AreAwake tables empty_flow (replicate 2048 0)
 nobody_awake tables = record {
-  count = length-replicate {A = ℕ} 128 0;
-  low = λ at has. absurd (nothing_in 128 at has);
+  count = length-replicate {A = ℕ} 2048 0;
+  low = λ at has. absurd (nothing_in 2048 at has);
   others = λ at low out. subst (λ (ws : List WaitOf). All (λ wait. All (λ port. HasRoom (ways tables) empty_flow (spot at port) → ⊥) (ports_of (exit_set tables.exits.sets.items (spot at wait.entry) wait.packet.to))) ws) (sym (get_or-replicate 127 at [] [] low)) (λ k d inside. absurd (omega arith));
 }
 

@@ -1,13 +1,9 @@
--- Sets of numbers and of places, by their bits.
+-- Sets of numbers, by their bits.
 use Rattle.std.specs.Prelude.{◌≡◌, ◌≢◌, ◌<◌, ◌/◌, ◌%◌, ◌↔◌, ℕ, List, length, map, slice_index}
 use Rattle.std.specs.List.{range_with_len}
 use Rattle.std.specs.Int.{bit_at}
 
--- for each number up to 127 the bit that says whether it is in
-abbrev pub marks_of : ℕ → List ℕ
-marks_of bits = map (bit_at bits) (range_with_len 0 128)
-
--- for each place below 2,048 its bit, among those of its part of 64 places
+-- for each number below 2,048 its bit, among those of its part of 64 places
 abbrev pub spot_marks : List ℕ → List ℕ
 spot_marks parts =
     map (λ place. bit_at (slice_index parts (place / 64)) (place % 64)) (range_with_len 0 2048)

@@ -33,7 +33,7 @@ pub record AreArriving (tables : Tables) (flow : FlowOf) (sets : List ℕ) : Typ
 
 -- at least the switches at which somebody can go
 pub record AreAwake (tables : Tables) (flow : FlowOf) (sets : List ℕ) : Type 0 where
-  pub count : length sets ≡ 128
+  pub count : length sets ≡ 2048
   pub low : (at : ℕ) → IsIn sets at → at < 127
   pub others : (at : ℕ) → at < 127 → (IsIn sets at → ⊥) → IsIdle tables flow at
 

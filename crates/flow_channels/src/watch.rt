@@ -10,7 +10,7 @@ ghost use Rattle.flow_channels.specs.Watch.{AreArriving, AreFreePorts, HasPortIf
 
 use crate::board::{Ahead, Arrival, Board, Departure, Packet};
 use crate::exits::NUMBERS;
-use crate::marks::{Marks, SpotMarks};
+use crate::marks::SpotMarks;
 use crate::tables::Tables;
 use an_base::memory::OutOfMemory;
 use dep_check::channel::Channel;
@@ -26,7 +26,7 @@ pub struct Watch {
     /// For each switch the ports whose channels have room, by its number.
     pub free: Vec<u16>,
     /// At least the numbers of the switches at which somebody can go.
-    pub awake: Marks,
+    pub awake: SpotMarks,
 }
 
 // The ports of each switch whose channels have room.
@@ -99,7 +99,7 @@ impl Watch {
         Ok(Watch {
             arriving: SpotMarks::new(),
             free: all_free(alloc, tables, board)?,
-            awake: Marks::new(),
+            awake: SpotMarks::new(),
         })
     }
 

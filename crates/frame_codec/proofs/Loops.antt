@@ -4,7 +4,7 @@ use Rattle.std.specs.Prelude.{All}
 use Rattle.std.specs.List.{flat_map, list_any, slice_set}
 use Rattle.std.proofs.lemmas.List.{append-nil, take_more, drop_more, drop_all, flat_map_more, get_or-set_other}
 use Rattle.std.proofs.lemmas.List.Folds.{list_any-append}
-use Rattle.std.proofs.lemmas.Bool.{le-ltb, lt-ltb, cases_eq}
+use Rattle.std.proofs.lemmas.Bool.{le-ltb, lt-ltb, cases_eq, or_right}
 use Rattle.std.proofs.lemmas.Bool.Decides.{nat_tests}
 use Rattle.std.proofs.lemmas.Grind.{get_or-set_at}
 use Rattle.std.proofs.lemmas.List.Elements.{All-append, All-cons, All-nil}
@@ -104,17 +104,13 @@ or_false : (b : Bool) → (b || false) ≡ b
 or_false true = refl
 or_false false = refl
 
-or_true : (b : Bool) → (b || true) ≡ true
-or_true true = refl
-or_true false = refl
-
 seen_push : (seen : List Bool) (before : List ℕ) (n : ℕ) → n < length seen → Seen seen before → Seen (slice_set seen n true) (before ++ n ∷ [])
 seen_push seen before n within known k lt =
     let joined = list_any-append (λ m. m == k) before (n ∷ []) in
     elim (cases_eq n k) [
       | inl same ↦
           let t : (n == k) ≡ true = grind (arith, nat_tests) in
-          get_or-set_at seen n k true false (sym same) within ∙ sym (joined ∙ ap (λ (b : Bool). list_any (λ m. m == k) before || (b || false)) t ∙ or_true (list_any (λ m. m == k) before))
+          get_or-set_at seen n k true false (sym same) within ∙ sym (joined ∙ ap (λ (b : Bool). list_any (λ m. m == k) before || (b || false)) t ∙ or_right (list_any (λ m. m == k) before) true refl)
       | inr other ↦
           let t : (n == k) ≡ false = grind (arith, nat_tests) in
           get_or-set_other seen n k true false (λ e. other (sym e)) ∙ known k lt ∙ sym (joined ∙ ap (λ (b : Bool). list_any (λ m. m == k) before || (b || false)) t ∙ or_false (list_any (λ m. m == k) before))

@@ -1,7 +1,7 @@
 ghost use Rattle.std.specs.Prelude.{◌≡◌};
 ghost use Rattle.frame_codec.specs.Reading.{are_numbers};
 
-// Whether each number is 1 to 126, and none comes twice.
+/// Whether each number is 1 to 126, and none comes twice.
 pub fn are_numbers(numbers: &[u8]) -> bool
     ensures { result ≡ are_numbers numbers.now }
 {

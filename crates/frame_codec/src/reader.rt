@@ -31,7 +31,7 @@ fn no_entry() -> Entry {
     }
 }
 
-// The bytes that are still to be read.
+/// The bytes that are still to be read.
 #[derive(Drop)]
 pub struct Reader<'a> {
     rest: &'a [u8],
@@ -46,14 +46,14 @@ impl<'a> Model for Reader<'a> {
 }
 
 impl<'a> Reader<'a> {
-    // All of the bytes are still to be read.
+    /// All of the bytes are still to be read.
     pub fn new(bytes: &'a [u8]) -> Self
         ensures { result ≡ bytes.now }
     {
         Reader { rest: bytes }
     }
 
-    // Whether all bytes were read.
+    /// Whether all bytes were read.
     pub fn is_empty(&self) -> bool
         ensures { result ≡ (length self.now == 0) }
     {
@@ -363,7 +363,7 @@ impl<'a> Reader<'a> {
         Ok(Frame::Reply { from, to, nonce })
     }
 
-    // A frame, after which bytes may follow.
+    /// A frame, after which bytes may follow.
     #[tactic(auto, unfolding(crate::specs::Reading::frame_at))]
     pub fn frame(&mut self, alloc: Global) -> Result<Frame, DecodeRefusal>
         ensures { Reads frame_at result self.old self.new }

@@ -11,12 +11,10 @@ use Rattle.std.proofs.lemmas.Bool.Decides.{nat_tests}
 use Rattle.std.proofs.lemmas.Option.{slice_get-get_or}
 use Rattle.std.proofs.lemmas.List.{get_or_past, get_or-take, get_or-drop, length-drop, length-take-le}
 use Rattle.std.proofs.lemmas.List.Sorted.{searchable_from_sorted}
+use Rattle.an_base.proofs.OrderLaws.{nat_apart}
 use Rattle.host_traffic.specs.declared.traffic.Filed.{Filed}
 use Rattle.host_traffic.specs.Filed.{IsFoundAt, IsPlaceFor}
 use Rattle.host_traffic.proofs.FiledLemmas.{Rises}
-
-equal_is : (a b : ℕ) → nat_cmp a b ≡ Equal → a ≡ b
-equal_is a b e = grind (arith, nat_tests)
 
 less_is_not : (a b : ℕ) → nat_cmp a b ≡ Less → a ≡ b → ⊥
 less_is_not a b e same = grind (arith, nat_tests)
@@ -36,11 +34,11 @@ pub found_some : (order : List Filed) (number place : ℕ) → ((d : Filed) → 
 unfolding stray
 found_some order number place equal = by (cases_lt place (length order)) where
   by : (place < length order) ⊎ (length order ≤ place) → (filed : Filed) × (slice_get order place ≡ Some filed) × (filed.packet ≡ number)
-  by (inl low) = (slice_index_or order place (stray 0), slice_get-get_or order place (stray 0) low, equal_is (slice_index_or order place (stray 0)).packet number (equal (stray 0)))
+  by (inl low) = (slice_index_or order place (stray 0), slice_get-get_or order place (stray 0) low, nat_apart (slice_index_or order place (stray 0)).packet number (equal (stray 0)))
   by (inr past) =
       let d = stray (number + 1) in
       let same : slice_index_or order place d ≡ d = get_or_past order place d past in
-      let e : number + 1 ≡ number = equal_is (number + 1) number (ap (λ (f : Filed). nat_cmp f.packet number) (sym same) ∙ equal d) in
+      let e : number + 1 ≡ number = nat_apart (number + 1) number (ap (λ (f : Filed). nat_cmp f.packet number) (sym same) ∙ equal d) in
       absurd (omega (arith, e))
 
 -- and where it finds none there is none

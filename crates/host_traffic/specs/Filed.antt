@@ -1,6 +1,7 @@
 -- How a `Traffic` stores its packets. No public clause cites this module.
 
-use Rattle.std.specs.Prelude.{◌≡◌, ◌<◌, ◌≤◌, ℕ, List, map, length, Option, Some, All, AllPairs, MatchOption, slice_get, true, unwrap_or, take, drop, insert}
+use Rattle.std.specs.Prelude.{◌≡◌, ◌<◌, ◌≤◌, ℕ, List, map, length, Option, Some, All, AllPairs, MatchOption}
+use Rattle.std.specs.Prelude.{slice_get, true, unwrap_or, take, drop, insert}
 use Rattle.slab.specs.Slab.{Slab, get, slab_len}
 use Rattle.host_traffic.specs.declared.traffic.Filed.{Filed}
 use Rattle.host_traffic.specs.Packets.{PacketOf}

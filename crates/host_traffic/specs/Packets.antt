@@ -1,6 +1,7 @@
 -- Packets under way, and their hops.
 
-use Rattle.std.specs.Prelude.{ℕ, ◌/◌, ◌%◌, ◌==◌, nat_lt, List, [], ◌∷◌, ◌++◌, map, filter, not, Option, Some, None, is_some, Bool, false, if◌then◌else◌}
+use Rattle.std.specs.Prelude.{ℕ, ◌/◌, ◌%◌, ◌==◌, nat_lt, List, [], ◌∷◌, ◌++◌, map, filter, not, Option, Some}
+use Rattle.std.specs.Prelude.{None, is_some, Bool, false, if◌then◌else◌}
 use Rattle.std.specs.List.{find}
 use Rattle.table_build.specs.Tables.{TableOf, exits_of}
 use Rattle.host_traffic.specs.declared.hop.Hop.{Hop}

@@ -48,28 +48,28 @@ impl Model for Packet {
 }
 
 impl Packet {
-    // The number of the switch to which it goes.
+    /// The number of the switch to which it goes.
     pub fn switch_number(self) -> u8
         ensures { result ≡ self.address / 16 }
     {
         (self.address / 16) as u8
     }
 
-    // The port there.
+    /// The port there.
     pub fn last_port(self) -> u8
         ensures { result ≡ self.address % 16 }
     {
         (self.address % 16) as u8
     }
 
-    // The entry whose row serves it.
+    /// The entry whose row serves it.
     pub fn row_entry(self) -> u8
         ensures { result ≡ row_entry self }
     {
         if self.is_new { 0 } else { self.entry }
     }
 
-    // The packet at the far end of a link.
+    /// The packet at the far end of a link.
     pub fn moved_to(self, at: u8, entry: u8) -> Packet
         ensures { result ≡ moved_to (Some (at, entry)) self }
     {

@@ -31,11 +31,12 @@ use Rattle.journal.specs.declared.kind.PortEvent.{PortEvent}
 use Rattle.journal.specs.declared.kind.PortEvent.TheVariants as port
 use Rattle.journal.specs.Kinds.{switch_event, port_event}
 use Rattle.journal.specs.Words.{words_of, is_shaped}
+use Rattle.text_lines.specs.Grammar.{HasNoFormBy}
 use Rattle.text_lines.proofs.FaultLemmas.{holds, no_first}
 use Rattle.journal.specs.Lines.{Line, Ticks, Moves, OnSwitch, OnPort, OnWire, Sends, line_words, switch_word, port_word}
 use Rattle.journal.specs.Events.{CanSpell, IsCount, event_words, switch_name, host_name, first_words}
 use Rattle.journal.specs.Rules.{name_cause, number_cause, line_cause}
-use Rattle.journal.specs.Texts.{IsJournal, IsFirstLine, IsWrongLine, IsFaultyRest, IsFault, HasNoForm}
+use Rattle.journal.specs.Texts.{IsJournal, IsFirstLine, IsWrongLine, IsFaultyRest, IsFault}
 use Rattle.journal.proofs.JournalLemmas.{switch_of, port_of, line_of, line_back}
 use Rattle.journal.proofs.FieldLemmas.{spelled}
 use Rattle.journal.proofs.LineLemmas.{feedless, first_is}
@@ -73,7 +74,7 @@ line_is (a ∷ b ∷ c ∷ d ∷ []) f found = mapped (wire_of a) (λ k. OnWire 
 line_is (a ∷ b ∷ c ∷ d ∷ e ∷ more) f found = absurd (cc)
 
 -- words for which no form is found have none
-no_line : (words : List (List ℕ)) → line_of words ≡ None → HasNoForm words
+no_line : (words : List (List ℕ)) → line_of words ≡ None → HasNoFormBy line_words words
 no_line words none form same = let h : ◌≡◌ {A = Option Line} None (Some form) = sym none ∙ ap line_of same ∙ line_back form in absurd (cc)
 
 -- a name that is known

@@ -18,7 +18,7 @@ use Rattle.journal.specs.Words.{words_of, is_shaped, is_line_byte, has_words}
 use Rattle.text_lines.specs.Faults.{unless}
 use Rattle.text_lines.proofs.FaultLemmas.{first_good}
 use Rattle.text_lines.proofs.GrammarLaws.{form_one_cause}
-use Rattle.journal.specs.Lines.{Line, Ticks, Moves, OnSwitch, OnPort, OnWire, Sends, line_words}
+use Rattle.journal.specs.Lines.{Line, line_words}
 use Rattle.journal.specs.Events.{CanSpell, IsCount, event_line, event_words, switch_name, host_name, first_words, last_words, events_text, journal_text}
 use Rattle.journal.specs.Rules.{name_cause, number_cause, line_cause}
 use Rattle.journal.specs.Texts.{IsJournal, IsFault, IsFaultyRest, IsWrongLine, AreWrong}

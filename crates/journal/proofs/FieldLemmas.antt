@@ -26,9 +26,10 @@ place_found names name x at =
     let h = position-Some (λ (n : List ℕ). bytes_eq n name) names x name at in
     sym ((bytes_eq-Decides (get_or names x name) name).0 h.1) ∙ get_or_default names x name [] h.0
 
--- a name that is known
-pub name_good : (names : List (List ℕ)) (name : List ℕ) (x : ℕ) → Some x ≡ place_of names name → (name_cause names name ≡ None) × (name ≡ get_or names x [])
-name_good names name x at = (ap (λ (o : Option ℕ). unless (is_some o) NoSuchName) (sym at), place_found names name x (sym at))
+-- what was found as the place of a name is the field's value
+pub name_field : (P : ℕ → Type 0) (names : List (List ℕ)) (name : List ℕ) (o : Option ℕ) → o ≡ place_of names name → IfSome o P → IsGoodField (ok_or o NoSuchName) (name_cause names name) (λ x. P x × (name ≡ get_or names x []))
+name_field P names name None at range = ap (λ (o : Option ℕ). unless (is_some o) NoSuchName) (sym at)
+name_field P names name (Some x) at range = (ap (λ (o : Option ℕ). unless (is_some o) NoSuchName) (sym at), (range, place_found names name x (sym at)))
 
 -- a number is spelled in one way
 zero_alone : (w : List ℕ) → (not (eqb (get_or w 0 0) 48) || eqb (length w) 1) ≡ true → get_or w 0 0 ≡ 48 → length w ≡ 1

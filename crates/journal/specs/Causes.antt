@@ -1,6 +1,7 @@
 use Rattle.std.specs.Prelude.{ℕ, List, codes}
 use Rattle.journal.specs.declared.cause.JournalCause.{JournalCause}
-use Rattle.journal.specs.declared.cause.JournalCause.TheVariants.{BadHeader, UnknownWord, BadNumber, NoSuchName, NotLawful, NoEnd, Unfinished}
+use Rattle.journal.specs.declared.cause.JournalCause.TheVariants.{BadHeader, UnknownWord, BadNumber}
+use Rattle.journal.specs.declared.cause.JournalCause.TheVariants.{NoSuchName, NotLawful, NoEnd, Unfinished}
 
 -- The words for what is wrong with a journal.
 

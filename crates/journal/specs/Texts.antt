@@ -1,7 +1,7 @@
 use Rattle.std.specs.Prelude.{◌≡◌, ◌≢◌, ◌⊎◌, ℕ, ◌+◌, List, [], ◌∷◌, ◌++◌, length, All, true, false, codes}
 use Rattle.an_base.specs.declared.event.Event.{Event}
 use Rattle.text_lines.specs.Lines.{line_text}
-use Rattle.text_lines.specs.Grammar.{HasNoFormBy, IsFaultyFormBy}
+use Rattle.text_lines.specs.Grammar.{IsFaultyFormBy}
 use Rattle.net_script.specs.Scripts.{ScriptOf}
 use Rattle.journal.specs.declared.cause.JournalCause.{JournalCause}
 use Rattle.journal.specs.declared.cause.JournalCause.TheVariants.{BadHeader, UnknownWord, NoEnd}
@@ -22,10 +22,6 @@ pub record IsJournal (script : ScriptOf) (bytes : List ℕ) (events : List Event
 pub record IsFirstLine (bytes line after : List ℕ) : Type 0 where
   pub parts : bytes ≡ line ++ 10 ∷ after
   pub no_feed : All (λ byte. byte ≢ 10) line
-
--- the words have no form
-abbrev pub HasNoForm : List (List ℕ) → Type 0
-HasNoForm = HasNoFormBy line_words
 
 -- words that are none of an event: they have no form, or one with whose fields this is wrong
 abbrev pub AreWrong : ScriptOf → List (List ℕ) → JournalCause → Type 0

@@ -151,8 +151,8 @@ fn after_header(bytes: &[u8]) -> Option<&[u8]>
 }
 
 /// The journal with whose text the bytes begin. What stands after the line `end` is not looked at.
-/// The time is linear in the bytes but for the look-ups of names, and no more memory is taken than the
-/// events and the words of one line need. `OutOfMemory` says nothing of the bytes.
+/// As the code is written, and by no clause, the time is linear in the bytes but for the look-ups of names,
+/// and no more memory is taken than the events and the words of one line need. `OutOfMemory` says nothing of the bytes.
 pub fn read(alloc: Global, script: &Script, bytes: &[u8]) -> Result<Journal, JournalRefusal>
     requires few { length bytes.now < 2 ^ 32 - 1 }
     ensures journal { IfOk result (IsJournal script.now bytes.now) }

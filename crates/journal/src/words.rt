@@ -127,35 +127,25 @@ fn switch_event_of(word: &[u8]) -> Option<SwitchEvent>
     ensures some { IfSome result (λ k. word.now ≡ switch_word k) }
     ensures none { IfNone result ((k : SwitchEvent) → word.now ≢ switch_word k) }
 {
-    if is(word, "clock") {
-        return Some(SwitchEvent::Clock);
+    match word {
+        b"clock" => Some(SwitchEvent::Clock),
+        b"handle" => Some(SwitchEvent::Handle),
+        b"load" => Some(SwitchEvent::Load),
+        b"restart" => Some(SwitchEvent::Restart),
+        _ => None,
     }
-    if is(word, "handle") {
-        return Some(SwitchEvent::Handle);
-    }
-    if is(word, "load") {
-        return Some(SwitchEvent::Load);
-    }
-    if is(word, "restart") {
-        return Some(SwitchEvent::Restart);
-    }
-    None
 }
 
 fn port_event_of(word: &[u8]) -> Option<PortEvent>
     ensures some { IfSome result (λ k. word.now ≡ port_word k) }
     ensures none { IfNone result ((k : PortEvent) → word.now ≢ port_word k) }
 {
-    if is(word, "take") {
-        return Some(PortEvent::Take);
+    match word {
+        b"take" => Some(PortEvent::Take),
+        b"fail" => Some(PortEvent::Fail),
+        b"repair" => Some(PortEvent::Repair),
+        _ => None,
     }
-    if is(word, "fail") {
-        return Some(PortEvent::Fail);
-    }
-    if is(word, "repair") {
-        return Some(PortEvent::Repair);
-    }
-    None
 }
 
 // The switch that a word names.
@@ -163,10 +153,7 @@ fn switch_at(script: &Script, word: &[u8]) -> Result<u8, JournalCause>
     ensures { IsGoodField result (name_cause script.now.switch_names word.now)
         (λ s. IsSwitch script.now s × (word.now ≡ switch_name script.now s)) }
 {
-    match script.place_of_switch(word) {
-        Some(s) => Ok(s),
-        None => Err(JournalCause::NoSuchName),
-    }
+    script.place_of_switch(word).ok_or(JournalCause::NoSuchName)
 }
 
 // The host that a word names.
@@ -174,10 +161,7 @@ fn host_at(script: &Script, word: &[u8]) -> Result<u16, JournalCause>
     ensures { IsGoodField result (name_cause script.now.names_of_hosts word.now)
         (λ h. IsHost script.now h × (word.now ≡ host_name script.now h)) }
 {
-    match script.place_of_host(word) {
-        Some(host) => Ok(host),
-        None => Err(JournalCause::NoSuchName),
-    }
+    script.place_of_host(word).ok_or(JournalCause::NoSuchName)
 }
 
 // The number of a range that a word says.

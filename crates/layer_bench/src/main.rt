@@ -52,20 +52,31 @@ fn print_blocks(rt: &HostRuntime, len: usize, times: u64) -> io::Result<()> {
     println!(rt; "{len:5} bytes: {rate:8} put and taken")
 }
 
-// Prints what the layers do, with so many bodies through each session.
-fn measure(rt: &HostRuntime, bodies: u32) -> io::Result<()> {
+// Prints the rates of bodies, with so many through each session.
+fn print_bodies(rt: &HostRuntime, bodies: u32) -> io::Result<()> {
     println!(rt; "bodies per second, in thousands")?;
     for switches in &[2, 10, 30, 100] {
         print_path(rt, *switches)?;
     }
-    print_session(rt, bodies, 0)?;
-    print_session(rt, bodies, 1)?;
-    print_session(rt, bodies, 3)?;
+    for lost in &[0, 1, 3] {
+        print_session(rt, bodies, *lost)?;
+    }
+    Ok(())
+}
+
+// Prints the rates of frames, of so many positions and a thousandth of the longer ones.
+fn print_all_frames(rt: &HostRuntime, times: u64) -> io::Result<()> {
     println!(rt; "frames per second")?;
-    let times = u64::from(bodies);
     print_frames(rt, Kind::Position, times)?;
     print_frames(rt, Kind::Report, times / 1000)?;
-    print_frames(rt, Kind::Topology, times / 1000)?;
+    print_frames(rt, Kind::Topology, times / 1000)
+}
+
+// Prints what the layers do, with so many bodies through each session.
+fn measure(rt: &HostRuntime, bodies: u32) -> io::Result<()> {
+    print_bodies(rt, bodies)?;
+    let times = u64::from(bodies);
+    print_all_frames(rt, times)?;
     print_blocks(rt, 52, times)?;
     print_blocks(rt, 22_591, times / 100)
 }

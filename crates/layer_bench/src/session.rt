@@ -25,10 +25,15 @@ impl Session {
         (self.drawn >> 33) % 10 < self.lost
     }
 
+    // Whether a body was held that is accepted now.
+    fn has_next(&mut self) -> bool {
+        self.receiver.next().is_some()
+    }
+
     // Counts the bodies that were held for this one, at most eight.
     fn take_held(&mut self) {
         for _ in 0..8 {
-            if self.receiver.next().is_none() {
+            if !self.has_next() {
                 break;
             }
             self.accepted = self.accepted.wrapping_add(1);

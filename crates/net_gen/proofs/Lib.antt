@@ -3,3 +3,4 @@ pub mod LinkLemmas
 pub mod MadeLemmas
 pub mod ToldLemmas
 pub mod RunLemmas
+pub mod CommentLemmas

@@ -1,4 +1,4 @@
--- Numbers drawn from a seed: each draw makes the next seed, of which it reads the upper half.
+-- Numbers drawn from a seed: each draw makes the next seed, of which it reads the upper 31 bits.
 
 use Rattle.std.specs.Prelude.{◌+◌, ◌*◌, ◌/◌, ◌%◌, ◌^◌, ℕ}
 

@@ -1,6 +1,6 @@
 -- How the run of a script on one thread ends, in one line.
 
-use Rattle.std.specs.Prelude.{◌≡◌, ℕ, Bool, true, false, List, ◌++◌, length, count_by, Some, codes}
+use Rattle.std.specs.Prelude.{◌≡◌, ◌≤◌, ℕ, Bool, true, false, List, [], ◌∷◌, ◌++◌, All, length, count_by, Some, codes}
 use Rattle.std.specs.Fmt.{decimal}
 use Rattle.an_base.specs.declared.event.Event.{Event}
 use Rattle.net_script.specs.Scripts.{ScriptOf}
@@ -51,3 +51,10 @@ pub record IsSummary (script : ScriptOf) (text : List ℕ) : Type 0 where
   pub end : Ending
   pub run : IsSolo script history end
   pub says : text ≡ summary_text script history end
+
+-- a line of a comment: a number sign (35), spaces and printed bytes, at most 200 in all, and a line feed (10)
+pub record IsComment (text : List ℕ) : Type 0 where
+  pub words : List ℕ
+  pub parts : text ≡ 35 ∷ words ++ 10 ∷ []
+  pub printed : All (λ byte. (32 ≤ byte) × (byte ≤ 126)) words
+  pub few : length words ≤ 199

@@ -1,7 +1,7 @@
 //! How the run of a script ends.
 
 ghost use Rattle.std.specs.Prelude.{◌≡◌, ◌++◌, count_by, length, IfOk, OnOk};
-ghost use Rattle.net_gen.specs.Summary.{IsSummary, counted, end_word, is_delivery, is_drop, line_on};
+ghost use Rattle.net_gen.specs.Summary.{IsComment, IsSummary, counted, end_word, is_delivery, is_drop, line_on};
 
 use an_base::memory::OutOfMemory;
 use an_base::text::push_decimal;
@@ -83,8 +83,10 @@ fn push_line(
     events: usize,
     tally: Tally,
 ) -> Result<(), OutOfMemory>
-    ensures { OnOk result (text.new.items ≡ text.old.items
+    ensures line { OnOk result (text.new.items ≡ text.old.items
         ++ line_on end.now tally.tick events tally.delivered tally.dropped) }
+    ensures comment { OnOk result
+        (IsComment (line_on end.now tally.tick events tally.delivered tally.dropped)) }
 {
     text.extend_from_slice(b"# ")?;
     text.extend_from_slice(end_word(end))?;
@@ -98,8 +100,9 @@ fn push_line(
 
 // The line on a run with what was told of the events of its driver.
 fn line_of_run(alloc: Global, all: &ToldRun) -> Result<Vec<u8>, OutOfMemory>
-    ensures { IfOk result (λ text. text.items ≡ line_on all.now.run.end all.now.tick (length all.now.run.journal)
-        (count_by is_delivery all.now.told) (count_by is_drop all.now.told)) }
+    ensures line { IfOk result (λ text. text.items ≡ line_on all.now.run.end all.now.tick
+        (length all.now.run.journal) (count_by is_delivery all.now.told) (count_by is_drop all.now.told)) }
+    ensures comment { IfOk result (λ text. IsComment text.items) }
 {
     let lines = all.told.as_slice();
     let tally = Tally {
@@ -115,7 +118,8 @@ fn line_of_run(alloc: Global, all: &ToldRun) -> Result<Vec<u8>, OutOfMemory>
 /// One line, as a comment, on how the run of a script on one thread ends: the end, its tick, how many events
 /// there were, how many packets were delivered, and how many were dropped.
 pub fn summary(alloc: Global, script: &Script) -> Result<Vec<u8>, OutOfMemory>
-    ensures { IfOk result (λ text. IsSummary script.now text.items) }
+    ensures summary { IfOk result (λ text. IsSummary script.now text.items) }
+    ensures comment { IfOk result (λ text. IsComment text.items) }
 {
     let all = solo(alloc, script)?;
     line_of_run(alloc, &all)

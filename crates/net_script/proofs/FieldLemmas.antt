@@ -1,4 +1,5 @@
-use Rattle.std.proofs.Common.{◌≡◌, ◌∙◌, sym, ap, refl, subst, ℕ, ◌<◌, List, length, get_or, Option, Some, None, Bool, true, false, ◌||◌, inl, inr, Contains, is_some, IsTrue, ◌↔◌, eqb}
+use Rattle.std.proofs.Common.{◌≡◌, ◌∙◌, sym, ap, refl, subst, ℕ, ◌<◌, List, length, get_or, Option, Some, None, Bool, true, false, inl, inr, Contains, is_some, IsTrue, ◌↔◌, eqb}
+use Rattle.std.proofs.lemmas.Bool.{or_parts}
 use Rattle.std.proofs.lemmas.Bool.Decides.{Decides-eqb}
 use Rattle.std.proofs.lemmas.List.Folds.{list_any_at, list_any_none}
 use Rattle.std.proofs.lemmas.List.Elements.{Contains-append_cases, All-from_get_or}
@@ -19,15 +20,11 @@ none_of (Some x) t = absurd (cc)
 -- a name that is not taken is new
 pub not_taken : (s : ScriptOf) (name : List ℕ) → is_taken s name ≡ false → ¬ Contains (names_of s) name
 not_taken s name free has =
-    let parts = neither (is_some (place_of s.switch_names name)) (is_some (place_of s.names_of_hosts name)) free in
+    let parts = or_parts (is_some (place_of s.switch_names name)) (is_some (place_of s.names_of_hosts name)) free in
     elim (Contains-append_cases s.switch_names s.names_of_hosts name has) [
       | inl switch ↦ no_place s.switch_names name (none_of (place_of s.switch_names name) parts.0) switch
       | inr host ↦ no_place s.names_of_hosts name (none_of (place_of s.names_of_hosts name) parts.1) host
     ]
-  where
-    neither : (a b : Bool) → (a || b) ≡ false → (a ≡ false) × (b ≡ false)
-    neither true b t = absurd (cc)
-    neither false b t = (refl, t)
 
 -- whether an identifier is taken
 pub uid_test : (s : ScriptOf) (u : ℕ) (r : Bool) → (IsTrue r ↔ Contains (uids s.wires) u) → is_uid_taken s u ≡ r

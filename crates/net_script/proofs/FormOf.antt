@@ -11,7 +11,7 @@ use Rattle.net_script.specs.declared.command.WireChange.TheVariants as wire
 use Rattle.net_script.specs.Settings.{setting_words}
 use Rattle.net_script.specs.Commands.{link_word, wire_word}
 use Rattle.net_script.specs.Forms.{Form, Number, AnyRoutes, SwitchLine, LinkLine, HostLine, ChangesLink, ChangesWire, Sends, Restarts, End, form_words}
-use Rattle.net_script.specs.Texts.{HasNoForm}
+use Rattle.text_lines.specs.Grammar.{HasNoFormBy}
 use Rattle.text_lines.proofs.ChoiceLemmas.{word_is, branch, mapped}
 
 -- a limit, a change of a link and one of a wire, by their words
@@ -62,7 +62,7 @@ pub one_form : (f g : Form) → form_words f ≡ form_words g → f ≡ g
 one_form f g same = let h : Some f ≡ Some g = sym (form_of-form_words f) ∙ ap form_of same ∙ form_of-form_words g in cc
 
 -- words for which no form is found have none
-pub no_form : (words : List (List ℕ)) → form_of words ≡ None → HasNoForm words
+pub no_form : (words : List (List ℕ)) → form_of words ≡ None → HasNoFormBy form_words words
 no_form words none form same = let h : ◌≡◌ {A = Option Form} None (Some form) = sym none ∙ ap form_of same ∙ form_of-form_words form in absurd (cc)
 
 limit_is : (w : List ℕ) (k : Setting) → limit_of w ≡ Some k → codes "limit" ∷ w ∷ [] ≡ setting_words k

@@ -1,6 +1,10 @@
 use Rattle.std.specs.Prelude.{ℕ, List, codes}
 use Rattle.net_script.specs.declared.cause.ScriptCause.{ScriptCause}
-use Rattle.net_script.specs.declared.cause.ScriptCause.TheVariants.{NotAscii, BadHeader, UnknownWord, BadNumber, BadName, NameTwice, UidTwice, NoSuchName, PortRange, PortUsed, TooMany, TimesFall, NoEnd, AfterEnd, LineTooLong, NoLink, TablesShort}
+use Rattle.net_script.specs.declared.cause.ScriptCause.TheVariants.{NotAscii, BadHeader, UnknownWord}
+use Rattle.net_script.specs.declared.cause.ScriptCause.TheVariants.{BadNumber, BadName, NameTwice, UidTwice}
+use Rattle.net_script.specs.declared.cause.ScriptCause.TheVariants.{NoSuchName, PortRange, PortUsed, TooMany}
+use Rattle.net_script.specs.declared.cause.ScriptCause.TheVariants.{TimesFall, NoEnd, AfterEnd, LineTooLong}
+use Rattle.net_script.specs.declared.cause.ScriptCause.TheVariants.{NoLink, TablesShort}
 
 -- The words for what is wrong with a script.
 

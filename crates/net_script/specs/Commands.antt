@@ -1,7 +1,9 @@
-use Rattle.std.specs.Prelude.{◌≡◌, ℕ, ◌-◌, ◌<◌, ◌≤◌, Bool, true, false, List, length, Option, Some, None, is_some, slice_get, codes}
+use Rattle.std.specs.Prelude.{◌≡◌, ℕ, ◌-◌, ◌<◌, ◌≤◌, Bool, true, false, List, length, Option, Some, None}
+use Rattle.std.specs.Prelude.{is_some, slice_get, codes}
 use Rattle.std.specs.Option.{option_map_or}
 use Rattle.an_base.specs.declared.event.Event.{Event}
-use Rattle.an_base.specs.declared.event.Event.TheVariants.{Fail, Repair, Lose, Again, Swap, Noise, Send, Restart}
+use Rattle.an_base.specs.declared.event.Event.TheVariants.{Fail, Repair, Lose, Again, Swap, Noise, Send}
+use Rattle.an_base.specs.declared.event.Event.TheVariants.{Restart}
 use Rattle.an_base.specs.declared.limits.TheConstants.{LAST_PORT}
 use Rattle.net_graph.specs.declared.wiring.Far.{Far}
 use Rattle.net_graph.specs.declared.wiring.Far.TheVariants.{Switch, HostAt}

@@ -1,4 +1,5 @@
-use Rattle.std.specs.Prelude.{◌==◌, ◌&&◌, ◌||◌, not, true, ℕ, Bool, List, [], ◌∷◌, length, Option, Some, None, is_some, nat_lt, nat_le, unwrap_or}
+use Rattle.std.specs.Prelude.{◌==◌, ◌&&◌, ◌||◌, not, true, ℕ, Bool, List, [], ◌∷◌, length, Option, Some, None}
+use Rattle.std.specs.Prelude.{is_some, nat_lt, nat_le, unwrap_or}
 use Rattle.std.specs.List.{list_any}
 use Rattle.an_base.specs.declared.event.Event.TheVariants.{Send, Restart}
 use Rattle.net_graph.specs.declared.wiring.SwitchAt.{SwitchAt}
@@ -11,15 +12,19 @@ use Rattle.net_script.specs.declared.command.WireChange.{WireChange}
 use Rattle.net_script.specs.declared.setting.Setting.{Setting}
 use Rattle.net_script.specs.declared.setting.Came.{Came}
 use Rattle.net_script.specs.declared.cause.ScriptCause.{ScriptCause}
-use Rattle.net_script.specs.declared.cause.ScriptCause.TheVariants.{BadNumber, BadName, NameTwice, UidTwice, NoSuchName, PortRange, PortUsed, TooMany, TimesFall, NoLink}
+use Rattle.net_script.specs.declared.cause.ScriptCause.TheVariants.{BadNumber, BadName, NameTwice, UidTwice}
+use Rattle.net_script.specs.declared.cause.ScriptCause.TheVariants.{NoSuchName, PortRange, PortUsed, TooMany}
+use Rattle.net_script.specs.declared.cause.ScriptCause.TheVariants.{TimesFall, NoLink}
 use Rattle.net_script.specs.declared.draft.Part.TheVariants.{After}
 use Rattle.text_lines.specs.Words.{is_name, is_number, is_number_in, number_value, is_uid, uid_value}
 use Rattle.text_lines.specs.Faults.{unless, first_of}
 use Rattle.net_script.specs.Settings.{least_of, most_of, has_come, with_come}
 use Rattle.net_script.specs.Commands.{link_event, wire_event, most_count, is_used, is_linked, last_time}
-use Rattle.net_script.specs.Scripts.{ScriptOf, lives_of, with_switch, with_link, with_host, with_command, with_setting}
+use Rattle.net_script.specs.Scripts.{ScriptOf, lives_of, with_switch, with_link, with_host, with_command}
+use Rattle.net_script.specs.Scripts.{with_setting}
 use Rattle.text_lines.specs.Names.{place_of}
-use Rattle.net_script.specs.Forms.{Form, Number, AnyRoutes, SwitchLine, LinkLine, HostLine, ChangesLink, ChangesWire, Sends, Restarts, End}
+use Rattle.net_script.specs.Forms.{Form, Number, AnyRoutes, SwitchLine, LinkLine, HostLine, ChangesLink}
+use Rattle.net_script.specs.Forms.{ChangesWire, Sends, Restarts, End}
 use Rattle.net_script.specs.declared.draft.Draft.{Draft}
 
 -- What is wrong with the lines of a script, and what they add.

@@ -1,9 +1,11 @@
 use Rattle.std.specs.Prelude.{◌≡◌, ◌≢◌, ℕ, List, Option}
 use Rattle.text_lines.specs.Lines.{lines_of}
 use Rattle.text_lines.specs.Chains.{LeadsBy, IsFaultOf}
-use Rattle.text_lines.specs.Grammar.{HasNoFormBy, IsFaultyFormBy, AddsFormBy, AddsLineBy, IsFaultyLineBy, bytes_cause_by}
+use Rattle.text_lines.specs.Grammar.{IsFaultyFormBy, AddsFormBy, AddsLineBy, IsFaultyLineBy}
+use Rattle.text_lines.specs.Grammar.{bytes_cause_by}
 use Rattle.net_script.specs.declared.cause.ScriptCause.{ScriptCause}
-use Rattle.net_script.specs.declared.cause.ScriptCause.TheVariants.{NotAscii, BadHeader, UnknownWord, AfterEnd, LineTooLong, NoEnd}
+use Rattle.net_script.specs.declared.cause.ScriptCause.TheVariants.{NotAscii, BadHeader, UnknownWord}
+use Rattle.net_script.specs.declared.cause.ScriptCause.TheVariants.{AfterEnd, LineTooLong, NoEnd}
 use Rattle.net_script.specs.declared.draft.Part.{Part}
 use Rattle.net_script.specs.declared.draft.Part.TheVariants.{Header, Items, After}
 use Rattle.net_script.specs.declared.draft.Draft.{Draft}
@@ -34,10 +36,6 @@ bytes_cause = bytes_cause_by LineTooLong NotAscii
 -- a line after a draft is good and leads to another
 abbrev pub Adds : Draft → List ℕ → Draft → Type 0
 Adds = AddsLineBy (λ draft. AddsWords draft.part draft) (bytes_cause 200)
-
--- the words have no form
-abbrev pub HasNoForm : List (List ℕ) → Type 0
-HasNoForm = HasNoFormBy form_words
 
 -- the words have no form, or one with which this is wrong after a draft
 abbrev pub IsFaultyForm : Draft → List (List ℕ) → ScriptCause → Type 0

@@ -4,7 +4,6 @@ ghost use Rattle.std.specs.Prelude.{◌≡◌, ◌≢◌, IfSome, IfNone};
 ghost use Rattle.net_script.specs.Commands.{link_event, most_count, wire_word, wire_event, is_restart};
 
 use an_base::event::Event;
-use text_lines::word::is;
 
 /// An event of a script, and the tick from which it is due.
 #[derive(Clone, Copy, Debug, PartialEq, Eq)]
@@ -57,19 +56,13 @@ impl WireChange {
         ensures some { IfSome result (λ k. word.now ≡ wire_word k) }
         ensures none { IfNone result ((k : WireChange) → word.now ≢ wire_word k) }
     {
-        if is(word, "lose") {
-            return Some(WireChange::Lose);
+        match word {
+            b"lose" => Some(WireChange::Lose),
+            b"again" => Some(WireChange::Again),
+            b"swap" => Some(WireChange::Swap),
+            b"noise" => Some(WireChange::Noise),
+            _ => None,
         }
-        if is(word, "again") {
-            return Some(WireChange::Again);
-        }
-        if is(word, "swap") {
-            return Some(WireChange::Swap);
-        }
-        if is(word, "noise") {
-            return Some(WireChange::Noise);
-        }
-        None
     }
 
     /// The greatest number of frames, or of bytes.

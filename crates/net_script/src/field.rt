@@ -84,10 +84,7 @@ pub fn known_switch(script: &Script, word: &[u8]) -> Result<u8, ScriptCause>
     if !is_name(word) {
         return Err(ScriptCause::BadName);
     }
-    match script.place_of_switch(word) {
-        Some(s) => Ok(s),
-        None => Err(ScriptCause::NoSuchName),
-    }
+    script.place_of_switch(word).ok_or(ScriptCause::NoSuchName)
 }
 
 /// The place of the host that a word names.
@@ -99,10 +96,7 @@ pub fn known_host(script: &Script, word: &[u8]) -> Result<u16, ScriptCause>
     if !is_name(word) {
         return Err(ScriptCause::BadName);
     }
-    match script.place_of_host(word) {
-        Some(host) => Ok(host),
-        None => Err(ScriptCause::NoSuchName),
-    }
+    script.place_of_host(word).ok_or(ScriptCause::NoSuchName)
 }
 
 /// The number that a switch had last, where there is a word for it.

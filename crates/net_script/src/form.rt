@@ -177,29 +177,23 @@ fn limit_of(word: &[u8]) -> Option<Setting>
     ensures none { IfNone result ((k : Setting) →
         codes "limit" ∷ word.now ∷ [] ≢ setting_words k) }
 {
-    if is(word, "ticks") {
-        return Some(Setting::Ticks);
+    match word {
+        b"ticks" => Some(Setting::Ticks),
+        b"events" => Some(Setting::Events),
+        b"blocks" => Some(Setting::Blocks),
+        _ => None,
     }
-    if is(word, "events") {
-        return Some(Setting::Events);
-    }
-    if is(word, "blocks") {
-        return Some(Setting::Blocks);
-    }
-    None
 }
 
 fn link_change_of(word: &[u8]) -> Option<LinkChange>
     ensures some { IfSome result (λ k. word.now ≡ link_word k) }
     ensures none { IfNone result ((k : LinkChange) → word.now ≢ link_word k) }
 {
-    if is(word, "fail") {
-        return Some(LinkChange::Fail);
+    match word {
+        b"fail" => Some(LinkChange::Fail),
+        b"repair" => Some(LinkChange::Repair),
+        _ => None,
     }
-    if is(word, "repair") {
-        return Some(LinkChange::Repair);
-    }
-    None
 }
 
 #[tactic(auto, unfolding(crate::specs::Rules::setting_cause))]

@@ -18,8 +18,9 @@ use text_lines::word::is;
 /// Why bytes were not read as a script: the first faulty line with its first cause, or no memory.
 pub type ReadRefusal = Refusal<ScriptCause>;
 
-/// The script that the bytes are the text of. The time is linear in the bytes but for the look-ups of
-/// names and identifiers, and no more memory is taken than the script and the words of one line need.
+/// The script that the bytes are the text of. As the code is written, and by no clause, the time is linear in
+/// the bytes but for the look-ups of names and identifiers, and no more memory is taken than the script and the
+/// words of one line need.
 /// `OutOfMemory` says nothing of the bytes.
 pub fn read(alloc: Global, bytes: &[u8]) -> Result<Script, ReadRefusal>
     requires few { length bytes.now < 2 ^ 32 - 1 }

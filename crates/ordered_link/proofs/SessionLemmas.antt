@@ -1,6 +1,6 @@
-use Rattle.std.proofs.Common.{◌≡◌, ◌∙◌, sym, ap, subst, refl, ℕ, zero, suc, ◌+◌, ◌-◌, ◌≤◌, List, [], ◌∷◌, ◌++◌, length, arith, Option, Some, None, Bool, true, false, cond, slice_get, append_assoc, ◌⊎◌, inl, inr, nat_le, ◌==◌, ◌&&◌, nat_lt, eqb-true, append-nil}
+use Rattle.std.proofs.Common.{◌≡◌, ◌∙◌, sym, ap, subst, refl, ℕ, zero, suc, ◌+◌, ◌-◌, ◌≤◌, List, [], ◌∷◌, ◌++◌, length, arith, Option, Some, None, Bool, true, false, cond, slice_get, append_assoc, ◌⊎◌, inl, inr, nat_le, ◌==◌, nat_lt, eqb-true, append-nil}
 use Rattle.std.proofs.lemmas.List.{length_push}
-use Rattle.std.proofs.lemmas.Bool.{ltb-true}
+use Rattle.std.proofs.lemmas.Bool.{ltb-true, and_parts}
 use Rattle.std.proofs.lemmas.Option.{none-some, same_Some, cond_some}
 use Rattle.an_base.specs.declared.body.Body.{Body}
 use Rattle.an_base.proofs.ListLemmas.{get_front}
@@ -29,10 +29,6 @@ pub record IsSound (w : Session) : Type 0 where
 chosen : {A : Type 0} (b : Bool) (x y z : A) → cond b x y ≡ z → ((b ≡ true) × (x ≡ z)) ⊎ (y ≡ z)
 chosen true x y z h = inl (refl, h)
 chosen false x y z h = inr h
-
-and_left : (b c : Bool) → (b && c) ≡ true → b ≡ true
-and_left true c h = refl
-and_left false c h = h
 
 get_behind : {X : Type 0} (xs ys : List X) → slice_get (xs ++ ys) (length xs) ≡ slice_get ys 0
 get_behind [] ys = refl
@@ -194,7 +190,7 @@ sound_answer w sound = record { order = sound.order; held = sound.held; bodies =
 sound_again : (w : Session) (k now : ℕ) → is_outstanding k w.sending ≡ true → IsSound w → IsSound (sends (send_again k now w.sending) (Some k) w)
 sound_again w k now out sound =
     sound_sends w (send_again k now w.sending) (Some k) [] sound (sym (append-nil w.sending.pushed)) sound.acked
-    (λ j h. let e = same_Some k j h in let f = ltb-true w.sending.acked k (and_left (nat_lt w.sending.acked k) (nat_le k (highest w.sending)) out) in omega (arith, e, f))
+    (λ j h. let e = same_Some k j h in let f = ltb-true w.sending.acked k (and_parts (nat_lt w.sending.acked k) (nat_le k (highest w.sending)) out).0 in omega (arith, e, f))
 
 -- one thing happens
 pub sound_happens : (e : Event) (w : Session) → IsSound w → IsSound (happens e w)

@@ -1,7 +1,9 @@
 -- One direction of a session at its sender: the bodies that are pushed and sent, which of them are
 -- acknowledged, and when one is sent again.
 
-use Rattle.std.specs.Prelude.{◌≡◌, ℕ, suc, ◌+◌, ◌-◌, ◌<◌, ◌≤◌, ◌&&◌, nat_lt, nat_le, List, [], ◌∷◌, ◌++◌, length, drop, slice_index_or, slice_set, Option, Some, None, Bool, true, if◌then◌else◌}
+use Rattle.std.specs.Prelude.{◌≡◌, ℕ, suc, ◌+◌, ◌-◌, ◌<◌, ◌≤◌, ◌&&◌, nat_lt, nat_le, List, [], ◌∷◌, ◌++◌}
+use Rattle.std.specs.Prelude.{length, drop, slice_index_or, slice_set, Option, Some, None, Bool, true}
+use Rattle.std.specs.Prelude.{if◌then◌else◌}
 use Rattle.an_base.specs.declared.body.Body.{Body}
 
 -- The bodies pushed, of which the k-th has the number k; the greatest number that counts as acknowledged;

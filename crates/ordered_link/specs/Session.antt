@@ -3,7 +3,8 @@
 
 use Rattle.std.specs.Prelude.{◌≡◌, ℕ, ◌-◌, List, [], ◌∷◌, ◌++◌, slice_get, Option, Some, None, if◌then◌else◌}
 use Rattle.an_base.specs.declared.body.Body.{Body}
-use Rattle.ordered_link.specs.Sending.{Sending, unused, push, sent_by_push, acknowledge, sent_by_ack, send_again, is_outstanding, next_to_send, send_next}
+use Rattle.ordered_link.specs.Sending.{Sending, unused, push, sent_by_push, acknowledge, sent_by_ack}
+use Rattle.ordered_link.specs.Sending.{send_again, is_outstanding, next_to_send, send_next}
 use Rattle.ordered_link.specs.Receiving.{Receiving, untouched, last, come, follow}
 
 -- a body on its way, with its number

@@ -1,6 +1,7 @@
 -- The source and the sink in memory: what each of their calls answers, and what is left after it.
 
-use Rattle.std.specs.Prelude.{◌==◌, ◌||◌, ℕ, ◌+◌, ◌-◌, ◌^◌, List, ◌++◌, Bool, Some, length, take, drop, min, if◌then◌else◌}
+use Rattle.std.specs.Prelude.{◌==◌, ◌||◌, ℕ, ◌+◌, ◌-◌, ◌^◌, List, ◌++◌, Bool, Some, length, take, drop, min}
+use Rattle.std.specs.Prelude.{if◌then◌else◌}
 use Rattle.std.specs.List.{list_any}
 use Rattle.outside.specs.Told.{Seen}
 use Rattle.outside.specs.declared.source.Got.{Got}

@@ -52,7 +52,7 @@ pub fn read_all<S: Source>(alloc: Global, source: &mut S, limit: usize) -> Resul
                     return Err(ReadStop::OutOfMemory);
                 }
                 if bytes.len() > limit {
-                    return Err(ReadStop::Over(Bytes::new(bytes)));
+                    return Err(ReadStop::Over(Bytes::of(bytes)));
                 }
             }
         }

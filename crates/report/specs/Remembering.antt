@@ -30,7 +30,8 @@ nothing_sent = record { host = 0; source = None }
 abbrev pub traced_at : List Traced → ℕ → Traced
 traced_at packets place = slice_index_or packets place nothing_sent
 
--- The packet at a place comes from this address, unless it has moved before: then it comes from where it came.
+-- The packet at a place comes from this address, unless it has moved before: then it comes from where it
+-- came.
 abbrev pub source_with : List Traced → (place address : ℕ) → ℕ
 source_with packets place address = unwrap_or (traced_at packets place).source address
 
@@ -100,8 +101,8 @@ pub record KeepBeliefs (script : ScriptOf) (history : List Event) (own : ScriptO
   pub count : length packets ≡ length (beliefs_of script history)
   pub known_are : known ≡ count_by (λ belief. is_known belief.choice) (beliefs_of script history)
 
--- An event comes to what is kept: it is lawful, it stands at this place, the fabric is that behind it, and this
--- is told of it.
+-- An event comes to what is kept: it is lawful, it stands at this place, the fabric is that behind it, and
+-- this is told of it.
 pub record Meets (script : ScriptOf) (before : List Event) (event : Event) (fabric : FabricOf) (place : ℕ)
     (lines : List Line) (own : ScriptOf) (packets : List Traced) (caches : List (List ArrivalOf)) (known : ℕ)
     : Type 0 where

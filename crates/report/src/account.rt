@@ -83,6 +83,28 @@ fn tell_events<A: Account>(
     Ok(())
 }
 
+// The same in a network of the script.
+fn tell_read<A: Account>(
+    alloc: Global,
+    script: &Script,
+    reader: &mut Reader,
+    account: &mut A,
+    text: &mut Vec<u8>,
+) -> Result<(), ReplayRefusal>
+    requires first { text.old.items ≡ A.first }
+    requires stands { A.stands account.old script.now [] }
+    ensures told { (bytes : List ℕ) → HasRead script.now bytes [] reader.old
+        → OnOk result (IsToldOf script.now bytes A.first (A.told script.now)
+        (A.last script.now) text.new.items) }
+    ensures refused { (bytes : List ℕ) → HasRead script.now bytes [] reader.old
+        → IfErr result (λ why. IfIllegal why (IsNoReplay script.now bytes)) }
+{
+    match Net::begin(alloc, script) {
+        Ok(mut net) => tell_events(reader, &mut net, account, text),
+        Err(OutOfMemory) => Err(ReplayRefusal::OutOfMemory),
+    }
+}
+
 /// Tells of the journal with whose text the bytes begin, if it is legal. Its events are made as they are read.
 pub(crate) fn tell<A: Account>(
     alloc: Global,
@@ -99,6 +121,5 @@ pub(crate) fn tell<A: Account>(
     ensures refused { IfErr result (λ why. IfIllegal why (IsNoReplay script.now bytes.now)) }
 {
     let mut reader = Reader::begin(alloc, script, bytes)?;
-    let mut net = Net::begin(alloc, script)?;
-    tell_events(&mut reader, &mut net, account, text)
+    tell_read(alloc, script, &mut reader, account, text)
 }

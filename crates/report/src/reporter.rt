@@ -28,6 +28,7 @@ use outside::sink::Sink;
 use replay::refusal::ReplayRefusal;
 use replay::world::{end_of, refused, step};
 use std::alloc::Global;
+use std::mem::replace;
 use table_report::decimals::Decimals;
 use table_report::piece::life_word;
 
@@ -91,10 +92,10 @@ impl<'a> Reporter<'a> {
         Ok(Reporter {
             alloc,
             script,
-            decimals: Decimals::new(alloc)?,
-            net: Net::begin(alloc, script)?,
             lines: Lines::new(alloc),
             text: Vec::from_slice(alloc, b"report 1\n")?,
+            decimals: Decimals::new(alloc)?,
+            net: Net::begin(alloc, script)?,
         })
     }
 
@@ -205,16 +206,48 @@ impl<'a> Reporter<'a> {
         self.tell_events(&mut reader)
     }
 
-    // The report, with this end.
-    fn into_report(self, end: Ending) -> Report
-        ensures text { result.text.items ≡ self.entry.text.items }
+    // The report, with this end. What was kept of it goes into it.
+    fn take_report(&mut self, end: Ending) -> Report
+        ensures text { result.text.items ≡ self.old.text.items }
         ensures end { result.end ≡ end }
-        ensures tick { result.tick ≡ (fabric_of (history_of self.entry.net)).tick }
+        ensures tick { result.tick ≡ (fabric_of (history_of self.old.net)).tick }
     {
         Report {
             end,
             tick: self.net.now(),
-            text: self.text,
+            text: replace(&mut self.text, Vec::new(self.alloc)),
+        }
+    }
+
+    // The report of a journal.
+    fn report(&mut self, journal: &Journal) -> Result<Report, ReplayRefusal>
+        requires made { HasMade self.old.script.now [] self.old.net }
+        requires first { self.old.text.items ≡ codes "report 1\n" }
+        ensures report { IfOk result (λ report.
+            IsReport self.old.script.now journal.now report.end report.text.items) }
+        ensures tick { IfOk result (λ report.
+            report.tick ≡ (world_after self.old.script.now journal.now).fabric.tick) }
+        ensures refused { IfErr result (IsRefusal self.old.script.now journal.now) }
+    {
+        match self.tell(journal) {
+            Ok(end) => Ok(self.take_report(end)),
+            Err(why) => Err(why),
+        }
+    }
+
+    // The report of the journal with whose text the bytes begin.
+    fn report_text(&mut self, bytes: &[u8]) -> Result<Report, ReplayRefusal>
+        requires few { length bytes.now < 2 ^ 32 - 1 }
+        requires made { HasMade self.old.script.now [] self.old.net }
+        requires first { self.old.text.items ≡ codes "report 1\n" }
+        ensures report { IfOk result (λ report.
+            IsReportOf self.old.script.now bytes.now report.end report.tick report.text.items) }
+        ensures refused { IfErr result (λ why.
+            IfIllegal why (IsNoReplay self.old.script.now bytes.now)) }
+    {
+        match self.tell_text(bytes) {
+            Ok(end) => Ok(self.take_report(end)),
+            Err(why) => Err(why),
         }
     }
 
@@ -284,9 +317,10 @@ pub fn reported(alloc: Global, script: &Script, journal: &Journal) -> Result<Rep
     ensures tick { IfOk result (λ report. report.tick ≡ (world_after script.now journal.now).fabric.tick) }
     ensures refused { IfErr result (IsRefusal script.now journal.now) }
 {
-    let mut reporter = Reporter::begin(alloc, script)?;
-    let end = reporter.tell(journal)?;
-    Ok(reporter.into_report(end))
+    match Reporter::begin(alloc, script) {
+        Ok(mut reporter) => reporter.report(journal),
+        Err(OutOfMemory) => Err(ReplayRefusal::OutOfMemory),
+    }
 }
 
 /// The report of the journal with whose text the bytes begin, if it is legal. Its events are made as they are read.
@@ -296,9 +330,10 @@ pub fn reported_text(alloc: Global, script: &Script, bytes: &[u8]) -> Result<Rep
         IsReportOf script.now bytes.now report.end report.tick report.text.items) }
     ensures refused { IfErr result (λ why. IfIllegal why (IsNoReplay script.now bytes.now)) }
 {
-    let mut reporter = Reporter::begin(alloc, script)?;
-    let end = reporter.tell_text(bytes)?;
-    Ok(reporter.into_report(end))
+    match Reporter::begin(alloc, script) {
+        Ok(mut reporter) => reporter.report_text(bytes),
+        Err(OutOfMemory) => Err(ReplayRefusal::OutOfMemory),
+    }
 }
 
 /// The name of a life, as it is printed.

@@ -1,6 +1,7 @@
 use Rattle.std.proofs.Common.{◌≡◌, ◌≢◌, ◌∙◌, sym, ap, refl, ℕ, ◌<◌, ◌≤◌, ◌^◌, List, [], length, get_or, Option, Some, None, Bool, true, false, not, ◌&&◌, ◌||◌, eqb, leb, ltb, cond, is_some, All, AllPairs, Contains, arith}
 use Rattle.std.specs.Prelude.{unwrap_or}
 use Rattle.std.specs.Fmt.{decimal}
+use Rattle.std.proofs.lemmas.Bool.{not_from_false}
 use Rattle.std.proofs.lemmas.Bool.Decides.{nat_tests}
 use Rattle.std.proofs.lemmas.List.Elements.{All-get_or, Contains-append_left, Contains-append_right}
 use Rattle.an_base.specs.declared.event.Event.TheVariants.{Send, Restart}
@@ -152,9 +153,6 @@ host_is s name x are can =
     ∙ ap (λ (y : ℕ). record { uid = x.uid; s = y; port = number_value (decimal x.port) }) (place_is s.switch_names x.s are.apart low)
     ∙ ap (λ (p : ℕ). record { uid = x.uid; s = x.s; port = p }) (port_value x.port can.host.port_most)
 
-not_test : (b : Bool) → b ≡ false → not b ≡ true
-not_test b f = rw f refl
-
 pub host_good : (s : ScriptOf) (name : List ℕ) (x : HostOn) → AreNames s.switch_names (length s.wires.switches) → CanAddHost s name x → host_cause s name (hex_text 12 x.uid) (get_or s.switch_names x.s []) (decimal x.port) ≡ None
 unfolding host_cause
 host_good s name x are can =
@@ -167,7 +165,7 @@ host_good s name x are can =
     (first_good (new_uid_cause s (hex_text 12 x.uid)) _ (new_uid_good s x.uid can.host.uid can.uid_new)
     (first_good (known_cause s.switch_names (get_or s.switch_names x.s [])) _ (known_good s.switch_names x.s are.are_names are.apart low)
     (first_good (port_cause (decimal x.port)) _ (port_good x.port can.host.port_least can.host.port_most)
-    (first_good _ _ (unless_good (not (is_used s.wires (place s.switch_names (get_or s.switch_names x.s [])) (number_value (decimal x.port)))) PortUsed (not_test _ here))
+    (first_good _ _ (unless_good (not (is_used s.wires (place s.switch_names (get_or s.switch_names x.s [])) (number_value (decimal x.port)))) PortUsed (not_from_false _ here))
     (first_good _ None (unless_good (ltb (length s.wires.hosts) 1000) TooMany (lt_test (length s.wires.hosts) 1000 can.room)) refl)))))
 
 -- commands

@@ -1,6 +1,6 @@
 //! The printer of scripts.
 
-ghost use Rattle.std.specs.Prelude.{◌≡◌, ◌<◌, ◌++◌, [], ◌∷◌, codes, length, map, OnOk, IfOk, slice_index_or};
+ghost use Rattle.std.specs.Prelude.{◌≡◌, ◌<◌, ◌++◌, [], ◌∷◌, codes, length, map, OnOk, IfOk, IfSome, slice_index_or};
 ghost use Rattle.std.specs.Fmt.{decimal};
 ghost use Rattle.std.specs.List.{zip};
 ghost use Rattle.text_lines.specs.Lines.{line_text};
@@ -262,6 +262,40 @@ pub fn push_at_switch<'a>(
     push_line(text, &[word, name])
 }
 
+// The digits of a port, for which no memory is taken.
+fn port_word(port: u8) -> Option<&'static [u8]>
+    ensures { IfSome result (λ word. word.now ≡ decimal port) }
+{
+    match port {
+        1 => Some(b"1"),
+        2 => Some(b"2"),
+        3 => Some(b"3"),
+        4 => Some(b"4"),
+        5 => Some(b"5"),
+        6 => Some(b"6"),
+        7 => Some(b"7"),
+        8 => Some(b"8"),
+        9 => Some(b"9"),
+        10 => Some(b"10"),
+        11 => Some(b"11"),
+        12 => Some(b"12"),
+        _ => None,
+    }
+}
+
+// Appends a line of three words.
+fn push_three<'a>(
+    text: &mut Vec<u8>,
+    first: &'a [u8],
+    second: &'a [u8],
+    third: &'a [u8],
+) -> Result<(), OutOfMemory>
+    ensures { OnOk result (text.new.items ≡ text.old.items
+        ++ line_text (first.now ∷ second.now ∷ third.now ∷ [])) }
+{
+    push_line(text, &[first, second, third])
+}
+
 /// Appends a word, the name of a switch and a port, and ends the line. Where no memory is found nothing
 /// is said of the text.
 pub fn push_at_port<'a>(
@@ -276,9 +310,12 @@ pub fn push_at_port<'a>(
     ensures { OnOk result (text.new.items ≡ text.old.items
         ++ line_text (word.now ∷ slice_index_or names.now s [] ∷ decimal port ∷ [])) }
 {
-    let port = decimal(alloc, u64::from(port))?;
     let name = names.get(usize::from(s));
-    push_line(text, &[word, name, &port])
+    if let Some(digits) = port_word(port) {
+        return push_three(text, word, name, digits);
+    }
+    let port = decimal(alloc, u64::from(port))?;
+    push_three(text, word, name, &port)
 }
 
 /// Appends a word, the name of a switch, a port and a count, and ends the line. Where no memory is found

@@ -102,8 +102,8 @@ finish_of switch = if switch.joined then finish switch.card switch.log else None
 abbrev pub is_unacked : Sending → Bool
 is_unacked sending = nat_lt sending.acked (length sending.pushed)
 
--- All that came between the one and the other came by this port: the life is the same, and nothing happened at
--- the other ports
+-- All that came between the one and the other came by this port: the life is the same, and nothing happened
+-- at the other ports
 pub record CameBy (port : ℕ) (before after : SwitchOf) : Type 0 where
   pub life : after.life ≡ before.life
   pub others : (other : ℕ) → other ≢ port → after.ports other ≡ before.ports other

@@ -34,18 +34,31 @@ use topo_graph::graph::Graph;
 /// What a switch keeps of what happened to it.
 #[derive(Debug, Drop)]
 pub struct Control {
+    /// The allocator of what it makes.
     pub alloc: Global,
+    /// The life of the switch.
     pub life: Life,
+    /// Whether its tables have all legal routes, and not the least alone.
     pub any: bool,
+    /// The states of its ports.
     pub monitor: Monitor,
+    /// The epoch that it joined last.
     pub epoch: u64,
+    /// What it knows of that epoch, once it has joined one.
     pub core: Option<Core>,
+    /// The good links, as it joined with them.
     pub links: Links,
+    /// The sessions over its links.
     pub sessions: Sessions,
+    /// The number that it had last.
     pub number: u8,
+    /// Whether it has finished and is to load a table.
     pub load_due: bool,
+    /// The tick of the last clock.
     pub tick: u32,
+    /// Whether its epochs are spent.
     pub spent: bool,
+    /// The bytes in which it writes a frame.
     pub buffer: FrameBuf,
 }
 
@@ -238,13 +251,14 @@ impl Control {
         requires core { HasAccepting self.old.core }
         ensures { OnOk result (Accepts port body self.old self.new sends.old sends.new) }
     {
-        let mut core = self.core.take().unwrap();
+        let Some(core) = &mut self.core else {
+            unreachable!()
+        };
         let had_finished = core.finish().is_some();
-        accept_in_turn(&mut core, &mut self.sessions, port, body, sends)?;
+        accept_in_turn(core, &mut self.sessions, port, body, sends)?;
         if !had_finished && core.finish().is_some() {
             self.load_due = true;
         }
-        self.core = Some(core);
         Ok(())
     }
 

@@ -1,8 +1,8 @@
 -- How many numbers are proposed, and how many are free.
 use Rattle.std.proofs.Common.{◌≡◌, ◌∙◌, sym, ap, refl, ℕ, zero, suc, ◌+◌, ◌<◌, ◌≤◌, List, [], ◌∷◌, length, take, filter, Bool, true, false, not, eqb, cond, arith, ◌||◌, add-one, add-zero, ◌-◌, inl, inr, get_or, map, ◌++◌, append-nil}
 use Rattle.std.specs.List.{range_with_len, list_any}
-use Rattle.std.proofs.lemmas.Bool.{cases_eq}
-use Rattle.std.proofs.lemmas.Bool.Decides.{nat_tests, Decides-eqb}
+use Rattle.std.proofs.lemmas.Bool.{cases_eq, ne_eqb, or_from, or_left, or_right}
+use Rattle.std.proofs.lemmas.Bool.Decides.{Decides-eqb}
 use Rattle.std.proofs.lemmas.List.{take_all, take-map, length-map, get_or_default}
 use Rattle.std.proofs.lemmas.List.Folds.{list_any_more}
 use Rattle.std.proofs.lemmas.List.FromFn.{filter_of_map_range_with_len_more, map-range_with_len_more}
@@ -28,21 +28,22 @@ kept_next f a n = by (f a)
 abbrev without : (ℕ → Bool) → ℕ → ℕ → Bool
 without f p n = not (f n || eqb p n)
 
+-- a number that it does not name is kept as before
+without_other : (f : ℕ → Bool) (p n : ℕ) → (p ≡ n → ⊥) → without f p n ≡ not (f n)
+without_other f p n other = keeps (f n) (eqb p n) (ne_eqb p n other)
+  where
+    keeps : (b c : Bool) → c ≡ false → not (b || c) ≡ not b
+    keeps true c e = refl
+    keeps false c e = ap not e
+
 -- a number that stands before the range changes nothing
 kept_outside : (f : ℕ → Bool) (p a n : ℕ) → p < a → kept (without f p) a n ≡ kept (λ m. not (f m)) a n
 kept_outside f p a zero low = refl
 kept_outside f p a (suc n) low =
     let rest = kept_outside f p (a + 1) n (omega arith) in
-    let first : without f p a ≡ not (f a) = other (f a) (eqb p a) (differ p a low) in
+    let first : without f p a ≡ not (f a) = without_other f p a (λ same. absurd (omega arith)) in
     kept_next (without f p) a n ∙ ap (λ (b : Bool). cond b 1 0 + kept (without f p) (a + 1) n) first ∙ ap (λ (k : ℕ). cond (not (f a)) 1 0 + k) rest
     ∙ sym (kept_next (λ m. not (f m)) a n)
-  where
-    other : (b c : Bool) → c ≡ false → not (b || c) ≡ not b
-    other true c e = refl
-    other false c e = ap not e
-
-    differ : (p a : ℕ) → p < a → eqb p a ≡ false
-    differ p a low = grind (arith, nat_tests)
 
 -- one number less is kept at most
 kept_most : (f : ℕ → Bool) (p a n : ℕ) → kept (λ m. not (f m)) a n ≤ kept (without f p) a n + 1
@@ -56,7 +57,7 @@ kept_most f p a (suc n) = elim (cases_eq a p) [
       omega arith)
   | inr other ↦ (
       let rest = kept_most f p (a + 1) n in
-      let first : without f p a ≡ not (f a) = keeps (f a) (eqb p a) (differ p a other) in
+      let first : without f p a ≡ not (f a) = without_other f p a (λ same. other (sym same)) in
       let one = kept_next (without f p) a n ∙ ap (λ (b : Bool). cond b 1 0 + kept (without f p) (a + 1) n) first in
       let two = kept_next (λ m. not (f m)) a n in
       omega arith)
@@ -66,30 +67,16 @@ kept_most f p a (suc n) = elim (cases_eq a p) [
     bit_most true = omega arith
     bit_most false = omega arith
 
-    keeps : (b c : Bool) → c ≡ false → not (b || c) ≡ not b
-    keeps true c e = refl
-    keeps false c e = ap not e
-
-    differ : (p a : ℕ) → (a ≡ p → ⊥) → eqb p a ≡ false
-    differ p a other = grind (arith, nat_tests)
-
 -- a number that the test did not keep changes nothing
 without_known : (f : ℕ → Bool) (p : ℕ) → f p ≡ true → (n : ℕ) → without f p n ≡ not (f n)
 without_known f p known n = elim (cases_eq n p) [
   | inl same ↦ both (f n) (eqb p n) (ap f same ∙ known)
-  | inr other ↦ keeps (f n) (eqb p n) (differ p n other)
+  | inr other ↦ without_other f p n (λ same. other (sym same))
 ]
   where
     both : (b c : Bool) → b ≡ true → not (b || c) ≡ not b
     both true c e = refl
     both false c e = absurd (cc)
-
-    keeps : (b c : Bool) → c ≡ false → not (b || c) ≡ not b
-    keeps true c e = refl
-    keeps false c e = ap not e
-
-    differ : (p n : ℕ) → (n ≡ p → ⊥) → eqb p n ≡ false
-    differ p n other = grind (arith, nat_tests)
 
 -- one more proposal
 free_more : (ps : List ℕ) (i : ℕ) → i < length ps → free (take (i + 1) ps) ≡ filter (without (is_proposed (take i ps)) (get_or ps i 0)) all_numbers
@@ -119,28 +106,13 @@ pub proposed_more : (es : List EntryOf) (n i : ℕ) (d : EntryOf) → i < length
 proposed_more es n i d low none other =
     list_any-map (λ p. eqb p n) (λ e. e.proposed) (take (i + 1) es)
     ∙ list_any_more (λ e. eqb e.proposed n) es i d low
-    ∙ neither _ _ (sym (list_any-map (λ p. eqb p n) (λ (e : EntryOf). e.proposed) (take i es)) ∙ none) (differ _ _ other)
-  where
-    neither : (a b : Bool) → a ≡ false → b ≡ false → (a || b) ≡ false
-    neither true b p q = p
-    neither false b p q = q
-
-    differ : (a b : ℕ) → (a ≡ b → ⊥) → eqb a b ≡ false
-    differ a b other = grind (arith, nat_tests)
+    ∙ or_from _ _ (sym (list_any-map (λ p. eqb p n) (λ (e : EntryOf). e.proposed) (take i es)) ∙ none) (ne_eqb _ _ other)
 
 -- an entry that proposes the number
 pub proposed_at : (es : List EntryOf) (n i : ℕ) (d : EntryOf) → i < length es → (get_or es i d).proposed ≡ n → is_proposed (proposals es) n ≡ true
 proposed_at [] n i d low is = absurd (omega arith)
-proposed_at (e ∷ es) n zero d low is = one (eqb e.proposed n) _ ((Decides-eqb e.proposed n).1 is)
-  where
-    one : (a b : Bool) → a ≡ true → (a || b) ≡ true
-    one true b p = refl
-    one false b p = absurd (cc)
-proposed_at (e ∷ es) n (suc i) d low is = two (eqb e.proposed n) _ (proposed_at es n i d (omega arith) is)
-  where
-    two : (a b : Bool) → b ≡ true → (a || b) ≡ true
-    two true b p = refl
-    two false b p = p
+proposed_at (e ∷ es) n zero d low is = or_left (eqb e.proposed n) _ ((Decides-eqb e.proposed n).1 is)
+proposed_at (e ∷ es) n (suc i) d low is = or_right (eqb e.proposed n) _ (proposed_at es n i d (omega arith) is)
 
 -- the next free number comes last
 pub free_next : (proposed : List ℕ) (n j : ℕ) → 1 + n ≡ j → filter (λ m. not (is_proposed proposed m)) (range_with_len 1 (n + 1)) ≡ filter (λ m. not (is_proposed proposed m)) (range_with_len 1 n) ++ cond (not (is_proposed proposed j)) (j ∷ []) []

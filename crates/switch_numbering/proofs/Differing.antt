@@ -1,6 +1,7 @@
 -- The numbers of entries are as many as the entries, within 1 to 126, and all different.
-use Rattle.std.proofs.Common.{◌≡◌, ◌∙◌, sym, ap, refl, ℕ, zero, suc, ◌+◌, ◌-◌, ◌<◌, ◌≤◌, List, [], ◌∷◌, length, take, filter, Bool, true, false, not, eqb, cond, arith, get_or, All, ◌||◌}
+use Rattle.std.proofs.Common.{◌≡◌, ◌∙◌, sym, ap, refl, ℕ, zero, suc, ◌+◌, ◌-◌, ◌<◌, ◌≤◌, List, [], ◌∷◌, length, take, filter, Bool, true, false, not, eqb, cond, arith, get_or, All}
 use Rattle.std.specs.List.{range_with_len}
+use Rattle.std.proofs.lemmas.Bool.{or_left, or_right}
 use Rattle.std.proofs.lemmas.List.{get_or-take, length-take, length-map, get_or-map}
 use Rattle.std.proofs.lemmas.List.FromFn.{length-map-range_with_len, get_or-map-range_with_len}
 use Rattle.std.proofs.lemmas.Bool.Decides.{Decides-eqb}
@@ -57,16 +58,8 @@ free_rise ps i j before low = kept_rise (λ n. not (is_proposed ps n)) 1 126 i j
 -- what stands in the list is proposed
 proposed_in : (ps : List ℕ) (i : ℕ) → i < length ps → is_proposed ps (get_or ps i 0) ≡ true
 proposed_in [] i low = absurd (omega arith)
-proposed_in (p ∷ ps) zero low = one (eqb p p) _ ((Decides-eqb p p).1 refl)
-  where
-    one : (a b : Bool) → a ≡ true → (a || b) ≡ true
-    one true b e = refl
-    one false b e = absurd (cc)
-proposed_in (p ∷ ps) (suc i) low = two (eqb p (get_or ps i 0)) _ (proposed_in ps i (omega arith))
-  where
-    two : (a b : Bool) → b ≡ true → (a || b) ≡ true
-    two true b e = refl
-    two false b e = e
+proposed_in (p ∷ ps) zero low = or_left (eqb p p) _ ((Decides-eqb p p).1 refl)
+proposed_in (p ∷ ps) (suc i) low = or_right (eqb p (get_or ps i 0)) _ (proposed_in ps i (omega arith))
 
 not_both : (b : Bool) → b ≡ true → not b ≡ true → ⊥
 not_both true e f = cc

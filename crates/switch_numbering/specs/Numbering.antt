@@ -1,5 +1,6 @@
 -- The numbers of entries by rising life: who proposes a number first gets it, the others get what is free.
-use Rattle.std.specs.Prelude.{◌==◌, ℕ, zero, suc, ◌+◌, List, length, take, map, filter, Bool, not, if◌then◌else◌}
+use Rattle.std.specs.Prelude.{◌==◌, ℕ, zero, suc, ◌+◌, List, length, take, map, filter, Bool, not}
+use Rattle.std.specs.Prelude.{if◌then◌else◌}
 use Rattle.std.specs.Prelude.{slice_index}
 use Rattle.std.specs.List.{list_any, range_with_len}
 use Rattle.an_base.specs.Values.{EntryOf}

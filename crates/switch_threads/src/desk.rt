@@ -67,6 +67,11 @@ impl Next {
         }
     }
 
+    /// Whether there is something to do at this turn of a round, which may be its first.
+    pub fn is_in_round(&self, is_first: bool) -> bool {
+        is_first || !matches!(self, Next::Later(_))
+    }
+
     /// Whether there is something to ask for.
     pub fn is_ask(&self) -> bool {
         matches!(self, Next::Ask(_))
@@ -76,6 +81,7 @@ impl Next {
 /// What a worker works with.
 #[derive(Drop)]
 pub(crate) struct Desk {
+    /// The allocator of what the worker makes.
     pub alloc: Global,
     /// The place of its switch in the script, from 0.
     pub s: u8,
@@ -217,7 +223,7 @@ impl Desk {
     {
         match pending {
             Pending::Work => self.take(rt, turnstile, seat),
-            Pending::Put(out) => self.put(rt, turnstile, seat, out),
+            Pending::Put(out) => self.put_and_take(rt, turnstile, seat, out),
             Pending::Load(table) => self.load(rt, turnstile, seat, table),
         }
     }
@@ -288,8 +294,9 @@ impl Desk {
         Ok(Pending::Put(replace(&mut self.out, Out::new(self.alloc))))
     }
 
-    // Puts what came of what it had in hand. The memory of the frames is kept for those that come.
-    fn put<R: Wait>(
+    // Puts what came of what it had in hand, and asks at once for work, where no table is due: what the book has of
+    // its switch is near then.
+    fn put_and_take<R: Wait>(
         self,
         rt: &R,
         turnstile: &Turnstile<Book>,
@@ -301,6 +308,26 @@ impl Desk {
         ensures called { HasCalled seat.old seat.new }
         ensures step { IsInStep seat.new.1 result.0 result.1 }
     {
+        let desk = self.put(rt, turnstile, seat, out);
+        if desk.switch.load_due() {
+            return (desk, Next::Ask(Pending::Work));
+        }
+        desk.take(rt, turnstile, seat)
+    }
+
+    // Puts what came of what it had in hand. The memory of the frames is kept for those that come.
+    fn put<R: Wait>(
+        self,
+        rt: &R,
+        turnstile: &Turnstile<Book>,
+        seat: &mut Seat<Book>,
+        out: Out,
+    ) -> Desk
+        requires turnstile { seat.old.0 ≡ turnstile_id turnstile.now }
+        requires step { IsInStep seat.old.1 self (next.Ask (pending.Put out)) }
+        ensures called { HasCalled seat.old seat.new }
+        ensures step { IsInStep seat.new.1 result (next.Ask pending.Work) }
+    {
         let s = self.s;
         let room = self.done;
         let done = filled(&self.switch, out, room);
@@ -311,7 +338,7 @@ impl Desk {
             frames: replace(&mut done.frames, Frames::new(self.alloc)),
             noframe: false,
         };
-        (Desk { out, done, ..self }, Next::Ask(Pending::Work))
+        Desk { out, done, ..self }
     }
 
     // Asks for a table to be used.

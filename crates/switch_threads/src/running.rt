@@ -30,8 +30,8 @@ const THREADS: usize = 4;
 // The most turns of a worker in one round.
 const TURNS: u32 = 64;
 
-// The most rounds that threads stay for.
-const ROUNDS: u32 = 64;
+// The most rounds that threads stay for: more than most runs have, since to begin a thread costs more than a round.
+const ROUNDS: u32 = 4_096;
 
 // A worker for each switch of a script, and the seat that is left.
 fn open(
@@ -131,7 +131,12 @@ fn work<R: Threads + Wait + Sync, G: Gate>(
     }
 }
 
-// The workers of a thread make the rounds of a shift.
+// Whether memory was wanting to some of these workers.
+fn have_failed(workers: &[Worker]) -> bool {
+    workers.iter().any(|worker| worker.failed())
+}
+
+// The workers of a thread make the rounds of a shift. That in which memory was wanting to one is the last one.
 fn stay<R: Threads + Wait + Sync, G: Gate>(
     rt: &R,
     turnstile: &Turnstile<Book>,
@@ -142,8 +147,11 @@ fn stay<R: Threads + Wait + Sync, G: Gate>(
     requires { All (λ worker. worker.0 ≡ turnstile_id turnstile.now) workers.old }
     ensures { HaveCalled workers.old workers.new }
 {
-    'rounds: for round in 0..shift.begin(rt) {
+    'rounds: for round in 0..shift.begin() {
         work(rt, turnstile, gate, shift, workers);
+        if have_failed(workers) {
+            shift.end_with(round);
+        }
         if !shift.end_round(rt, round) {
             return;
         }
@@ -179,8 +187,10 @@ fn drive<R: Wait>(rt: &R, turnstile: &Turnstile<Book>, shift: &Shift, driver: &m
     requires { driver.old.seat.0 ≡ turnstile_id turnstile.now }
     ensures { HasCalled driver.old.seat driver.new.seat }
 {
-    'rounds: for round in 0..shift.begin(rt) {
+    'rounds: for round in 0..shift.begin() {
+        let behind_the_door = shift.enter(rt);
         driver.steps(rt, turnstile);
+        drop(behind_the_door);
         if driver.end().is_some() {
             shift.end_with(round);
         }
@@ -190,12 +200,11 @@ fn drive<R: Wait>(rt: &R, turnstile: &Turnstile<Book>, shift: &Shift, driver: &m
     }
 }
 
-// A shift of so many rounds: in each, all workers and the driver, beside each other.
+// A shift: in each of its rounds all workers and the driver, beside each other.
 fn make<R: Threads + Wait + Sync, G: Gate>(
     rt: &R,
     turnstile: &Turnstile<Book>,
     gate: &G,
-    rounds: u32,
     driver: &mut Driver,
     workers: &mut [Worker],
 )
@@ -205,7 +214,7 @@ fn make<R: Threads + Wait + Sync, G: Gate>(
     ensures workers { HaveCalled workers.old workers.new }
 {
     let each = workers.len().div_ceil(THREADS).max(1);
-    let shift = Shift::new(rounds, workers.len().div_ceil(each).saturating_add(1));
+    let shift = Shift::new(ROUNDS, workers.len().div_ceil(each).saturating_add(1));
     let shift = &shift;
     join_mut(
         rt,
@@ -220,8 +229,7 @@ fn make<R: Threads + Wait + Sync, G: Gate>(
     );
 }
 
-// Shifts, until the driver is told an end. The first has one round, and each of the next ones twice as many, so that
-// there are few rounds behind the end.
+// Shifts, until the driver is told an end.
 fn shifts<R: Threads + Wait + Sync, G: Gate>(
     rt: &R,
     turnstile: &Turnstile<Book>,
@@ -235,16 +243,14 @@ fn shifts<R: Threads + Wait + Sync, G: Gate>(
     ensures workers { HaveCalled workers.old workers.new }
     ensures end { IfOk result (λ end. driver.new.end ≡ Some end) }
 {
-    let mut rounds = 1u32;
     'shifts: for _ in rt.forever() {
-        make(rt, turnstile, gate, rounds, driver, workers);
-        if workers.iter().any(|worker| worker.failed()) {
+        make(rt, turnstile, gate, driver, workers);
+        if have_failed(workers) {
             return Err(OutOfMemory);
         }
         if let Some(end) = driver.end() {
             return Ok(end);
         }
-        rounds = rounds.saturating_mul(2).min(ROUNDS);
     }
     unreachable!()
 }

@@ -4,8 +4,8 @@
 //! the end of each of which they wait for one another. That needs a thread for each of them: where one lacks others,
 //! all make a single round.
 //!
-//! Within a round one party at a time asks, of all its workers one after the other: a book that goes from one processor to
-//! another at each turn costs more than the turn. That is the door.
+//! Within a round one party at a time asks: the driver, or all workers of a thread one after the other. A book
+//! that goes from one processor to another at each turn costs more than the turn. That is the door.
 
 use std::hint::spin_loop;
 use std::sync::atomic::{AtomicU64, Ordering};
@@ -93,7 +93,7 @@ impl Shift {
     }
 
     /// How many rounds a party that begins is to make.
-    pub fn begin<R: Wait>(&self, rt: &R) -> u32 {
+    pub fn begin(&self) -> u32 {
         let begun = self.begun.fetch_add(1, Ordering::SeqCst).wrapping_add(1);
         if begun == self.parties {
             return if self.are_beside(BESIDE) {

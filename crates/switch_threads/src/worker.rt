@@ -80,10 +80,21 @@ impl Worker {
         self.is_asking
     }
 
+    // Whether it has nothing to do at this turn of a round, which may be its first.
+    fn rests(&self, is_first: bool) -> bool {
+        match &self.desk {
+            Some((_, next)) => !next.is_in_round(is_first),
+            None => true,
+        }
+    }
+
     /// Gets ready for a turn, if there is to be one in this round. Whether it is the first of the round.
     pub fn prepare<R: Wait, G: Gate>(&mut self, rt: &R, gate: &G, is_first: bool)
         ensures { HasCalled self.old self.new }
     {
+        if self.rests(is_first) {
+            return;
+        }
         let Some((mut desk, next)) = self.desk.take() else {
             return;
         };
@@ -110,6 +121,9 @@ impl Worker {
         requires { self.old.0 ≡ turnstile_id turnstile.now }
         ensures { HasCalled self.old self.new }
     {
+        if !self.is_asking {
+            return;
+        }
         if let Some((desk, next)) = self.desk.take() {
             self.desk = Some(match next {
                 Next::Ask(pending) => desk.ask(rt, turnstile, &mut self.seat, pending),

@@ -61,18 +61,23 @@ fn push_ports(text: &mut String, note: &Note) -> Result<(), AllocError> {
     Ok(())
 }
 
-/// Adds the line of what a switch shows of itself.
-pub fn push_note(text: &mut String, switch: &Switch) -> Result<(), AllocError> {
-    let note = switch.note();
+// Adds what a switch shows of itself.
+fn push_shown(text: &mut String, note: &Note) -> Result<(), AllocError> {
     let epoch = note.epoch;
     write!(text, "note {epoch}")?;
-    push_ports(text, &note)?;
+    push_ports(text, note)?;
     if note.load_due {
         text.push_str(" due")?;
     }
     if note.unacked {
         text.push_str(" unacked")?;
     }
+    Ok(())
+}
+
+/// Adds the line of what a switch shows of itself.
+pub fn push_note(text: &mut String, switch: &Switch) -> Result<(), AllocError> {
+    push_shown(text, &switch.note())?;
     if let Some(topo) = switch.finish() {
         let members = topo.entries().len();
         write!(text, " finished {members}")?;

@@ -141,21 +141,26 @@ fn frame(alloc: Global, words: &[&str]) -> Result<Happening, Fault> {
     })
 }
 
-/// What a line says.
-pub fn happening_of(alloc: Global, line: &str) -> Result<Happening, Fault> {
-    let words: Vec<&str> = line.split_ascii_whitespace().collect(alloc)?;
-    let first = word(&words, 0);
+// What words say.
+fn said(alloc: Global, words: &[&str]) -> Result<Happening, Fault> {
+    let first = word(words, 0);
     if first == "start" {
-        return start(&words);
+        return start(words);
     }
     if first == "clock" {
-        return clock(&words);
+        return clock(words);
     }
     if first == "frame" {
-        return frame(alloc, &words);
+        return frame(alloc, words);
     }
     if first == "load" && words.len() == 1 {
         return Ok(Happening::Load);
     }
     Err(Fault::Line)
+}
+
+/// What a line says.
+pub fn happening_of(alloc: Global, line: &str) -> Result<Happening, Fault> {
+    let words: Vec<&str> = line.split_ascii_whitespace().collect(alloc)?;
+    said(alloc, &words)
 }

@@ -23,29 +23,39 @@ use std::io::{self, Read};
 use std::process::ExitCode;
 use trace::Trace;
 
+// Says why a line is not answered.
+fn refuse(rt: &HostRuntime, number: usize, fault: Fault) -> io::Result<ExitCode> {
+    eprintln!(rt; "switch_trace: line {number}: {}", fault.text())?;
+    Ok(ExitCode::from(1))
+}
+
+// Says that the input is no text.
+fn refuse_all(rt: &HostRuntime) -> io::Result<ExitCode> {
+    eprintln!(rt; "switch_trace: {}", Fault::Line.text())?;
+    Ok(ExitCode::from(1))
+}
+
 // Answers each line, until one is bad.
-fn answer_all(rt: &HostRuntime, lines: &str) -> io::Result<ExitCode> {
-    let mut trace = Trace::new(rt.alloc());
-    for (number, line) in lines.lines().enumerate() {
-        if let Err(fault) = trace.go_on(line) {
-            eprintln!(rt;
-                "switch_trace: line {}: {}",
-                number.saturating_add(1),
-                fault.text()
-            )?;
-            return Ok(ExitCode::from(1));
+fn answer_lines(rt: &HostRuntime, trace: &mut Trace, lines: &str) -> io::Result<ExitCode> {
+    for (place, line) in lines.lines().enumerate() {
+        match trace.go_on(line) {
+            Ok(()) => print!(rt; "{}", trace.text())?,
+            Err(fault) => return refuse(rt, place.saturating_add(1), fault),
         }
-        print!(rt; "{}", trace.text())?;
     }
     Ok(ExitCode::from(0))
+}
+
+// Answers each line of a text.
+fn answer_all(rt: &HostRuntime, bytes: &[u8]) -> io::Result<ExitCode> {
+    match str::from_utf8(bytes) {
+        Ok(lines) => answer_lines(rt, &mut Trace::new(rt.alloc()), lines),
+        Err(_) => refuse_all(rt),
+    }
 }
 
 fn main(rt: HostRuntime) -> io::Result<ExitCode> {
     let mut bytes = Vec::new(rt.alloc());
     rt.stdin().read_to_end(&mut bytes)?;
-    let Ok(lines) = str::from_utf8(&bytes) else {
-        eprintln!(rt; "switch_trace: {}", Fault::Line.text())?;
-        return Ok(ExitCode::from(1));
-    };
-    answer_all(&rt, lines)
+    answer_all(&rt, &bytes)
 }

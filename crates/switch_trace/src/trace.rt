@@ -91,39 +91,60 @@ impl Trace {
         self.text.as_str()
     }
 
-    // A clock comes, or bytes, or the table is loaded.
-    fn work(&mut self, happening: Happening) -> Result<(), Fault> {
+    // A clock comes.
+    fn clock(&mut self, now: u32, samples: &[Sample; 12]) -> Result<(), Fault> {
         let Some(switch) = &mut self.switch else {
             return Err(Fault::NoSwitch);
         };
-        match happening {
-            Happening::Start { .. } => return Ok(()),
-            Happening::Clock { now, samples } => {
-                if clock(switch, now, &samples, &mut self.out)? {
-                    self.text.push_str("spent\n")?;
-                }
-            }
-            Happening::Frame { port, bytes } => handle(switch, &bytes, port, &mut self.out)?,
-            Happening::Load => return load(switch, &mut self.text),
+        if clock(switch, now, samples, &mut self.out)? {
+            self.text.push_str("spent\n")?;
         }
         Ok(push_out(self.alloc, &mut self.text, &self.out)?)
     }
 
-    /// What a line says happens.
-    pub fn go_on(&mut self, line: &str) -> Result<(), Fault> {
-        self.text.clear();
-        match happening_of(self.alloc, line)? {
+    // Bytes come by a port.
+    fn frame(&mut self, port: u8, bytes: &[u8]) -> Result<(), Fault> {
+        let Some(switch) = &mut self.switch else {
+            return Err(Fault::NoSwitch);
+        };
+        handle(switch, bytes, port, &mut self.out)?;
+        Ok(push_out(self.alloc, &mut self.text, &self.out)?)
+    }
+
+    // The table is loaded.
+    fn load(&mut self) -> Result<(), Fault> {
+        match &mut self.switch {
+            Some(switch) => load(switch, &mut self.text),
+            None => Err(Fault::NoSwitch),
+        }
+    }
+
+    // Something happens.
+    fn happen(&mut self, happening: &Happening) -> Result<(), Fault> {
+        match happening {
             Happening::Start {
                 life,
                 epoch,
                 had,
                 any,
-            } => self.switch = Some(start(self.alloc, life, epoch, had, any)?),
-            happening => self.work(happening)?,
+            } => {
+                self.switch = Some(start(self.alloc, *life, *epoch, *had, *any)?);
+                Ok(())
+            }
+            Happening::Clock { now, samples } => self.clock(*now, samples),
+            Happening::Frame { port, bytes } => self.frame(*port, bytes),
+            Happening::Load => self.load(),
         }
-        if let Some(switch) = &self.switch {
-            push_note(&mut self.text, switch)?;
+    }
+
+    /// What a line says happens.
+    pub fn go_on(&mut self, line: &str) -> Result<(), Fault> {
+        self.text.clear();
+        let happening = happening_of(self.alloc, line)?;
+        self.happen(&happening)?;
+        match &self.switch {
+            Some(switch) => Ok(push_note(&mut self.text, switch)?),
+            None => Ok(()),
         }
-        Ok(())
     }
 }

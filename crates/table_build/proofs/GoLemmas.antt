@@ -5,7 +5,7 @@ use Rattle.topo_graph.specs.Topology.{far_of, IsGraph}
 use Rattle.updown.specs.Routes.{is_up_end, LegalRoute, DownRoute}
 use Rattle.updown.proofs.RouteLemmas.{legal_first, legal_up, legal_down, legal_none, down_first, down_more, down_none}
 use Rattle.table_build.specs.Exits.{LeadsTo}
-use Rattle.table_build.specs.Bests.{Goes, Before}
+use Rattle.table_build.specs.Bests.{Goes}
 use Rattle.table_build.proofs.LengthLaws.{way_short}
 
 -- the ways that lead downward alone are the routes downward
@@ -46,7 +46,7 @@ leads_goes es true ps x y way = legal_goes es ps x y way
 leads_goes es false ps x y way = down_goes es ps x y way
 
 -- a way is one of those of which more may lead upward or downward
-goes_wider : (es : List EntryOf) (up up' down down' : Bool) (ps : List ℕ) (x y : ℕ) → (up ≡ true → up' ≡ true) → (down ≡ true → down' ≡ true) → Goes es up down x ps y → Goes es up' down' x ps y
+pub goes_wider : (es : List EntryOf) (up up' down down' : Bool) (ps : List ℕ) (x y : ℕ) → (up ≡ true → up' ≡ true) → (down ≡ true → down' ≡ true) → Goes es up down x ps y → Goes es up' down' x ps y
 goes_wider es up up' down down' [] x y more more' same = same
 goes_wider es up up' down down' (p ∷ ps) x y more more' (z, q, e, inl (is, may, g)) = (z, q, e, inl (is, more may, goes_wider es up up' down down' ps z y more more' g))
 goes_wider es up up' down down' (p ∷ ps) x y more more' (z, q, e, inr (is, may, g)) = (z, q, e, inr (is, more' may, goes_wider es false false down down' ps z y (λ h. h) more' g))
@@ -56,6 +56,10 @@ pub goes_short : (es : List EntryOf) (up down : Bool) (ps : List ℕ) (x y : ℕ
 goes_short es up down ps x y graph low g =
     let short = way_short es true x y ps graph low (goes_legal es ps x y (goes_wider es up true down true ps x y (λ _. refl) (λ _. refl) g)) in
     omega (arith, graph.most)
+
+-- the ways from x to z that may go before a last link to y: before one upward those that lead upward alone
+abbrev pub Before : List EntryOf → Bool → Bool → ℕ → ℕ → ℕ → List ℕ → Type 0
+Before es up down x y z ps = ((is_up_end es y z ≡ true) × (up ≡ true) × Goes es up false x ps z) ⊎ ((is_up_end es y z ≡ false) × (down ≡ true) × Goes es up down x ps z)
 
 -- a way ends with a link, upward behind links upward alone
 pub goes_last : (es : List EntryOf) (up down : Bool) (ps : List ℕ) (x q y : ℕ) → Goes es up down x (ps ++ q ∷ []) y → (z r : ℕ) × (far_of es z q ≡ Some (y, r)) × Before es up down x y z ps

@@ -1,6 +1,7 @@
 pub mod GoLemmas
 pub mod BestLemmas
-pub mod ArriveLemmas
+pub mod LinkLemmas
+pub mod OverLemmas
 pub mod PassLemmas
 pub mod ExitLemmas
 pub mod RoutingLemmas

@@ -1,5 +1,5 @@
 -- A pass over the places in order, up or down, which makes the best ways to each from those to the places before it.
-use Rattle.std.proofs.Common.{◌≡◌, ◌≢◌, ◌∙◌, sym, ap, subst, ℕ, ◌+◌, ◌<◌, ◌≤◌, List, [], Option, Some, None, Bool, true, false, arith, length, set, inl, inr}
+use Rattle.std.proofs.Common.{◌≡◌, ◌≢◌, ◌∙◌, sym, ap, subst, ℕ, ◌+◌, ◌<◌, ◌≤◌, List, Option, Some, None, Bool, true, false, arith, length, set, inl, inr}
 use Rattle.std.proofs.lemmas.Bool.{cases_eq, cases_Bool}
 use Rattle.std.proofs.lemmas.List.{get_or-set_same, get_or-set_other, length-set}
 use Rattle.an_base.specs.Values.{EntryOf}
@@ -11,7 +11,7 @@ use Rattle.updown.proofs.OrderLemmas.{position_is, place_low, later, earlier}
 use Rattle.updown.proofs.RouteLemmas.{not_both_higher, leads_down}
 use Rattle.table_build.specs.declared.best.Best.{Best}
 use Rattle.table_build.specs.declared.best.Search.{Search}
-use Rattle.table_build.specs.Bests.{Goes, IsBest, KnowsFar, AreBestTo, best_at}
+use Rattle.table_build.specs.Bests.{Goes, IsBest, KnowsFar, AreBestTo, best_at, climbing}
 
 -- a table with a place for each entry has the best ways to the places at these positions of the order
 pub record AreBestAt (es : List EntryOf) (any up down : Bool) (x : ℕ) (order : List Height) (Known : ℕ → Type 0) (bests : List (Option Best)) : Type 0 where
@@ -44,19 +44,17 @@ far_higher es y port z q graph e down = elim (cases_Bool (is_up_end es z y)) [
 ]
 
 -- from the lowest place on, the far places below one are known before it
-pub knows_below : (es : List EntryOf) (search : Search) (order : List Height) (i y : ℕ) (bests : List (Option Best)) → IsGraph es → IsDescent es order → i < length order → y ≡ place_at order i → search.down ≡ false → AreBestAt es search.any search.up false search.from order (λ k. i + 1 ≤ k) bests → KnowsFar es search bests [] y
-knows_below es search order i y bests graph descent low at never so_far = record {
-  up = λ port z q e is _.
+pub knows_below : (es : List EntryOf) (from : ℕ) (any : Bool) (order : List Height) (i y : ℕ) (bests : List (Option Best)) → IsGraph es → IsDescent es order → i < length order → y ≡ place_at order i → AreBestAt es any true false from order (λ k. i + 1 ≤ k) bests → KnowsFar es (climbing from any) true bests y
+knows_below es from any order i y bests graph descent low at so_far = record {
+  each = λ port z q e is.
       let j = later es order i port z q graph descent low (rw (← at) e) (rw (← at) (not_both_higher es y z is)) in
-      subst (λ (w : ℕ). IsBest search.any (λ ps. Goes es search.up false search.from ps w) (best_at bests w)) j.3 (so_far.each j.0 (let l = j.1 in omega arith) j.2);
-  down = λ port z q e is may. absurd (cc);
+      subst (λ (w : ℕ). IsBest any (λ ps. Goes es true false from ps w) (best_at bests w)) j.3 (so_far.each j.0 (let l = j.1 in omega arith) j.2);
 }
 
 -- and from the highest place on, those above one
-pub knows_above : (es : List EntryOf) (search : Search) (order : List Height) (i y : ℕ) (climbs bests : List (Option Best)) → IsGraph es → IsDescent es order → i < length order → y ≡ place_at order i → (search.up ≡ true → AreBestTo es search.any true false search.from climbs) → AreBestAt es search.any search.up search.down search.from order (λ k. k < i) bests → KnowsFar es search climbs bests y
-knows_above es search order i y climbs bests graph descent low at are so_far = record {
-  up = λ port z q e is may. subst (λ (u : Bool). IsBest search.any (λ ps. Goes es u false search.from ps z) (best_at climbs z)) (sym may) ((are may).each z (graph.within y port (z, q) e).far_place);
-  down = λ port z q e is _.
+pub knows_above : (es : List EntryOf) (search : Search) (order : List Height) (i y : ℕ) (bests : List (Option Best)) → IsGraph es → IsDescent es order → i < length order → y ≡ place_at order i → AreBestAt es search.any search.up search.down search.from order (λ k. k < i) bests → KnowsFar es search false bests y
+knows_above es search order i y bests graph descent low at so_far = record {
+  each = λ port z q e is.
       let j = earlier es order i port z q graph descent low (rw (← at) e) (rw (← at) (far_higher es y port z q graph e is)) in
       subst (λ (w : ℕ). IsBest search.any (λ ps. Goes es search.up search.down search.from ps w) (best_at bests w)) j.2 (so_far.each j.0 j.1 (let l = j.1 in omega arith));
 }

@@ -7,6 +7,8 @@ use Rattle.topo_graph.specs.Topology.{far_of}
 use Rattle.updown.specs.Routes.{is_up_end}
 use Rattle.table_build.specs.declared.best.Best.{Best}
 use Rattle.table_build.specs.declared.best.Search.{Search}
+use Rattle.table_build.specs.declared.link.Link.{Link}
+use Rattle.table_build.specs.Links.{link_at}
 
 -- The ports lead from x over links to y, upward only where `up` and downward only where `down`; behind a link
 -- downward none leads upward.
@@ -47,7 +49,8 @@ pub record IsBetter (a b c : Best) : Type 0 where
   pub cost : c.cost ≡ min a.cost b.cost
   pub ports :
       (p : ℕ)
-      → HasPort c.ports p ↔ (((a.cost ≤ b.cost) × HasPort a.ports p) ⊎ ((b.cost ≤ a.cost) × HasPort b.ports p))
+      → HasPort c.ports p
+      ↔ (((a.cost ≤ b.cost) × HasPort a.ports p) ⊎ ((b.cost ≤ a.cost) × HasPort b.ports p))
 
 abbrev pub IsBetterOf : Option Best → Option Best → Option Best → Type 0
 IsBetterOf None b o = o ≡ b
@@ -63,37 +66,34 @@ pub record IsLonger (any : Bool) (from z port : ℕ) (b c : Best) : Type 0 where
 abbrev pub best_at : List (Option Best) → ℕ → Option Best
 best_at bests y = slice_index_or bests y None
 
--- the ways from x to z that may go before a last link to y: before one upward those that lead upward alone
-abbrev pub Before : List EntryOf → Bool → Bool → ℕ → ℕ → ℕ → List ℕ → Type 0
-Before es up down x y z ps =
-    ((is_up_end es y z ≡ true) × (up ≡ true) × Goes es up false x ps z)
-    ⊎ ((is_up_end es y z ≡ false) × (down ≡ true) × Goes es up down x ps z)
-
--- the ways to y whose last link comes in at a port
-pub record Arrives (es : List EntryOf) (search : Search) (y port : ℕ) (ps : List ℕ) : Type 0 where
-  pub place : ℕ
-  pub by : ℕ
-  pub far : far_of es y port ≡ Some (place, by)
+-- the ways to y whose last link is this one, which leads to its far place from y
+pub record Over (es : List EntryOf) (search : Search) (link : Link) (ps : List ℕ) : Type 0 where
   pub before : List ℕ
-  pub ports : ps ≡ before ++ by ∷ []
-  pub way : Before es search.up search.down search.from y place before
+  pub ports : ps ≡ before ++ link.by ∷ []
+  pub way : Goes es search.up search.down search.from before link.place
 
--- the best ways before a last link upward or downward to which the search may add it
-abbrev pub before_of : Search → List (Option Best) → List (Option Best) → Bool → ℕ → Option Best
-before_of search climbs bests up z =
-    if up
-    then (if search.up then best_at climbs z else None)
-    else (if search.down then best_at bests z else None)
+-- those whose last link is one of the links of a list before end
+abbrev pub OverBelow : List EntryOf → Search → List Link → ℕ → List ℕ → Type 0
+OverBelow es search links end ps = (k : ℕ) × (k < end) × Over es search (link_at links k) ps
 
--- the tables have the best ways to the far places of y that may go before a last link
-pub record KnowsFar (es : List EntryOf) (search : Search) (climbs bests : List (Option Best)) (y : ℕ)
+-- the table has the best ways to the far place of a link
+pub record IsKnown (es : List EntryOf) (search : Search) (bests : List (Option Best)) (link : Link)
     : Type 0 where
-  pub up :
-      (port z q : ℕ) → far_of es y port ≡ Some (z, q) → is_up_end es y z ≡ true → search.up ≡ true
-      → IsBest search.any (λ ps. Goes es search.up false search.from ps z) (best_at climbs z)
-  pub down :
-      (port z q : ℕ) → far_of es y port ≡ Some (z, q) → is_up_end es y z ≡ false → search.down ≡ true
+  pub by : link.by ≤ 12
+  pub best :
+      IsBest search.any (λ ps. Goes es search.up search.down search.from ps link.place)
+      (best_at bests link.place)
+
+-- the table has the best ways to the far places of y that are lower, or to those that are higher
+pub record KnowsFar (es : List EntryOf) (search : Search) (lower : Bool) (bests : List (Option Best)) (y : ℕ)
+    : Type 0 where
+  pub each :
+      (port z q : ℕ) → far_of es y port ≡ Some (z, q) → is_up_end es y z ≡ lower
       → IsBest search.any (λ ps. Goes es search.up search.down search.from ps z) (best_at bests z)
+
+-- the search for ways upward alone
+abbrev pub climbing : ℕ → Bool → Search
+climbing from any = record { from = from; any = any; up = true; down = false }
 
 -- the best ways from x to each place
 pub record AreBestTo (es : List EntryOf) (any up down : Bool) (x : ℕ) (bests : List (Option Best))

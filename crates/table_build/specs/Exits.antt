@@ -9,56 +9,64 @@ use Rattle.updown.specs.Routes.{is_up_end, LegalRoute, DownRoute, HasLegal, HasD
 use Rattle.table_build.specs.declared.best.Best.{Best}
 use Rattle.table_build.specs.Bests.{HasPort}
 
--- the ports lead from x to y along a legal route or, where they may not go up, along downward links alone
+-- the ports lead from a place to the target along a legal route or, where they may not go up, along downward
+-- links alone
 abbrev pub LeadsTo : List EntryOf → Bool → ℕ → List ℕ → ℕ → Type 0
-LeadsTo es true x ps y = LegalRoute es x ps y
-LeadsTo es false x ps y = DownRoute es x ps y
+LeadsTo entries true place ports target = LegalRoute entries place ports target
+LeadsTo entries false place ports target = DownRoute entries place ports target
 
 -- The port begins a way to another place; unless any way will do, it begins a shortest one.
-pub record Begins (es : List EntryOf) (any up : Bool) (x y p : ℕ) : Type 0 where
-  pub other : x ≢ y
+pub record Begins (entries : List EntryOf) (any up : Bool) (place target port : ℕ) : Type 0 where
+  pub other : place ≢ target
   pub rest : List ℕ
-  pub way : LeadsTo es up x (p ∷ rest) y
-  pub least : any ≡ false → (ps : List ℕ) → LeadsTo es up x ps y → length rest + 1 ≤ length ps
+  pub way : LeadsTo entries up place (port ∷ rest) target
+  pub least :
+      any ≡ false → (others : List ℕ) → LeadsTo entries up place others target
+      → length rest + 1 ≤ length others
 
 -- the ports that begin a way, rising
-pub record AreExits (es : List EntryOf) (any up : Bool) (x y : ℕ) (ports : List ℕ) : Type 0 where
+pub record AreExits (entries : List EntryOf) (any up : Bool) (place target : ℕ) (ports : List ℕ)
+    : Type 0 where
   pub rising : ExitsRise ports
-  pub each : All (Begins es any up x y) ports
-  pub whole : (p : ℕ) → Begins es any up x y p → Contains ports p
+  pub each : All (Begins entries any up place target) ports
+  pub whole : (port : ℕ) → Begins entries any up place target port → Contains ports port
 
 -- the ports below end that have this, rising
 pub record ArePortsBelow (Has : ℕ → Type 0) (end : ℕ) (ports : List ℕ) : Type 0 where
   pub rising : ExitsRise ports
   pub each : All Has ports
-  pub below : All (λ p. p < end) ports
-  pub whole : (p : ℕ) → p < end → Has p → Contains ports p
+  pub below : All (λ port. port < end) ports
+  pub whole : (port : ℕ) → port < end → Has port → Contains ports port
   pub few : length ports < end
 
 -- the port is one by which best ways begin
 abbrev pub IsExitOf : Option Best → ℕ → Type 0
-IsExitOf None p = ⊥
-IsExitOf (Some b) p = (1 ≤ p) × HasPort b.ports p
+IsExitOf None port = ⊥
+IsExitOf (Some best) port = (1 ≤ port) × HasPort best.ports port
 
--- what may come in at x: what starts there, at entry 0, and what a link brings
+-- what may come in at a place: what starts there, at entry 0, and what a link brings
 abbrev pub IsEntry : List EntryOf → ℕ → ℕ → Type 0
-IsEntry es x entry = (entry ≡ 0) ⊎ ((far : ℕ × ℕ) × (far_of es x entry ≡ Some far))
+IsEntry entries place entry = (entry ≡ 0) ⊎ ((far : ℕ × ℕ) × (far_of entries place entry ≡ Some far))
 
 abbrev pub is_entry : List EntryOf → ℕ → ℕ → Bool
-is_entry es x entry = (entry == 0) || is_some (far_of es x entry)
+is_entry entries place entry = (entry == 0) || is_some (far_of entries place entry)
 
--- whether it may go on upward: where it starts there, and where x is the up end of the link that brought it
+-- whether it may go on upward: where it starts there, and where this is the up end of the link that brought
+-- it
 abbrev pub may_go_up : List EntryOf → ℕ → ℕ → Bool
-may_go_up es x entry = (entry == 0) || option_map_or (λ far. is_up_end es x far.0) (far_of es x entry) false
+may_go_up entries place entry =
+    (entry == 0) || option_map_or (λ far. is_up_end entries place far.0) (far_of entries place entry) false
 
 -- what may follow a port on the way: behind a link upward any legal route, behind one downward links downward
 -- alone; and where the way may not go up, nothing behind a link upward
 abbrev pub Behind : List EntryOf → Bool → ℕ → ℕ → ℕ → ℕ → Type 0
-Behind es true x to p n =
-    (z q : ℕ) × (far_of es x p ≡ Some (z, q))
-    × (((is_up_end es z x ≡ true) × HasLegal es z to n) ⊎ ((is_up_end es z x ≡ false) × HasDown es z to n))
-Behind es false x to p n =
-    (z q : ℕ) × (far_of es x p ≡ Some (z, q)) × (is_up_end es z x ≡ false) × HasDown es z to n
+Behind entries true place target port left =
+    (next came : ℕ) × (far_of entries place port ≡ Some (next, came))
+    × (((is_up_end entries next place ≡ true) × HasLegal entries next target left)
+    ⊎ ((is_up_end entries next place ≡ false) × HasDown entries next target left))
+Behind entries false place target port left =
+    (next came : ℕ) × (far_of entries place port ≡ Some (next, came)) × (is_up_end entries next place ≡ false)
+    × HasDown entries next target left
 
 -- whether a port is an exit, from what is left behind it and from the least of the whole way
 abbrev pub is_next : Option ℕ → ℕ → Bool

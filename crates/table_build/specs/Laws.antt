@@ -4,28 +4,31 @@ use Rattle.an_base.specs.Values.{EntryOf}
 use Rattle.topo_graph.specs.Topology.{far_of}
 use Rattle.table_build.specs.Exits.{LeadsTo, Begins, may_go_up}
 
--- the shortest way from x to y has n links
-pub record IsShortest (es : List EntryOf) (up : Bool) (x y n : ℕ) : Type 0 where
+-- the shortest way from a place to the target has so many links
+pub record IsShortest (entries : List EntryOf) (up : Bool) (place target links : ℕ) : Type 0 where
   pub ports : List ℕ
-  pub count : length ports ≡ n
-  pub way : LeadsTo es up x ports y
-  pub least : (ps : List ℕ) → LeadsTo es up x ps y → n ≤ length ps
+  pub count : length ports ≡ links
+  pub way : LeadsTo entries up place ports target
+  pub least : (others : List ℕ) → LeadsTo entries up place others target → links ≤ length others
 
--- What came in at x by an entry and goes to y follows the exits at these ports, and comes in at z by another
--- entry.
+-- What came in at a place by an entry and goes to the target follows the exits at these ports, and comes in
+-- at the end by another entry.
 abbrev pub Follows : List EntryOf → Bool → ℕ → ℕ → ℕ → List ℕ → ℕ → ℕ → Type 0
-Follows es any y x entry [] z out = (x ≡ z) × (entry ≡ out)
-Follows es any y x entry (p ∷ ps) z out =
-    Begins es any (may_go_up es x entry) x y p
-    × ((w q : ℕ) × (far_of es x p ≡ Some (w, q)) × Follows es any y w q ps z out)
+Follows entries any target place entry [] end out = (place ≡ end) × (entry ≡ out)
+Follows entries any target place entry (port ∷ ports) end out =
+    Begins entries any (may_go_up entries place entry) place target port
+    × ((next came : ℕ) × (far_of entries place port ≡ Some (next, came))
+    × Follows entries any target next came ports end out)
 
 -- A channel is a place and a port with a link. It leads to another one where what it brings to the far place
 -- goes on there by the port of the other, towards whatever member.
 abbrev pub LeadsOn : List EntryOf → Bool → (ℕ × ℕ) → (ℕ × ℕ) → Type 0
-LeadsOn es any a b =
-    (q y : ℕ) × (far_of es a.0 a.1 ≡ Some (b.0, q)) × Begins es any (may_go_up es b.0 q) b.0 y b.1
+LeadsOn entries any one other =
+    (entry target : ℕ) × (far_of entries one.0 one.1 ≡ Some (other.0, entry))
+    × Begins entries any (may_go_up entries other.0 entry) other.0 target other.1
 
--- a walk of n steps over channels, each of which leads to the next
+-- a walk of so many steps over channels, each of which leads to the next
 abbrev pub ChannelWalk : List EntryOf → Bool → ℕ → (ℕ × ℕ) → (ℕ × ℕ) → Type 0
-ChannelWalk es any zero a b = a ≡ b
-ChannelWalk es any (suc n) a b = (c : ℕ × ℕ) × LeadsOn es any a c × ChannelWalk es any n c b
+ChannelWalk entries any zero one other = one ≡ other
+ChannelWalk entries any (suc count) one other =
+    (next : ℕ × ℕ) × LeadsOn entries any one next × ChannelWalk entries any count next other

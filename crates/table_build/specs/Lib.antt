@@ -1,4 +1,5 @@
 pub mod Exits
+pub mod Links
 pub mod Bests
 pub mod Routing
 pub mod Tables

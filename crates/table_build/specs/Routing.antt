@@ -3,6 +3,8 @@ use Rattle.std.specs.Prelude.{◌≡◌, ℕ, ◌<◌, List, length, Option, Som
 use Rattle.an_base.specs.Values.{EntryOf}
 use Rattle.updown.specs.declared.order.Height.{Height}
 use Rattle.updown.specs.Order.{IsDescent}
+use Rattle.table_build.specs.declared.link.Links.{Links}
+use Rattle.table_build.specs.Links.{AreLinks}
 
 -- the place that has a number
 abbrev pub place_at : List (Option ℕ) → ℕ → Option ℕ
@@ -14,12 +16,14 @@ pub record ArePlaces (numbers : List ℕ) (end : ℕ) (places : List (Option ℕ
   pub each : (n y : ℕ) → place_at places n ≡ Some y → (y < end) × (slice_index numbers y ≡ n)
   pub whole : (y : ℕ) → y < end → place_at places (slice_index numbers y) ≡ Some y
 
--- what the tables of all members share: the place of each number, and the places from the highest to the
--- lowest
+-- what the tables of all members share: the place of each number, the places from the highest to the lowest,
+-- and the links of each member
 pub record RoutingOf : Type 0 where
   pub places : List (Option ℕ)
   pub order : List Height
+  pub links : List Links
 
 pub record IsRouting (es : List EntryOf) (numbers : List ℕ) (r : RoutingOf) : Type 0 where
   pub places : ArePlaces numbers (length es) r.places
   pub order : IsDescent es r.order
+  pub links : AreLinks es (length es) r.links

@@ -13,65 +13,74 @@ pub record TableOf : Type 0 where
   pub number : ℕ
   pub rows : List RowOf
 
--- a row of the member at x: for what comes in at an entry and goes to the number of another member, the exits
-pub record IsRow (es : List EntryOf) (numbers : List ℕ) (any : Bool) (x : ℕ) (r : RowOf) : Type 0 where
-  pub at : r.at ≡ slice_index numbers x
-  pub entry : IsEntry es x r.entry
+-- a row of the member at a place: for what comes in at an entry and goes to the number of another member, the
+-- exits
+pub record IsRow (entries : List EntryOf) (numbers : List ℕ) (any : Bool) (place : ℕ) (row : RowOf)
+    : Type 0 where
+  pub at : row.at ≡ slice_index numbers place
+  pub entry : IsEntry entries place row.entry
   pub to : ℕ
-  pub to_low : to < length es
-  pub to_other : to ≢ x
-  pub number : r.to ≡ slice_index numbers to
-  pub exits : AreExits es any (may_go_up es x r.entry) x to r.exits
+  pub to_low : to < length entries
+  pub to_other : to ≢ place
+  pub number : row.to ≡ slice_index numbers to
+  pub exits : AreExits entries any (may_go_up entries place row.entry) place to row.exits
 
 -- by entry, and then by number
 abbrev pub IsBefore : RowOf → RowOf → Type 0
-IsBefore a b = (a.entry < b.entry) ⊎ ((a.entry ≡ b.entry) × (a.to < b.to))
+IsBefore one other = (one.entry < other.entry) ⊎ ((one.entry ≡ other.entry) × (one.to < other.to))
 
--- the table of the member at x: one row for each entry and each number of another member, by rising entry and
--- then by rising number
-pub record IsTable (es : List EntryOf) (numbers : List ℕ) (any : Bool) (x : ℕ) (t : TableOf) : Type 0 where
-  pub number : t.number ≡ slice_index numbers x
-  pub each : All (IsRow es numbers any x) t.rows
+-- the table of the member at a place: one row for each entry and each number of another member, by rising
+-- entry and then by rising number
+pub record IsTable (entries : List EntryOf) (numbers : List ℕ) (any : Bool) (place : ℕ) (table : TableOf)
+    : Type 0 where
+  pub number : table.number ≡ slice_index numbers place
+  pub each : All (IsRow entries numbers any place) table.rows
   pub whole :
-      (entry y : ℕ) → IsEntry es x entry → y < length es → y ≢ x
-      → Any (λ r. (r.entry ≡ entry) × (r.to ≡ slice_index numbers y)) t.rows
-  pub rising : AllPairs IsBefore t.rows
+      (entry target : ℕ) → IsEntry entries place entry → target < length entries → target ≢ place
+      → Any (λ row. (row.entry ≡ entry) × (row.to ≡ slice_index numbers target)) table.rows
+  pub rising : AllPairs IsBefore table.rows
 
 -- the table of a life of the graph
 abbrev pub IsTableOf : List EntryOf → List ℕ → Bool → LifeId → TableOf → Type 0
-IsTableOf es numbers any me t = (x : ℕ) × (place_of es me ≡ Some x) × IsTable es numbers any x t
+IsTableOf entries numbers any life table =
+    (place : ℕ) × (place_of entries life ≡ Some place) × IsTable entries numbers any place table
 
 -- the exits of a table at an entry for a number, none where it has no such row
 abbrev pub exits_of : TableOf → ℕ → ℕ → List ℕ
-exits_of t entry number =
-    option_map_or (λ r. r.exits) (find (λ r. (r.entry == entry) && (r.to == number)) t.rows) []
+exits_of table entry number =
+    option_map_or (λ row. row.exits) (find (λ row. (row.entry == entry) && (row.to == number)) table.rows) []
 
 -- the exits towards another member
-pub record IsWay (es : List EntryOf) (numbers : List ℕ) (any : Bool) (x : ℕ) (w : Way) : Type 0 where
-  pub low : w.place < length es
-  pub other : w.place ≢ x
-  pub number : w.number ≡ slice_index numbers w.place
-  pub up : AreExits es any true x w.place w.up
-  pub down : AreExits es any false x w.place w.down
+pub record IsWay (entries : List EntryOf) (numbers : List ℕ) (any : Bool) (place : ℕ) (way : Way)
+    : Type 0 where
+  pub low : way.place < length entries
+  pub other : way.place ≢ place
+  pub number : way.number ≡ slice_index numbers way.place
+  pub up : AreExits entries any true place way.place way.up
+  pub down : AreExits entries any false place way.place way.down
 
 -- those towards the members with numbers below end
-pub record AreWays (es : List EntryOf) (numbers : List ℕ) (any : Bool) (x end : ℕ) (ways : List Way)
+pub record AreWays (entries : List EntryOf) (numbers : List ℕ) (any : Bool) (place end : ℕ) (ways : List Way)
     : Type 0 where
-  pub each : All (IsWay es numbers any x) ways
-  pub below : All (λ w. w.number < end) ways
-  pub whole : (y : ℕ) → y < length es → y ≢ x → slice_index numbers y < end → Any (λ w. w.place ≡ y) ways
-  pub rising : AllPairs (λ a b. a.number < b.number) ways
+  pub each : All (IsWay entries numbers any place) ways
+  pub below : All (λ way. way.number < end) ways
+  pub whole :
+      (target : ℕ) → target < length entries → target ≢ place → slice_index numbers target < end
+      → Any (λ way. way.place ≡ target) ways
+  pub rising : AllPairs (λ one other. one.number < other.number) ways
 
 -- the row of a way
 abbrev pub row_of : ℕ → ℕ → Bool → Way → RowOf
-row_of at entry up w = record { at = at; entry = entry; to = w.number; exits = if up then w.up else w.down }
+row_of at entry up way =
+    record { at = at; entry = entry; to = way.number; exits = if up then way.up else way.down }
 
 -- the rows of the entries below end
-pub record AreRowsBelow (es : List EntryOf) (numbers : List ℕ) (any : Bool) (x end : ℕ) (rows : List RowOf)
-    : Type 0 where
-  pub each : All (IsRow es numbers any x) rows
-  pub below : All (λ r. r.entry < end) rows
+pub record AreRowsBelow (entries : List EntryOf) (numbers : List ℕ) (any : Bool) (place end : ℕ)
+    (rows : List RowOf) : Type 0 where
+  pub each : All (IsRow entries numbers any place) rows
+  pub below : All (λ row. row.entry < end) rows
   pub whole :
-      (entry y : ℕ) → entry < end → IsEntry es x entry → y < length es → y ≢ x
-      → Any (λ r. (r.entry ≡ entry) × (r.to ≡ slice_index numbers y)) rows
+      (entry target : ℕ) → entry < end → IsEntry entries place entry → target < length entries
+      → target ≢ place
+      → Any (λ row. (row.entry ≡ entry) × (row.to ≡ slice_index numbers target)) rows
   pub rising : AllPairs IsBefore rows

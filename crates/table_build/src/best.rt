@@ -1,15 +1,17 @@
-ghost use Rattle.std.specs.Prelude.{◌≡◌, ◌<◌, ◌≤◌, true, false, length, IfOk};
+ghost use Rattle.std.specs.Prelude.{◌≡◌, ◌<◌, ◌≤◌, ℕ, List, Bool, true, false, length, IfOk};
+ghost use Rattle.an_base.specs.Values.{EntryOf};
 ghost use Rattle.topo_graph.specs.Topology.{IsGraph};
 ghost use Rattle.updown.specs.Order.{IsDescent};
-ghost use Rattle.table_build.specs.Bests.{AreBestFrom, AreBestTo, Arrives, before_of, best_at, Goes, IsBest};
-ghost use Rattle.table_build.specs.Bests.{IsBetter, IsBetterOf, IsLonger, KnowsFar};
+ghost use Rattle.table_build.specs.Bests.{AreBestFrom, AreBestTo, best_at, climbing, Goes, IsBest, IsBetter};
+ghost use Rattle.table_build.specs.Bests.{IsBetterOf, IsKnown, IsLonger, KnowsFar, Over, OverBelow};
+ghost use Rattle.table_build.specs.Links.{AreLinks, AreLinksBelow, link_at};
 
+use crate::link::{Link, Links};
 use an_base::memory::OutOfMemory;
 use std::alloc::Global;
 use std::marker::Model;
 use topo_graph::graph::Graph;
 use updown::order::Height;
-use updown::route::is_up_end;
 
 /// Of some ways from a member: what a cheapest one costs, and the ports by which cheapest ones
 /// begin.
@@ -79,91 +81,63 @@ fn longer(search: Search, z: u8, port: u8, best: Best) -> Best
     }
 }
 
-// The best ways to the place z that may go before a last link, upward or downward.
-fn before(
-    search: Search,
-    climbs: &[Option<Best>],
-    bests: &[Option<Best>],
-    up: bool,
-    z: u8,
-) -> Option<Best>
-    ensures { result ≡ before_of search climbs.now bests.now up z }
+// The best ways to a place, as a table has them.
+fn known_to(bests: &[Option<Best>], z: u8) -> Option<Best>
+    ensures { result ≡ best_at bests.now z }
 {
-    if up {
-        if search.up {
-            return climbs.get(usize::from(z)).copied().flatten();
-        }
-        return None;
-    }
-    if search.down {
-        return bests.get(usize::from(z)).copied().flatten();
-    }
-    None
+    bests.get(usize::from(z)).copied().flatten()
 }
 
-// The best ways to y whose last link comes in at a port.
-fn best_by(
-    graph: &Graph,
-    search: Search,
-    climbs: &[Option<Best>],
-    bests: &[Option<Best>],
-    y: u8,
-    port: u8,
-) -> Option<Best>
-    requires from { search.from < length graph.now }
-    requires knows { KnowsFar graph.now search climbs.now bests.now y }
-    ensures { IsBest search.any (Arrives graph.now search y port) result }
-{
-    let (z, far_port) = graph.far_place(y, port)?;
-    let best = before(search, climbs, bests, is_up_end(graph, y, z), z)?;
-    Some(longer(search, z, far_port, best))
-}
-
-// The best ways to y.
-fn best_to(
-    graph: &Graph,
-    search: Search,
-    climbs: &[Option<Best>],
-    bests: &[Option<Best>],
-    y: u8,
-) -> Option<Best>
+// The best ways over a link, from the best ones to its far place.
+fn best_by(graph: &Graph, search: Search, bests: &[Option<Best>], link: Link) -> Option<Best>
     requires graph { IsGraph graph.now }
     requires from { search.from < length graph.now }
-    requires knows { KnowsFar graph.now search climbs.now bests.now y }
-    ensures { IsBest search.any (λ ps. Goes graph.now search.up search.down search.from ps y) result }
+    requires known { IsKnown graph.now search bests.now link }
+    ensures { IsBest search.any (Over graph.now search link) result }
+{
+    let best = known_to(bests, link.place)?;
+    Some(longer(search, link.place, link.by, best))
+}
+
+// The best ways whose last link is one of these, which lead to the far places.
+fn best_over(graph: &Graph, search: Search, bests: &[Option<Best>], links: &[Link]) -> Option<Best>
+    requires graph { IsGraph graph.now }
+    requires from { search.from < length graph.now }
+    requires known { (k : ℕ) → k < length links.now → IsKnown graph.now search bests.now (link_at links.now k) }
+    ensures { IsBest search.any (OverBelow graph.now search links.now (length links.now)) result }
 {
     let mut best = None;
-    if y == search.from {
-        best = Some(Best { cost: 0, ports: 0 });
-    }
-    'ports: for port in 1..13u8 {
-        best = better_of(best, best_by(graph, search, climbs, bests, y, port));
+    'links: for link in links {
+        best = better_of(best, best_by(graph, search, bests, *link));
     }
     best
 }
 
-// So many places to which no way is known.
-fn none_known(alloc: Global, count: u8) -> Result<Vec<Option<Best>>, OutOfMemory>
-    ensures { IfOk result (λ bests. length bests.items ≡ count) }
+// The way of no link, to the place where it begins.
+fn no_link(from: u8, y: u8) -> Option<Best>
+    ensures { (entries : List EntryOf) (any : Bool)
+        → IsBest any (λ ps. Goes entries false false from ps y) result }
 {
-    let mut bests = Vec::with_capacity(alloc, usize::from(count))?;
-    'places: for _ in 0..count {
-        bests.push(None)?;
+    if y == from {
+        return Some(Best { cost: 0, ports: 0 });
     }
-    Ok(bests)
+    None
 }
 
-// The best ways that lead upward alone, from the lowest place to the highest.
-fn climbs_of(
-    alloc: Global,
+// The best ways to y that lead upward alone.
+fn climb_to(
     graph: &Graph,
-    order: &[Height],
+    links: &Links,
     from: u8,
     any: bool,
-) -> Result<Vec<Option<Best>>, OutOfMemory>
-    requires order { IsDescent graph.now order.now }
+    bests: &[Option<Best>],
+    y: u8,
+) -> Option<Best>
+    requires graph { IsGraph graph.now }
+    requires links { AreLinksBelow graph.now y 13 links.now }
     requires from { from < length graph.now }
-    ensures { IfOk result (λ bests. AreBestTo graph.now any true false from bests.items) }
+    requires knows { KnowsFar graph.now (climbing from any) true bests.now y }
+    ensures { IsBest any (λ ps. Goes graph.now true false from ps y) result }
 {
     let search = Search {
         from,
@@ -171,12 +145,65 @@ fn climbs_of(
         up: true,
         down: false,
     };
+    let over = best_over(graph, search, bests, &links.lower);
+    better_of(no_link(from, y), over)
+}
+
+// The best ways to y that lead downward alone, or behind links upward.
+fn fall_to(
+    graph: &Graph,
+    links: &Links,
+    search: Search,
+    climbs: &[Option<Best>],
+    bests: &[Option<Best>],
+    y: u8,
+) -> Option<Best>
+    requires graph { IsGraph graph.now }
+    requires links { AreLinksBelow graph.now y 13 links.now }
+    requires from { search.from < length graph.now }
+    requires down { search.down ≡ true }
+    requires climbs { search.up ≡ true
+        → IsBest search.any (λ ps. Goes graph.now true false search.from ps y) (best_at climbs.now y) }
+    requires knows { KnowsFar graph.now search false bests.now y }
+    ensures { IsBest search.any (λ ps. Goes graph.now search.up search.down search.from ps y) result }
+{
+    let over = best_over(graph, search, bests, &links.upper);
+    let first = if search.up {
+        known_to(climbs, y)
+    } else {
+        no_link(search.from, y)
+    };
+    better_of(first, over)
+}
+
+// So many places to which no way is known.
+fn none_known(alloc: Global, count: u8) -> Result<Vec<Option<Best>>, OutOfMemory>
+    ensures { IfOk result (λ bests. length bests.items ≡ count) }
+{
+    let none: Option<Best> = None;
+    Ok(vec![in alloc; none; usize::from(count)]?)
+}
+
+// The best ways that lead upward alone, from the lowest place to the highest.
+fn climbs_of(
+    alloc: Global,
+    graph: &Graph,
+    links: &[Links],
+    order: &[Height],
+    from: u8,
+    any: bool,
+) -> Result<Vec<Option<Best>>, OutOfMemory>
+    requires links { AreLinks graph.now (length graph.now) links.now }
+    requires order { IsDescent graph.now order.now }
+    requires from { from < length graph.now }
+    ensures { IfOk result (λ bests. AreBestTo graph.now any true false from bests.items) }
+{
     let mut bests = none_known(alloc, graph.count())?;
     let mut i = order.len();
     'places: while i > 0 {
         i -= 1;
         let y = order[i].place;
-        let best = best_to(graph, search, &bests, &[], y);
+        let best = climb_to(graph, &links[usize::from(y)], from, any, &bests, y);
         bests[usize::from(y)] = best;
     }
     Ok(bests)
@@ -187,10 +214,12 @@ fn climbs_of(
 fn falls_of(
     alloc: Global,
     graph: &Graph,
+    links: &[Links],
     order: &[Height],
     search: Search,
     climbs: &[Option<Best>],
 ) -> Result<Vec<Option<Best>>, OutOfMemory>
+    requires links { AreLinks graph.now (length graph.now) links.now }
     requires order { IsDescent graph.now order.now }
     requires from { search.from < length graph.now }
     requires down { search.down ≡ true }
@@ -201,7 +230,7 @@ fn falls_of(
     let mut bests = none_known(alloc, graph.count())?;
     'places: for i in 0..order.len() {
         let y = order[i].place;
-        let best = best_to(graph, search, climbs, &bests, y);
+        let best = fall_to(graph, &links[usize::from(y)], search, climbs, &bests, y);
         bests[usize::from(y)] = best;
     }
     Ok(bests)
@@ -227,27 +256,29 @@ impl Bests {
     pub fn from(
         alloc: Global,
         graph: &Graph,
+        links: &[Links],
         order: &[Height],
         from: u8,
         any: bool,
     ) -> Result<Bests, OutOfMemory>
+        requires links { AreLinks graph.now (length graph.now) links.now }
         requires order { IsDescent graph.now order.now }
         requires from { from < length graph.now }
         ensures { IfOk result (AreBestFrom graph.now any from) }
     {
-        let climbs = climbs_of(alloc, graph, order, from, any)?;
+        let climbs = climbs_of(alloc, graph, links, order, from, any)?;
         let search = Search {
             from,
             any,
             up: true,
             down: true,
         };
-        let up = falls_of(alloc, graph, order, search, &climbs)?;
+        let up = falls_of(alloc, graph, links, order, search, &climbs)?;
         let search = Search {
             up: false,
             ..search
         };
-        let down = falls_of(alloc, graph, order, search, &[])?;
+        let down = falls_of(alloc, graph, links, order, search, &[])?;
         Ok(Bests { up, down })
     }
 
@@ -255,13 +286,13 @@ impl Bests {
     pub fn up(&self, y: u8) -> Option<Best>
         ensures { result ≡ best_at self.now.up y }
     {
-        self.up.get(usize::from(y)).copied().flatten()
+        known_to(&self.up, y)
     }
 
     /// The best ways to a place that lead downward alone, if there are any.
     pub fn down(&self, y: u8) -> Option<Best>
         ensures { result ≡ best_at self.now.down y }
     {
-        self.down.get(usize::from(y)).copied().flatten()
+        known_to(&self.down, y)
     }
 }

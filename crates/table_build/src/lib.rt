@@ -9,6 +9,7 @@
 mod best;
 pub mod exit;
 pub mod law;
+pub mod link;
 pub mod routing;
 pub mod table;
 mod way;

@@ -2,12 +2,13 @@ ghost use Rattle.std.specs.Prelude.{◌≡◌, length, IfOk};
 ghost use Rattle.an_base.specs.Numbers.{AreNumbers};
 ghost use Rattle.table_build.specs.Routing.{ArePlaces, IsRouting, place_at};
 
+use crate::link::{Links, links_of};
 use an_base::memory::OutOfMemory;
 use an_base::numbers::Numbers;
 use std::alloc::Global;
 use std::marker::Model;
 use topo_graph::graph::Graph;
-use updown::order::{Descent, Height};
+use updown::order::{Descent, Height, descent_of};
 
 // For each number the place that has it.
 fn places_of(numbers: &[u8]) -> [Option<u8>; 127]
@@ -21,12 +22,13 @@ fn places_of(numbers: &[u8]) -> [Option<u8>; 127]
     places
 }
 
-/// What the tables of all members of a topology share: the place of each number, and the places from
-/// the highest to the lowest.
+/// What the tables of all members of a topology share: the place of each number, the places from the
+/// highest to the lowest, and the links of each member.
 #[derive(Debug, Drop)]
 pub struct Routing {
     places: [Option<u8>; 127],
     descent: Descent,
+    links: Vec<Links>,
 }
 
 impl Model for Routing {
@@ -34,7 +36,7 @@ impl Model for Routing {
 
     ghost Value = { RoutingOf };
 
-    ghost view = { λ r. record { places = r.places; order = r.descent } };
+    ghost view = { λ r. record { places = r.places; order = r.descent; links = r.links.items } };
 }
 
 impl Routing {
@@ -44,8 +46,13 @@ impl Routing {
         ensures { IfOk result (IsRouting graph.now numbers.now) }
     {
         let places = places_of(numbers.as_slice());
-        let descent = Descent::of(alloc, graph)?;
-        Ok(Routing { places, descent })
+        let descent = descent_of(alloc, graph)?;
+        let links = links_of(alloc, graph)?;
+        Ok(Routing {
+            places,
+            descent,
+            links,
+        })
     }
 
     /// The place that has a number, if one has it.
@@ -60,5 +67,12 @@ impl Routing {
         ensures { result.now ≡ self.now.order }
     {
         self.descent.as_slice()
+    }
+
+    /// The links of each member, by its place.
+    pub fn links(&self) -> &[Links]
+        ensures { result.now ≡ self.now.links }
+    {
+        &self.links
     }
 }

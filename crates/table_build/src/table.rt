@@ -51,7 +51,7 @@ fn rows_of(
     ensures { IfOk result (λ rows. AreRowsBelow graph.now numbers.now any x 13 rows.items) }
 {
     let at = numbers.as_slice()[usize::from(x)];
-    let mut rows = Vec::with_capacity(alloc, ways.len())?;
+    let mut rows = Vec::with_capacity(alloc, 13 * ways.len().min(126))?;
     'entries: for entry in 0..13u8 {
         if is_entry(graph, x, entry) {
             push_rows(&mut rows, at, entry, may_go_up(graph, x, entry), ways)?;
@@ -152,19 +152,10 @@ impl Table {
         &self.rows
     }
 
-    /// The rows by rising entry, then by rising number, in a vector of their own.
-    pub fn rows(&self, alloc: Global) -> Result<Vec<Row>, OutOfMemory>
-        ensures { IfOk result (λ rows. rows.items ≡ self.now.rows) }
+    /// The same as a vector, without taking memory.
+    pub fn into_rows(self) -> Vec<Row>
+        ensures { result.items ≡ self.rows }
     {
-        let mut rows = Vec::with_capacity(alloc, self.rows.len())?;
-        'rows: for row in self.as_slice() {
-            rows.push(Row {
-                at: row.at,
-                entry: row.entry,
-                to: row.to,
-                exits: row.exits.copy(),
-            })?;
-        }
-        Ok(rows)
+        self.rows
     }
 }

@@ -74,7 +74,7 @@ pub fn ways_of(
     ensures graph { IfOk result (λ _. IsGraph graph.now) }
 {
     let count = usize::from(graph.count()).min(numbers.as_slice().len());
-    let bests = Bests::from(alloc, graph, routing.order(), x, any)?;
+    let bests = Bests::from(alloc, graph, routing.links(), routing.order(), x, any)?;
     let mut ways = Vec::with_capacity(alloc, count)?;
     'numbers: for number in 0..127u8 {
         if let Some(way) = way_to(graph, numbers, routing, &bests, x, any, number) {

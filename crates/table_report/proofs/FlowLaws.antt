@@ -61,12 +61,12 @@ entered_sound layout home known (s ∷ sends) flow wired may sound =
     (All-head (λ t. number_at home t.from ≢ number_at home t.to) s sends may.others))
 
 -- a part of a script, with its channels
-record IsRunning (s : ScriptOf) (room : ℕ) (p : FlowPart) : Type 0 where
-  wires : IsWired (layout_in room p.part)
-  known : List ℕ
-  sound : IsSound (layout_in room p.part) known (start_of s (entries_of p))
+pub record IsRunning (s : ScriptOf) (room : ℕ) (p : FlowPart) : Type 0 where
+  pub wires : IsWired (layout_in room p.part)
+  pub known : List ℕ
+  pub sound : IsSound (layout_in room p.part) known (start_of s (entries_of p))
 
-running : (s : ScriptOf) (room : ℕ) (p : FlowPart) → IsScript s → 1 ≤ room → IsPart s p.part → IsRunning s room p
+pub running : (s : ScriptOf) (room : ℕ) (p : FlowPart) → IsScript s → 1 ≤ room → IsPart s p.part → IsRunning s room p
 running s room p kept some part =
     let es = entries_of p in
     let layout = layout_in room p.part in
@@ -83,7 +83,7 @@ running s room p kept some part =
     record { wires = wires; known = sound.0; sound = sound.1 }
 
 -- the parts of a script
-parts_of : (s : ScriptOf) (room : ℕ) (parts : List FlowPart) → IsScript s → IsForest s.wires (map entries_of parts) → All (IsFlowPart s room) parts → All (IsPart s) (map (λ p. p.part) parts)
+pub parts_of : (s : ScriptOf) (room : ℕ) (parts : List FlowPart) → IsScript s → IsForest s.wires (map entries_of parts) → All (IsFlowPart s room) parts → All (IsPart s) (map (λ p. p.part) parts)
 parts_of s room parts kept trees flows =
     are_parts s (map (λ p. p.part) parts) kept (subst (IsForest s.wires) (sym (map-map (λ p. p.entries) (λ p. p.part) parts)) trees)
     (All-map (λ p. AreTables p.entries s.any_routes (length p.entries) p.tables) (λ p. p.part) parts (All-weaker (IsFlowPart s room) (λ p. AreTables (entries_of p) s.any_routes (length (entries_of p)) p.part.tables) (λ p is. is.tables) parts flows))

@@ -114,12 +114,12 @@ numbers_more es switches i n d old new low so_far n_is new_is =
 -- PACKETS THAT ENTER A COMPONENT
 
 -- a switch that has a number in a component is one of its members
-record IsFound (switches : List SwitchAt) (es : List EntryOf) (switch number : ℕ) : Type 0 where
-  in_range : switch < length switches
-  place : ℕ
-  low : place < length es
-  uid : (entry_at es place).life.uid ≡ (get_or switches switch (record { uid = 0; had = 1 })).uid
-  number_is : number ≡ get_or (numbering es) place 0
+pub record IsFound (switches : List SwitchAt) (es : List EntryOf) (switch number : ℕ) : Type 0 where
+  pub in_range : switch < length switches
+  pub place : ℕ
+  pub low : place < length es
+  pub uid : (entry_at es place).life.uid ≡ (get_or switches switch (record { uid = 0; had = 1 })).uid
+  pub number_is : number ≡ get_or (numbering es) place 0
 
 at_place : (switches : List SwitchAt) (es : List EntryOf) (switch : ℕ) (o : Option ℕ) → switch < length switches → position (λ e. e.life.uid == (get_or switches switch (record { uid = 0; had = 1 })).uid) es ≡ o → number_of (numbering es) o ≢ 0 → IsFound switches es switch (number_of (numbering es) o)
 at_place switches es switch None low at some = absurd (some refl)
@@ -128,7 +128,7 @@ at_place switches es switch (Some place) low at some =
     let found = position-Some (λ e. e.life.uid == s.uid) es place nothing at in
     record { in_range = low; place = place; low = found.0; uid = eqb-true (entry_at es place).life.uid s.uid found.1; number_is = refl }
 
-found : (switches : List SwitchAt) (es : List EntryOf) (switch : ℕ) → number_at (numbers_in switches es) switch ≢ 0 → IsFound switches es switch (number_at (numbers_in switches es) switch)
+pub found : (switches : List SwitchAt) (es : List EntryOf) (switch : ℕ) → number_at (numbers_in switches es) switch ≢ 0 → IsFound switches es switch (number_at (numbers_in switches es) switch)
 found switches es switch some = elim (cases_lt switch (length switches)) [
   | inl low ↦ (
       let none : SwitchAt = record { uid = 0; had = 1 } in

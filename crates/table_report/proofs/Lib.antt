@@ -20,3 +20,5 @@ pub mod FlowTurns
 pub mod FlowTexts
 pub mod FlowFates
 pub mod FlowLaws
+pub mod ArrivalLaws
+pub mod FlowArrivals

@@ -166,7 +166,7 @@ roots_apart w r q a b wired is_a is_b below t =
     (subst (λ (l : LifeId). IsTrue (is_le (life_cmp (g.life q) l))) there.4.life least)
 
 -- nor any two of their switches
-switches_apart : (w : Wires) (r q : ℕ) (a b : List EntryOf) (x y : ℕ) → IsWired w → IsComponent w r a → IsComponent w q b → RootsBelow a b → are_joined w.links x r ≡ true → are_joined w.links y q ≡ true → are_joined w.links x y ≡ true → ⊥
+pub switches_apart : (w : Wires) (r q : ℕ) (a b : List EntryOf) (x y : ℕ) → IsWired w → IsComponent w r a → IsComponent w q b → RootsBelow a b → are_joined w.links x r ≡ true → are_joined w.links y q ≡ true → are_joined w.links x y ≡ true → ⊥
 switches_apart w r q a b x y wired is_a is_b below to_r to_q t =
     roots_apart w r q a b wired is_a is_b below (joined_on w.links r x q (joined_back w.links x r to_r) (joined_on w.links x y q t to_q))
 

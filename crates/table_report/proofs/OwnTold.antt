@@ -47,13 +47,13 @@ feed_lines : (bytes rest : List ℕ) → lines_of (bytes ++ 10 ∷ rest) ≡ map
 unfolding lines_of
 feed_lines bytes rest = ap lines_of_parts (split_append bytes rest) ∙ lines_append (slice_split is_feed bytes) (slice_split is_feed rest) (parts_some rest)
 
-lines_on : (bytes rest : List ℕ) → lines_of (bytes ++ 10 ∷ rest) ≡ lines_of (bytes ++ 10 ∷ []) ++ lines_of rest
+pub lines_on : (bytes rest : List ℕ) → lines_of (bytes ++ 10 ∷ rest) ≡ lines_of (bytes ++ 10 ∷ []) ++ lines_of rest
 lines_on bytes rest =
     let front : lines_of (bytes ++ 10 ∷ []) ≡ map strip_carriage_return (slice_split is_feed bytes) = feed_lines bytes [] ∙ ap (λ (ls : List (List ℕ)). map strip_carriage_return (slice_split is_feed bytes) ++ ls) none_of ∙ append-nil (map strip_carriage_return (slice_split is_feed bytes)) in
     feed_lines bytes rest ∙ ap (λ (ls : List (List ℕ)). ls ++ lines_of rest) (sym front)
 
 -- good lines, and more after them
-LeadsBy-append : {S : Type 0} (adds : S → List ℕ → S → Type 0) (d : S) (lines more : List (List ℕ)) (e f : S) → LeadsBy adds d lines e → LeadsBy adds e more f → LeadsBy adds d (lines ++ more) f
+pub LeadsBy-append : {S : Type 0} (adds : S → List ℕ → S → Type 0) (d : S) (lines more : List (List ℕ)) (e f : S) → LeadsBy adds d lines e → LeadsBy adds e more f → LeadsBy adds d (lines ++ more) f
 LeadsBy-append adds d [] more e f one two = subst (λ (m : _). LeadsBy adds m more f) (sym one) two
 LeadsBy-append adds d (l ∷ ls) more e f one two = (one.0, one.1, LeadsBy-append adds one.0 ls more e f one.2 two)
 

@@ -39,12 +39,12 @@ number_form script member = NumberLine (life_text script member.0.life) (decimal
 
 -- the table of a member
 abbrev pub table_at : List TableOf → ℕ → TableOf
-table_at tables x = slice_index_or tables x (record { number = 0; rows = [] })
+table_at tables place = slice_index_or tables place (record { number = 0; rows = [] })
 
 -- the tables of the members below end
 pub record AreTables (entries : List EntryOf) (any : Bool) (end : ℕ) (tables : List TableOf) : Type 0 where
   pub count : length tables ≡ end
-  pub each : (x : ℕ) → x < end → IsTable entries (numbering entries) any x (table_at tables x)
+  pub each : (place : ℕ) → place < end → IsTable entries (numbering entries) any place (table_at tables place)
 
 -- a component with the tables of its members
 pub record Part : Type 0 where

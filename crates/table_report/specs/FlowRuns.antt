@@ -87,7 +87,8 @@ pub record IsBegun (room : ℕ) (entries : List EntryOf) (numbers : List ℕ) (r
   pub over : IsOver (layout_of entries numbers rows room) view
   pub flow_is : view.flow ≡ entered_flow home sends
 
--- the turns from a flow on until no packet is left, with their lines behind a text and those that go out counted
+-- the turns from a flow on until no packet is left, with their lines behind a text and those that go out
+-- counted
 pub record IsToldRun (layout : LayoutOf) (script : ScriptOf) (entries : List EntryOf) (start : FlowOf)
     (base text : List ℕ) (before out : ℕ)
     : Type 0 where
@@ -96,7 +97,8 @@ pub record IsToldRun (layout : LayoutOf) (script : ScriptOf) (entries : List Ent
   pub text_is : text ≡ base ++ flow_told (map (went_line script entries) moves)
   pub out_is : out ≡ before + count_by is_out moves
 
--- the moves of the packets that enter a component, with their lines behind a text and those that go out counted
+-- the moves of the packets that enter a component, with their lines behind a text and those that go out
+-- counted
 pub record IsToldPart (script : ScriptOf) (room : ℕ) (entries : List EntryOf) (base text : List ℕ)
     (before out : ℕ)
     : Type 0 where

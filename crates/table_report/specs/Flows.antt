@@ -96,6 +96,14 @@ abbrev pub is_out : Went → Bool
 is_out (Out packet at exit) = true
 is_out (Arrived packet at) = false
 
+-- whether a line says that a packet arrives
+abbrev pub is_arrival : FlowLine → Bool
+is_arrival (Local packet switch) = false
+is_arrival (Unjoined packet) = false
+is_arrival (Moves packet switch port) = false
+is_arrival (Arrives packet switch) = true
+is_arrival (Ends moves arrived local unjoined) = false
+
 -- the last line: how many moves there were, and how many packets entered, were local and were not joined
 abbrev pub end_line : List (List ℕ) → List Sent → List Went → FlowLine
 end_line components sends moves =

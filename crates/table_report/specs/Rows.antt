@@ -34,13 +34,13 @@ abbrev pub row_form : ScriptOf → LifeId → List RowOf → ℕ → TableForm
 row_form script life rows entry =
     RowLine (life_text script life) (decimal entry) (map pair_word (rows_at rows entry))
 
--- the lines of the table of the member at x: one for each entry, 0 and the ports with a link
+-- the lines of the table of the member at a place: one for each entry, 0 and the ports with a link
 abbrev pub member_rows : ScriptOf → List EntryOf → ℕ → List RowOf → List TableForm
-member_rows script entries x rows =
-    map (row_form script (life_at entries x) rows) (filter (is_entry entries x) (range_with_len 0 13))
+member_rows script entries place rows =
+    map (row_form script (life_at entries place) rows) (filter (is_entry entries place) (range_with_len 0 13))
 
--- the lines of the tables of the members from x on
+-- the lines of the tables of the members from a place on
 abbrev pub table_forms : ScriptOf → List EntryOf → ℕ → List TableOf → List TableForm
-table_forms script entries x [] = []
-table_forms script entries x (table ∷ tables) =
-    member_rows script entries x table.rows ++ table_forms script entries (x + 1) tables
+table_forms script entries place [] = []
+table_forms script entries place (table ∷ tables) =
+    member_rows script entries place table.rows ++ table_forms script entries (place + 1) tables

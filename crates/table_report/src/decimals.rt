@@ -2,6 +2,7 @@ ghost use Rattle.std.specs.Prelude.{◌≡◌, ◌+◌, ◌≤◌, ◌++◌, IfO
 ghost use Rattle.std.specs.Fmt.{decimal};
 ghost use Rattle.table_report.specs.Decimals.{AreDecimals};
 
+use crate::piece::push_bytes;
 use an_base::text::{Word, push_decimal};
 use std::alloc::{AllocError, Global};
 use std::marker::Model;
@@ -76,9 +77,6 @@ impl Decimals {
         ensures len { vec_len text.new ≤ vec_len text.old + 3 }
         ensures capacity { vec_capacity text.new ≡ vec_capacity text.old }
     {
-        let word = self.word(n);
-        'digits: for digit in word {
-            text.push_reserved(*digit);
-        }
+        push_bytes(text, self.word(n));
     }
 }

@@ -1,7 +1,7 @@
 //! What becomes of the packets that a script sends, where channels hold a few each.
 
 ghost use Rattle.std.specs.Prelude.{◌≡◌, ◌+◌, ◌-◌, ◌++◌, ◌∷◌, ◌<◌, ◌≤◌, ℕ, Bool, List, [], codes, count_by, filter, length};
-ghost use Rattle.std.specs.Prelude.{Contains, IfOk, IfSome, OnOk, slice_index_or};
+ghost use Rattle.std.specs.Prelude.{Contains, IfOk, IfSome, OnOk, slice_index_or, vec_capacity, vec_len};
 ghost use Rattle.std.specs.Fmt.{decimal};
 ghost use Rattle.std.specs.List.{flat_map};
 ghost use Rattle.an_base.specs.Values.{EntryOf};
@@ -25,7 +25,7 @@ ghost use Rattle.table_report.specs.FlowRuns.{AreNames, AreOwnRows, HasEntered, 
 ghost use Rattle.table_report.specs.FlowRuns.{AreTabled, IsBegun, IsReady, IsToldPart, IsToldRun};
 ghost use Rattle.table_report.specs.Sends.{entering, homes_of, is_entering, is_local, MayAllEnter, numbers_in, sends_of};
 
-use crate::piece::push_life;
+use crate::piece::{push_bytes, push_life};
 use crate::sent::{Home, Sent, count_local, entering, homes_of, is_joined, sends_of};
 use an_base::entry::{Entries, Entry};
 use an_base::memory::OutOfMemory;
@@ -64,7 +64,7 @@ fn push_table(
         × (rows.new.items ≡ rows.old.items ++ table.rows)) }
 {
     let table = Table::of(alloc, graph, numbers, routing, x, any)?;
-    let mut more = table.rows(alloc)?;
+    let mut more = table.into_rows();
     rows.append(&mut more)?;
     Ok(())
 }
@@ -81,7 +81,8 @@ fn rows_of(
         × (rows.items ≡ flat_map (λ table. table.rows) tables)) }
 {
     let routing = Routing::of(alloc, graph, numbers)?;
-    let mut rows = Vec::new(alloc);
+    let count = usize::from(graph.count());
+    let mut rows = Vec::with_capacity(alloc, 13 * count * count)?;
     'members: for x in 0..graph.count() {
         push_table(alloc, &mut rows, graph, numbers, &routing, x, any)?;
     }
@@ -233,39 +234,37 @@ fn names_of(
     Ok(names)
 }
 
-// The end of the line of a move by one of the ports 1 to 12.
-fn by_port(exit: u8) -> Option<&'static [u8]>
-    ensures { IfSome result (λ end. end.now ≡ 32 ∷ line_text (codes "out" ∷ decimal exit ∷ [])) }
-{
-    match exit {
-        1 => Some(b" out 1\n"),
-        2 => Some(b" out 2\n"),
-        3 => Some(b" out 3\n"),
-        4 => Some(b" out 4\n"),
-        5 => Some(b" out 5\n"),
-        6 => Some(b" out 6\n"),
-        7 => Some(b" out 7\n"),
-        8 => Some(b" out 8\n"),
-        9 => Some(b" out 9\n"),
-        10 => Some(b" out 10\n"),
-        11 => Some(b" out 11\n"),
-        12 => Some(b" out 12\n"),
-        _ => None,
-    }
-}
-
-// Appends the end of the line of a move by a port.
+// Appends the end of the line of a move by a port, where there is room for eight bytes.
 fn push_port(text: &mut Vec<u8>, exit: u8) -> Result<(), OutOfMemory>
+    requires { vec_len text.old + 8 ≤ vec_capacity text.old }
     ensures { OnOk result (text.new.items
         ≡ text.old.items ++ 32 ∷ line_text (codes "out" ∷ decimal exit ∷ [])) }
 {
-    if let Some(end) = by_port(exit) {
-        text.extend_from_slice(end)?;
+    if exit < 10 {
+        push_bytes(text, b" out ");
+        push_bytes(text, &[b'0' + exit, b'\n']);
+        return Ok(());
+    }
+    if exit < 20 {
+        push_bytes(text, b" out ");
+        push_bytes(text, &[b'1', 38 + exit, b'\n']);
         return Ok(());
     }
     let mut digits = Buffer::new();
     text.push(b' ')?;
     push_line(text, &[b"out", digits.format(exit).as_bytes()])
+}
+
+// Sees to it that there is room for so many bytes, and for 23 more.
+fn make_room(text: &mut Vec<u8>, bytes: usize) -> Result<(), OutOfMemory>
+    ensures items { text.new.items ≡ text.old.items }
+    ensures room { OnOk result (vec_len text.new + bytes + 23 ≤ vec_capacity text.new) }
+{
+    let Some(room) = bytes.checked_add(23) else {
+        return Err(OutOfMemory);
+    };
+    text.reserve(room)?;
+    Ok(())
 }
 
 // Appends the line of a move out of a switch, whose name stands behind a space.
@@ -274,9 +273,10 @@ fn push_out(text: &mut Vec<u8>, packet: u32, name: &[u8], exit: u8) -> Result<()
         → text.new.items ≡ text.old.items ++ line_text (flow_words (Moves packet switch exit))) }
 {
     let mut digits = Buffer::new();
-    text.extend_from_slice(b"move ")?;
-    text.extend_from_slice(digits.format(packet).as_bytes())?;
-    text.extend_from_slice(name)?;
+    make_room(text, name.len())?;
+    push_bytes(text, b"move ");
+    push_bytes(text, digits.format(packet).as_bytes());
+    push_bytes(text, name);
     push_port(text, exit)
 }
 
@@ -286,10 +286,11 @@ fn push_arrival(text: &mut Vec<u8>, packet: u32, name: &[u8]) -> Result<(), OutO
         → text.new.items ≡ text.old.items ++ line_text (flow_words (Arrives packet switch))) }
 {
     let mut digits = Buffer::new();
-    text.extend_from_slice(b"arrive ")?;
-    text.extend_from_slice(digits.format(packet).as_bytes())?;
-    text.extend_from_slice(name)?;
-    text.push(b'\n')?;
+    make_room(text, name.len())?;
+    push_bytes(text, b"arrive ");
+    push_bytes(text, digits.format(packet).as_bytes());
+    push_bytes(text, name);
+    text.push_reserved(b'\n');
     Ok(())
 }
 

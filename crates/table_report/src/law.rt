@@ -1,7 +1,8 @@
 //! What follows from what is expected of a script, from how its broadcasts go, from what becomes of its
 //! packets, and from the judgement of tables.
 
-ghost use Rattle.std.specs.Prelude.{◌≡◌, ◌<◌, ◌≤◌, [], ◌∷◌, ◌++◌, Bool, Contains, length, List, ℕ, false, slice_index_or};
+ghost use Rattle.std.specs.Prelude.{◌≡◌, ◌<◌, ◌≤◌, ◌*◌, [], ◌∷◌, ◌++◌, Bool, Contains, count_by, length, List, map, ℕ, false, slice_index_or};
+ghost use Rattle.std.specs.List.{flat_map};
 ghost use Rattle.an_base.specs.Numbers.{AreNumbers};
 ghost use Rattle.net_script.specs.Scripts.{IsScript, ScriptOf};
 ghost use Rattle.table_script.specs.Tables.{TablesOf};
@@ -10,9 +11,10 @@ ghost use Rattle.net_script.specs.Texts.{IsText};
 ghost use Rattle.topo_graph.specs.Topology.{IsGraph, IsTree};
 ghost use Rattle.switch_numbering.specs.Numbering.{numbering};
 ghost use Rattle.dep_check.specs.Channels.{far_at, LeadsTo};
-ghost use Rattle.dep_check.specs.Cycles.{HasNoCycle};
+ghost use Rattle.dep_check.specs.Cycles.{HasNoCycle, Walk};
 ghost use Rattle.dep_check.specs.Illegal.{AllAreLegal};
-ghost use Rattle.dep_check.specs.Packets.{AllAreJoined};
+ghost use Rattle.dep_check.specs.Laws.{GoesBetween};
+ghost use Rattle.dep_check.specs.Packets.{AllAreJoined, GoesOn};
 ghost use Rattle.dep_check.specs.Tables.{IsSpot};
 ghost use Rattle.dep_check.specs.declared.channel.Channel.{Channel};
 ghost use Rattle.flow_channels.specs.declared.went.Went.{Went};
@@ -21,13 +23,16 @@ ghost use Rattle.flow_channels.specs.Runs.{Turns};
 ghost use Rattle.table_report.specs.Check.{IsJudged};
 ghost use Rattle.table_report.specs.Expect.{all_rows, IsExpectOf, Part};
 ghost use Rattle.table_report.specs.Floods.{FloodPart, IsFloodOf, ReachesAll};
-ghost use Rattle.table_report.specs.Flows.{entries_of, FlowPart, IsFlowOf, layout_in, start_of};
+ghost use Rattle.table_report.specs.Flows.{entries_of, FlowPart, is_arrival, IsFlowOf, layout_in, part_lines, start_of};
+ghost use Rattle.table_report.specs.Sends.{homes_of, is_entering, sends_of};
 
 /// What is expected of a script, for each of its components. The entries are a graph, with each member
 /// at its place in the tree of shortest walks to the least life, and the numbers of the members are
 /// different ones of 1 to 126. Over the rows of all tables of the component no channel leads back to
 /// itself; who follows them from entry 0 of one member towards another, by whatever exits, comes before
-/// that one to no place where they have no exit, or one without a link; and no exit is illegal.
+/// that one to no place where they have no exit, or one without a link; and no exit is illegal. A
+/// following has at most 12 links for each member; so who follows them comes to the other member, and
+/// from wherever one is then, some following goes on to there.
 pub fn what_is_expected_joins()
     ensures tree { (s : ScriptOf) (text : List ℕ) (is : IsExpectOf s text) (p : Part) → IsScript s
         → Contains is.parts p → IsGraph p.entries × IsTree p.entries }
@@ -40,6 +45,17 @@ pub fn what_is_expected_joins()
         → AllAreJoined (far_at p.entries (numbering p.entries)) (numbering p.entries) (all_rows p) }
     ensures legal { (s : ScriptOf) (text : List ℕ) (is : IsExpectOf s text) (p : Part) → IsScript s
         → Contains is.parts p → AllAreLegal p.entries (numbering p.entries) (all_rows p) }
+    ensures ends { (s : ScriptOf) (text : List ℕ) (is : IsExpectOf s text) (p : Part) (to links : ℕ)
+        (here there : Channel) → IsScript s → Contains is.parts p
+        → Walk (GoesOn (far_at p.entries (numbering p.entries)) (all_rows p) to) links here there
+        → links ≤ 12 * length p.entries }
+    ensures arrives { (s : ScriptOf) (text : List ℕ) (is : IsExpectOf s text) (p : Part) (from to links : ℕ)
+        (there : Channel) → IsScript s → Contains is.parts p → GoesBetween (numbering p.entries) from to
+        → Walk (GoesOn (far_at p.entries (numbering p.entries)) (all_rows p) to) links
+        (record { at = from; port = 0 }) there
+        → (more : ℕ) × (end : Channel)
+        × Walk (GoesOn (far_at p.entries (numbering p.entries)) (all_rows p) to) more there end
+        × (end.at ≡ to) }
 {}
 
 /// The text of a script, its last line ended by a line feed (10), with what is expected of the script
@@ -80,6 +96,14 @@ pub fn one_judgement()
 pub fn one_flow_text()
     ensures { (s : ScriptOf) (room : ℕ) (text other : List ℕ) → IsScript s → 1 ≤ room
         → IsFlowOf s room text → IsFlowOf s room other → text ≡ other }
+{}
+
+/// The last line of the text on packets counts as many that arrive as lines say so: each packet that enters
+/// a component arrives there once.
+pub fn all_that_enter_arrive()
+    ensures { (s : ScriptOf) (room : ℕ) (text : List ℕ) (is : IsFlowOf s room text) → IsScript s → 1 ≤ room
+        → count_by is_arrival (flat_map (part_lines s) is.parts)
+        ≡ count_by (is_entering (homes_of s.wires.switches (map entries_of is.parts))) (sends_of s) }
 {}
 
 /// After the turns that are told of a component, and after any number of the first of them, no channel has

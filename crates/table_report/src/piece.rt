@@ -1,4 +1,4 @@
-ghost use Rattle.std.specs.Prelude.{◌≡◌, ◌==◌, ◌++◌, position, OnOk, IfOk};
+ghost use Rattle.std.specs.Prelude.{◌≡◌, ◌==◌, ◌+◌, ◌≤◌, ◌++◌, length, position, OnOk, IfOk, vec_capacity, vec_len};
 ghost use Rattle.table_report.specs.Names.{switch_name, life_text};
 
 use an_base::life::Life;
@@ -26,6 +26,18 @@ fn name_of<'a>(names: &'a Names, switches: &[SwitchAt], uid: u64) -> &'a [u8]
         return &[];
     }
     names.get(s)
+}
+
+/// Appends bytes where there is room for them.
+pub fn push_bytes(text: &mut Vec<u8>, bytes: &[u8])
+    requires { vec_len text.old + length bytes.now ≤ vec_capacity text.old }
+    ensures text { text.new.items ≡ text.old.items ++ bytes.now }
+    ensures len { vec_len text.new ≡ vec_len text.old + length bytes.now }
+    ensures capacity { vec_capacity text.new ≡ vec_capacity text.old }
+{
+    'bytes: for byte in bytes {
+        text.push_reserved(*byte);
+    }
 }
 
 /// Appends a life: the name of its switch, and a boot above 1.

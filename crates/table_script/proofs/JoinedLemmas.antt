@@ -1,6 +1,6 @@
 use Rattle.std.proofs.Common.{◌≡◌, ◌∙◌, sym, ap, refl, subst, ℕ, zero, suc, List, [], ◌∷◌, Option, Some, Bool, true, false, cond, eqb, ◌&&◌, ◌||◌}
 use Rattle.std.specs.Option.{option_map_or}
-use Rattle.std.proofs.lemmas.Bool.{and_parts}
+use Rattle.std.proofs.lemmas.Bool.{and_parts, or_left}
 use Rattle.std.proofs.lemmas.Bool.Decides.{Decides-eqb}
 use Rattle.an_base.specs.Tree.{Walk}
 use Rattle.net_graph.specs.declared.wiring.LinkAt.{LinkAt}
@@ -36,10 +36,6 @@ joined_back ls x y t = joined_from ls y x (sym (same_label ls x y t))
 pub joined_on : (ls : List LinkAt) (x y z : ℕ) → are_joined ls x y ≡ true → are_joined ls y z ≡ true → are_joined ls x z ≡ true
 joined_on ls x y z one two = joined_from ls x z (same_label ls x y one ∙ same_label ls y z two)
 
--- what the links behind the first join
-or_first : (a b : Bool) → a ≡ true → (a || b) ≡ true
-or_first a b t = rw t refl
-
 -- the ends of the first link are joined
 ends_joined : (l : LinkAt) (ls : List LinkAt) → are_joined (l ∷ ls) l.a l.b ≡ true
 unfolding are_joined
@@ -51,7 +47,7 @@ ends_joined l ls = rw (joined_self ls l.a, joined_self ls l.b) (go (are_joined l
 
 later_joined : (l : LinkAt) (ls : List LinkAt) (x y : ℕ) → are_joined ls x y ≡ true → are_joined (l ∷ ls) x y ≡ true
 unfolding are_joined
-later_joined l ls x y t = or_first (are_joined ls x y) ((are_joined ls x l.a && are_joined ls l.b y) || (are_joined ls x l.b && are_joined ls l.a y)) t
+later_joined l ls x y t = or_left (are_joined ls x y) ((are_joined ls x l.a && are_joined ls l.b y) || (are_joined ls x l.b && are_joined ls l.a y)) t
 
 -- what two ends that are one say
 first_is : (a b c d : ℕ) → ◌≡◌ {A = Option (ℕ × ℕ)} (Some (a, b)) (Some (c, d)) → a ≡ c

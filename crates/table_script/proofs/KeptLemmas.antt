@@ -1,6 +1,6 @@
 use Rattle.std.proofs.Common.{◌≡◌, ◌∙◌, sym, ap, refl, subst, ℕ, ◌<◌, ◌≤◌, List, [], ◌∷◌, ◌++◌, append_assoc, append-nil, arith, length, get_or, map, None, Bool, true, false, eqb, ltb, leb, not, ◌&&◌, ◌||◌, All, AllPairs, Result, Ok, Err, OnOk}
 use Rattle.std.specs.List.{list_any, list_all}
-use Rattle.std.proofs.lemmas.Bool.{and_parts, not-true}
+use Rattle.std.proofs.lemmas.Bool.{and_parts, not-true, or_parts}
 use Rattle.std.proofs.lemmas.Bool.Decides.{nat_tests, Decides-eqb}
 use Rattle.std.proofs.lemmas.List.Folds.{list_any-append}
 use Rattle.std.proofs.lemmas.List.Quantifiers.{all_pairs_push}
@@ -40,11 +40,7 @@ none_kept s named = record {
 -- where a test passes nowhere it does not at a place
 pub fails_at : {X : Type 0} (p : X → Bool) (xs : List X) → list_any p xs ≡ false → All (λ x. p x ≡ false) xs
 fails_at p [] none = All-nil (λ x. p x ≡ false)
-fails_at p (x ∷ xs) none = let parts = neither (p x) (list_any p xs) none in All-cons (λ y. p y ≡ false) x xs parts.0 (fails_at p xs parts.1)
-  where
-    neither : (a b : Bool) → (a || b) ≡ false → (a ≡ false) × (b ≡ false)
-    neither true b t = absurd (cc)
-    neither false b t = (refl, t)
+fails_at p (x ∷ xs) none = let parts = or_parts (p x) (list_any p xs) none in All-cons (λ y. p y ≡ false) x xs parts.0 (fails_at p xs parts.1)
 
 -- one more number
 number_kept : (v : ScriptOf) (d : TableDraftOf) (s n : ℕ) → IsKept v d → d.ended ≡ false → s < length v.wires.switches → 1 ≤ n → n ≤ 126 → is_numbered d s ≡ false → is_number_taken v.wires d s n ≡ false → IsKept v (with_number d s n)

@@ -1,16 +1,13 @@
 -- What numbers of up to three digits say.
-use Rattle.std.proofs.Common.{◌≡◌, refl, ℕ, ◌+◌, ◌*◌, ◌<◌, ◌≤◌, List, [], ◌∷◌, length, get_or, Bool, true, false, eqb, not, ◌||◌, arith}
+use Rattle.std.proofs.Common.{◌≡◌, refl, ℕ, ◌+◌, ◌*◌, ◌<◌, ◌≤◌, List, [], ◌∷◌, length, get_or, true, false, eqb, not, arith}
 use Rattle.std.specs.Char.{digit_value, is_ascii_digit}
+use Rattle.std.proofs.lemmas.Bool.{or_right}
 use Rattle.std.proofs.lemmas.Bool.Decides.{nat_tests}
 use Rattle.text_lines.specs.Words.{is_number, number_value}
 use Rattle.text_lines.proofs.WordLemmas.{digit_says}
 
 said : (byte d : ℕ) → d + 48 ≡ byte → d < 10 → digit_value byte ≡ d
 said byte d is low = let s = digit_says byte (omega arith) (omega arith) in omega arith
-
-or_true : (b : Bool) → (b || true) ≡ true
-or_true true = refl
-or_true false = refl
 
 not_zero : (byte d : ℕ) → d + 48 ≡ byte → 0 < d → eqb byte 48 ≡ false
 not_zero byte d is some = grind (arith, nat_tests)
@@ -20,7 +17,7 @@ unfolding number_value
 one_digit a d digit is low =
     let value : number_value (a ∷ []) ≡ 0 * 10 + digit_value a = refl in
     let s = said a d is low in (
-      rw digit (or_true (not (eqb a 48))),
+      rw digit (or_right (not (eqb a 48)) true refl),
       omega arith,
     )
 

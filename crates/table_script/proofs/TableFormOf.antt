@@ -6,8 +6,9 @@ use Rattle.net_script.specs.declared.cause.ScriptCause.TheVariants.{UnknownWord}
 use Rattle.net_script.specs.Scripts.{ScriptOf}
 use Rattle.table_script.specs.TableForms.{TableForm, ComponentLine, MemberLine, NumberLine, RowLine, EndLine, table_words}
 use Rattle.table_script.specs.TableDrafts.{TableDraftOf}
-use Rattle.table_script.specs.TableTexts.{AddsTableForm, HasNoTableForm, IsFaultyTableForm}
+use Rattle.table_script.specs.TableTexts.{AddsTableForm, IsFaultyTableForm}
 use Rattle.table_script.specs.TableSteps.{ReadsTable, IsWrongTable}
+use Rattle.text_lines.specs.Grammar.{HasNoFormBy}
 use Rattle.text_lines.specs.Stops.{IsStep}
 use Rattle.text_lines.proofs.StopLemmas.{form_step_by}
 use Rattle.net_script.specs.Steps.{ScriptStop}
@@ -48,7 +49,7 @@ pub one_table_form : (f g : TableForm) → table_words f ≡ table_words g → f
 one_table_form f g same = let h : Some f ≡ Some g = sym (table_form_of-words f) ∙ ap table_form_of same ∙ table_form_of-words g in cc
 
 -- words for which no form is found have none
-pub no_table_form : (words : List (List ℕ)) → table_form_of words ≡ None → HasNoTableForm words
+pub no_table_form : (words : List (List ℕ)) → table_form_of words ≡ None → HasNoFormBy table_words words
 no_table_form words none form same = let h : ◌≡◌ {A = Option TableForm} None (Some form) = sym none ∙ ap table_form_of same ∙ table_form_of-words form in absurd (cc)
 
 number_is : (ws : List (List ℕ)) (f : TableForm) → number_form ws ≡ Some f → codes "number" ∷ ws ≡ table_words f

@@ -1,11 +1,14 @@
-use Rattle.std.specs.Prelude.{◌≡◌, ◌≢◌, ◌==◌, ◌&&◌, not, true, ℕ, ◌<◌, ◌≤◌, All, AllPairs, Bool, List, [], ◌∷◌, ◌++◌, length, map, Option, None, nat_lt, nat_le, unwrap_or, find, if◌then◌else◌, codes, slice_index}
+use Rattle.std.specs.Prelude.{◌≡◌, ◌≢◌, ◌==◌, ◌&&◌, not, true, ℕ, ◌<◌, ◌≤◌, All, AllPairs, Bool, List, []}
+use Rattle.std.specs.Prelude.{◌∷◌, ◌++◌, length, map, Option, None, nat_lt, nat_le, unwrap_or, find}
+use Rattle.std.specs.Prelude.{if◌then◌else◌, codes, slice_index}
 use Rattle.std.specs.Option.{option_map}
 use Rattle.std.specs.Str.{bytes_eq}
 use Rattle.std.specs.List.{list_any, list_all, range_with_len, slice_split, before_first, after_first}
 use Rattle.an_base.specs.Rows.{RowOf}
 use Rattle.net_graph.specs.Wires.{Wires}
 use Rattle.net_script.specs.declared.cause.ScriptCause.{ScriptCause}
-use Rattle.net_script.specs.declared.cause.ScriptCause.TheVariants.{BadNumber, NameTwice, PortRange, TablesShort}
+use Rattle.net_script.specs.declared.cause.ScriptCause.TheVariants.{BadNumber, NameTwice, PortRange}
+use Rattle.net_script.specs.declared.cause.ScriptCause.TheVariants.{TablesShort}
 use Rattle.table_script.specs.declared.table_draft.NumberAt.{NumberAt}
 use Rattle.text_lines.specs.Words.{is_number, is_number_in, number_value}
 use Rattle.text_lines.specs.Faults.{unless, first_of}

@@ -1,7 +1,7 @@
 use Rattle.std.specs.Prelude.{◌≡◌, ℕ, Bool, true, false, List, length}
 use Rattle.text_lines.specs.Lines.{lines_of}
 use Rattle.text_lines.specs.Chains.{LeadsBy, IsFaultOf}
-use Rattle.text_lines.specs.Grammar.{HasNoFormBy, IsFaultyFormBy, AddsFormBy, AddsLineBy, IsFaultyLineBy}
+use Rattle.text_lines.specs.Grammar.{IsFaultyFormBy, AddsFormBy, AddsLineBy, IsFaultyLineBy}
 use Rattle.net_script.specs.declared.cause.ScriptCause.{ScriptCause}
 use Rattle.net_script.specs.declared.cause.ScriptCause.TheVariants.{UnknownWord, AfterEnd, NoEnd}
 use Rattle.net_script.specs.declared.draft.Draft.{Draft}
@@ -31,10 +31,6 @@ AddsTableWords true script draft words after = ⊥
 -- a line of tables after a draft is good and leads to another
 abbrev pub AddsTable : ScriptOf → TableDraftOf → List ℕ → TableDraftOf → Type 0
 AddsTable script = AddsLineBy (λ draft. AddsTableWords draft.ended script draft) (bytes_cause 4000)
-
--- the words have no form of tables
-abbrev pub HasNoTableForm : List (List ℕ) → Type 0
-HasNoTableForm = HasNoFormBy table_words
 
 -- the words have no form of tables, or one with which this is wrong after a draft
 abbrev pub IsFaultyTableForm : ScriptOf → TableDraftOf → List (List ℕ) → ScriptCause → Type 0

@@ -1,4 +1,5 @@
-use Rattle.std.specs.Prelude.{◌≡◌, ◌≢◌, ◌==◌, ◌&&◌, ◌||◌, ℕ, ◌<◌, ◌≤◌, Bool, List, [], ◌∷◌, length, All, AllPairs, slice_index, slice_index_or}
+use Rattle.std.specs.Prelude.{◌≡◌, ◌≢◌, ◌==◌, ◌&&◌, ◌||◌, ℕ, ◌<◌, ◌≤◌, Bool, List, [], ◌∷◌, length, All}
+use Rattle.std.specs.Prelude.{AllPairs, slice_index, slice_index_or}
 use Rattle.an_base.specs.Rows.{RowOf}
 use Rattle.an_base.specs.Tree.{Walk}
 use Rattle.net_graph.specs.declared.wiring.LinkAt.{LinkAt}

@@ -6,7 +6,8 @@ ghost use Rattle.net_script.specs.declared.draft.Part.TheVariants.{After};
 ghost use Rattle.table_script.specs.Tables.{AreLabels, AreTablesOf};
 ghost use Rattle.table_script.specs.TableRules.{IsKept, number_of, tables_of};
 ghost use Rattle.text_lines.specs.Lines.{parts_of, words_of};
-ghost use Rattle.table_script.specs.TableTexts.{AddsTable, AddsTableForm, IsFaultyTable, IsFaultyTableForm, AddsTableWords, IsFaultyTableWords, AddsTold, IsFaultyTold, AreEnded, IsTextWith};
+ghost use Rattle.table_script.specs.TableTexts.{AddsTable, IsFaultyTable, AddsTableWords, IsFaultyTableWords};
+ghost use Rattle.table_script.specs.TableTexts.{AddsTold, IsFaultyTold, AreEnded, IsTextWith};
 ghost use Rattle.net_script.specs.Texts.{Adds, IsFaulty};
 ghost use Rattle.text_lines.specs.Stops.{IsStep};
 ghost use Rattle.table_script.specs.TableSteps.{told_of, IsReady, IsRefusalWith};
@@ -40,7 +41,8 @@ struct Reading {
 }
 
 /// The script and the tables that the bytes are the text of: a script, lines of tables, and a second
-/// `end`. The time is linear in the bytes but for the look-ups of names, identifiers, numbers and entries.
+/// `end`. As the code is written, and by no clause, the time is linear in the bytes but for the look-ups of
+/// names, identifiers, numbers and entries.
 /// `OutOfMemory` says nothing of the bytes.
 pub fn read_with_tables(alloc: Global, bytes: &[u8]) -> Result<(Script, Tables), ReadRefusal>
     requires few { length bytes.now < 2 ^ 32 - 1 }
@@ -156,25 +158,6 @@ fn read_table_words(
     if draft.is_ended() {
         return Err(Stop::Fault(ScriptCause::AfterEnd));
     }
-    read_form(draft, alloc, script, labels, line, first, rest)
-}
-
-// The same before the last line came.
-fn read_form(
-    draft: &mut TableDraft,
-    alloc: Global,
-    script: &Script,
-    labels: &[u8],
-    line: &[u8],
-    first: &[u8],
-    rest: &[u8],
-) -> Result<(), ScriptStop>
-    requires labels { AreLabels (length script.now.wires.switches) script.now.wires.links labels.now }
-    requires kept { IsKept script.now draft.old }
-    requires words { words_of line.now ≡ first.now ∷ parts_of rest.now }
-    ensures { IsStep result (AddsTableForm script.now draft.old (words_of line.now) draft.new)
-        (IsFaultyTableForm script.now draft.old (words_of line.now)) }
-{
     if is(first, "row") {
         return read_row_words(draft, script, rest);
     }

@@ -1,6 +1,7 @@
 use Rattle.std.proofs.Common.{◌≡◌, ◌∙◌, sym, ap, refl, ℕ, ◌+◌, ◌-◌, ◌<◌, ◌≤◌, List, [], ◌∷◌, ◌++◌, arith, length, length-take, get_or, take, drop, drop-cons, add-one, Option, Some, None, Bool, true, false, ◌&&◌, eqb, ltb, All, cond}
 use Rattle.std.specs.List.{slice_split, position, before_first, position_or_len, list_all}
 use Rattle.std.specs.Str.Lines.{lines_of_parts, strip_carriage_return}
+use Rattle.std.proofs.lemmas.Bool.{false_from_ne_true}
 use Rattle.std.proofs.lemmas.List.{nil_from_length, get_or-take, take_all, take_more, take_rest, drop_all, take-append-drop}
 use Rattle.std.proofs.lemmas.List.Elements.{All-from_get_or}
 use Rattle.std.proofs.lemmas.List.Quantifiers.{position-Some}
@@ -21,17 +22,13 @@ pub fit_more : (p : ℕ → Bool) (xs : List ℕ) (i : ℕ) (fit b : Bool) → i
 fit_more p xs i fit b low was is = rw (was, is) (sym (ap (list_all p) (take_more xs i 0 low) ∙ list_all-append p (take i xs) (get_or xs i 0 ∷ []) ∙ last_and (list_all p (take i xs)) (p (get_or xs i 0))))
 
 -- the first place that a search finds
-not_true : (b : Bool) → (b ≡ true → ⊥) → b ≡ false
-not_true true never = absurd (never refl)
-not_true false never = refl
-
 pub first_position : (byte : ℕ) (xs : List ℕ) (r : Option ℕ) → IsFirstByte (is_byte byte) xs r → r ≡ position (λ c. eqb c byte) xs
 first_position byte xs None none =
-    let past = position_or_len_is (λ c. eqb c byte) xs (length xs) 0 (omega arith) (λ k low. not_true (eqb (get_or xs k 0) byte) (none k (omega arith) low)) (λ low. absurd (omega arith)) in
+    let past = position_or_len_is (λ c. eqb c byte) xs (length xs) 0 (omega arith) (λ k low. false_from_ne_true (eqb (get_or xs k 0) byte) (none k (omega arith) low)) (λ low. absurd (omega arith)) in
     rw past (grind (arith, nat_tests))
 first_position byte xs (Some k) (first, is) =
     let high = first.high in
-    let at = position_or_len_is (λ c. eqb c byte) xs k 0 (omega arith) (λ j low. not_true (eqb (get_or xs j 0) byte) (first.before j (omega arith) low)) (λ low. is) in
+    let at = position_or_len_is (λ c. eqb c byte) xs k 0 (omega arith) (λ j low. false_from_ne_true (eqb (get_or xs j 0) byte) (first.before j (omega arith) low)) (λ low. is) in
     rw at (grind (arith, nat_tests))
 
 -- a line feed

@@ -186,7 +186,7 @@ line_short (w ∷ []) are = let h = (All-head IsWord w [] are).most in omega ari
 line_short (w ∷ v ∷ more) are = let h = (All-head IsWord w (v ∷ more) are).most in omega (arith, length-append w (32 ∷ join_with_byte 32 (v ∷ more)), line_short (v ∷ more) (All-tail IsWord w (v ∷ more) are))
 
 -- nothing is wrong with its bytes
-line_byte : (c : ℕ) → IsLineByte c → is_line_byte c ≡ true
+pub line_byte : (c : ℕ) → IsLineByte c → is_line_byte c ≡ true
 line_byte c is = elim is [ inl space ↦ rw space refl | inr printed ↦ (let h = printed.0 in let k = printed.1 in grind (arith, nat_tests)) ]
 
 pub line_good : {Cause : Type 0} (too_long not_ascii : Cause) (most : ℕ) (row : List (List ℕ)) → All IsWord row → 31 * length row ≤ most → bytes_cause_by too_long not_ascii most (join_with_byte 32 row) ≡ None

@@ -1,4 +1,5 @@
-use Rattle.std.specs.Prelude.{◌==◌, ◌&&◌, ◌||◌, not, ℕ, Bool, List, [], ◌∷◌, ◌++◌, length, map, nat_le, filter}
+use Rattle.std.specs.Prelude.{◌==◌, ◌&&◌, ◌||◌, not, ℕ, Bool, List, [], ◌∷◌, ◌++◌, length, map, nat_le}
+use Rattle.std.specs.Prelude.{filter}
 use Rattle.std.specs.List.{flat_map, join_with_byte, slice_split, before_first}
 use Rattle.std.specs.Str.Lines.{lines}
 

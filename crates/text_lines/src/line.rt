@@ -91,11 +91,11 @@ fn before_comment(line: &[u8]) -> &[u8]
 fn parts(alloc: Global, line: &[u8]) -> Result<Vec<&[u8]>, OutOfMemory>
     ensures { IfOk result (λ v. map (λ w. w.now) v.items ≡ parts_of line.now) }
 {
-    Ok(
-        line.split(|c| is_blank(*c))
-            .filter(|w| !w.is_empty())
-            .collect(alloc)?,
-    )
+    let mut parts = Vec::with_capacity(alloc, 8)?;
+    'parts: for part in line.split(|c| is_blank(*c)).filter(|w| !w.is_empty()) {
+        parts.push(part)?;
+    }
+    Ok(parts)
 }
 
 fn is_blank(c: u8) -> bool

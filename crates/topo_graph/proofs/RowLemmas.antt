@@ -1,8 +1,7 @@
-use Rattle.std.proofs.Common.{◌≡◌, ◌∙◌, sym, ap, subst, refl, ℕ, ◌+◌, ◌<◌, ◌≤◌, List, [], ◌∷◌, ◌++◌, Option, Some, None, false, arith, length, length-take-le, length-append, get_or, take, set, All, inl, inr, ◌==◌}
+use Rattle.std.proofs.Common.{◌≡◌, ◌∙◌, sym, ap, subst, refl, ℕ, ◌+◌, ◌<◌, ◌≤◌, List, [], ◌∷◌, ◌++◌, Option, Some, None, arith, length, length-take-le, length-append, get_or, take, set, All, inl, inr, ◌==◌}
 use Rattle.std.specs.Prelude.{IfSome}
 use Rattle.std.specs.Option.{option_and_then, option_or}
-use Rattle.std.proofs.lemmas.Bool.{cases_eq, cases_lt, eq-eqb}
-use Rattle.std.proofs.lemmas.Bool.Decides.{nat_tests}
+use Rattle.std.proofs.lemmas.Bool.{cases_eq, cases_lt, eq-eqb, ne_eqb}
 use Rattle.std.proofs.lemmas.List.{take_more, get_or-set_same, get_or-set_other, get_or-take, get_or_default, get_or_past, get_or_push, get_or_append_left}
 use Rattle.std.proofs.lemmas.List.Folds.{find-append}
 use Rattle.std.proofs.lemmas.List.Elements.{All-head, All-tail}
@@ -12,16 +11,12 @@ use Rattle.topo_graph.specs.declared.graph.PortRow.{PortRow}
 use Rattle.topo_graph.specs.Topology.{nothing, entry_at, far_of, joined, link_at, AreWithin}
 use Rattle.topo_graph.specs.Table.{cell_of, cell_at, HasLinks, LinksAreWithin, AreRows, IsKept}
 
--- different ports fail the test
-ports_differ : (a b : ℕ) → (a ≡ b → ⊥) → (a == b) ≡ false
-ports_differ a b other = grind (arith, nat_tests)
-
 -- no link at a port above those of the list
 no_link : (links : List PeerAt) (p : ℕ) → All (λ l. l.port < p) links → link_at links p ≡ None
 no_link [] p below = refl
 no_link (l ∷ links) p below =
     let first : l.port < p = All-head (λ l. l.port < p) l links below in
-    rw (ports_differ l.port p (λ same. absurd (omega arith))) (no_link links p (All-tail (λ l. l.port < p) l links below))
+    rw (ne_eqb l.port p (λ same. absurd (omega arith))) (no_link links p (All-tail (λ l. l.port < p) l links below))
 
 -- nothing more is found where the next link has another port
 or_none : (o : Option PeerAt) → option_or o None ≡ o
@@ -50,7 +45,7 @@ row_more es x links k port l cells far rising low at is fits so_far found = λ p
           let all : option_or (link_at (take k links) p) (link_at (l ∷ []) p) ≡ Some l = rw (none, one) refl in
           got ∙ found ∙ ap (λ (o : Option PeerAt). option_and_then (joined es x) o) (sym (split ∙ all)))
       | inr other ↦ (
-          let none : link_at (l ∷ []) p ≡ None = rw (ports_differ l.port p (λ e. other (sym e ∙ sym is))) refl in
+          let none : link_at (l ∷ []) p ≡ None = rw (ne_eqb l.port p (λ e. other (sym e ∙ sym is))) refl in
           let got : get_or (set cells port far) p None ≡ get_or cells p None = get_or-set_other cells port p far None other in
           let all : option_or (link_at (take k links) p) (link_at (l ∷ []) p) ≡ link_at (take k links) p = rw none (or_none (link_at (take k links) p)) in
           got ∙ so_far p ∙ ap (λ (o : Option PeerAt). option_and_then (joined es x) o) (sym (split ∙ all)))

@@ -189,7 +189,7 @@ impl Graph {
     }
 
     /// The place and the port at the far side of a port of the entry at a place, if the graph has a
-    /// link there. It answers for all values, in constant time.
+    /// link there. It answers for all values.
     pub fn far_place(&self, x: u8, port: u8) -> Option<(u8, u8)>
         ensures far { result ≡ far_of self.now x port }
         ensures graph { IsGraph self.now }

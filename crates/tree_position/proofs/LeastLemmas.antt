@@ -2,8 +2,8 @@ use Rattle.std.proofs.Common.{◌≡◌, ◌∙◌, sym, ap, refl, ℕ, zero, su
 use Rattle.std.specs.declared.cmp.Ordering.{Ordering}
 use Rattle.std.specs.Ordering.{is_lt, is_le, ordering_reverse}
 use Rattle.std.specs.Cmp.{tied_itself, upto}
-use Rattle.std.proofs.lemmas.Bool.{cases_eq}
-use Rattle.std.proofs.lemmas.Bool.Decides.{nat_tests, Decides-eqb}
+use Rattle.std.proofs.lemmas.Bool.{cases_eq, ne_eqb}
+use Rattle.std.proofs.lemmas.Bool.Decides.{Decides-eqb}
 use Rattle.std.specs.Prelude.{replicate}
 use Rattle.an_base.specs.Values.{Place, PeerAt}
 use Rattle.an_base.specs.Order.{position_cmp}
@@ -45,12 +45,9 @@ noted_is (l ∷ links) offers port offer low =
     let rest = noted_is links offers port offer low in
     let here = elim (cases_eq l.port port) as (λ _. get_or (set offers port (Some offer)) l.port None ≡ cond (eqb l.port port) (Some offer) (get_or offers l.port None)) [
       | inl same ↦ ap (λ (n : ℕ). get_or (set offers port (Some offer)) n None) same ∙ get_or-set_same offers port (Some offer) None low ∙ ap (λ (b : Bool). cond b (Some offer) (get_or offers l.port None)) (sym ((Decides-eqb l.port port).1 same))
-      | inr other ↦ get_or-set_other offers port l.port (Some offer) None other ∙ ap (λ (b : Bool). cond b (Some offer) (get_or offers l.port None)) (sym (differ l.port port other))
+      | inr other ↦ get_or-set_other offers port l.port (Some offer) None other ∙ ap (λ (b : Bool). cond b (Some offer) (get_or offers l.port None)) (sym (ne_eqb l.port port other))
     ] in
     cc
-  where
-    differ : (a b : ℕ) → (a ≡ b → ⊥) → eqb a b ≡ false
-    differ a b other = grind (arith, nat_tests)
 
 -- each of so many is the same
 same_at : {X : Type 0} (n k : ℕ) (x : X) → get_or (replicate n x) k x ≡ x

@@ -1,11 +1,11 @@
 //! Runs with gates at which workers wait for one another.
 
+use crate::calls::{Streams, TWO, answer};
 use an_base::event::{Event, Journal};
-use an_base::text::Word;
-use commands::top::autonet;
 use net_script::reader::read;
-use outside::memory::{MemorySink, MemorySource};
+use net_script::script::Script;
 use std::alloc::Global;
+use std::process::Abort;
 use std::sync::Wait;
 use std::sync::atomic::{AtomicU64, Ordering};
 use std::test::Fail;
@@ -14,8 +14,6 @@ use switch_threads::Gate;
 
 // How often one that waits looks before it notes that it waited in vain.
 const LOOKS: u32 = 100_000_000;
-
-const TWO: &[u8] = b"autonet 1\nswitch A 000000000001\nswitch B 000000000002\nlink A 1 B 1\nend\n";
 
 // How many turns a worker has begun, and ended.
 #[derive(Drop)]
@@ -33,12 +31,13 @@ impl Turns {
     }
 }
 
-// What two workers have done, and how many waits were in vain.
+// What two workers have done, how many waits were in vain, and how many calls were not numbered in turn.
 #[derive(Drop)]
 struct Watch {
     a: Turns,
     b: Turns,
     vain: AtomicU64,
+    wrong: AtomicU64,
 }
 
 impl Watch {
@@ -47,12 +46,20 @@ impl Watch {
             a: Turns::new(),
             b: Turns::new(),
             vain: AtomicU64::new(0),
+            wrong: AtomicU64::new(0),
         }
     }
 
     // The turns of a worker.
     fn of(&self, worker: u8) -> &Turns {
         if worker == 1 { &self.a } else { &self.b }
+    }
+
+    // A worker begins its turn of this number, or ends it, and that is how many it has begun, or ended.
+    fn note(&self, count: &AtomicU64, turn: u64) {
+        if count.fetch_add(1, Ordering::SeqCst).wrapping_add(1) != turn {
+            self.wrong.fetch_add(1, Ordering::SeqCst);
+        }
     }
 
     // Waits until a count is as high.
@@ -66,118 +73,132 @@ impl Watch {
         self.vain.fetch_add(1, Ordering::SeqCst);
     }
 
-    // Whether each wait ended, and each worker made as many turns as there are events of its switch.
+    // Whether each wait ended, turns were numbered from 1 on, and each worker made as many as its events need.
     fn is_good(&self, journal: &Journal) -> bool {
         self.vain.load(Ordering::SeqCst) == 0
+            && self.wrong.load(Ordering::SeqCst) == 0
             && self.a.ended.load(Ordering::SeqCst) >= events_of(journal, 0)
             && self.b.ended.load(Ordering::SeqCst) >= events_of(journal, 1)
     }
 }
 
-// Whether an event is one that the worker of a switch makes in a turn.
+// Whether an event is one of a switch of which its worker makes at most one in a turn.
 fn is_of(event: &Event, place: u8) -> bool {
     match event {
-        Event::Clock { s } | Event::Take { s, port: _ } | Event::Handle { s } | Event::Load { s } =>
-            { *s == place }
+        Event::Handle { s } | Event::Load { s } => *s == place,
         _ => false,
     }
 }
 
-// How many events there are of a switch.
+// How many such events there are of a switch.
 fn events_of(journal: &Journal, place: u8) -> u64 {
     let events = journal.as_slice().iter();
     events.filter(|event| is_of(event, place)).count() as u64
 }
 
-// The first turn of each worker waits for that of the other.
-#[derive(Drop)]
-struct Meeting {
-    watch: Watch,
+// What the first turn of a worker waits for.
+#[derive(Clone, Copy)]
+enum First {
+    // For the first turn of the other.
+    Together,
+    // That of worker 1 for the end of the third one of worker 2.
+    Later,
 }
 
-impl Gate for Meeting {
+// A watch at which workers wait.
+#[derive(Drop)]
+struct Waits {
+    watch: Watch,
+    first: First,
+}
+
+impl Waits {
+    // Those of two workers that have done nothing yet.
+    fn new(first: First) -> Waits {
+        Waits {
+            watch: Watch::new(),
+            first,
+        }
+    }
+
+    // The wait of a worker before its first turn.
+    fn wait(&self, worker: u8) {
+        match self.first {
+            First::Together => {
+                self.watch.wait(&self.watch.a.begun, 1);
+                self.watch.wait(&self.watch.b.begun, 1);
+            }
+            First::Later => {
+                if worker == 1 {
+                    self.watch.wait(&self.watch.b.ended, 3);
+                }
+            }
+        }
+    }
+}
+
+impl Gate for Waits {
     fn before<R: Wait>(&self, _rt: &R, worker: u8, turn: u64) {
-        self.watch.of(worker).begun.fetch_add(1, Ordering::SeqCst);
+        self.watch.note(&self.watch.of(worker).begun, turn);
         if turn == 1 {
-            self.watch.wait(&self.watch.a.begun, 1);
-            self.watch.wait(&self.watch.b.begun, 1);
+            self.wait(worker);
         }
     }
 
-    fn after<R: Wait>(&self, _rt: &R, worker: u8, _turn: u64) {
-        self.watch.of(worker).ended.fetch_add(1, Ordering::SeqCst);
-    }
-}
-
-// The first turn of worker 1 waits for the end of the third one of worker 2.
-#[derive(Drop)]
-struct Later {
-    watch: Watch,
-}
-
-impl Gate for Later {
-    fn before<R: Wait>(&self, _rt: &R, worker: u8, turn: u64) {
-        self.watch.of(worker).begun.fetch_add(1, Ordering::SeqCst);
-        if worker == 1 && turn == 1 {
-            self.watch.wait(&self.watch.b.ended, 3);
-        }
-    }
-
-    fn after<R: Wait>(&self, _rt: &R, worker: u8, _turn: u64) {
-        self.watch.of(worker).ended.fetch_add(1, Ordering::SeqCst);
+    fn after<R: Wait>(&self, _rt: &R, worker: u8, turn: u64) {
+        self.watch.note(&self.watch.of(worker).ended, turn);
     }
 }
 
 // What `run` writes for two switches, with its status 0.
-fn ran<R: Threads + Wait + Sync, G: Gate>(
-    rt: &R,
-    alloc: Global,
-    gate: &G,
-) -> Result<MemorySink, Fail> {
-    let mut words = Vec::new(alloc);
-    words.push(Word::of(alloc, b"run")?)?;
-    let mut source = MemorySource::new(TWO.to_vec(alloc)?, Vec::new(alloc), 1_000);
-    let mut out = MemorySink::new(alloc, 1_000_000, Vec::new(alloc))?;
-    let mut err = MemorySink::new(alloc, 1_000, Vec::new(alloc))?;
-    if autonet(rt, alloc, &words, gate, &mut source, &mut out, &mut err) != 0 {
-        return Err("not settled".into());
+fn ran<R: Threads + Wait + Sync>(rt: &R, alloc: Global, gate: &Waits) -> Result<Streams, Fail> {
+    let mut streams = Streams::new(alloc, 1_000, &[], 1_000_000, 1_000)?;
+    match answer(rt, alloc, gate, &[b"run"], &mut streams)? {
+        0 => Ok(streams),
+        _ => Err("not settled".into()),
     }
-    Ok(out)
 }
 
-// The journal at the beginning of what was written.
-fn journal_of(alloc: Global, out: &MemorySink) -> Result<Journal, Fail> {
-    let script = read(alloc, TWO)?;
-    let bytes = out.bytes();
+// The journal of two switches at the beginning of these bytes.
+fn journal_of(alloc: Global, script: &Script, bytes: &[u8]) -> Result<Journal, Fail> {
     if bytes.len() > 1_000_000 {
         return Err("long".into());
     }
-    let Ok(journal) = journal::reader::read(alloc, &script, bytes) else {
-        return Err("no journal".into());
-    };
-    Ok(journal)
+    match journal::reader::read(alloc, script, bytes) {
+        Ok(journal) => Ok(journal),
+        Err(_refusal) => Err("no journal".into()),
+    }
+}
+
+// Whether a watch finds good the journal at the beginning of what `run` wrote.
+fn is_good(alloc: Global, watch: &Watch, bytes: &[u8]) -> Result<bool, Fail> {
+    let script = read(alloc, TWO)?;
+    Ok(watch.is_good(&journal_of(alloc, &script, bytes)?))
 }
 
 #[test]
 fn two_workers_make_their_first_turns_together(rt: HostRuntime) -> Result<(), Fail> {
-    let gate = Meeting {
-        watch: Watch::new(),
-    };
-    let out = ran(&rt, rt.alloc(), &gate)?;
-    let journal = journal_of(rt.alloc(), &out)?;
-    assert!(rt; gate.watch.is_good(&journal));
+    let gate = Waits::new(First::Together);
+    let streams = ran(&rt, rt.alloc(), &gate)?;
+    assert!(rt; is_good(rt.alloc(), &gate.watch, streams.out.bytes())?);
     Ok(())
+}
+
+// What was written begins so.
+fn begins(rt: &impl Abort, bytes: &[u8], first: &[u8]) {
+    assert_eq!(rt; bytes.get(..first.len()), Some(first));
 }
 
 #[test]
 fn a_worker_that_comes_later_makes_later_events(rt: HostRuntime) -> Result<(), Fail> {
-    let gate = Later {
-        watch: Watch::new(),
-    };
-    let out = ran(&rt, rt.alloc(), &gate)?;
-    let journal = journal_of(rt.alloc(), &out)?;
-    assert!(rt; gate.watch.is_good(&journal));
-    let first: &[u8] = b"journal 1\nclock B\nhandle B\nload B\nclock A\nhandle A\nload A\n";
-    assert_eq!(rt; out.bytes().get(..first.len()), Some(first));
+    let gate = Waits::new(First::Later);
+    let streams = ran(&rt, rt.alloc(), &gate)?;
+    let bytes = streams.out.bytes();
+    assert!(rt; is_good(rt.alloc(), &gate.watch, bytes)?);
+    begins(
+        &rt,
+        bytes,
+        b"journal 1\nclock B\nhandle B\nload B\nclock A\nhandle A\nload A\n",
+    );
     Ok(())
 }

@@ -5,6 +5,7 @@ ghost use Rattle.std.specs.Prelude.{◌<◌};
 use crate::sample::{life_of, ring};
 use broadcast_flood::flood::Flood;
 use broadcast_flood::hop::FloodHop;
+use std::process::Abort;
 use std::test::Fail;
 use topo_graph::graph::Graph;
 
@@ -34,9 +35,8 @@ fn hops_from(rt: &HostRuntime, graph: &Graph, uid: u64) -> Result<Vec<FloodHop>,
     Ok(flood.hops(rt.alloc(), life)?)
 }
 
-#[test]
-fn hops_go_up_to_the_root_and_down_by_level(rt: HostRuntime) -> Result<(), Fail> {
-    let graph = ring(rt.alloc())?;
+// These are the hops from life 4 in a ring.
+fn are_hops(rt: &impl Abort, found: &[FloodHop]) {
     let hops = [
         hop(true, 4, 1),
         hop(true, 2, 1),
@@ -44,6 +44,12 @@ fn hops_go_up_to_the_root_and_down_by_level(rt: HostRuntime) -> Result<(), Fail>
         hop(false, 1, 2),
         hop(false, 2, 2),
     ];
-    assert_eq!(rt; hops_from(&rt, &graph, 4)?.as_slice(), hops.as_slice());
+    assert_eq!(rt; found, hops.as_slice());
+}
+
+#[test]
+fn hops_go_up_to_the_root_and_down_by_level(rt: HostRuntime) -> Result<(), Fail> {
+    let graph = ring(rt.alloc())?;
+    are_hops(&rt, &hops_from(&rt, &graph, 4)?);
     Ok(())
 }

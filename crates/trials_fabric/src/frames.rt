@@ -7,6 +7,7 @@ use frame_codec::reading::{DecodeRefusal, decode};
 use frame_codec::writing::encode;
 use frame_region::buffer::FrameBuf;
 use std::alloc::{AllocError, Global};
+use std::process::Abort;
 use std::test::*;
 
 const PROBE: [u8; 20] = [3, 0, 0, 0, 0, 0, 1, 0, 0, 0, 1, 1, 0, 0, 0, 0, 0, 0, 0, 1];
@@ -16,18 +17,36 @@ const CARRY: [u8; 52] = [
     0, 0, 1, 1, 0, 0, 0, 1, 0, 0, 0, 0, 0, 1, 0, 0, 0, 1, 0, 0,
 ];
 
+// Bytes are read as a frame that is written as these bytes.
+fn is_read<R: Abort + AllocGlobal>(rt: &R, bytes: &[u8], out: &mut FrameBuf) -> Result<(), Fail> {
+    match decode(rt.alloc(), bytes) {
+        Ok(frame) => {
+            encode(&frame, out);
+            assert_eq!(rt; out.bytes(), bytes);
+            Ok(())
+        }
+        Err(_refusal) => Err("no frame".into()),
+    }
+}
+
+// A frame is written as these bytes, and read from them.
+fn is_written<R: Abort + AllocGlobal>(rt: &R, frame: &Frame, bytes: &[u8]) -> Result<(), Fail> {
+    let mut out = FrameBuf::new(rt.alloc())?;
+    encode(frame, &mut out);
+    assert_eq!(rt; out.bytes(), bytes);
+    is_read(rt, bytes, &mut out)
+}
+
 #[test]
 fn a_probe_is_written_and_read(rt: HostRuntime) -> Result<(), Fail> {
     let from = End::new(Life::new(1, 1), 1);
-    let mut out = FrameBuf::new(rt.alloc()).map_err(|_error| "memory")?;
-    encode(&Frame::Probe { from, nonce: 1 }, &mut out);
-    assert_eq!(rt; out.bytes(), PROBE.as_slice());
-    let frame = decode(rt.alloc(), &PROBE).map_err(|_error| "no frame")?;
-    encode(&frame, &mut out);
-    assert_eq!(rt; out.bytes(), PROBE.as_slice());
+    is_written(&rt, &Frame::Probe { from, nonce: 1 }, &PROBE)
+}
+
+#[test]
+fn a_front_of_a_probe_is_no_frame(rt: HostRuntime) {
     let no_frame = decode(rt.alloc(), &PROBE[..19]);
     assert!(rt; matches!(no_frame, Err(DecodeRefusal::NotAFrame)));
-    Ok(())
 }
 
 #[test]
@@ -35,31 +54,42 @@ fn a_carried_position_is_written_and_read(rt: HostRuntime) -> Result<(), Fail> {
     let from = End::new(Life::new(1, 1), 1);
     let to = End::new(Life::new(2, 1), 1);
     let body = Body::Pos(PosBody::new(1, Life::new(1, 1), 0, false));
-    let mut out = FrameBuf::new(rt.alloc()).map_err(|_error| "memory")?;
-    encode(
-        &Frame::Carry(CarryFrame::new(2, from, to, 1, body)),
-        &mut out,
-    );
-    assert_eq!(rt; out.bytes(), CARRY.as_slice());
-    let frame = decode(rt.alloc(), &CARRY).map_err(|_error| "no frame")?;
-    encode(&frame, &mut out);
-    assert_eq!(rt; out.bytes(), CARRY.as_slice());
+    let frame = Frame::Carry(CarryFrame::new(2, from, to, 1, body));
+    is_written(&rt, &frame, &CARRY)
+}
+
+// An entry of the deepest level, up to its links, of which there are twelve.
+fn push_head(bytes: &mut Vec<u8>, uid: u8) -> Result<(), AllocError> {
+    bytes.extend_from_slice(&[
+        0, 0, 0, 0, 0, uid, 0, 0, 0, 1, 0, 0, 0, 0, 0, 9, 0, 0, 0, 1, 125, 0, 0, 0, 0, 0, 9, 0, 0,
+        0, 1, 12, 126, 12,
+    ])
+}
+
+// The whole entry.
+fn push_entry(bytes: &mut Vec<u8>, uid: u8) -> Result<(), AllocError> {
+    push_head(bytes, uid)?;
+    'links: for port in 1..13u8 {
+        bytes.extend_from_slice(&[port, 0, 0, 0, 0, 0, 9, 0, 0, 0, 1, 12])?;
+    }
     Ok(())
 }
 
-const LIFE: [u8; 10] = [0, 0, 0, 0, 0, 9, 0, 0, 0, 1];
+// So many entries.
+fn push_entries(bytes: &mut Vec<u8>, entries: u8) -> Result<(), AllocError> {
+    'entries: for uid in 0..entries {
+        push_entry(bytes, uid)?;
+    }
+    Ok(())
+}
 
-// An entry of the deepest level with twelve links.
-fn push_entry(bytes: &mut Vec<u8>, uid: u8) -> Result<(), AllocError> {
-    bytes.extend_from_slice(&[0, 0, 0, 0, 0, uid, 0, 0, 0, 1])?;
-    bytes.extend_from_slice(&LIFE)?;
-    bytes.push(125)?;
-    bytes.extend_from_slice(&LIFE)?;
-    bytes.extend_from_slice(&[12, 126, 12])?;
-    'links: for port in 1..13 {
-        bytes.push(port)?;
-        bytes.extend_from_slice(&LIFE)?;
-        bytes.push(12)?;
+// A topology of so many entries, and their numbers.
+fn push_topology(bytes: &mut Vec<u8>, entries: u8) -> Result<(), AllocError> {
+    bytes.extend_from_slice(&CARRY[..35])?;
+    bytes.extend_from_slice(&[4, entries])?;
+    push_entries(bytes, entries)?;
+    'numbers: for below in 0..entries {
+        bytes.push(below.saturating_add(1))?;
     }
     Ok(())
 }
@@ -67,14 +97,7 @@ fn push_entry(bytes: &mut Vec<u8>, uid: u8) -> Result<(), AllocError> {
 // The spelling of a topology of so many entries with twelve links each.
 fn topology(alloc: Global, entries: u8) -> Result<Vec<u8>, AllocError> {
     let mut bytes = Vec::new(alloc);
-    bytes.extend_from_slice(&CARRY[..35])?;
-    bytes.extend_from_slice(&[4, entries])?;
-    'entries: for uid in 0..entries {
-        push_entry(&mut bytes, uid)?;
-    }
-    'numbers: for below in 0..entries {
-        bytes.push(below.saturating_add(1))?;
-    }
+    push_topology(&mut bytes, entries)?;
     Ok(bytes)
 }
 
@@ -82,9 +105,5 @@ fn topology(alloc: Global, entries: u8) -> Result<Vec<u8>, AllocError> {
 fn the_greatest_frame_has_22591_bytes(rt: HostRuntime) -> Result<(), Fail> {
     let bytes = topology(rt.alloc(), 126)?;
     assert_eq!(rt; bytes.len(), 22_591);
-    let frame = decode(rt.alloc(), &bytes).map_err(|_error| "no frame")?;
-    let mut out = FrameBuf::new(rt.alloc()).map_err(|_error| "memory")?;
-    encode(&frame, &mut out);
-    assert_eq!(rt; out.bytes(), bytes.as_slice());
-    Ok(())
+    is_read(&rt, &bytes, &mut FrameBuf::new(rt.alloc())?)
 }

@@ -3,7 +3,8 @@
 //!
 //! It stands on `net_graph`, `topo_graph`, `updown`, `table_build`, `broadcast_flood`, `host_names`,
 //! `fcfc_router`, `host_traffic`, `wire_set`, `frame_region`, `frame_codec` and what these stand on, and
-//! nothing stands on it. Each file has the tests of one of them; `sample` has the small networks that four of them share.
+//! nothing stands on it. Each file has the tests of one of them; `sample` has the small networks that four of
+//! them share.
 #![tactic(auto)]
 
 #[cfg(test)]

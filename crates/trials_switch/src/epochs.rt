@@ -6,6 +6,7 @@ use an_base::links::{Links, PortLink};
 use epoch_core::epoch::{Core, MOST_VERSION};
 use epoch_core::sends::Sends;
 use std::alloc::Global;
+use std::process::Abort;
 use std::test::Fail;
 
 // The link at port 1 to port 1 of this life.
@@ -38,22 +39,37 @@ fn turn(
     Ok(())
 }
 
-// Each accepts in turn the four bodies of the other: positions and answers, and a report or the topology.
-#[test]
-fn two_switches_finish(rt: HostRuntime) -> Result<(), Fail> {
-    let alloc = rt.alloc();
-    let one = Life::new(1, 1);
-    let two = Life::new(2, 1);
-    let mut from_a = Sends::new(alloc);
-    let mut from_b = Sends::new(alloc);
-    let mut a = Core::join(alloc, one, 1, 1, &link_to(two), &mut from_a)?;
-    let mut b = Core::join(alloc, two, 1, 1, &link_to(one), &mut from_b)?;
+// Each of two accepts in turn the four bodies of the other: positions and answers, and a report or the topology.
+fn turns(
+    alloc: Global,
+    a: &mut Core,
+    from_a: &mut Sends,
+    b: &mut Core,
+    from_b: &mut Sends,
+) -> Result<(), Fail> {
     for i in 0..4 {
-        turn(alloc, &mut a, &from_b, i, &mut from_a)?;
-        turn(alloc, &mut b, &from_a, i, &mut from_b)?;
+        turn(alloc, a, from_b, i, from_a)?;
+        turn(alloc, b, from_a, i, from_b)?;
     }
+    Ok(())
+}
+
+// The life 2.1 joins, with a link to life 1.1, and both finish.
+fn meet<R: Abort + AllocGlobal>(rt: &R, a: &mut Core, from_a: &mut Sends) -> Result<(), Fail> {
+    let mut from_b = Sends::new(rt.alloc());
+    let links = link_to(Life::new(1, 1));
+    let mut b = Core::join(rt.alloc(), Life::new(2, 1), 1, 1, &links, &mut from_b)?;
+    turns(rt.alloc(), a, from_a, &mut b, &mut from_b)?;
     assert!(rt; a.finish().is_some() && b.finish().is_some());
     Ok(())
+}
+
+#[test]
+fn two_switches_finish(rt: HostRuntime) -> Result<(), Fail> {
+    let mut from_a = Sends::new(rt.alloc());
+    let links = link_to(Life::new(2, 1));
+    let mut a = Core::join(rt.alloc(), Life::new(1, 1), 1, 1, &links, &mut from_a)?;
+    meet(&rt, &mut a, &mut from_a)
 }
 
 #[test]

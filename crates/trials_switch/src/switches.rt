@@ -3,6 +3,7 @@
 
 use an_base::life::Life;
 use an_base::port::{PortState, Sample};
+use std::process::Abort;
 use std::test::Fail;
 use switch_core::out::Out;
 use switch_core::switch::Switch;
@@ -50,15 +51,19 @@ fn first_state(switch: &Switch) -> Option<PortState> {
     Some(view.state)
 }
 
+// The switch 1.1 joins epoch 5 and loads, asks all its ports, and answers.
+fn works(rt: &impl Abort, switch: &mut Switch, out: &mut Out) {
+    assert!(rt; clock(switch, 0, &DOWN, out) == Some(0));
+    assert!(rt; load(switch) == Some((5, 7)));
+    assert!(rt; clock(switch, 1, &UP, out) == Some(0));
+    assert!(rt; clock(switch, 2, &UP, out) == Some(12));
+    assert!(rt; handle(switch, &PROBE, out) == Some(REPLY.as_slice()));
+    assert!(rt; first_state(switch) == Some(PortState::Who));
+}
+
 #[test]
 fn a_switch_joins_loads_asks_and_answers(rt: HostRuntime) -> Result<(), Fail> {
     let mut switch = Switch::start(rt.alloc(), Life::new(1, 1), 4, 7, false)?;
-    let mut out = Out::new(rt.alloc());
-    assert!(rt; clock(&mut switch, 0, &DOWN, &mut out) == Some(0));
-    assert!(rt; load(&mut switch) == Some((5, 7)));
-    assert!(rt; clock(&mut switch, 1, &UP, &mut out) == Some(0));
-    assert!(rt; clock(&mut switch, 2, &UP, &mut out) == Some(12));
-    assert!(rt; handle(&mut switch, &PROBE, &mut out) == Some(REPLY.as_slice()));
-    assert!(rt; first_state(&switch) == Some(PortState::Who));
+    works(&rt, &mut switch, &mut Out::new(rt.alloc()));
     Ok(())
 }

@@ -1,11 +1,16 @@
 //! Tests of `journal`.
 
+ghost use Rattle.std.specs.Prelude.{All, IfOk};
+ghost use Rattle.journal.specs.Events.{CanSpell};
+
 use crate::scripts::script_of;
 use an_base::event::{Event, Journal};
 use journal::cause::JournalCause;
 use journal::printer::print;
 use journal::reader::{JournalRefusal, read};
 use net_script::script::Script;
+use std::alloc::Global;
+use std::process::Abort;
 use std::test::Fail;
 use text_lines::stop::Refusal;
 
@@ -17,33 +22,67 @@ fn script(rt: &HostRuntime) -> Result<Script, Fail> {
     )
 }
 
-#[test]
-fn events_are_read_and_printed(rt: HostRuntime) -> Result<(), Fail> {
-    let script = script(&rt)?;
-    let bytes: &[u8] = b"journal 1\ntick\ntake A 12\nnoise A 1 64\nsend H H\n\
-        move 4294967295\nend\n";
-    if bytes.len() > 1_000 {
-        return Err("long")?;
-    }
-    let Ok(journal) = read(rt.alloc(), &script, bytes) else {
-        return Err("refused")?;
-    };
-    let Ok(text) = print(rt.alloc(), &script, &journal) else {
-        return Err("memory")?;
-    };
-    assert_eq!(rt; text.as_slice(), bytes);
-    let events = journal.as_slice();
-    assert_eq!(rt; events.len(), 5);
-    assert!(rt; events[1] == Event::Take { s: 0, port: 12 });
-    Ok(())
-}
-
 // Reads bytes of which there are few.
-fn read_few(rt: &HostRuntime, script: &Script, bytes: &[u8]) -> Result<Journal, JournalRefusal> {
+fn read_few(alloc: Global, script: &Script, bytes: &[u8]) -> Result<Journal, JournalRefusal>
+    ensures { IfOk result (λ journal. All (CanSpell script.now) journal) }
+{
     if bytes.len() > 1_000 {
         return Err(Refusal::OutOfMemory);
     }
-    read(rt.alloc(), script, bytes)
+    read(alloc, script, bytes)
+}
+
+// The text of a journal of five events.
+const FIVE: &[u8] = b"journal 1\ntick\ntake A 12\nnoise A 1 64\nsend H H\nmove 4294967295\nend\n";
+
+// They are the events of this journal.
+fn are_five(rt: &impl Abort, journal: &Journal) {
+    let events = journal.as_slice();
+    assert_eq!(rt; events.len(), 5);
+    assert!(rt; events[1] == Event::Take { s: 0, port: 12 });
+}
+
+// Theirs is the text that is printed of this journal.
+fn are_printed<R: Abort + AllocGlobal>(
+    rt: &R,
+    script: &Script,
+    journal: &Journal,
+) -> Result<(), Fail>
+    requires { All (CanSpell script.now) journal.now }
+{
+    let text = print(rt.alloc(), script, journal)?;
+    assert_eq!(rt; text.as_slice(), FIVE);
+    Ok(())
+}
+
+// They are read, and printed.
+fn are_read<R: Abort + AllocGlobal>(rt: &R, script: &Script) -> Result<(), Fail> {
+    match read_few(rt.alloc(), script, FIVE) {
+        Ok(journal) => {
+            are_five(rt, &journal);
+            are_printed(rt, script, &journal)
+        }
+        Err(_refusal) => Err("refused".into()),
+    }
+}
+
+#[test]
+fn events_are_read_and_printed(rt: HostRuntime) -> Result<(), Fail> {
+    are_read(&rt, &script(&rt)?)
+}
+
+// The bytes are refused at this line for this cause.
+fn is_refused<R: Abort + AllocGlobal>(
+    rt: &R,
+    script: &Script,
+    bytes: &[u8],
+    number: u32,
+    why: JournalCause,
+) {
+    match read_few(rt.alloc(), script, bytes) {
+        Err(Refusal::Fault { line, cause }) => assert!(rt; line == number && cause == why),
+        _ => assert!(rt; false),
+    }
 }
 
 // Faults that no case of the whole program has.
@@ -62,10 +101,7 @@ fn each_fault_has_its_line_and_its_cause(rt: HostRuntime) -> Result<(), Fail> {
         ),
     ];
     for (bytes, number, why) in cases {
-        match read_few(&rt, &script, bytes) {
-            Err(Refusal::Fault { line, cause }) => assert!(rt; line == number && cause == why),
-            _ => assert!(rt; false),
-        }
+        is_refused(&rt, &script, bytes, number, why);
     }
     Ok(())
 }

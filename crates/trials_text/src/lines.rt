@@ -15,7 +15,7 @@ fn words_stand_between_blanks_before_a_comment(rt: HostRuntime) -> Result<(), Fa
 }
 
 #[test]
-fn a_line_has_its_words(rt: HostRuntime) -> Result<(), Fail> {
+fn words_of_a_line_are_parted_by_spaces(rt: HostRuntime) -> Result<(), Fail> {
     let mut text = Vec::new(rt.alloc());
     let number = decimal(rt.alloc(), 120)?;
     let uid = identifier(rt.alloc(), 0xab)?;

@@ -1,8 +1,17 @@
 //! Tests of `script_text`.
 
 use crate::scripts::script_of;
+use net_script::script::Script;
 use script_text::printer::print;
+use std::process::Abort;
 use std::test::Fail;
+
+// This text is printed of a script.
+fn is_printed<R: Abort + AllocGlobal>(rt: &R, script: &Script, wanted: &[u8]) -> Result<(), Fail> {
+    let text = print(rt.alloc(), script)?;
+    assert_eq!(rt; text.as_slice(), wanted);
+    Ok(())
+}
 
 #[test]
 fn the_canonical_text_has_its_lines_in_order(rt: HostRuntime) -> Result<(), Fail> {
@@ -12,7 +21,5 @@ fn the_canonical_text_has_its_lines_in_order(rt: HostRuntime) -> Result<(), Fail
     let wanted: &[u8] = b"autonet 1\nepoch 5\npace 3\nroutes any\n\
         switch B ffffffffffff had 2\nlink B 1 B 12\nhost H 000000000001 B 2\n\
         at 0 restart B\nat 1 noise B 1 64\nat 7 fail B 2\nat 7 send H H\nend\n";
-    let text = print(rt.alloc(), &script_of(&rt, bytes)?)?;
-    assert_eq!(rt; text.as_slice(), wanted);
-    Ok(())
+    is_printed(&rt, &script_of(&rt, bytes)?, wanted)
 }

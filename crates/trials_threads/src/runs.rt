@@ -1,12 +1,14 @@
 //! Whole runs in threads (`switch_threads`).
 
-use an_base::event::Event;
+use an_base::event::{Event, Journal};
 use fabric_state::ending::Ending;
 use net_script::reader::read;
+use std::alloc::Global;
+use std::process::Abort;
 use std::sync::Wait;
 use std::sync::atomic::{AtomicU64, Ordering};
 use std::test::Fail;
-use std::thread::yield_now;
+use std::thread::{Threads, yield_now};
 use switch_threads::{Gate, Open, run};
 
 // How many switches there are.
@@ -74,48 +76,66 @@ impl Gate for Meeting {
     fn after<R: Wait>(&self, _rt: &R, _worker: u8, _turn: u64) {}
 }
 
+// The journal of a run of three switches, which settles.
+fn settled<R: Threads + Wait + Sync + Abort, G: Gate>(
+    rt: &R,
+    alloc: Global,
+    gate: &G,
+) -> Result<Journal, Fail> {
+    let script = read(alloc, THREE)?;
+    let run = run(rt, alloc, &script, gate)?;
+    assert!(rt; matches!(run.end, Ending::Settled));
+    Ok(run.journal)
+}
+
+// A journal has an event.
+fn has(rt: &impl Abort, journal: &Journal, wanted: &Event) {
+    assert!(rt; journal.as_slice().iter().any(|event| event == wanted));
+}
+
 #[test]
 fn all_workers_and_the_driver_make_events(rt: HostRuntime) -> Result<(), Fail> {
-    let script = read(rt.alloc(), THREE)?;
-    let run = run(&rt, rt.alloc(), &script, &Open)?;
-    assert!(rt; matches!(run.end, Ending::Settled));
-    let events = run.journal.as_slice();
+    let journal = settled(&rt, rt.alloc(), &Open)?;
     for s in 0..3u8 {
-        let load = Event::Load { s };
-        assert!(rt; events.iter().any(|event| *event == load), "of {s}");
+        has(&rt, &journal, &Event::Load { s });
     }
-    let restart = Event::Restart { s: 1 };
-    assert!(rt; events.iter().any(|event| *event == restart));
-    assert!(rt; events.iter().any(|event| *event == Event::Tick));
+    has(&rt, &journal, &Event::Restart { s: 1 });
+    has(&rt, &journal, &Event::Tick);
     Ok(())
+}
+
+// Each worker made turns, and all were numbered from 1 on.
+fn are_numbered(rt: &impl Abort, turns: &Turns) {
+    assert_eq!(rt; turns.wrong.load(Ordering::SeqCst), 0);
+    for made in &turns.made {
+        assert!(rt; made.load(Ordering::SeqCst) > 0);
+    }
 }
 
 #[test]
 fn the_gate_is_called_round_each_turn(rt: HostRuntime) -> Result<(), Fail> {
-    let script = read(rt.alloc(), THREE)?;
     let gate = Turns {
         made: [AtomicU64::new(0), AtomicU64::new(0), AtomicU64::new(0)],
         wrong: AtomicU64::new(0),
     };
-    let run = run(&rt, rt.alloc(), &script, &gate)?;
-    assert!(rt; matches!(run.end, Ending::Settled));
-    assert_eq!(rt; gate.wrong.load(Ordering::SeqCst), 0);
-    for made in &gate.made {
-        assert!(rt; made.load(Ordering::SeqCst) > 0);
-    }
+    settled(&rt, rt.alloc(), &gate)?;
+    are_numbered(&rt, &gate);
     Ok(())
+}
+
+// All workers met.
+fn have_met(rt: &impl Abort, meeting: &Meeting) {
+    assert_eq!(rt; meeting.came.load(Ordering::SeqCst), COUNT);
+    assert_eq!(rt; meeting.alone.load(Ordering::SeqCst), 0);
 }
 
 #[test]
 fn workers_run_beside_each_other(rt: HostRuntime) -> Result<(), Fail> {
-    let script = read(rt.alloc(), THREE)?;
     let gate = Meeting {
         came: AtomicU64::new(0),
         alone: AtomicU64::new(0),
     };
-    let run = run(&rt, rt.alloc(), &script, &gate)?;
-    assert!(rt; matches!(run.end, Ending::Settled));
-    assert_eq!(rt; gate.came.load(Ordering::SeqCst), COUNT);
-    assert_eq!(rt; gate.alone.load(Ordering::SeqCst), 0);
+    settled(&rt, rt.alloc(), &gate)?;
+    have_met(&rt, &gate);
     Ok(())
 }

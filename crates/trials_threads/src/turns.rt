@@ -1,14 +1,14 @@
 //! Turns (`fabric_turn`): a list of lines behind a turnstile, and threads that add to it.
 
-ghost use Rattle.std.specs.Prelude.{◌≡◌, ℕ, ◌+◌, ◌<◌, ◌≤◌, ◌^◌, [], ◌∷◌, ◌++◌, All, IfOk, MatchOption, Some, length, vec_len};
+ghost use Rattle.std.specs.Prelude.{◌≡◌, ◌+◌, ◌<◌, [], ◌∷◌, ◌++◌, All, IfOk, MatchOption, Some, length, vec_len};
 ghost use Rattle.fabric_turn.specs.Names.{turnstile_id};
 ghost use Rattle.fabric_turn.specs.Seats.{HasAllNumbers, HasOneNumber};
 ghost use Rattle.fabric_turn.specs.Calls.{DifferByCalls};
 
 use an_base::memory::OutOfMemory;
-use fabric_turn::{Seat, Staged, Turnstile};
+use fabric_turn::{Patience, Seat, Staged, Turnstile};
 use std::alloc::Global;
-use std::hint::spin_loop;
+use std::process::Abort;
 use std::sync::Wait;
 use std::test::Fail;
 use std::thread::{Threads, for_each_mut};
@@ -16,25 +16,10 @@ use std::thread::{Threads, for_each_mut};
 // How many calls each caller makes.
 const CALLS: u64 = 1000;
 
-// The call of this number of the second caller takes so long that who waits for a turn goes to sleep.
-const SLOW: u64 = 500;
-
-// How often it spins.
-const SPINS: u32 = 2_000_000;
-
 #[derive(Clone, Copy, Debug)]
 struct Line {
     caller: u32,
     number: u64,
-}
-
-// Takes long at the call that is slow.
-fn linger(caller: u32, number: u64) {
-    if caller == 1 && number == SLOW {
-        for _ in 0..SPINS {
-            spin_loop();
-        }
-    }
 }
 
 // Lines with the numbers below `limit`.
@@ -76,7 +61,6 @@ impl Staged for Tally {
     ghost answers = { λ _ before caller ask reply after. MatchOption reply (after ≡ before) (λ n. (n ≡ length before) × (after ≡ before ++ record { caller = caller; number = ask } ∷ [])) };
 
     fn act(&mut self, caller: u32, ask: u64) -> Option<usize> {
-        linger(caller, ask);
         let before = self.lines.len();
         let line = Line {
             caller,
@@ -168,37 +152,65 @@ fn joined(turnstile: &Turnstile<Tally>, callers: u32, mut seats: Vec<Seat<Tally>
     seat
 }
 
-// What a tally has after so many callers made their calls, each in a thread of its own.
+// What a tally has after so many callers, who look so often before they sleep, made their calls, each in a
+// thread of its own.
 fn tally_of<R: Threads + Wait + Sync>(
     rt: &R,
     alloc: Global,
     callers: u32,
+    patience: Patience,
 ) -> Result<Tally, OutOfMemory>
     requires { 0 < callers }
 {
-    let (turnstile, seat) = Turnstile::new(alloc, Tally::new(alloc, CALLS), callers)?;
+    let tally = Tally::new(alloc, CALLS);
+    let (turnstile, seat) = Turnstile::with_patience(alloc, tally, callers, patience)?;
     let mut all = seats(&turnstile, alloc, seat, callers - 1)?;
     work_all(rt, &turnstile, callers, all.as_mut_slice());
     let seat = joined(&turnstile, callers, all);
     Ok(turnstile.close(seat))
 }
 
-// A turn that is passed on and wakes nobody who sleeps would keep this test from ending.
+// How many lines each caller has, which are numbered in order. There are so many callers.
+fn counted(rt: &impl Abort, lines: &[Line], callers: u32) -> [u64; 16] {
+    let mut next = [0u64; 16];
+    for line in lines {
+        let caller = line.caller as usize;
+        assert!(rt; line.caller < callers && caller < 16, "caller {caller}");
+        assert_eq!(rt; line.number, next[caller], "of caller {caller}");
+        next[caller] = next[caller].wrapping_add(1);
+    }
+    next
+}
+
+// These are the lines of all calls of so many callers, each caller's in order.
+fn are_in_order(rt: &impl Abort, lines: &[Line], callers: u32) {
+    for (caller, count) in counted(rt, lines, callers).iter().enumerate() {
+        let calls = if caller < callers as usize { CALLS } else { 0 };
+        assert_eq!(rt; *count, calls, "by caller {caller} of {callers}");
+    }
+}
+
 #[test]
 fn threads_add_all_lines_in_order(rt: HostRuntime) -> Result<(), Fail> {
+    let looking = Patience {
+        spins: 100,
+        looks: 1000,
+    };
     for callers in [1u32, 2, 4, 16] {
-        let tally = tally_of(&rt, rt.alloc(), callers).ok().ok_or("memory")?;
-        let mut next = [0u64; 16];
-        for line in &tally.lines {
-            let caller = line.caller as usize;
-            assert!(rt; line.caller < callers && caller < 16, "caller {caller}");
-            assert_eq!(rt; line.number, next[caller], "of caller {caller}");
-            next[caller] = next[caller].wrapping_add(1);
-        }
-        for (caller, count) in next.iter().enumerate() {
-            let calls = if caller < callers as usize { CALLS } else { 0 };
-            assert_eq!(rt; *count, calls, "by caller {caller} of {callers}");
-        }
+        let tally = tally_of(&rt, rt.alloc(), callers, looking)?;
+        are_in_order(&rt, &tally.lines, callers);
+    }
+    Ok(())
+}
+
+// Each caller sleeps as soon as it looks in vain, so that a turn that is passed on and wakes nobody who waits
+// for it would keep this test from ending.
+#[test]
+fn callers_that_sleep_at_once_are_woken(rt: HostRuntime) -> Result<(), Fail> {
+    let sleeping = Patience { spins: 0, looks: 0 };
+    for callers in [2u32, 3, 8] {
+        let tally = tally_of(&rt, rt.alloc(), callers, sleeping)?;
+        are_in_order(&rt, &tally.lines, callers);
     }
     Ok(())
 }

@@ -8,31 +8,36 @@ mod rounds;
 
 use std::{env, io};
 
-const CALLERS: [u32; 4] = [1, 2, 4, 16];
+// Prints the head of the rows.
+fn print_head(rt: &HostRuntime) -> io::Result<()> {
+    println!(rt; "calls per second, in thousands")?;
+    println!(rt; "callers  turnstile  mutex  no lock")
+}
+
+// Prints the rates with so many callers.
+fn print_row(rt: &HostRuntime, callers: u32, rates: (u64, u64, u64)) -> io::Result<()> {
+    let (turnstile, mutex, bare) = rates;
+    println!(rt; "{callers:7}  {turnstile:9}  {mutex:5}  {bare:7}")
+}
+
+// The calls and the work that the program is called with, where the calls are a number.
+fn asked(rt: &HostRuntime) -> io::Result<Option<(u32, u32)>> {
+    let mut words = env::args(rt)?;
+    words.next();
+    let calls = words.next().and_then(|word| word.parse::<u32>().ok());
+    let work = words.next().and_then(|word| word.parse::<u32>().ok());
+    Ok(calls.map(|calls| (calls, work.unwrap_or(0))))
+}
 
 fn main(rt: HostRuntime) -> io::Result<()> {
-    let mut words = env::args(&rt)?;
-    words.next();
-    let Some(word) = words.next() else {
+    let Some((calls, work)) = asked(&rt)? else {
         return println!(rt;
             "usage: turn_bench CALLS [WORK], the calls in each row and the steps of work in each call"
         );
     };
-    let work = words
-        .next()
-        .and_then(|word| word.parse::<u32>().ok())
-        .unwrap_or(0);
-    let Ok(calls) = word.parse::<u32>() else {
-        return println!(rt; "CALLS is a number below 2^32");
-    };
-    println!(rt; "calls per second, in thousands")?;
-    println!(rt; "callers  turnstile  mutex  no lock")?;
-    for callers in CALLERS {
-        let each = calls / callers;
-        let turnstile = rounds::at_turnstile(&rt, rt.alloc(), callers, each, work)?;
-        let mutex = rounds::at_mutex(&rt, rt.alloc(), callers, each, work)?;
-        let bare = rounds::with_no_lock(&rt, rt.alloc(), callers, each, work)?;
-        println!(rt; "{callers:7}  {turnstile:9}  {mutex:5}  {bare:7}")?;
-    }
-    Ok(())
+    print_head(&rt)?;
+    print_row(&rt, 1, rounds::rates(&rt, rt.alloc(), 1, calls, work)?)?;
+    print_row(&rt, 2, rounds::rates(&rt, rt.alloc(), 2, calls, work)?)?;
+    print_row(&rt, 4, rounds::rates(&rt, rt.alloc(), 4, calls, work)?)?;
+    print_row(&rt, 16, rounds::rates(&rt, rt.alloc(), 16, calls, work)?)
 }

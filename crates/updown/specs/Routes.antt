@@ -9,63 +9,74 @@ use Rattle.topo_graph.specs.Topology.{IsLink, place_of, life_at, level_at, far_o
 
 -- how high the entries at two places stand: by level, then by life; the lesser is the higher
 abbrev pub height_cmp : List EntryOf → ℕ → ℕ → Ordering
-height_cmp es x y =
-    ordering_then (nat_cmp (level_at es x) (level_at es y)) (life_cmp (life_at es x) (life_at es y))
+height_cmp entries one other =
+    ordering_then
+    (nat_cmp (level_at entries one) (level_at entries other))
+    (life_cmp (life_at entries one) (life_at entries other))
 
--- of a link between x and y, whether x is the up end: the end of lower level, at equal level of lesser life
+-- of a link between two places, whether the first is the up end: the end of lower level, at equal level of
+-- lesser life
 abbrev pub is_up_end : List EntryOf → ℕ → ℕ → Bool
-is_up_end es x y = is_lt (height_cmp es x y)
+is_up_end entries one other = is_lt (height_cmp entries one other)
 
 -- the life of the up end
 abbrev pub up_end_of : List EntryOf → ℕ → ℕ → LifeId
-up_end_of es x y = if is_up_end es x y then life_at es x else life_at es y
+up_end_of entries one other =
+    if is_up_end entries one other then life_at entries one else life_at entries other
 
 -- the port of this life has a link
 abbrev pub HasLink : List EntryOf → LifeId → ℕ → Type 0
-HasLink es life port = (b : EndId) × IsLink es (record { life = life; port = port }) b
+HasLink entries life port = (far : EndId) × IsLink entries (record { life = life; port = port }) far
 
--- the ports lead from x over links to y
+-- the ports lead from a place over links to the target
 abbrev pub Route : List EntryOf → ℕ → List ℕ → ℕ → Type 0
-Route es x [] y = x ≡ y
-Route es x (p ∷ ps) y = (z q : ℕ) × (far_of es x p ≡ Some (z, q)) × Route es z ps y
+Route entries place [] target = place ≡ target
+Route entries place (port ∷ ports) target =
+    (next entry : ℕ) × (far_of entries place port ≡ Some (next, entry)) × Route entries next ports target
 
 -- where a port leads
 abbrev pub next_place : List EntryOf → ℕ → ℕ → ℕ
-next_place es x p = (unwrap_or (far_of es x p) (x, p)).0
+next_place entries place port = (unwrap_or (far_of entries place port) (place, port)).0
 
 -- for each link of a route, whether it leads upward
 abbrev pub upward : List EntryOf → ℕ → List ℕ → List Bool
-upward es x [] = []
-upward es x (p ∷ ps) = is_up_end es (next_place es x p) x ∷ upward es (next_place es x p) ps
+upward entries place [] = []
+upward entries place (port ∷ ports) =
+    is_up_end entries (next_place entries place port) place
+    ∷ upward entries (next_place entries place port) ports
 
 -- a legal route: no upward link follows a downward one
-pub record LegalRoute (es : List EntryOf) (x : ℕ) (ps : List ℕ) (y : ℕ) : Type 0 where
-  pub route : Route es x ps y
-  pub legal : AllPairs (λ first later. IsTrue later → IsTrue first) (upward es x ps)
+pub record LegalRoute (entries : List EntryOf) (place : ℕ) (ports : List ℕ) (target : ℕ) : Type 0 where
+  pub route : Route entries place ports target
+  pub legal : AllPairs (λ first later. IsTrue later → IsTrue first) (upward entries place ports)
 
 -- a route with downward links alone
-pub record DownRoute (es : List EntryOf) (x : ℕ) (ps : List ℕ) (y : ℕ) : Type 0 where
-  pub route : Route es x ps y
-  pub down : All (λ up. up ≡ false) (upward es x ps)
+pub record DownRoute (entries : List EntryOf) (place : ℕ) (ports : List ℕ) (target : ℕ) : Type 0 where
+  pub route : Route entries place ports target
+  pub down : All (λ up. up ≡ false) (upward entries place ports)
 
--- there is a legal route of n links from x to y
+-- there is a legal route of so many links from a place to the target
 abbrev pub HasLegal : List EntryOf → ℕ → ℕ → ℕ → Type 0
-HasLegal es x y n = (ps : List ℕ) × (length ps ≡ n) × LegalRoute es x ps y
+HasLegal entries place target count =
+    (ports : List ℕ) × (length ports ≡ count) × LegalRoute entries place ports target
 
 -- and one with downward links alone
 abbrev pub HasDown : List EntryOf → ℕ → ℕ → ℕ → Type 0
-HasDown es x y n = (ps : List ℕ) × (length ps ≡ n) × DownRoute es x ps y
+HasDown entries place target count =
+    (ports : List ℕ) × (length ports ≡ count) × DownRoute entries place ports target
 
 -- the same between lives of the graph
 abbrev pub HasLegalFrom : List EntryOf → LifeId → LifeId → ℕ → Type 0
-HasLegalFrom es from to n =
-    (x y : ℕ) × (place_of es from ≡ Some x) × (place_of es to ≡ Some y) × HasLegal es x y n
+HasLegalFrom entries from to count =
+    (place target : ℕ) × (place_of entries from ≡ Some place) × (place_of entries to ≡ Some target)
+    × HasLegal entries place target count
 
 abbrev pub HasDownFrom : List EntryOf → LifeId → LifeId → ℕ → Type 0
-HasDownFrom es from to n =
-    (x y : ℕ) × (place_of es from ≡ Some x) × (place_of es to ≡ Some y) × HasDown es x y n
+HasDownFrom entries from to count =
+    (place target : ℕ) × (place_of entries from ≡ Some place) × (place_of entries to ≡ Some target)
+    × HasDown entries place target count
 
 -- the least number of which this holds, or none where it holds of none
 abbrev pub IsLeast : (ℕ → Type 0) → Option ℕ → Type 0
-IsLeast P None = (n : ℕ) → P n → ⊥
-IsLeast P (Some n) = P n × ((m : ℕ) → P m → n ≤ m)
+IsLeast Has None = (number : ℕ) → Has number → ⊥
+IsLeast Has (Some least) = Has least × ((number : ℕ) → Has number → least ≤ number)

@@ -65,11 +65,7 @@ fn no_lengths(alloc: Global, count: u8) -> Result<Vec<Option<u8>>, OutOfMemory>
     ensures count { IfOk result (λ lengths. length lengths.items ≡ count) }
     ensures none { IfOk result (λ lengths. (x : ℕ) → length_at lengths.items x ≡ None) }
 {
-    let mut lengths = Vec::with_capacity(alloc, usize::from(count))?;
-    'places: for _ in 0..count {
-        lengths.push(None)?;
-    }
-    Ok(lengths)
+    Ok(vec![in alloc; None; usize::from(count)]?)
 }
 
 // The least lengths of routes with downward links alone, from the lowest place to the highest.

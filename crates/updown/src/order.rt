@@ -1,10 +1,10 @@
-ghost use Rattle.std.specs.Prelude.{◌≡◌, length, IfOk};
+ghost use Rattle.std.specs.Prelude.{length, IfOk};
 ghost use Rattle.topo_graph.specs.Topology.{IsGraph};
 ghost use Rattle.updown.specs.Order.{AreHeights, IsDescent};
 
+use an_base::items::Items;
 use an_base::memory::OutOfMemory;
 use std::alloc::Global;
-use std::marker::Model;
 use topo_graph::graph::Graph;
 
 /// How high the entry at a place stands: by level, then by place, the lesser the higher.
@@ -32,34 +32,13 @@ fn heights_of(alloc: Global, graph: &Graph) -> Result<Vec<Height>, OutOfMemory>
 
 /// The places of a graph from the highest to the lowest, so that each upward link leads to an
 /// earlier one and each downward link to a later one.
-#[derive(Debug, Drop)]
-pub struct Descent {
-    heights: Vec<Height>,
-}
+pub type Descent = Items<Height>;
 
-impl Model for Descent {
-    ghost use Rattle.std.specs.Prelude.{List};
-    ghost use Rattle.updown.specs.declared.order.Height.{Height};
-
-    ghost Value = { List Height };
-
-    ghost view = { λ d. d.heights.items };
-}
-
-impl Descent {
-    /// The places of a graph.
-    pub fn of(alloc: Global, graph: &Graph) -> Result<Descent, OutOfMemory>
-        ensures { IfOk result (λ descent. IsDescent graph.now descent) }
-    {
-        let mut heights = heights_of(alloc, graph)?;
-        heights.sort_unstable();
-        Ok(Descent { heights })
-    }
-
-    /// The heights from the highest to the lowest.
-    pub fn as_slice(&self) -> &[Height]
-        ensures { result.now ≡ self.now }
-    {
-        &self.heights
-    }
+/// The places of a graph from the highest to the lowest.
+pub fn descent_of(alloc: Global, graph: &Graph) -> Result<Descent, OutOfMemory>
+    ensures { IfOk result (λ descent. IsDescent graph.now descent) }
+{
+    let mut heights = heights_of(alloc, graph)?;
+    heights.sort_unstable();
+    Ok(Items::of(heights))
 }

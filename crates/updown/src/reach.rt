@@ -4,7 +4,7 @@ ghost use Rattle.updown.specs.Distances.{AreDistances};
 
 use crate::distance::Distances;
 use crate::length::Lengths;
-use crate::order::Descent;
+use crate::order::descent_of;
 use an_base::life::Life;
 use an_base::memory::OutOfMemory;
 use std::alloc::Global;
@@ -29,7 +29,7 @@ pub fn distances(alloc: Global, graph: &Graph, to: Life) -> Result<Distances, Ou
     ensures { IfOk result (AreDistances graph.now to) }
 {
     let place = graph.place(to).unwrap();
-    let descent = Descent::of(alloc, graph)?;
+    let descent = descent_of(alloc, graph)?;
     let lengths = Lengths::to(alloc, graph, &descent, place)?;
     let lives = lives_of(alloc, graph)?;
     Ok(Distances::new(lives, lengths))

@@ -1,5 +1,5 @@
 use Rattle.commands.specs.Answer.{input_limit, streams}
-use Rattle.commands.specs.Expect.{refuses_script}
+use Rattle.commands.specs.Scripted.{refuses_script}
 use Rattle.commands.specs.Run.{gives_run}
 use Rattle.commands.proofs.AnswerLemmas.{answered}
 use Rattle.commands.proofs.run.autonet_run.Goals as goal

@@ -24,4 +24,4 @@ returns c =
     let zero_level : c.levels.level ≡ 0 = omega arith in
     let descends = subst (λ (k : ℕ). Descends steps levels c.args.start c.args.length i.0 c.levels.channel k) zero_level i.2 in
     let has = subst (λ (k : ℕ). HasNextAt steps levels c.levels.channel k) zero_level i.4 in
-    rw (c.new.ensures, i.1) (refl, descent_least steps levels c.args.start c.requires.nearest c.args.length i.0 c.levels.channel c.requires.length descends has)
+    rw (c.of.ensures, i.1) (refl, descent_least steps levels c.args.start c.requires.nearest c.args.length i.0 c.levels.channel c.requires.length descends has)

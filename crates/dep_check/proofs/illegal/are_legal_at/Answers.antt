@@ -1,7 +1,7 @@
 use Rattle.std.proofs.Common.{sym, subst, ℕ, Bool, arith, inl, inr}
 use Rattle.std.proofs.lemmas.Bool.{cases_eq}
+use Rattle.an_base.proofs.PortSetLemmas.{no_bit}
 use Rattle.dep_check.specs.Worst.{IsBadExit}
-use Rattle.dep_check.proofs.PortLemmas.{no_bit}
 use Rattle.dep_check.proofs.illegal.are_legal_at.Goals as goal
 
 pub exits-init : goal.exits-init

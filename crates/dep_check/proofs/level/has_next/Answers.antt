@@ -1,6 +1,7 @@
 use Rattle.std.proofs.Common.{refl, arith}
+use Rattle.an_base.proofs.PortSetLemmas.{no_bit}
 use Rattle.dep_check.specs.Search.{HasNextBy}
-use Rattle.dep_check.proofs.PortLemmas.{no_bit, past_more}
+use Rattle.dep_check.proofs.PortLemmas.{past_more}
 use Rattle.dep_check.proofs.level.has_next.Goals as goal
 
 pub exits-init : goal.exits-init

@@ -1,6 +1,7 @@
 use Rattle.std.proofs.Common.{refl, arith}
+use Rattle.an_base.proofs.PortSetLemmas.{no_bit}
 use Rattle.dep_check.specs.Tiers.{HasPeerBy}
-use Rattle.dep_check.proofs.PortLemmas.{no_bit, past_more}
+use Rattle.dep_check.proofs.PortLemmas.{past_more}
 use Rattle.dep_check.proofs.tier.has_peer.Goals as goal
 
 pub exits-init : goal.exits-init

@@ -1,7 +1,8 @@
 use Rattle.std.proofs.Common.{refl, arith, inl, inr}
 use Rattle.std.proofs.lemmas.Bool.{cases_lt}
+use Rattle.an_base.proofs.PortSetLemmas.{no_bit}
 use Rattle.dep_check.specs.Tiers.{SinksBy, tier_at}
-use Rattle.dep_check.proofs.PortLemmas.{no_bit, past_more}
+use Rattle.dep_check.proofs.PortLemmas.{past_more}
 use Rattle.dep_check.proofs.tier.rises_from.Goals as goal
 
 pub exits-init : goal.exits-init

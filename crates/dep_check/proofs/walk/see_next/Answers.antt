@@ -1,12 +1,12 @@
 use Rattle.std.proofs.Common.{◌≡◌, ◌≢◌, ◌∙◌, ◌⊎◌, ◌<◌, ◌^◌, ◌&&◌, ltb, ℕ, Bool, true, false, Option, Some, refl, sym, subst, arith, inl, inr}
 use Rattle.std.specs.Int.{bit_at, trailing_zeros, w16}
 use Rattle.std.proofs.lemmas.Bool.{cases_eq}
+use Rattle.an_base.proofs.PortSetLemmas.{lowest_is, no_bit}
 use Rattle.dep_check.specs.declared.channel.Channel.{Channel}
 use Rattle.dep_check.specs.declared.steps.Steps.{Steps}
-use Rattle.dep_check.specs.Ports.{IsWithout}
+use Rattle.an_base.specs.Rows.{IsWithout}
 use Rattle.dep_check.specs.Tables.{has_at}
 use Rattle.dep_check.specs.Search.{GoesBy, IsEnd, IsEndOf, IsStep, IsStepOf, IsStuck, Step}
-use Rattle.dep_check.proofs.PortLemmas.{lowest_is, no_bit}
 use Rattle.dep_check.proofs.SpotLemmas.{option_cases}
 use Rattle.dep_check.proofs.WalkLemmas.{sees_none, sees_as, sees_more}
 use Rattle.dep_check.proofs.walk.see_next.Goals as goal

@@ -1,5 +1,6 @@
-use Rattle.journal.proofs.FieldLemmas.{name_good}
+use Rattle.journal.specs.Events.{IsHost}
+use Rattle.journal.proofs.FieldLemmas.{name_field}
 use Rattle.journal.proofs.words.host_at.Goals as goal
 
-pub returns-in-Some : goal.returns-in-Some
-returns-in-Some c = let h = name_good c.args.script.now.names_of_hosts c.args.word.now c.in-Some.host c.in-Some.ensures.place in (h.0, (c.in-Some.ensures.range, h.1))
+pub returns : goal.returns
+returns c = rw c.ok_or.ensures.value (name_field (IsHost c.args.script.now) c.args.script.now.names_of_hosts c.args.word.now c.place_of_host.result c.place_of_host.ensures.place c.place_of_host.ensures.range)

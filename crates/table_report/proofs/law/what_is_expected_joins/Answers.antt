@@ -1,8 +1,11 @@
-use Rattle.std.proofs.Common.{List, ℕ, Contains, subst}
+use Rattle.std.proofs.Common.{List, ℕ, ◌*◌, Contains, length, subst}
 use Rattle.dep_check.proofs.TableLaws.{tables_no_cycle, tables_joined, tables_legal}
 use Rattle.net_script.specs.Scripts.{IsScript, ScriptOf}
 use Rattle.table_report.specs.Expect.{IsExpectOf, Part, all_rows}
 use Rattle.switch_numbering.specs.Numbering.{numbering}
+use Rattle.dep_check.specs.Channels.{far_at, LeadsTo}
+use Rattle.dep_check.specs.Cycles.{HasNoCycle}
+use Rattle.table_report.proofs.ArrivalLaws.{following_arrives, following_ends}
 use Rattle.table_report.proofs.PartLemmas.{IsPart, are_parts}
 use Rattle.table_report.proofs.law.what_is_expected_joins.Goals as goal
 
@@ -16,10 +19,11 @@ returns-clause-tree c = λ s text is p kept has. (let part = part_of s text is p
 pub returns-clause-numbers : goal.returns-clause-numbers
 returns-clause-numbers c = λ s text is p kept has. (part_of s text is p kept has).numbers
 
+part_no_cycle : (s : ScriptOf) (p : Part) → IsPart s p → HasNoCycle (LeadsTo (far_at p.entries (numbering p.entries)) (all_rows p))
+part_no_cycle s p part = tables_no_cycle p.entries (numbering p.entries) s.any_routes (all_rows p) part.graph part.numbers part.count part.rows
+
 pub returns-clause-no_cycle : goal.returns-clause-no_cycle
-returns-clause-no_cycle c = λ s text is p kept has.
-    let part = part_of s text is p kept has in
-    tables_no_cycle p.entries (numbering p.entries) s.any_routes (all_rows p) part.graph part.numbers part.count part.rows
+returns-clause-no_cycle c = λ s text is p kept has. part_no_cycle s p (part_of s text is p kept has)
 
 pub returns-clause-joined : goal.returns-clause-joined
 returns-clause-joined c = λ s text is p kept has.
@@ -30,3 +34,17 @@ pub returns-clause-legal : goal.returns-clause-legal
 returns-clause-legal c = λ s text is p kept has.
     let part = part_of s text is p kept has in
     tables_legal p.entries (numbering p.entries) s.any_routes (all_rows p) part.graph part.numbers part.count part.rows
+
+pub returns-clause-ends : goal.returns-clause-ends
+returns-clause-ends c = λ s text is p to links here there kept has walk.
+    let part = part_of s text is p kept has in
+    following_ends p.entries (numbering p.entries) (all_rows p) part.graph (part_no_cycle s p part) to links here there walk
+
+pub returns-clause-arrives : goal.returns-clause-arrives
+returns-clause-arrives c = λ s text is p from to links there kept has between walk.
+    let part = part_of s text is p kept has in
+    following_arrives (far_at p.entries (numbering p.entries)) (all_rows p) to (numbering p.entries) from (12 * length p.entries)
+    (tables_joined p.entries (numbering p.entries) s.any_routes (all_rows p) part.graph part.numbers part.count part.rows part.tree)
+    between
+    (following_ends p.entries (numbering p.entries) (all_rows p) part.graph (part_no_cycle s p part) to)
+    links there walk

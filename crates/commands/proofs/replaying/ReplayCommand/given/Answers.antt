@@ -1,15 +1,12 @@
-use Rattle.std.proofs.Common.{◌≡◌, ◌⊎◌, sym, subst}
-use Rattle.commands.specs.declared.status.Status.{Status}
-use Rattle.commands.specs.declared.status.Status.TheVariants as ended
-use Rattle.commands.specs.Replay.{refuses_journal}
+use Rattle.std.proofs.lemmas.Result.{err_from_is_err_and}
 use Rattle.commands.proofs.ReplayLemmas.{unreplayed}
 use Rattle.commands.proofs.replaying.ReplayCommand.given.Goals as goal
 
 -- a legal journal is reported
-pub returns-in-Ok-clause-given : goal.returns-in-Ok-clause-given
-returns-in-Ok-clause-given c =
+pub returns-clause-given : goal.returns-clause-given
+returns-clause-given c =
     let input = c.in_ok-input.input in
-    let told = c.in-Ok.ensures.reported in
+    let told = c.in_ok-replayed.ensures.reported in
     record {
       script = input.script;
       journal = told.journal;
@@ -18,9 +15,8 @@ returns-in-Ok-clause-given c =
     }
 
 -- a journal that is not legal is refused by its line
-pub returns-clause-stopped : goal.returns-clause-stopped
-returns-clause-stopped c =
-    let bytes = c.args.bytes.now in
+pub returns-in_err-replayed-clause-stopped : goal.returns-in_err-replayed-clause-stopped
+returns-in_err-replayed-clause-stopped c =
     let input = c.in_ok-input.input in
-    subst (λ (s : Status). refuses_journal bytes s ⊎ (s ≡ ended.OutOfMemory)) (sym c.replay_refused.ensures)
-    (unreplayed bytes input.behind.now input.script c.in-Err.refusal c.in_ok-input.ensures.read c.in-Err.ensures.refused)
+    let p = err_from_is_err_and c.from_residual-in_err-replayed.result c.from_residual-in_err-replayed.ensures.1 in
+    rw (p.1, p.2) (unreplayed c.args.bytes.now input.behind.now input.script c.in_err-replayed.field-0.0 c.in_ok-input.ensures.read c.in_err-replayed.ensures.refused)

@@ -1,5 +1,5 @@
 use Rattle.std.proofs.Common.{◌∙◌, sym, refl}
-use Rattle.dep_check.proofs.PortLemmas.{no_bit}
+use Rattle.an_base.proofs.PortSetLemmas.{no_bit}
 use Rattle.dep_check.proofs.StepLemmas.{channel_bit, no_channel}
 use Rattle.dep_check.proofs.steps.Steps.channel_exits.Goals as goal
 

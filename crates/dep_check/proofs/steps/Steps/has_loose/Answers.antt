@@ -1,7 +1,7 @@
 use Rattle.std.proofs.Common.{◌≡◌, refl, subst, ℕ, None, arith, inl, inr}
 use Rattle.std.proofs.lemmas.Bool.{cases_eq}
+use Rattle.an_base.proofs.PortSetLemmas.{no_bit}
 use Rattle.dep_check.specs.Tables.{wire_at}
-use Rattle.dep_check.proofs.PortLemmas.{no_bit}
 use Rattle.dep_check.proofs.GapLemmas.{none_yes, yes_none}
 use Rattle.dep_check.proofs.steps.Steps.has_loose.Goals as goal
 

@@ -1,5 +1,6 @@
 use Rattle.std.proofs.Common.{◌∙◌, refl}
-use Rattle.dep_check.proofs.PortLemmas.{bit_of, no_bit}
+use Rattle.an_base.proofs.PortSetLemmas.{no_bit}
+use Rattle.dep_check.proofs.PortLemmas.{bit_of}
 use Rattle.dep_check.proofs.StepLemmas.{packet_bit}
 use Rattle.dep_check.proofs.steps.Steps.packet_exits.Goals as goal
 

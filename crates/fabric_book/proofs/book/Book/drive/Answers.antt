@@ -1,7 +1,6 @@
 -- What the driver does next may come, and is no worker's; and the history settles soon.
 
 use Rattle.std.proofs.Common.{◌≡◌, ◌∙◌, ap, subst, sym, vec_capacity}
-use Rattle.fabric_state.specs.declared.ending.Ending.TheVariants as ending
 use Rattle.fabric_state.specs.declared.work.Drive.TheVariants as drive
 use Rattle.fabric_state.specs.Choices.{next_drive}
 use Rattle.fabric_world.specs.Histories.{HistoryOf, fabric_of}

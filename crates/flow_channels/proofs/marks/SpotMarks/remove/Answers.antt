@@ -1,8 +1,8 @@
-use Rattle.std.proofs.Common.{◌≡◌, ◌∙◌, ◌*◌, ◌/◌, ◌%◌, ◌^◌, ◌<◌, ap, refl, arith, ℕ, List, get_or, set}
+use Rattle.std.proofs.Common.{◌∙◌, ◌*◌, ◌/◌, ◌%◌, ◌^◌, ◌<◌, ap, refl, arith, ℕ, List, get_or, set}
 use Rattle.std.specs.Prelude.{bit_and}
 use Rattle.std.specs.Int.{bit_not, w32, w64}
 use Rattle.std.proofs.lemmas.Nat.Bits.{bit_at_clear_other, bit_at_clear_same}
-use Rattle.flow_channels.proofs.SpotMarkLemmas.{emptied, placed, still_some}
+use Rattle.flow_channels.proofs.SpotMarkLemmas.{emptied, placed}
 use Rattle.flow_channels.proofs.marks.SpotMarks.remove.Goals as goal
 
 pub invariant_of-self : goal.invariant_of-self

@@ -8,6 +8,11 @@ use Rattle.flow_channels.proofs.DepartLemmas.{departed, kept_granted, kept_none,
 use Rattle.flow_channels.proofs.IdleLemmas.{fallen_asleep, free_here, let_go, none_before, same_none, taken_out}
 use Rattle.flow_channels.proofs.watch.Watch.departure.Goals as goal
 
+pub overflow_cast-at : goal.overflow_cast-at
+overflow_cast-at c =
+    let low = c.numbers.invariant.watched.awake.low c.in-Some.number c.in-Some.ensures.has in
+    omega arith
+
 pub index-free-requires : goal.index-free-requires
 index-free-requires c =
     let low = c.numbers.invariant.watched.awake.low c.in-Some.number c.in-Some.ensures.has in

@@ -8,10 +8,8 @@ use Rattle.table_report.proofs.decimals.Decimals.push_reserved.Goals as goal
 three : (n : ℕ) → n < 256 → length (decimal n) ≤ 3
 three n small = length-decimal-le 3 n (omega arith) (omega arith) (omega arith)
 
-pub push_reserved-requires : goal.push_reserved-requires
-push_reserved-requires c =
-    omega (arith, c.requires, c.digits.invariant.1, c.digits.invariant.2, c.digits-test.true, ap length c.word-word.ensures, three c.args.n (omega arith))
+pub push_bytes-requires : goal.push_bytes-requires
+push_bytes-requires c = omega (arith, c.requires, ap length c.word.ensures, three c.args.n (omega arith))
 
 pub returns-clause-len : goal.returns-clause-len
-returns-clause-len c =
-    omega (arith, c.digits.invariant.1, c.digits.auto.digit-index-end, ap length c.word-word.ensures, three c.args.n (omega arith))
+returns-clause-len c = omega (arith, c.push_bytes.ensures.len, ap length c.word.ensures, three c.args.n (omega arith))

@@ -1,0 +1,6 @@
+use Rattle.table_build.specs.Links.{AreLinks}
+use Rattle.table_build.proofs.link.links_of.Given as goal
+
+-- the links of the places so far
+abbrev pub invariant-places : goal.invariant-places
+invariant-places l = AreLinks l.graph l.y l.links.items
