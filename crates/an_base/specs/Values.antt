@@ -1,5 +1,14 @@
--- What contracts see of lives, ends of links, positions, entries and the bodies that lives exchange.
-use Rattle.std.specs.Prelude.{ℕ, Bool, List}
+-- What contracts see of lives, ends of links, positions, entries and the bodies that lives exchange,
+-- and the ranges of the numbers in them.
+use Rattle.std.specs.Prelude.{ℕ, ◌<◌, ◌≤◌, ◌^◌, Bool, List}
+
+-- a number from least to most
+abbrev pub IsWithin : ℕ → ℕ → ℕ → Type 0
+IsWithin least most number = (least ≤ number) × (number ≤ most)
+
+-- a number from 1 that four bytes hold
+abbrev pub IsCounted : ℕ → Type 0
+IsCounted number = (1 ≤ number) × (number < 2 ^ 32)
 
 -- a life: a switch's identifier and the number of its boot
 pub record LifeId : Type 0 where

@@ -22,8 +22,7 @@ pub struct PosBody {
 }
 
 impl Model for PosBody {
-    ghost use Rattle.std.specs.Prelude.{◌≤◌};
-    ghost use Rattle.an_base.specs.Values.{PosOf};
+    ghost use Rattle.an_base.specs.Values.{PosOf, IsCounted, IsWithin};
     ghost use Rattle.an_base.specs.declared.limits.TheConstants.{MOST_LEVEL};
 
     ghost Value = { PosOf };
@@ -31,7 +30,7 @@ impl Model for PosBody {
     ghost view = { λ b.
         record { version = b.version; root = b.root; level = b.level; to_parent = b.to_parent } };
 
-    ghost invariant = { λ b. (1 ≤ b.version) × (b.level ≤ MOST_LEVEL) };
+    ghost invariant = { λ b. IsCounted b.version × IsWithin 0 MOST_LEVEL b.level };
 
     ghost inverse = { λ v.
         record { version = v.version; root = v.root; level = v.level; to_parent = v.to_parent } };
@@ -51,36 +50,6 @@ impl PosBody {
             to_parent,
         }
     }
-
-    /// The version of the position, from 1.
-    pub fn version(self) -> u32
-        ensures version { result ≡ self.version }
-        ensures least { 1 ≤ self.version }
-    {
-        self.version
-    }
-
-    /// The root of the position.
-    pub fn root(self) -> Life
-        ensures { result ≡ self.root }
-    {
-        self.root
-    }
-
-    /// The level of the position, 0 to 125.
-    pub fn level(self) -> u8
-        ensures level { result ≡ self.level }
-        ensures most { self.level ≤ MOST_LEVEL }
-    {
-        self.level
-    }
-
-    /// Whether this link is the sender's link to its parent.
-    pub fn to_parent(self) -> bool
-        ensures { result ≡ self.to_parent }
-    {
-        self.to_parent
-    }
 }
 
 /// A life answers the position that a neighbour told it.
@@ -93,14 +62,13 @@ pub struct AnswerBody {
 }
 
 impl Model for AnswerBody {
-    ghost use Rattle.std.specs.Prelude.{◌≤◌};
-    ghost use Rattle.an_base.specs.Values.{AnswerOf};
+    ghost use Rattle.an_base.specs.Values.{AnswerOf, IsCounted};
 
     ghost Value = { AnswerOf };
 
     ghost view = { λ b. record { version = b.version; to_parent = b.to_parent } };
 
-    ghost invariant = { λ b. 1 ≤ b.version };
+    ghost invariant = { λ b. IsCounted b.version };
 
     ghost inverse = { λ v. record { version = v.version; to_parent = v.to_parent } };
 }
@@ -112,21 +80,6 @@ impl AnswerBody {
         ensures { result ≡ record { version = version; to_parent = to_parent } }
     {
         AnswerBody { version, to_parent }
-    }
-
-    /// The version that was received, from 1.
-    pub fn version(self) -> u32
-        ensures version { result ≡ self.version }
-        ensures least { 1 ≤ self.version }
-    {
-        self.version
-    }
-
-    /// Whether this link is the sender's link to its parent.
-    pub fn to_parent(self) -> bool
-        ensures { result ≡ self.to_parent }
-    {
-        self.to_parent
     }
 }
 

@@ -1,5 +1,5 @@
 ghost use Rattle.std.specs.Prelude.{◌≡◌, ◌<◌, ◌≤◌, [], ◌∷◌, ◌++◌, length, All, IfOk, OnOk, OnErr};
-ghost use Rattle.an_base.specs.declared.limits.TheConstants.{MOST_NUMBER, MOST_SWITCHES};
+ghost use Rattle.an_base.specs.declared.limits.TheConstants.{MOST_SWITCHES};
 
 use crate::life::Life;
 use crate::links::Links;
@@ -24,8 +24,7 @@ pub struct Entry {
 }
 
 impl Model for Entry {
-    ghost use Rattle.std.specs.Prelude.{◌≤◌};
-    ghost use Rattle.an_base.specs.Values.{EntryOf};
+    ghost use Rattle.an_base.specs.Values.{EntryOf, IsWithin};
     ghost use Rattle.an_base.specs.declared.limits.TheConstants.{MOST_NUMBER};
 
     ghost Value = { EntryOf };
@@ -33,20 +32,11 @@ impl Model for Entry {
     ghost view = { λ e.
         record { life = e.life; position = e.position; proposed = e.proposed; links = e.links } };
 
-    ghost invariant = { λ e. (1 ≤ e.proposed) × (e.proposed ≤ MOST_NUMBER) };
+    ghost invariant = { λ e. IsWithin 1 MOST_NUMBER e.proposed };
 }
 
 impl Entry {
     ghost use Rattle.an_base.specs.Order.{entry_cmp};
-
-    /// The number that the life proposes for itself, 1 to 126.
-    pub fn proposed(&self) -> u8
-        ensures proposed { result ≡ self.now.proposed }
-        ensures least { 1 ≤ self.now.proposed }
-        ensures most { self.now.proposed ≤ MOST_NUMBER }
-    {
-        self.proposed
-    }
 
     /// The same entry, without taking memory.
     pub fn copy(&self) -> Self

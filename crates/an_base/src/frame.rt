@@ -20,14 +20,14 @@ pub struct CarryFrame {
 }
 
 impl Model for CarryFrame {
-    ghost use Rattle.std.specs.Prelude.{◌≤◌};
+    ghost use Rattle.an_base.specs.Values.{IsCounted};
     ghost use Rattle.an_base.specs.Frames.{CarryOf};
 
     ghost Value = { CarryOf };
 
     ghost view = { λ f. record { epoch = f.epoch; from = f.from; to = f.to; k = f.k; body = f.body } };
 
-    ghost invariant = { λ f. 1 ≤ f.k };
+    ghost invariant = { λ f. IsCounted f.k };
 }
 
 impl CarryFrame {
@@ -43,21 +43,6 @@ impl CarryFrame {
             k,
             body,
         }
-    }
-
-    /// The number of the body in its direction of the session, from 1.
-    pub fn k(&self) -> u32
-        ensures k { result ≡ self.now.k }
-        ensures least { 1 ≤ self.now.k }
-    {
-        self.k
-    }
-
-    /// The body, without taking memory.
-    pub fn into_body(self) -> Body
-        ensures { result ≡ self.body }
-    {
-        self.body
     }
 }
 

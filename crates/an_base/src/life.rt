@@ -14,14 +14,14 @@ pub struct Life {
 }
 
 impl Model for Life {
-    ghost use Rattle.std.specs.Prelude.{◌<◌, ◌≤◌, ◌^◌};
-    ghost use Rattle.an_base.specs.Values.{LifeId};
+    ghost use Rattle.std.specs.Prelude.{◌<◌, ◌^◌};
+    ghost use Rattle.an_base.specs.Values.{LifeId, IsCounted};
 
     ghost Value = { LifeId };
 
     ghost view = { λ l. record { uid = l.uid; boot = l.boot } };
 
-    ghost invariant = { λ l. (l.uid < 2 ^ 48) × (1 ≤ l.boot) };
+    ghost invariant = { λ l. (l.uid < 2 ^ 48) × IsCounted l.boot };
 
     ghost inverse = { λ v. record { uid = v.uid; boot = v.boot } };
 }
@@ -63,15 +63,14 @@ pub struct End {
 }
 
 impl Model for End {
-    ghost use Rattle.std.specs.Prelude.{◌≤◌};
-    ghost use Rattle.an_base.specs.Values.{EndId};
+    ghost use Rattle.an_base.specs.Values.{EndId, IsWithin};
     ghost use Rattle.an_base.specs.declared.limits.TheConstants.{LAST_PORT};
 
     ghost Value = { EndId };
 
     ghost view = { λ e. record { life = e.life; port = e.port } };
 
-    ghost invariant = { λ e. (1 ≤ e.port) × (e.port ≤ LAST_PORT) };
+    ghost invariant = { λ e. IsWithin 1 LAST_PORT e.port };
 
     ghost inverse = { λ v. record { life = v.life; port = v.port } };
 }

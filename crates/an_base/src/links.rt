@@ -24,8 +24,8 @@ pub struct PortLink {
 }
 
 impl Model for PortLink {
-    ghost use Rattle.std.specs.Prelude.{◌<◌, ◌≤◌, ◌^◌};
-    ghost use Rattle.an_base.specs.Values.{PeerAt};
+    ghost use Rattle.std.specs.Prelude.{◌<◌, ◌^◌};
+    ghost use Rattle.an_base.specs.Values.{PeerAt, IsCounted, IsWithin};
     ghost use Rattle.an_base.specs.declared.limits.TheConstants.{LAST_PORT};
 
     ghost Value = { PeerAt };
@@ -35,8 +35,8 @@ impl Model for PortLink {
       peer = record { life = record { uid = l.uid; boot = l.boot }; port = l.far };
     } };
 
-    ghost invariant = { λ l. (l.uid < 2 ^ 48) × (1 ≤ l.boot)
-        × (1 ≤ l.port) × (l.port ≤ LAST_PORT) × (1 ≤ l.far) × (l.far ≤ LAST_PORT) };
+    ghost invariant = { λ l. (l.uid < 2 ^ 48) × IsCounted l.boot
+        × IsWithin 1 LAST_PORT l.port × IsWithin 1 LAST_PORT l.far };
 
     ghost inverse = { λ v. record {
       uid = v.peer.life.uid;

@@ -18,15 +18,14 @@ pub struct Position {
 }
 
 impl Model for Position {
-    ghost use Rattle.std.specs.Prelude.{◌≤◌};
-    ghost use Rattle.an_base.specs.Values.{Place};
+    ghost use Rattle.an_base.specs.Values.{Place, IsWithin};
     ghost use Rattle.an_base.specs.declared.limits.TheConstants.{LAST_PORT, MOST_LEVEL};
 
     ghost Value = { Place };
 
     ghost view = { λ p. record { root = p.root; level = p.level; parent = p.parent; port = p.port } };
 
-    ghost invariant = { λ p. (p.level ≤ MOST_LEVEL) × (p.port ≤ LAST_PORT) };
+    ghost invariant = { λ p. IsWithin 0 MOST_LEVEL p.level × IsWithin 0 LAST_PORT p.port };
 
     ghost inverse = { λ v. record { root = v.root; level = v.level; parent = v.parent; port = v.port } };
 }
@@ -44,35 +43,5 @@ impl Position {
             parent,
             port,
         }
-    }
-
-    /// The root of the tree.
-    pub fn root(&self) -> Life
-        ensures { result ≡ self.now.root }
-    {
-        self.root
-    }
-
-    /// How many links it is to the root, 0 to 125.
-    pub fn level(&self) -> u8
-        ensures level { result ≡ self.now.level }
-        ensures most { self.now.level ≤ MOST_LEVEL }
-    {
-        self.level
-    }
-
-    /// The next life towards the root; at a root it is the root itself.
-    pub fn parent(&self) -> Life
-        ensures { result ≡ self.now.parent }
-    {
-        self.parent
-    }
-
-    /// The holder's own port to its parent, 1 to 12; 0 at a root.
-    pub fn port(&self) -> u8
-        ensures port { result ≡ self.now.port }
-        ensures most { self.now.port ≤ LAST_PORT }
-    {
-        self.port
     }
 }

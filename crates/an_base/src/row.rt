@@ -146,7 +146,6 @@ impl Exits {
 
     /// Adds an exit, 1 to 12 and above those before it.
     pub fn push(&mut self, port: u8)
-        requires room { length self.old < PORTS }
         requires least { 1 ≤ port }
         requires most { port ≤ LAST_PORT }
         requires rising { All (λ p. p < port) self.old }

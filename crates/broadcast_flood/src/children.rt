@@ -14,7 +14,7 @@ fn leads_to_child(graph: &Graph, x: u8, port: u8) -> bool
     ensures { IsTrue result ↔ IsDown graph.now x port }
 {
     match graph.far_place(x, port) {
-        Some((child, far_port)) => graph.position(child).port() == far_port,
+        Some((child, far_port)) => graph.position(child).port == far_port,
         None => false,
     }
 }

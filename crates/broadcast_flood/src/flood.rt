@@ -90,7 +90,7 @@ impl<'a> Flood<'a> {
         ensures port { IfSome result (IsParentPort self.now life) }
     {
         let x = self.graph.place(life).unwrap();
-        let port = self.graph.position(x).port();
+        let port = self.graph.position(x).port;
         if port == 0 { None } else { Some(port) }
     }
 
@@ -112,7 +112,7 @@ impl<'a> Flood<'a> {
         let level = usize::from(self.graph.level(x));
         let mut hops = Vec::with_capacity(alloc, level + self.downs.len())?;
         let mut at = x;
-        let mut port = self.graph.position(x).port();
+        let mut port = self.graph.position(x).port;
         'ups: while let Some((parent, _)) = self.graph.far_place(at, port) {
             hops.push(FloodHop {
                 up: true,
@@ -120,7 +120,7 @@ impl<'a> Flood<'a> {
                 port,
             })?;
             at = parent;
-            port = self.graph.position(parent).port();
+            port = self.graph.position(parent).port;
         }
         Ok(hops)
     }

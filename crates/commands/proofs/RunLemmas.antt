@@ -1,12 +1,12 @@
 -- What `run` needs of a legal journal: that it can be spelled, and is not refused; and what it answers to the text of a script.
-use Rattle.std.proofs.Common.{◌≡◌, sym, subst, ℕ, ◌≤◌, ◌==◌, List, [], ◌∷◌, ◌++◌, refl, length, Some, is_some, Bool, true, false, cond, eqb-true, true≢false, All, arith}
+use Rattle.std.proofs.Common.{◌≡◌, ◌∙◌, ap, sym, subst, ℕ, ◌≤◌, ◌==◌, List, [], ◌∷◌, ◌++◌, refl, length, Some, is_some, Bool, true, false, cond, eqb-true, true≢false, All, arith}
 use Rattle.std.proofs.lemmas.List.Elements.{All-cons, All-head, All-nil, All-tail}
 use Rattle.an_base.specs.declared.event.Event.{Event}
 use Rattle.an_base.specs.declared.event.Event.TheVariants.{Tick, Clock, Take, Handle, Load, Fail, Repair, Lose, Again, Swap, Noise, Send, Move, Restart}
 use Rattle.net_script.specs.Scripts.{ScriptOf, IsScript}
 use Rattle.net_script.specs.Texts.{IsFault, IsText}
 use Rattle.net_script.proofs.TextLemmas.{no_fault, one_text}
-use Rattle.journal.specs.Events.{CanSpell}
+use Rattle.journal.specs.Events.{CanSpell, journal_text}
 use Rattle.journal.specs.declared.cause.JournalCause.{JournalCause}
 use Rattle.host_traffic.specs.Packets.{PacketOf, packet_of}
 use Rattle.fabric_state.specs.declared.ending.Ending.{Ending}
@@ -25,7 +25,10 @@ use Rattle.replay.specs.declared.refusal.ReplayRefusal.TheVariants.{Illegal, Out
 use Rattle.replay.proofs.ReplayLemmas.{legal_is_not_refused}
 use Rattle.commands.specs.Answer.{Streams, IsAnswer, input_limit, refuses_nothing}
 use Rattle.commands.specs.Scripted.{refuses_script}
-use Rattle.commands.specs.Run.{IsRun, gives_run, gives_run_of}
+use Rattle.switch_threads.specs.declared.running.Told.{Told}
+use Rattle.commands.specs.declared.status.Status.{Status}
+use Rattle.commands.specs.Reported.{IsReported}
+use Rattle.commands.specs.Run.{IsRun, IsToldRun, gives_run, gives_run_of}
 use Rattle.commands.specs.Words.{IsRunAnswer}
 use Rattle.commands.proofs.AllToldLemmas.{answered_as, not_refused}
 
@@ -85,6 +88,17 @@ module _ (script : ScriptOf) (kept : IsScript script) where
   pub all_spelled : (h : List Event) (end : Ending) → IsLegal script h end → All (CanSpell script) h
   unfolding world_after
   all_spelled h end legal = more_spelled [] h legal.lawful
+
+-- A RUN IS PRINTED
+
+pub run_printed : (script : ScriptOf) (told : Told) (status : Status) (text report both : List ℕ) → IsScript script → IsToldRun script told → text ≡ journal_text script told.run.journal → IsReported script told.run.journal status report → both ≡ text ++ report → IsRun script status both
+run_printed script told status text report both kept is text_is reported parts = record {
+  journal = told.run.journal;
+  report = report;
+  spelled = all_spelled script kept told.run.journal told.run.end is.legal;
+  parts = parts ∙ ap (λ (t : List ℕ). t ++ report) text_is;
+  reported = reported;
+}
 
 -- A LEGAL JOURNAL IS NOT REFUSED
 

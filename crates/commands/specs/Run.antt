@@ -5,9 +5,19 @@ use Rattle.an_base.specs.declared.event.Event.{Event}
 use Rattle.net_script.specs.Scripts.{ScriptOf}
 use Rattle.net_script.specs.Texts.{IsText}
 use Rattle.journal.specs.Events.{CanSpell, journal_text}
+use Rattle.fabric_world.specs.Histories.{IsLegal}
+use Rattle.fabric_settling.specs.Claims.{HoldsAndSettles}
+use Rattle.fabric_book.specs.Accounts.{AreAccounts}
+use Rattle.switch_threads.specs.declared.running.Told.{Told}
 use Rattle.commands.specs.declared.status.Status.{Status}
 use Rattle.commands.specs.Answer.{Gives}
 use Rattle.commands.specs.Reported.{IsReported}
+
+-- The run is legal, all that is claimed of a history holds of its journal, and these are its accounts.
+pub record IsToldRun (script : ScriptOf) (told : Told) : Type 0 where
+  pub legal : IsLegal script told.run.journal told.run.end
+  pub claims : HoldsAndSettles script told.run.journal
+  pub accounts : AreAccounts script told.run.journal told.accounts.items
 
 -- The text is that of a legal journal and, behind it, its report; all that is claimed of a history holds of
 -- the journal, and the status is that of its end.

@@ -7,12 +7,11 @@ ghost use Rattle.commands.specs.Reported.{IsReported, IsReportedText, status_of_
 
 use crate::command::Given;
 use crate::status::Status;
-use an_base::event::Journal;
 use an_base::memory::OutOfMemory;
 use fabric_state::ending::Ending;
 use net_script::script::Script;
 use replay::refusal::ReplayRefusal;
-use report::reporter::{Report, life_name, reported, reported_text};
+use report::reporter::{Report, life_name, reported_text};
 use std::alloc::Global;
 
 // The status of a journal with this end, at this tick.
@@ -30,8 +29,8 @@ fn status_of(alloc: Global, script: &Script, end: Ending, tick: u32) -> Result<S
     })
 }
 
-// A report, with the status of the end of its journal.
-fn given(alloc: Global, script: &Script, report: Report) -> Result<Given, OutOfMemory>
+/// A report, with the status of the end of its journal.
+pub fn given(alloc: Global, script: &Script, report: Report) -> Result<Given, OutOfMemory>
     ensures status { IfOk result (λ given. given.status ≡ status_of_end script.now report.tick report.end) }
     ensures ends { IfOk result (λ given. IsEnding given.status) }
     ensures text { IfOk result (λ given. given.text.items ≡ report.text.items) }
@@ -43,18 +42,7 @@ fn given(alloc: Global, script: &Script, report: Report) -> Result<Given, OutOfM
     })
 }
 
-/// The report of a journal, with the status of its end, if the journal is legal.
-pub fn told(alloc: Global, script: &Script, journal: &Journal) -> Result<Given, ReplayRefusal>
-    ensures reported { IfOk result (λ given.
-        IsReported script.now journal.now given.status given.text.items) }
-    ensures ends { IfOk result (λ given. IsEnding given.status) }
-    ensures refused { IfErr result (IsRefusal script.now journal.now) }
-{
-    let report = reported(alloc, script, journal)?;
-    Ok(given(alloc, script, report)?)
-}
-
-/// The same of the journal with whose text the bytes begin.
+/// The report of the journal with whose text the bytes begin, with the status of its end, if the journal is legal.
 pub fn told_text(alloc: Global, script: &Script, bytes: &[u8]) -> Result<Given, ReplayRefusal>
     requires few { length bytes.now ≤ input_limit }
     ensures reported { IfOk result (λ given.

@@ -1,20 +1,19 @@
 //! The command `run`. It is no `Command`, whose calls start no threads.
 
-ghost use Rattle.std.specs.Prelude.{◌≡◌, ◌⊎◌, ◌≤◌, length, IfErr, IfOk};
+ghost use Rattle.std.specs.Prelude.{◌≡◌, ◌⊎◌, ◌≤◌, All, length, IfErr, IfOk};
+ghost use Rattle.journal.specs.Events.{CanSpell, journal_text};
 ghost use Rattle.net_script.specs.Scripts.{IsScript};
-ghost use Rattle.report.specs.Events.{HasLegalEnd};
 ghost use Rattle.commands.specs.declared.status.Status.TheVariants as ended;
 ghost use Rattle.commands.specs.Answer.{streams, IsCause, IsEnding, IsInput, IsStop, input_limit};
 ghost use Rattle.commands.specs.Reported.{IsReported};
-ghost use Rattle.commands.specs.Run.{IsRun, gives_run};
+ghost use Rattle.commands.specs.Run.{IsRun, IsToldRun, gives_run};
 ghost use Rattle.commands.specs.Scripted.{refuses_script};
 ghost use Rattle.commands.specs.Words.{IsRunAnswer};
 
 use crate::command::Given;
 use crate::input::{INPUT_LIMIT, read_input};
-use crate::reported::told;
+use crate::reported::given as given_of;
 use crate::status::{Status, finish};
-use an_base::event::Journal;
 use an_base::memory::OutOfMemory;
 use journal::printer::print;
 use net_script::reader::read;
@@ -22,35 +21,52 @@ use net_script::script::Script;
 use outside::all::write_all;
 use outside::sink::Sink;
 use outside::source::Source;
-use replay::refusal::ReplayRefusal;
+use report::retelling::retold;
 use std::alloc::Global;
 use std::sync::Wait;
-use std::thread::Threads;
-use switch_threads::Gate;
+use std::thread::{Threads, join};
+use switch_threads::{Gate, Told};
 
-// The report of a legal journal, with the status of its end.
-fn report_of(alloc: Global, script: &Script, journal: &Journal) -> Result<Given, OutOfMemory>
-    requires legal { HasLegalEnd script.now journal.now }
+// The report of a run, with the status of its end.
+fn report_of(alloc: Global, script: &Script, told: &Told) -> Result<Given, OutOfMemory>
+    requires { IsToldRun script.now told.now }
     ensures reported { IfOk result (λ given.
-        IsReported script.now journal.now given.status given.text.items) }
+        IsReported script.now told.now.run.journal given.status given.text.items) }
     ensures ends { IfOk result (λ given. IsEnding given.status) }
 {
-    match told(alloc, script, journal) {
-        Ok(given) => Ok(given),
-        Err(ReplayRefusal::OutOfMemory) => Err(OutOfMemory),
-        Err(ReplayRefusal::Illegal { .. }) => unreachable!(),
-    }
+    let journal = &told.run.journal;
+    let report = retold(alloc, script, journal, told.run.end, &told.accounts)?;
+    given_of(alloc, script, report)
 }
 
-// The text of a legal journal and, behind it, its report, with the status of its end.
-fn printed(alloc: Global, script: &Script, journal: &Journal) -> Result<Given, OutOfMemory>
+// The text of the journal of a run and, behind it, its report, with the status of its end. The two are made beside
+// each other.
+fn printed<R: Threads + Sync>(
+    rt: &R,
+    alloc: Global,
+    script: &Script,
+    told: &Told,
+) -> Result<Given, OutOfMemory>
     requires kept { IsScript script.now }
-    requires legal { HasLegalEnd script.now journal.now }
+    requires told { IsToldRun script.now told.now }
     ensures run { IfOk result (λ given. IsRun script.now given.status given.text.items) }
     ensures ends { IfOk result (λ given. IsEnding given.status) }
 {
-    let mut text = print(alloc, script, journal)?;
-    let report = report_of(alloc, script, journal)?;
+    let (text, report) = join(
+        rt,
+        || -> Result<Vec<u8>, OutOfMemory>
+            requires { All (CanSpell script.now) told.now.run.journal }
+            ensures { IfOk result (λ text. text.items ≡ journal_text script.entry.now told.entry.now.run.journal) }
+        { print(alloc, script, &told.run.journal) },
+        || -> Result<Given, OutOfMemory>
+            requires { IsToldRun script.now told.now }
+            ensures { IfOk result (λ given.
+                IsReported script.entry.now told.entry.now.run.journal given.status given.text.items
+                × IsEnding given.status) }
+        { report_of(alloc, script, told) },
+    );
+    let mut text = text?;
+    let report = report?;
     text.extend_from_slice(&report.text)?;
     Ok(Given {
         status: report.status,
@@ -69,8 +85,8 @@ fn ran<R: Threads + Wait + Sync, G: Gate>(
     ensures run { IfOk result (λ given. IsRun script given.status given.text.items) }
     ensures ends { IfOk result (λ given. IsEnding given.status) }
 {
-    let run = switch_threads::run(rt, alloc, &script, gate)?;
-    printed(alloc, &script, &run.journal)
+    let told = switch_threads::run(rt, alloc, &script, gate)?;
+    printed(rt, alloc, &script, &told)
 }
 
 // The same for a script whose text the bytes are, or the status that says why there is none.

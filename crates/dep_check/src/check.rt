@@ -103,24 +103,6 @@ fn ranked_by(
     })
 }
 
-/// The ranks of the channels, unless rows let some lead round: then it refuses the least cycle. It judges
-/// neither pairs nor exits.
-pub fn ranks_over(
-    alloc: Global,
-    graph: &Graph,
-    numbers: &Numbers,
-    rows: &[Row],
-) -> Result<Ranks, CheckRefusal>
-    requires { length numbers.now ≡ length graph.now }
-    ensures ranked { IfOk result (HasAllRanks graph.now numbers.now rows.now) }
-    ensures refused { IfErr result (IsRefusal graph.now numbers.now rows.now) }
-{
-    let ranked = ranked_by(alloc, graph, numbers, rows)?;
-    Ok(Ranks {
-        levels: ranked.levels,
-    })
-}
-
 /// Judges the rows of routing tables for a graph, with one number for each of its entries. A row
 /// names its switch and its target by number.
 ///

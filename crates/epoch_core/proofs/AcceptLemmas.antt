@@ -3,7 +3,8 @@ use Rattle.std.specs.Prelude.{not, ◌==◌, ◌&&◌, is_some, OnOk, Result}
 use Rattle.std.proofs.lemmas.Result.{on_ok_weaker}
 use Rattle.an_base.specs.Values.{Place, PeerAt, PosOf, TopoOf}
 use Rattle.an_base.specs.declared.body.Body.TheVariants.{Pos, Answer, Topo}
-use Rattle.tree_position.specs.Position.{OfferOf, OffersOf, position_of, noted}
+use Rattle.tree_position.specs.declared.offers.Offer.{Offer}
+use Rattle.tree_position.specs.Position.{OffersOf, position_of, noted}
 use Rattle.epoch_core.specs.declared.ports.Ports.{Ports}
 use Rattle.epoch_core.specs.Log.{CardOf, OnPort, Log}
 use Rattle.epoch_core.specs.Epoch.{position, version, is_same, has_moved, is_stable, is_root, is_named, finish, finished_as_root, given_by, or_else, positions_of, positions, told, answer_to, answers, sent_up, sent_down, stable_to_parent, topo_down, passed_on, claiming_among, adds}
@@ -52,7 +53,7 @@ accepts_where r inside old ports new x before after is quiet plain unanswered he
 offers_noted : (old : CoreOf) (offers : OffersOf) (port : ℕ) (b : PosOf) (log : Log) → StandsFor old log → offers ≡ record old.offers { offered = noted old.offers.links old.offers.offered port (record { root = b.root; level = b.level }) } → offers ≡ offers_of old.card (record { port = port; body = Pos b } ∷ log)
 offers_noted old offers port b log st is =
     let next : OffersOf → OffersOf = λ o. record { me = o.me; links = o.links; offered = noted o.links o.offered port (record { root = b.root; level = b.level }) } in
-    let made : List (Option OfferOf) → OffersOf = λ offered. record { me = old.card.me; links = old.card.links; offered = offered } in
+    let made : List (Option Offer) → OffersOf = λ offered. record { me = old.card.me; links = old.card.links; offered = offered } in
     is ∙ ap next st.offers ∙ ap made (noted-is old.card.links port b log)
 
 -- what is told, where the position moved

@@ -8,7 +8,8 @@ use Rattle.an_base.specs.Values.{Place, PeerAt, PosOf, TopoOf}
 use Rattle.an_base.specs.declared.body.Body.{Body}
 use Rattle.an_base.specs.declared.body.Body.TheVariants.{Pos, Topo}
 use Rattle.an_base.proofs.OrderLaws.{position_total}
-use Rattle.tree_position.specs.Position.{OfferOf, OffersOf, position_of, noted, self_root}
+use Rattle.tree_position.specs.declared.offers.Offer.{Offer}
+use Rattle.tree_position.specs.Position.{OffersOf, position_of, noted, self_root}
 use Rattle.epoch_core.specs.declared.ports.Heard.{Heard}
 use Rattle.epoch_core.specs.declared.ports.Ports.{Ports}
 use Rattle.epoch_core.specs.Log.{CardOf, OnPort, Log, on_port, last_pos, last_report}
@@ -44,7 +45,7 @@ offers-quiet c x log q = map_same (offer_on (x ∷ log)) (offer_on log) c.links 
 
 pub offers_of-quiet : (c : CardOf) (x : OnPort) (log : Log) → IsQuiet x.body → offers_of c (x ∷ log) ≡ offers_of c log
 offers_of-quiet c x log q =
-    let made : List (Option OfferOf) → OffersOf = λ offered. record { me = c.me; links = c.links; offered = offered } in
+    let made : List (Option Offer) → OffersOf = λ offered. record { me = c.me; links = c.links; offered = offered } in
     ap made (offers-quiet c x log q)
 
 -- nor the position, nor the version

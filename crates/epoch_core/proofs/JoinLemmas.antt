@@ -3,7 +3,8 @@ use Rattle.std.specs.Prelude.{◌==◌, ◌&&◌, replicate}
 use Rattle.std.specs.List.{list_all}
 use Rattle.std.proofs.lemmas.Bool.Decides.{nat_tests}
 use Rattle.an_base.specs.Values.{Place, PeerAt, EntryOf, TopoOf}
-use Rattle.tree_position.specs.Position.{OfferOf, OffersOf, candidates, least, self_root}
+use Rattle.tree_position.specs.declared.offers.Offer.{Offer}
+use Rattle.tree_position.specs.Position.{OffersOf, candidates, least, self_root}
 use Rattle.topo_report.specs.Report.{report_of}
 use Rattle.epoch_core.specs.Log.{CardOf, OnPort}
 use Rattle.epoch_core.specs.Epoch.{offer_on, position, is_same, is_settled, is_root, finish, topology_of, or_else, report, reported, positions_of, passed_on, claiming_among, adds}
@@ -15,7 +16,7 @@ use Rattle.epoch_core.proofs.EpochLemmas.{is_same-itself}
 -- nothing is offered at first
 offers_none : (links : List PeerAt) → replicate (length links) None ≡ map (offer_on []) links
 offers_none [] = refl
-offers_none (k ∷ links) = ap (λ (os : List (Option OfferOf)). None ∷ os) (offers_none links)
+offers_none (k ∷ links) = ap (λ (os : List (Option Offer)). None ∷ os) (offers_none links)
 
 candidates_none : (links : List PeerAt) → candidates links (map (offer_on []) links) ≡ []
 candidates_none [] = refl
@@ -44,7 +45,7 @@ pub record HasJoined (core : CoreOf) : Type 0 where
 
 pub joined_stands : (core : CoreOf) (f : Option TopoOf) → HasJoined core → f ≡ finish core.card [] → StandsFor (record core { finish = f }) []
 joined_stands core f j done =
-    let made : List (Option OfferOf) → OffersOf = λ offered. record { me = core.card.me; links = core.card.links; offered = offered } in
+    let made : List (Option Offer) → OffersOf = λ offered. record { me = core.card.me; links = core.card.links; offered = offered } in
     record {
       offers = j.offers ∙ ap made (offers_none core.card.links);
       ports = j.ports;

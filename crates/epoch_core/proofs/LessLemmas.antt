@@ -11,7 +11,8 @@ use Rattle.an_base.specs.declared.body.Body.{Body}
 use Rattle.an_base.specs.declared.body.Body.TheVariants.{Pos, Answer, Stable, Topo}
 use Rattle.an_base.specs.TotalOrders.{life_total}
 use Rattle.an_base.proofs.OrderLaws.{position_total}
-use Rattle.tree_position.specs.Position.{OfferOf, self_root, below_offer, candidate, candidates}
+use Rattle.tree_position.specs.declared.offers.Offer.{Offer}
+use Rattle.tree_position.specs.Position.{self_root, below_offer, candidate, candidates}
 use Rattle.tree_position.proofs.LeastLemmas.{least_is}
 use Rattle.topo_report.proofs.Members.{In, in_from, contains_from, in_append, in_left, in_right}
 use Rattle.epoch_core.specs.Log.{CardOf, OnPort, Log, on_port, last_pos}
@@ -27,7 +28,7 @@ pub at_most_trans : (p q r : Place) → IsAtMost p q → IsAtMost q r → IsAtMo
 at_most_trans p q r le ge = at_most (position_cmp p r) (upto position_total p q r (not_above (position_cmp p q) le) (not_above (position_cmp q r) ge))
 
 -- what a link gives now is no greater than what it gave
-abbrev Keeps : Option OfferOf → Option OfferOf → Type 0
+abbrev Keeps : Option Offer → Option Offer → Type 0
 Keeps new None = Unit {0}
 Keeps None (Some o) = ⊥
 Keeps (Some n) (Some o) = IsTrue (is_le (ordering_then (life_cmp n.root o.root) (nat_cmp n.level o.level))) × (o.level < 125 → n.level < 125)
@@ -45,14 +46,14 @@ tied_end Greater b c d e f le = absurd (cc)
 same_number : (a : ℕ) → nat_cmp a a ≡ Equal
 same_number a = grind (arith, nat_tests)
 
-pub below_less : (k : PeerAt) (n o : OfferOf) → IsTrue (is_le (ordering_then (life_cmp n.root o.root) (nat_cmp n.level o.level))) → IsAtMost (below_offer k n) (below_offer k o)
+pub below_less : (k : PeerAt) (n o : Offer) → IsTrue (is_le (ordering_then (life_cmp n.root o.root) (nat_cmp n.level o.level))) → IsAtMost (below_offer k n) (below_offer k o)
 below_less k n o le =
     tied_end (life_cmp n.root o.root) (nat_cmp (n.level + 1) (o.level + 1)) (life_cmp k.peer.life k.peer.life) (nat_cmp k.port k.port)
     (tied_itself life_total k.peer.life) (same_number k.port)
     (ap (λ (c : Ordering). is_le (ordering_then (life_cmp n.root o.root) c)) (one_level n.level o.level) ∙ le)
 
 -- for a candidate there was there is one that is no greater
-candidate_less : (k : PeerAt) (new old : Option OfferOf) → Keeps new old → (q : Place) → In q (candidate k old) → (r : Place) × (In r (candidate k new)) × (IsAtMost r q)
+candidate_less : (k : PeerAt) (new old : Option Offer) → Keeps new old → (q : Place) → In q (candidate k old) → (r : Place) × (In r (candidate k new)) × (IsAtMost r q)
 candidate_less k new None keeps q i = absurd i
 candidate_less k None (Some o) keeps q i = absurd keeps
 candidate_less k (Some n) (Some o) keeps q i = by (nat_lt o.level 125) refl i
@@ -66,7 +67,7 @@ candidate_less k (Some n) (Some o) keeps q i = by (nat_lt o.level 125) refl i
       subst (λ (p : Place). IsAtMost (below_offer k n) p) (sym j) (below_less k n o keeps.0),
     )
 
-candidates_less : (new old : PeerAt → Option OfferOf) (ks : List PeerAt) → ((k : PeerAt) → Keeps (new k) (old k)) → (q : Place) → In q (candidates ks (map old ks)) → (r : Place) × (In r (candidates ks (map new ks))) × (IsAtMost r q)
+candidates_less : (new old : PeerAt → Option Offer) (ks : List PeerAt) → ((k : PeerAt) → Keeps (new k) (old k)) → (q : Place) → In q (candidates ks (map old ks)) → (r : Place) × (In r (candidates ks (map new ks))) × (IsAtMost r q)
 candidates_less new old [] keeps q i = absurd i
 candidates_less new old (k ∷ ks) keeps q i =
     elim (in_append q (candidate k (old k)) (candidates ks (map old ks)) i) [
@@ -88,7 +89,7 @@ position_keeps c new old keeps =
           at_most_trans (position c new) r.0 (position c old) (now.least r.0 (contains_from r.0 (own ∷ are) (inr r.1))) r.2)
     ]
 
-keeps_itself : (o : Option OfferOf) → Keeps o o
+keeps_itself : (o : Option Offer) → Keeps o o
 keeps_itself None = tt
 keeps_itself (Some o) = (same_offer (life_cmp o.root o.root) (nat_cmp o.level o.level) (tied_itself life_total o.root) (same_number o.level), λ low. low)
   where

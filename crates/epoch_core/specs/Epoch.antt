@@ -9,18 +9,19 @@ use Rattle.an_base.specs.Values.{LifeId, Place, PeerAt, EntryOf, PosOf, TopoOf}
 use Rattle.an_base.specs.Order.{life_cmp, position_cmp}
 use Rattle.an_base.specs.declared.body.Body.{Body}
 use Rattle.an_base.specs.declared.body.Body.TheVariants.{Pos, Answer, Stable, Topo}
-use Rattle.tree_position.specs.Position.{OfferOf, position_of, self_root}
+use Rattle.tree_position.specs.declared.offers.Offer.{Offer}
+use Rattle.tree_position.specs.Position.{position_of, self_root}
 use Rattle.topo_report.specs.Report.{report_of}
 use Rattle.switch_numbering.specs.Numbering.{numbering}
 use Rattle.epoch_core.specs.Log.{CardOf, OnPort, Log, on_port, last_pos, is_claimed, answered, last_report}
 use Rattle.epoch_core.specs.Log.{fresh_report}
 
 -- the offer on a port is root and level of the last position there
-abbrev pub offer_of : Option PosOf → Option OfferOf
+abbrev pub offer_of : Option PosOf → Option Offer
 offer_of None = None
 offer_of (Some pos) = Some (record { root = pos.root; level = pos.level })
 
-abbrev pub offer_on : Log → PeerAt → Option OfferOf
+abbrev pub offer_on : Log → PeerAt → Option Offer
 offer_on log link = offer_of (last_pos (on_port link.port log))
 
 -- the least of the own position as a root and of what the offers give

@@ -80,8 +80,8 @@ fn tell_position(
 {
     'links: for link in links.as_slice() {
         let port = link.port();
-        let to_parent = port == position.port();
-        let told = Body::Pos(PosBody::new(version, position.root(), position.level(), to_parent));
+        let to_parent = port == position.port;
+        let told = Body::Pos(PosBody::new(version, position.root, position.level, to_parent));
         sends.push(Outgoing { port, body: told })?;
     }
     Ok(())
@@ -195,11 +195,11 @@ impl Core {
         requires room { self.old.version ≤ MOST_VERSION }
         ensures { OnOk result (Accepts self.old self.new (record { port = port; body = Pos told }) sends.old sends.new) }
     {
-        self.offers.note(port, told.root(), told.level());
+        self.offers.note(port, told.root, told.level);
         self.ports.note_position(port, told);
         self.reposition(sends)?;
-        let to_parent = port == self.position.port();
-        let answer = AnswerBody::new(told.version(), to_parent);
+        let to_parent = port == self.position.port;
+        let answer = AnswerBody::new(told.version, to_parent);
         let body = Body::Answer(answer);
         sends.push(Outgoing { port, body })?;
         self.settle(sends)
@@ -301,7 +301,7 @@ impl Core {
         ensures { (log : Log) → HasHeard self.now.ports log → OnOk result (sends.new ≡ sends.old ++ record { port = self.now.position.port; body = Stable (report_of self.now.card.me (entry_of self.now ∷ flat_map (reported_on log) (claiming_among self.now.card.links log))) } ∷ []) }
     {
         let entries = self.report()?;
-        let port = self.position.port();
+        let port = self.position.port;
         let body = Body::Stable { entries };
         sends.push(Outgoing { port, body })
     }

@@ -73,12 +73,9 @@ impl Ports {
         requires { port ≤ LAST_PORT }
         ensures { (log : Log) → HasHeard self.old log → HasHeard self.new (record { port = port; body = Pos told } ∷ log) }
     {
-        let i = usize::from(port);
-        self.heard[i] = Heard {
-            answered: self.heard[i].answered,
-            is_claimed: told.to_parent(),
-            is_fresh: false,
-        };
+        let heard = &mut self.heard[usize::from(port)];
+        heard.is_claimed = told.to_parent;
+        heard.is_fresh = false;
     }
 
     /// An answer came on a port, 0 to 12.
@@ -86,12 +83,9 @@ impl Ports {
         requires { port ≤ LAST_PORT }
         ensures { (log : Log) → HasHeard self.old log → HasHeard self.new (record { port = port; body = Answer answer } ∷ log) }
     {
-        let i = usize::from(port);
-        self.heard[i] = Heard {
-            answered: Some(answer.version()),
-            is_claimed: answer.to_parent(),
-            is_fresh: self.heard[i].is_fresh,
-        };
+        let heard = &mut self.heard[usize::from(port)];
+        heard.answered = Some(answer.version);
+        heard.is_claimed = answer.to_parent;
     }
 
     /// A report came on a port, 0 to 12.
@@ -99,13 +93,8 @@ impl Ports {
         requires { port ≤ LAST_PORT }
         ensures { (log : Log) → HasHeard self.old log → HasHeard self.new (record { port = port; body = Stable entries } ∷ log) }
     {
-        let i = usize::from(port);
-        self.heard[i] = Heard {
-            answered: self.heard[i].answered,
-            is_claimed: self.heard[i].is_claimed,
-            is_fresh: true,
-        };
-        self.reports[i] = Some(entries);
+        self.heard[usize::from(port)].is_fresh = true;
+        self.reports[usize::from(port)] = Some(entries);
     }
 
     /// What was heard on a port, 0 to 12.

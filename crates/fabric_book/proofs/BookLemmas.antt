@@ -1,10 +1,10 @@
 -- Each call of a book is one event of the world.
 
-use Rattle.std.specs.Prelude.{◌≡◌, ◌⊎◌, ◌+◌, ◌-◌, ◌^◌, ◌&&◌, not, ◌==◌, ◌<◌, ◌≤◌, ℕ, List, [], ◌∷◌, ◌++◌, map, length, slice_index_or, slice_set, cond, Bool, true, false, refl}
+use Rattle.std.specs.Prelude.{◌≡◌, ◌⊎◌, ◌+◌, ◌-◌, ◌^◌, ◌&&◌, not, ◌==◌, ◌<◌, ◌≤◌, ℕ, List, [], ◌∷◌, ◌++◌, map, length, slice_index_or, slice_set, cond, Option, option_to_list, Bool, true, false, refl}
 use Rattle.std.specs.List.{range_with_len}
 use Rattle.std.proofs.Common.{sym, ◌∙◌, ap, subst, arith, true≢false, length-append, eq-eqb, ne_eqb, inl, inr}
 use Rattle.std.proofs.lemmas.Bool.{and_parts, cases_eq, ltb-true}
-use Rattle.std.proofs.lemmas.List.{get_or-set_other, get_or-set_same, length-set}
+use Rattle.std.proofs.lemmas.List.{append-nil, get_or-set_other, get_or-set_same, length-set}
 use Rattle.std.proofs.lemmas.List.FromFn.{fill_by_all, get_or-map-range_with_len, length-map-range_with_len}
 use Rattle.an_base.specs.Ports.{NoteOf}
 use Rattle.an_base.specs.Values.{LifeId, TopoOf}
@@ -19,19 +19,32 @@ use Rattle.switch_core.specs.Bytes.{BytesOut}
 use Rattle.switch_core.specs.Steps.{loaded}
 use Rattle.switch_core.specs.Switch.{finish_of, note_of}
 use Rattle.switch_core.specs.declared.switch.TableFor.{TableFor}
-use Rattle.fabric_state.specs.Fabric.{FabricOf, clock_due_at, count, full_hands, has_frame, is_external, is_full_at, is_switch, places, station}
+use Rattle.fabric_state.specs.Fabric.{FabricOf, clock_due_at, count, full_hands, has_frame, is_external, is_full_at, is_switch, places, side_of_port, station, switch_behind}
 use Rattle.fabric_state.specs.declared.work.Work.{Work}
+use Rattle.fabric_state.specs.declared.work.Work.TheVariants as work
+use Rattle.fabric_state.specs.declared.told.Told.{Told}
+use Rattle.wire_set.specs.declared.side.Put.{Put}
 use Rattle.fabric_state.specs.Choices.{event_of_work, next_work}
 use Rattle.fabric_state.specs.Lawful.{is_lawful, is_command}
 use Rattle.fabric_state.specs.Effects.{after_clock, after_command, after_handle, after_load, after_move, after_restart, after_take, after_tick}
-use Rattle.fabric_state.specs.Effects.{all_put_out, emptied, shows}
+use Rattle.fabric_state.specs.Effects.{all_put_out, copy_becomes, emptied, shows, told_of}
 use Rattle.fabric_state.specs.Starts.{begun_fabric, life_of, next_note_at, started_note}
 use Rattle.fabric_state.specs.Fits.{Fits}
-use Rattle.fabric_world.specs.World.{WorldOf, effect, handled, loads_with, next_life, table_for, world_after}
+use Rattle.fabric_world.specs.World.{WorldOf, effect, handled, loads_with, next_life, step, table_for, world_after}
 use Rattle.fabric_world.specs.Histories.{HistoryOf, IsLawful, fabric_of, last_port, last_taken, with_event, world_of}
 use Rattle.fabric_world.specs.Sound.{AllMayCome}
-use Rattle.fabric_world.specs.Turns.{Handled, HasBytes, IsToLoad, TakesWork}
+use Rattle.fabric_world.specs.Turns.{Handled, HasBytes, IsToLoad, IsTold, TakesWork}
+use Rattle.fabric_world.specs.Turns.{Drives}
+use Rattle.fabric_state.specs.declared.work.Drive.{Drive}
+use Rattle.fabric_state.specs.declared.work.Drive.TheVariants as drive
+use Rattle.fabric_state.specs.Choices.{next_drive}
+use Rattle.fabric_world.specs.declared.line.Line.{Line}
+use Rattle.fabric_world.specs.declared.line.PlacedLine.{PlacedLine}
+use Rattle.fabric_world.specs.Accounts.{placed, placed_lines}
+use Rattle.fabric_world.specs.Lines.{all_lines, copy_line, lines_of}
 use Rattle.fabric_book.specs.Kept.{IsKept, with_events}
+use Rattle.fabric_book.specs.Told.{command_lines}
+use Rattle.fabric_book.proofs.TellLemmas.{command_told, take_told}
 use Rattle.fabric_book.proofs.WorldFacts.{event_more, step_makes, begun_is, fits_after, work_may_come, world_script, place_sound, boot_most, command_fits, emptied_room, handle_may_come, lawful_more, ready_is, room_is, handled_parts}
 
 -- the fabric is as fabrics are
@@ -168,6 +181,9 @@ command_plain f (Handle s) fits other = absurd fits
 command_plain f (Load s) fits other = absurd fits
 command_plain f (Move k) fits other = absurd fits
 command_plain f e fits other = record { script = refl; events = refl; takes = λ place port. refl }
+
+pub command_script : (f : FabricOf) (e : Event) → IsCommandEvent f.script.wires e → is_restart e ≡ false → (after_command e f).script ≡ f.script
+command_script f e fits other = (command_plain f e fits other).script
 
 pub command_kept : (f : FabricOf) (h : List Event) (e : Event) (taken : List ℕ) (room : ℕ) → IsKept f h taken room → is_lawful f e ≡ true → IsCommandEvent f.script.wires e → is_restart e ≡ false
     → IsKept (after_command e f) (h ++ e ∷ []) taken room
@@ -312,6 +328,34 @@ pub taken_here : (f : FabricOf) (es : List Event) (taken : List ℕ) (room s d :
 taken_here f es taken room s d kept below =
     ap (λ (xs : List ℕ). slice_index_or xs s d) kept.taken_is ∙ get_or-map-range_with_len (λ place. last_taken place es) 0 (count f) s s d below (omega arith)
 
+-- what is told of the event that came, with its place
+one_told : (h : HistoryOf) (e : Event) (told : Option PlacedLine) (line : Option Line) → option_to_list told ≡ placed (fabric_of (with_events (e ∷ []) h)).events (option_to_list line) → option_to_list line ≡ lines_of (world_of h) e ++ []
+    → option_to_list told ≡ placed_lines (world_of h) e ++ []
+one_told h e told line placed_is line_is =
+    let place : (fabric_of (with_events (e ∷ []) h)).events ≡ (step (world_of h) e).fabric.events = ap (λ (w : WorldOf). w.fabric.events) (event_more h.script h.events e) in
+    placed_is ∙ ap (λ (n : ℕ). placed n (option_to_list line)) place ∙ ap (placed (step (world_of h) e).fabric.events) (line_is ∙ append-nil (lines_of (world_of h) e))
+    ∙ sym (append-nil (placed_lines (world_of h) e))
+
+pub work_told : (h : HistoryOf) (s : ℕ) (job : Work) (told : Option PlacedLine) (line : Option Line) → option_to_list told ≡ placed (fabric_of (with_events (event_of_work s job) h)).events (option_to_list line)
+    → option_to_list line ≡ all_lines (world_of h) (event_of_work s job) → IsTold h.script h.events (event_of_work s job) told
+work_told h s (work.Restart life) told line placed_is line_is = one_told h (Restart s) told line placed_is line_is
+work_told h s (work.Clock now samples) told line placed_is line_is = one_told h (Clock s) told line placed_is line_is
+work_told h s (work.Frame port) told line placed_is line_is = one_told h (Take s port) told line placed_is line_is
+work_told h s (work.Nothing reason) told line placed_is line_is = placed_is ∙ ap (placed (fabric_of (with_events [] h)).events) line_is
+
+pub drive_told : (h : HistoryOf) (e : Event) (told : Option PlacedLine) (line : Option Line) → option_to_list told ≡ placed (fabric_of (with_events (e ∷ []) h)).events (option_to_list line) → option_to_list line ≡ lines_of (world_of h) e
+    → IsTold h.script h.events (e ∷ []) told
+drive_told h e told line placed_is line_is = one_told h e told line placed_is (line_is ∙ sym (append-nil (lines_of (world_of h) e)))
+
+pub drives_by : (h g : HistoryOf) (did : Drive) (e : Event) (told : Option PlacedLine) (line : Option Line) → did ≡ next_drive (fabric_of h) → did ≡ drive.Did e → g ≡ with_event e h
+    → option_to_list told ≡ placed (fabric_of g).events (option_to_list line) → option_to_list line ≡ lines_of (world_of h) e → Drives h.script h.events (drive.Did e) told g.events
+drives_by h g did e told line is made after placed_is line_is =
+    record {
+      drive_is = sym made ∙ is;
+      event = ap (λ (x : HistoryOf). x.events) after;
+      told_is = drive_told h e told line (placed_is ∙ ap (λ (x : HistoryOf). placed (fabric_of x).events (option_to_list line)) after) line_is;
+    }
+
 -- Of the history of a book
 module _ (f : FabricOf) (es : List Event) (taken : List ℕ) (room : ℕ) (kept : IsKept f es taken room) (h : HistoryOf) (view_is : record { script = f.script; events = es } ≡ h) where
   pub good_at : IsScript h.script
@@ -337,13 +381,28 @@ module _ (f : FabricOf) (es : List Event) (taken : List ℕ) (room : ℕ) (kept 
   work_at s last job is below empty =
       subst (λ (j : Work). AllMayCome (fabric_of h) (event_of_work s j)) (sym (is ∙ ap (λ (x : FabricOf). next_work x s last) (fabric_at f es taken room kept h view_is))) (work_may_come h.script h.events s last below empty)
 
-  pub takes_at : (s last : ℕ) (job : Work) (out : List ℕ) (new : HistoryOf) → job ≡ next_work f s last → last ≡ slice_index_or taken s last → s < length h.script.wires.switches → new ≡ with_events (event_of_work s job) h
-      → HasBytes job (fabric_of new) s out → TakesWork h.script h.events s job out new.events
-  takes_at s last job out new is at below event bytes =
+  pub takes_at : (s last : ℕ) (job : Work) (out : List ℕ) (told : Option PlacedLine) (line : Option Line) (new : HistoryOf) → job ≡ next_work f s last → last ≡ slice_index_or taken s last → s < length h.script.wires.switches → new ≡ with_events (event_of_work s job) h
+      → HasBytes job (fabric_of new) s out → option_to_list told ≡ placed (fabric_of new).events (option_to_list line) → option_to_list line ≡ all_lines (world_of h) (event_of_work s job) → TakesWork h.script h.events s job out told new.events
+  takes_at s last job out told line new is at below event bytes placed_is line_is =
       let last_is : last ≡ last_taken s h.events = at ∙ taken_here f es taken room s last kept (below_at s below) ∙ ap (last_taken s) (events_at f es taken room kept h view_is) in
       let scripts : new.script ≡ h.script = ap (λ (x : HistoryOf). x.script) event in
       record {
         work_is = is ∙ ap (λ (x : FabricOf). next_work x s last) (fabric_at f es taken room kept h view_is) ∙ ap (next_work (fabric_of h) s) last_is;
         event = ap (λ (x : HistoryOf). x.events) event;
         bytes = subst (λ (x : ScriptOf). HasBytes job (world_after x new.events).fabric s out) scripts bytes;
+        told_is = work_told h s job told line (placed_is ∙ ap (λ (x : HistoryOf). placed (fabric_of x).events (option_to_list line)) event) line_is;
       }
+
+  -- what is told of a frame that is taken, of a command but a restart, and of a hop
+  pub taken_told : (s port : ℕ) (far : Option (ℕ × ℕ)) (copied : Option Put) (line : Option Line) → far ≡ switch_behind (side_of_port f s port).far → copied ≡ copy_becomes f s port → option_to_list line ≡ copy_line far copied
+      → option_to_list line ≡ lines_of (world_of h) (Take s port)
+  taken_told s port far copied line far_is copied_is told =
+      let at = fabric_at f es taken room kept h view_is in
+      take_told (world_of h) s port far copied [] (option_to_list line) (far_is ∙ ap (λ (x : FabricOf). switch_behind (side_of_port x s port).far) at) (copied_is ∙ ap (λ (x : FabricOf). copy_becomes x s port) at) told
+
+  pub commanded_told : (e : Event) (what : Told) (line : Option Line) → is_command (fabric_of h) e ≡ true → is_restart e ≡ false → what ≡ told_of e f → option_to_list line ≡ command_lines e what
+      → option_to_list line ≡ lines_of (world_of h) e
+  commanded_told e what line command other what_is told =
+      let good : IsScript (fabric_of h).script = subst IsScript (sym (world_script h.script h.events)) good_at in
+      told ∙ ap (command_lines e) (what_is ∙ ap (told_of e) (fabric_at f es taken room kept h view_is))
+      ∙ command_told (fabric_of h).script.wires (world_of h) e (command_fits (fabric_of h) e good command) other

@@ -10,6 +10,7 @@ use Rattle.fabric_turn.specs.History.{AppendsAtMostOne}
 use Rattle.fabric_world.specs.declared.ask.LoadReply.{LoadReply}
 use Rattle.fabric_world.specs.Histories.{HistoryOf, IsLawful, fabric_of, owner_of}
 use Rattle.fabric_world.specs.Sound.{AllMayCome}
+use Rattle.fabric_world.specs.declared.line.PlacedLine.{PlacedLine}
 use Rattle.fabric_world.specs.Turns.{Drives, LoadsOrNot}
 use Rattle.fabric_world.specs.World.{world_after}
 use Rattle.an_base.specs.declared.event.Event.{Event}
@@ -87,14 +88,14 @@ driver_owns f (Load s) kept is = absurd (command_fits f (Load s) kept is.command
 driver_owns f e kept is = refl
 
 -- What a load and the driver append
-pub load_appends : (b : Bool) (table : TableFor) (answer : LoadReply) (s c : ℕ) (h after : List Event) → c ≡ s + 1 → LoadsOrNot b table answer s h after → AppendsAtMostOne owner_of c h after
-load_appends true table answer s c h after caller is = ([], inl refl, is.1 ∙ sym (append-nil h))
-load_appends false table answer s c h after caller is = (Load s ∷ [], inr (Load s, refl, sym caller), is.1)
+pub load_appends : (b : Bool) (table : TableFor) (answer : LoadReply) (s c : ℕ) (script : ScriptOf) (h after : List Event) → c ≡ s + 1 → LoadsOrNot b table answer s script h after → AppendsAtMostOne owner_of c h after
+load_appends true table answer s c script h after caller is = ([], inl refl, is.1 ∙ sym (append-nil h))
+load_appends false table answer s c script h after caller is = (Load s ∷ [], inr (Load s, refl, sym caller), is.1)
 
-pub drive_appends : (script : ScriptOf) → IsScript script → (h : List Event) (did : Drive) (c : ℕ) (after : List Event) → c ≡ 0 → Drives script h did after → AppendsAtMostOne owner_of c h after
-drive_appends script kept h (drive.Did e) c after caller is =
+pub drive_appends : (script : ScriptOf) → IsScript script → (h : List Event) (did : Drive) (told : Option PlacedLine) (c : ℕ) (after : List Event) → c ≡ 0 → Drives script h did told after → AppendsAtMostOne owner_of c h after
+drive_appends script kept h (drive.Did e) told c after caller is =
     let f = (world_after script h).fabric in
     let good : IsScript f.script = subst IsScript (sym (world_script script h)) kept in
     (e ∷ [], inr (e, refl, driver_owns f e good (driven f e (sym is.drive_is)) ∙ sym caller), is.event)
-drive_appends script kept h drive.Waits c after caller is = ([], inl refl, is.event)
-drive_appends script kept h (drive.Ended end) c after caller is = ([], inl refl, is.event)
+drive_appends script kept h drive.Waits told c after caller is = ([], inl refl, is.event)
+drive_appends script kept h (drive.Ended end) told c after caller is = ([], inl refl, is.event)

@@ -19,6 +19,7 @@ use Rattle.fabric_world.specs.Histories.{fabric_of, last_taken, owner_of, world_
 use Rattle.fabric_world.specs.Lines.{lines_of}
 use Rattle.fabric_world.specs.Solo.{worker_event}
 use Rattle.fabric_world.specs.World.{WorldOf, after_all, begun, step, world_after}
+use Rattle.fabric_world.proofs.AccountLemmas.{gathered-append}
 use Rattle.fabric_book.specs.Nets.{NetOf, driver_line, driver_lines, history_of, with_events, with_step}
 use Rattle.fabric_book.specs.Rounds.{drive_lines, told_of}
 use Rattle.fabric_book.proofs.DriveLemmas.{driven, driver_owns}
@@ -26,10 +27,7 @@ use Rattle.fabric_book.proofs.WorldFacts.{world_script}
 
 -- what is told of the next event comes behind what was told before
 told_append : (h : List Event) (e : Event) (w : WorldOf) → driver_lines w (h ++ e ∷ []) ≡ driver_lines w h ++ driver_line (after_all h w) e
-told_append [] e w = append-nil (driver_line w e)
-told_append (x ∷ h) e w =
-    ap (λ (xs : List Line). driver_line w x ++ xs) (told_append h e (step w x))
-    ∙ sym (append_assoc (driver_line w x) (driver_lines (step w x) h) (driver_line (after_all h (step w x)) e))
+told_append h e w = gathered-append lines_of 0 w h (e ∷ []) ∙ ap (λ (xs : List Line). driver_lines w h ++ xs) (append-nil (driver_line (after_all h w) e))
 
 told_next : (net : NetOf) (e : Event) → told_of (with_step e net) ≡ told_of net ++ driver_line (world_of (history_of net)) e
 unfolding world_after

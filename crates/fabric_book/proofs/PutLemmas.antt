@@ -1,8 +1,8 @@
 -- Frames go out in turn.
 
-use Rattle.std.specs.Prelude.{◌≡◌, ◌+◌, ◌++◌, ◌∷◌, ◌<◌, ℕ, List, [], length, slice_index_or, take, Option, refl}
-use Rattle.std.proofs.Common.{sym, ◌∙◌, ap, append_assoc}
-use Rattle.std.proofs.lemmas.List.{take_more}
+use Rattle.std.specs.Prelude.{◌≡◌, ◌+◌, ◌++◌, ◌∷◌, ◌<◌, ℕ, List, [], length, slice_index_or, slice_set, take, Option, refl}
+use Rattle.std.proofs.Common.{sym, ◌∙◌, ap}
+use Rattle.std.proofs.lemmas.List.{take_more, take_more_set}
 use Rattle.wire_set.specs.declared.side.Put.{Put}
 use Rattle.wire_set.specs.WireState.{WiresOf}
 use Rattle.switch_core.specs.Bytes.{BytesOut}
@@ -28,11 +28,11 @@ out_more s frames i x first before after below is was now =
     now ∙ ap (λ (f : FabricOf). record f { wires = put_out s x f.wires }) was
     ∙ ap (λ (w : WiresOf). record first { wires = w }) (sym (ap (λ xs. all_put_out s xs first.wires) (front frames i x below is) ∙ out-append s (take i frames) x first.wires))
 
-pub becomes_more : (s : ℕ) (frames : List BytesOut) (i : ℕ) (x : BytesOut) (first before : FabricOf) (old puts more : List (Option Put)) (told : Option Put) → i < length frames → x ≡ slice_index_or frames i x
-    → before ≡ record first { wires = all_put_out s (take i frames) first.wires } → told ≡ put_becomes s x before.wires → puts ≡ old ++ all_put_becomes s (take i frames) first.wires → more ≡ puts ++ told ∷ []
-    → more ≡ old ++ all_put_becomes s (take (i + 1) frames) first.wires
-becomes_more s frames i x first before old puts more told below is was becomes so_far next =
+pub becomes_more : (s : ℕ) (frames : List BytesOut) (i : ℕ) (x : BytesOut) (first before : FabricOf) (puts more : List (Option Put)) (told : Option Put) → i < length frames → x ≡ slice_index_or frames i x → i < length puts
+    → before ≡ record first { wires = all_put_out s (take i frames) first.wires } → told ≡ put_becomes s x before.wires → take i puts ≡ all_put_becomes s (take i frames) first.wires → more ≡ slice_set puts i told
+    → take (i + 1) more ≡ all_put_becomes s (take (i + 1) frames) first.wires
+becomes_more s frames i x first before puts more told below is within was becomes so_far next =
     let told_is : told ≡ put_becomes s x (all_put_out s (take i frames) first.wires) = becomes ∙ ap (λ (f : FabricOf). put_becomes s x f.wires) was in
     let all : all_put_becomes s (take (i + 1) frames) first.wires ≡ all_put_becomes s (take i frames) first.wires ++ told ∷ [] =
     ap (λ xs. all_put_becomes s xs first.wires) (front frames i x below is) ∙ becomes-append s (take i frames) x first.wires ∙ ap (λ (o : Option Put). all_put_becomes s (take i frames) first.wires ++ o ∷ []) (sym told_is) in
-    next ∙ ap (λ (xs : List (Option Put)). xs ++ told ∷ []) so_far ∙ append_assoc old (all_put_becomes s (take i frames) first.wires) (told ∷ []) ∙ ap (λ (xs : List (Option Put)). old ++ xs) (sym all)
+    ap (λ (xs : List (Option Put)). take (i + 1) xs) next ∙ take_more_set puts i told within ∙ ap (λ (xs : List (Option Put)). xs ++ told ∷ []) so_far ∙ sym all

@@ -67,6 +67,13 @@ pub all_become : (place : ℕ) (frames : List BytesOut) (wires : WiresOf) → le
 all_become place [] wires = refl
 all_become place (out ∷ more) wires = λ i. suc (all_become place more (put_out place out wires) i)
 
+-- as many as a list has places fill it
+pub filled : (n : ℕ) (xs ys : List (Option Put)) → length xs ≡ n → take n (xs ++ ys) ≡ xs
+filled n xs ys is = ap (λ (k : ℕ). take k (xs ++ ys)) (sym is) ∙ all xs where
+  all : (zs : List (Option Put)) → take (length zs) (zs ++ ys) ≡ zs
+  all [] = refl
+  all (z ∷ zs) = ap (λ (more : List (Option Put)). z ∷ more) (all zs)
+
 -- all that is told of what was in hand, and then of the frames that were lost
 pub handled_lines : (place : ℕ) (h : Hand) (bytes : List ℕ) (before after : SwitchOf) (lost lines : List Line)
     → (lines ++ hand_lines place h bytes before after) ++ lost

@@ -21,6 +21,7 @@ use Rattle.fabric_state.specs.Starts.{next_life_at}
 use Rattle.fabric_world.specs.Histories.{HistoryOf, fabric_of, last_taken, with_event, world_of}
 use Rattle.fabric_world.specs.Solo.{worker_event}
 use Rattle.fabric_world.specs.Sound.{AllMayCome}
+use Rattle.fabric_world.specs.declared.line.PlacedLine.{PlacedLine}
 use Rattle.fabric_world.specs.Turns.{HasBytes, TakesWork}
 use Rattle.fabric_world.specs.World.{WorldOf}
 use Rattle.fabric_book.specs.Kept.{with_events}
@@ -46,7 +47,7 @@ life_next f s last life is = by (is_some_spent f) (nat_lt (room f) 2) (is_comman
 -- Work was taken of a network that is kept
 module _ (h : HistoryOf) (lost : Bool) (power : List PowerOf) (switches : List KeptOf) (buffers : List (List ℕ)) (kept : IsNetKept h lost power switches buffers) (here : lost ≡ false)
     (s : ℕ) (below : s < length h.script.wires.switches) (empty : is_full_at (fabric_of h) s ≡ false) (job : Work) (book : HistoryOf) (out : List ℕ) (scripts : book.script ≡ h.script)
-    (takes : TakesWork h.script h.events s job out book.events) where
+    (told : Option PlacedLine) (takes : TakesWork h.script h.events s job out told book.events) where
   book_is : book ≡ with_events (event_of_work s job) h
   book_is = λ i. record { script = scripts i; events = takes.event i }
 
@@ -102,19 +103,19 @@ module _ (h : HistoryOf) (lost : Bool) (power : List PowerOf) (switches : List K
       (job_book (work.Restart life) is) refl refl refl
 
 -- and is what was to be done next
-pub work_view : (book : HistoryOf) (lost : Bool) (net : NetOf) → record { script = book.script; events = book.events; lost = lost } ≡ net → (s : ℕ) (job : Work) (g : HistoryOf) (out : List ℕ) (now : Bool) → g.script ≡ book.script
-    → TakesWork book.script book.events s job out g.events → now ≡ lost
+pub work_view : (book : HistoryOf) (lost : Bool) (net : NetOf) → record { script = book.script; events = book.events; lost = lost } ≡ net → (s : ℕ) (job : Work) (g : HistoryOf) (out : List ℕ) (told : Option PlacedLine) (now : Bool) → g.script ≡ book.script
+    → TakesWork book.script book.events s job out told g.events → now ≡ lost
     → record { script = g.script; events = g.events; lost = now } ≡ more_events (event_of_work s (next_work (fabric_of (history_of net)) s (last_taken s net.events))) net
-work_view book lost net view_is s job g out now scripts takes same =
+work_view book lost net view_is s job g out told now scripts takes same =
     let done : g ≡ with_events (event_of_work s job) book = λ i. record { script = scripts i; events = takes.event i } in
     let next : g ≡ with_events (event_of_work s (next_work (fabric_of book) s (last_taken s book.events))) book = done ∙ ap (λ (j : Work). with_events (event_of_work s j) book) takes.work_is in
     goes_at book lost net view_is (event_of_work s (next_work (fabric_of book) s (last_taken s book.events))) g now next same
     ∙ ap (λ (x : HistoryOf). more_events (event_of_work s (next_work (fabric_of x) s (last_taken s x.events))) net) (book_at book lost net view_is)
 
-pub work_some : (book : HistoryOf) (lost : Bool) (net : NetOf) → record { script = book.script; events = book.events; lost = lost } ≡ net → (s : ℕ) (job other : Work) (out : List ℕ) (after : List Event)
-    → TakesWork book.script book.events s job out after → job ≡ other
+pub work_some : (book : HistoryOf) (lost : Bool) (net : NetOf) → record { script = book.script; events = book.events; lost = lost } ≡ net → (s : ℕ) (job other : Work) (out : List ℕ) (told : Option PlacedLine) (after : List Event)
+    → TakesWork book.script book.events s job out told after → job ≡ other
     → nat_lt 0 (length (event_of_work s other)) ≡ nat_lt 0 (length (event_of_work s (next_work (fabric_of (history_of net)) s (last_taken s net.events))))
-work_some book lost net view_is s job other out after takes is =
+work_some book lost net view_is s job other out told after takes is =
     ap (λ (j : Work). nat_lt 0 (length (event_of_work s j))) (sym is ∙ takes.work_is)
     ∙ ap (λ (x : HistoryOf). nat_lt 0 (length (event_of_work s (next_work (fabric_of x) s (last_taken s x.events))))) (book_at book lost net view_is)
 

@@ -11,12 +11,12 @@ use Rattle.fabric_book.specs.declared.asking.BookReply.TheVariants as book_reply
 
 abbrev pub ask_of : BookAsk → Ask
 ask_of (book_ask.Take place out) = ask.Take place out
-ask_of (book_ask.Put place done) = ask.Put place done.value
+ask_of (book_ask.Put place done puts) = ask.Put place done.value puts
 ask_of (book_ask.Load place table note) = ask.Load place table note.value
 ask_of book_ask.Drive = ask.Drive
 
 abbrev pub reply_of : BookReply → Reply
-reply_of (book_reply.Take job out) = reply.Take job out
-reply_of (book_reply.Put done) = reply.Put done.value
+reply_of (book_reply.Take job out told) = reply.Take job out told
+reply_of (book_reply.Put done puts event) = reply.Put done.value puts event
 reply_of (book_reply.Load came note) = reply.Load came
-reply_of (book_reply.Drive did) = reply.Drive did
+reply_of (book_reply.Drive did told) = reply.Drive did told

@@ -2,4 +2,5 @@ pub mod Asking
 pub mod Kept
 pub mod Nets
 pub mod Told
+pub mod Accounts
 pub mod Rounds

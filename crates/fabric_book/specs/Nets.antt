@@ -13,8 +13,9 @@ use Rattle.fabric_state.specs.declared.hand.Hand.{Hand}
 use Rattle.fabric_state.specs.declared.hand.Hand.TheVariants as hand
 use Rattle.fabric_state.specs.Fabric.{station, held_bytes}
 use Rattle.fabric_world.specs.declared.line.Line.{Line}
+use Rattle.fabric_world.specs.Accounts.{gathered}
 use Rattle.fabric_world.specs.Lines.{lines_of}
-use Rattle.fabric_world.specs.World.{WorldOf, handles, start_of, step}
+use Rattle.fabric_world.specs.World.{WorldOf, handles, start_of}
 use Rattle.fabric_world.specs.Histories.{HistoryOf, IsLawful, fabric_of, owner_of, with_event, world_of}
 use Rattle.fabric_world.specs.Turns.{is_noise}
 
@@ -39,8 +40,7 @@ driver_line world event = if owner_of event == 0 then lines_of world event else 
 
 -- what is told of those of lawful events in turn that are the driver's
 abbrev pub driver_lines : WorldOf → List Event → List Line
-driver_lines world [] = []
-driver_lines world (event ∷ events) = driver_line world event ++ driver_lines (step world event) events
+driver_lines world events = gathered lines_of 0 world events
 
 -- With what a switch is started in each of its lives: an epoch, the number that it had before, and whether
 -- its tables have all legal routes.

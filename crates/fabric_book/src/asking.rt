@@ -6,8 +6,10 @@
 use an_base::port::Note;
 use fabric_state::work::{Drive, Work};
 use fabric_world::ask::{Done, LoadReply};
+use fabric_world::line::PlacedLine;
 use frame_region::buffer::FrameBuf;
 use switch_core::switch::TableFor;
+use wire_set::side::Put;
 
 /// What a caller asks.
 #[derive(Drop)]
@@ -25,6 +27,8 @@ pub enum BookAsk {
         s: u8,
         /// What came of it.
         done: Box<Done>,
+        /// Where it goes what becomes of each frame.
+        puts: Vec<Option<Put>>,
     },
     /// To use a table.
     Load {
@@ -48,11 +52,17 @@ pub enum BookReply {
         work: Work,
         /// The bytes of a frame.
         out: FrameBuf,
+        /// What is told of its event, if something is.
+        told: Option<PlacedLine>,
     },
     /// To `Put`, with the memory of what was given.
     Put {
         /// What was given.
         done: Box<Done>,
+        /// What became of each frame.
+        puts: Vec<Option<Put>>,
+        /// The place of the event in the history, from 1.
+        event: u32,
     },
     /// To `Load`, with the memory of what was shown.
     Load {
@@ -65,5 +75,7 @@ pub enum BookReply {
     Drive {
         /// What was done.
         drive: Drive,
+        /// What is told of its event, if something is.
+        told: Option<PlacedLine>,
     },
 }

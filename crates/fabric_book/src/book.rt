@@ -1,39 +1,39 @@
 //! The book of a network.
 
-ghost use Rattle.std.specs.Prelude.{◌≡◌, ◌+◌, ◌++◌, ◌<◌, ◌≤◌, ◌&&◌, ◌==◌, [], length, true, false, All, Some, IfOk, vec_len, vec_capacity};
-ghost use Rattle.std.specs.Option.{option_map};
+ghost use Rattle.std.specs.Prelude.{◌≡◌, ◌+◌, ◌++◌, ◌<◌, ◌≤◌, ◌&&◌, ◌==◌, ◌∷◌, [], length, option_to_list, true, false, All, IfOk};
 ghost use Rattle.an_base.specs.declared.event.Event.TheVariants as events;
 ghost use Rattle.net_script.specs.Commands.{is_restart};
-ghost use Rattle.host_traffic.specs.Packets.{packet_of};
 ghost use Rattle.switch_core.specs.Bytes.{IsFrameOut};
 ghost use Rattle.fabric_state.specs.declared.ending.Ending.TheVariants as ending;
 ghost use Rattle.fabric_state.specs.declared.work.Drive.TheVariants as drive;
 ghost use Rattle.fabric_state.specs.Choices.{event_of_work};
 ghost use Rattle.fabric_state.specs.Fabric.{count, full_hands, held_bytes, is_full_at};
 ghost use Rattle.fabric_state.specs.Agree.{is_settled};
-ghost use Rattle.fabric_state.specs.Effects.{all_put_becomes, all_put_out, copy_becomes, hop_of, told_of, wires_at_hand};
+ghost use Rattle.fabric_state.specs.Effects.{all_put_becomes, all_put_out};
 ghost use Rattle.fabric_state.specs.Lawful.{is_barred, is_command, is_lawful};
 ghost use Rattle.fabric_state.specs.Starts.{next_life_at};
 ghost use Rattle.fabric_world.specs.Histories.{IsLawful, fabric_of, owner_of, with_event, world_of};
+ghost use Rattle.fabric_world.specs.Accounts.{placed};
+ghost use Rattle.fabric_world.specs.Lines.{all_lines, lines_of};
 ghost use Rattle.fabric_world.specs.Sound.{AllMayCome};
-ghost use Rattle.fabric_world.specs.Turns.{AnswersAsk, Drives, Handled, HasBytes, IsDone, IsFit, IsToLoad, LoadsOrNot, TakesWork};
+ghost use Rattle.fabric_world.specs.Turns.{AnswersAsk, Drives, Handled, HasBytes, IsDone, IsFit, IsToLoad, LoadsOrNot, TakesWork, puts_at};
 ghost use Rattle.fabric_world.proofs.FitLemmas.{fit_stays};
 ghost use Rattle.fabric_settling.specs.Settling.{HasTime, SettlesSoon};
 ghost use Rattle.fabric_book.specs.Asking.{ask_of, reply_of};
 ghost use Rattle.fabric_book.specs.Kept.{IsDrivers, with_events};
 
 use crate::asking::{BookAsk, BookReply};
+use crate::telling::{command_line, copy_line, epoch_of, hop_line};
 use an_base::event::{Event, Journal};
 use an_base::life::Life;
 use an_base::memory::OutOfMemory;
 use an_base::port::Note;
 use fabric_state::fabric::Fabric;
-use fabric_state::told::Told;
 use fabric_state::work::{Drive, Work};
 use fabric_turn::Staged;
 use fabric_world::ask::{Done, LoadReply};
+use fabric_world::line::{Line, PlacedLine};
 use frame_region::buffer::FrameBuf;
-use host_traffic::hop::Hop;
 use net_script::script::Script;
 use std::alloc::Global;
 use std::marker::Model;
@@ -63,27 +63,16 @@ impl Model for Book {
     ghost invariant = { λ b. IsKept b.fabric b.entries.items b.taken.items (vec_capacity b.entries) };
 }
 
-// The frames of a switch go out in turn.
-fn put_all(fabric: &mut Fabric, s: u8, frames: &[FrameOut])
+// The frames of a switch go out in turn. What becomes of each is noted.
+fn put_all(fabric: &mut Fabric, s: u8, frames: &[FrameOut], puts: &mut [Option<Put>])
     requires within { s < count fabric.old }
     requires spelled { All IsFrameOut frames.now }
-    ensures { fabric.new ≡ record fabric.old { wires = all_put_out s frames.now fabric.old.wires } }
-{
-    'frames: for frame in frames {
-        fabric.put(s, frame);
-    }
-}
-
-// And what becomes of each is added to a list that has room for it.
-fn put_and_tell(fabric: &mut Fabric, s: u8, frames: &[FrameOut], puts: &mut Vec<Option<Put>>)
-    requires within { s < count fabric.old }
-    requires spelled { All IsFrameOut frames.now }
-    requires room { vec_len puts.old + length frames.now ≤ vec_capacity puts.old }
+    requires room { length puts.old ≡ length frames.now }
     ensures put { fabric.new ≡ record fabric.old { wires = all_put_out s frames.now fabric.old.wires } }
-    ensures told { puts.new.items ≡ puts.old.items ++ all_put_becomes s frames.now fabric.old.wires }
+    ensures told { puts.new ≡ all_put_becomes s frames.now fabric.old.wires }
 {
-    'frames: for frame in frames {
-        puts.push_reserved(fabric.put(s, frame));
+    'frames: for place in 0..frames.len() {
+        puts[place] = fabric.put(s, &frames[place]);
     }
 }
 
@@ -132,47 +121,63 @@ impl Book {
         self.fabric.settled()
     }
 
+    // What is told of the event that came last, with its place.
+    fn placed(&self, line: Option<Line>) -> Option<PlacedLine>
+        ensures { option_to_list result ≡ placed (fabric_of self.now).events (option_to_list line) }
+    {
+        let event = self.fabric.events();
+        match line {
+            Some(line) => Some(PlacedLine { event, line }),
+            None => None,
+        }
+    }
+
     /// The next work of a switch that has nothing in hand: to begin its next life, a clock, a frame, whose
-    /// bytes are in the buffer then, or nothing.
-    pub fn take(&mut self, s: u8, out: &mut FrameBuf) -> Work
+    /// bytes are in the buffer then, or nothing. Behind it what is told of it.
+    pub fn take(&mut self, s: u8, out: &mut FrameBuf) -> (Work, Option<PlacedLine>)
         requires within { s < length self.old.script.wires.switches }
         requires empty { is_full_at (fabric_of self.old) s ≡ false }
         ensures script { self.new.script ≡ self.old.script }
-        ensures work { TakesWork self.old.script self.old.events s result out.new self.new.events }
+        ensures work { TakesWork self.old.script self.old.events s result.0 out.new result.1 self.new.events }
     {
         let work = self.fabric.work(s, self.taken[usize::from(s)]);
-        self.begin_work(s, &work, out);
-        work
+        let line = self.begin_work(s, &work, out);
+        (work, self.placed(line))
     }
 
-    // A switch begins its next work, whose event may come.
-    fn begin_work(&mut self, s: u8, work: &Work, out: &mut FrameBuf)
+    // A switch begins its next work, whose event may come. Answers what is told of it.
+    fn begin_work(&mut self, s: u8, work: &Work, out: &mut FrameBuf) -> Option<Line>
         requires { AllMayCome (fabric_of self.old) (event_of_work s work.now) }
         ensures event { self.new ≡ with_events (event_of_work s work.now) self.old }
         ensures bytes { HasBytes work.now (fabric_of self.new) s out.new }
+        ensures told { option_to_list result ≡ all_lines (world_of self.old) (event_of_work s work.now) }
     {
         match *work {
             Work::Restart { life: _ } => {
                 self.restart(s);
+                Some(Line::Restarted { s })
             }
-            Work::Clock { now: _, samples: _ } => self.clock(s),
-            Work::Frame { port } => {
-                self.take_at(s, port, out);
+            Work::Clock { now: _, samples: _ } => {
+                self.clock(s);
+                None
             }
-            Work::Nothing { why: _ } => {}
+            Work::Frame { port } => self.take_at(s, port, out),
+            Work::Nothing { why: _ } => None,
         }
     }
 
-    /// What came of what a switch had in hand: its frames go out, and it shows what it does then.
-    pub fn put(&mut self, s: u8, done: &Done)
+    /// What came of what a switch had in hand: its frames go out, and it shows what it does then. What becomes of
+    /// each frame is noted. Answers the place of the event in the history, from 1.
+    pub fn put(&mut self, s: u8, done: &Done, puts: &mut [Option<Put>]) -> u32
         requires within { s < length self.old.script.wires.switches }
         requires done { IsDone (world_of self.old) s done.now }
-        ensures { self.new ≡ with_event (events.Handle s) self.old }
+        requires room { length puts.old ≡ length done.now.frames }
+        ensures handled { self.new ≡ with_event (events.Handle s) self.old }
+        ensures puts { puts.new ≡ puts_at (fabric_of self.old) s done.now.frames }
+        ensures number { result ≡ (fabric_of self.new).events }
     {
-        self.fabric.release(s);
-        put_all(&mut self.fabric, s, done.frames.as_slice());
-        self.fabric.show(s, &done.note, done.spent);
-        self.entries.push_reserved(Event::Handle { s });
+        self.handle(s, done.frames.as_slice(), &done.note, done.spent, puts);
+        self.fabric.events()
     }
 
     /// A switch is to use this table, and shows this then. The table is handed back exactly where a switch is
@@ -181,44 +186,47 @@ impl Book {
         requires within { s < length self.old.script.wires.switches }
         requires load { IsToLoad (world_of self.old) s table note.now }
         ensures script { self.new.script ≡ self.old.script }
-        ensures reply { LoadsOrNot (is_barred (fabric_of self.old)) table result s self.old.events self.new.events }
+        ensures reply { LoadsOrNot (is_barred (fabric_of self.old)) table result s self.old.script self.old.events self.new.events }
     {
         if self.fabric.is_barred() {
             return LoadReply::NotNow(table);
         }
         self.load_now(s, table, note);
-        LoadReply::Loaded
+        LoadReply::Loaded {
+            event: self.fabric.events(),
+        }
     }
 
-    /// The driver does its next thing. The history settles as soon as is claimed of each lawful one, and a
-    /// history that had the time to settle is not told to have ended unsettled.
-    pub fn drive(&mut self) -> Drive
+    /// The driver does its next thing. Behind it what is told of it. The history settles as soon as is claimed of
+    /// each lawful one, and a history that had the time to settle is not told to have ended unsettled.
+    pub fn drive(&mut self) -> (Drive, Option<PlacedLine>)
         ensures script { self.new.script ≡ self.old.script }
-        ensures did { Drives self.old.script self.old.events result self.new.events }
+        ensures did { Drives self.old.script self.old.events result.0 result.1 self.new.events }
         ensures settles { SettlesSoon self.new.script self.new.events }
-        ensures in_time { result ≡ drive.Ended ending.Unsettled → ¬ HasTime self.new.script self.new.events }
+        ensures in_time { result.0 ≡ drive.Ended ending.Unsettled → ¬ HasTime self.new.script self.new.events }
     {
         let drive = self.fabric.drive();
-        if let Drive::Did(event) = drive {
-            self.drive_by(event);
-        }
-        drive
+        let Drive::Did(event) = drive else {
+            return (drive, None);
+        };
+        let line = self.drive_by(event);
+        (drive, self.placed(line))
     }
 
-    // The driver makes an event, which may come and is no worker's.
-    fn drive_by(&mut self, event: Event)
+    // The driver makes an event, which may come and is no worker's. Answers what is told of it.
+    fn drive_by(&mut self, event: Event) -> Option<Line>
         requires lawful { is_lawful (fabric_of self.old) event ≡ true }
         requires driver { IsDrivers (fabric_of self.old) event }
-        ensures { self.new ≡ with_event event self.old }
+        ensures made { self.new ≡ with_event event self.old }
+        ensures told { option_to_list result ≡ lines_of (world_of self.old) event }
     {
         match event {
-            Event::Tick => self.tick(),
-            Event::Move { packet } => {
-                self.hop(packet);
+            Event::Tick => {
+                self.tick();
+                None
             }
-            command => {
-                self.command(&command);
-            }
+            Event::Move { packet } => Some(self.hop(packet)),
+            command => self.command(&command),
         }
     }
 
@@ -242,38 +250,39 @@ impl Book {
         self.entries.push_reserved(Event::Clock { s });
     }
 
-    // A switch takes a frame in hand from the wire into a port.
-    pub(crate) fn take_at(&mut self, s: u8, port: u8, out: &mut FrameBuf) -> Option<Put>
+    // A switch takes a frame in hand from the wire into a port. Answers what is told of it.
+    pub(crate) fn take_at(&mut self, s: u8, port: u8, out: &mut FrameBuf) -> Option<Line>
         requires { is_lawful (fabric_of self.old) (events.Take s port) ≡ true }
         ensures taken { self.new ≡ with_event (events.Take s port) self.old }
         ensures bytes { out.new ≡ held_bytes (fabric_of self.new) s }
-        ensures copied { result ≡ copy_becomes (fabric_of self.old) s port }
+        ensures told { option_to_list result ≡ lines_of (world_of self.old) (events.Take s port) }
     {
+        let far = self.fabric.far_switch(s, port);
         let copied = self.fabric.take(s, port, out);
         self.taken[usize::from(s)] = port;
         self.entries.push_reserved(Event::Take { s, port });
-        copied
+        copy_line(far, copied)
     }
 
-    // A switch has handled what it had in hand: these frames go out, and it shows this. What becomes of each is
-    // added to a list that has room for it.
+    // A switch has handled what it had in hand: these frames go out, and it shows this. What becomes of each frame is
+    // noted.
     pub(crate) fn handle(
         &mut self,
         s: u8,
         frames: &[FrameOut],
         note: &Note,
         spent: bool,
-        puts: &mut Vec<Option<Put>>,
+        puts: &mut [Option<Put>],
     )
         requires within { s < length self.old.script.wires.switches }
         requires done { Handled (world_of self.old) s frames.now note.now spent }
         requires spelled { All IsFrameOut frames.now }
-        requires room { vec_len puts.old + length frames.now ≤ vec_capacity puts.old }
+        requires room { length puts.old ≡ length frames.now }
         ensures handled { self.new ≡ with_event (events.Handle s) self.old }
-        ensures puts { puts.new.items ≡ puts.old.items ++ all_put_becomes s frames.now (wires_at_hand (fabric_of self.old) s) }
+        ensures puts { puts.new ≡ puts_at (fabric_of self.old) s frames.now }
     {
         self.fabric.release(s);
-        put_and_tell(&mut self.fabric, s, frames, puts);
+        put_all(&mut self.fabric, s, frames, puts);
         self.fabric.show(s, note, spent);
         self.entries.push_reserved(Event::Handle { s });
     }
@@ -299,28 +308,30 @@ impl Book {
         life
     }
 
-    // The next command is done, which is no restart.
-    pub(crate) fn command(&mut self, command: &Event) -> Told
+    // The next command is done, which is no restart. Answers what is told of it.
+    pub(crate) fn command(&mut self, command: &Event) -> Option<Line>
         requires lawful { is_lawful (fabric_of self.old) command.now ≡ true }
         requires command { is_command (fabric_of self.old) command.now ≡ true }
         requires other { is_restart command.now ≡ false }
         ensures done { self.new ≡ with_event command.now self.old }
-        ensures told { result ≡ told_of command.now (fabric_of self.old) }
+        ensures told { option_to_list result ≡ lines_of (world_of self.old) command.now }
     {
         let told = self.fabric.command(command);
         self.entries.push_reserved(*command);
-        told
+        command_line(command, told)
     }
 
-    // A packet makes one hop.
-    pub(crate) fn hop(&mut self, packet: u32) -> Hop
+    // A packet makes one hop. Answers what is told of it.
+    pub(crate) fn hop(&mut self, packet: u32) -> Line
         requires { is_lawful (fabric_of self.old) (events.Move packet) ≡ true }
         ensures moved { self.new ≡ with_event (events.Move packet) self.old }
-        ensures hop { Some result ≡ option_map (hop_of (fabric_of self.old)) (packet_of packet (fabric_of self.old).packets) }
+        ensures told { result ∷ [] ≡ lines_of (world_of self.old) (events.Move packet) }
     {
+        let (s, entry) = self.fabric.packet_place(packet).unwrap();
+        let epoch = epoch_of(self.fabric.station(s).table_for());
         let hop = self.fabric.hop(packet);
         self.entries.push_reserved(Event::Move { packet });
-        hop
+        hop_line(packet, s, epoch, entry, hop)
     }
 }
 
@@ -347,20 +358,21 @@ impl Staged for Book {
     fn act(&mut self, _caller: u32, ask: BookAsk) -> BookReply {
         match ask {
             BookAsk::Take { s, mut out } => {
-                let work = self.take(s, &mut out);
-                BookReply::Take { work, out }
+                let (work, told) = self.take(s, &mut out);
+                BookReply::Take { work, out, told }
             }
-            BookAsk::Put { s, done } => {
-                self.put(s, &done);
-                BookReply::Put { done }
+            BookAsk::Put { s, done, mut puts } => {
+                let event = self.put(s, &done, &mut puts);
+                BookReply::Put { done, puts, event }
             }
             BookAsk::Load { s, table, note } => {
                 let reply = self.load(s, table, &note);
                 BookReply::Load { reply, note }
             }
-            BookAsk::Drive => BookReply::Drive {
-                drive: self.drive(),
-            },
+            BookAsk::Drive => {
+                let (drive, told) = self.drive();
+                BookReply::Drive { drive, told }
+            }
         }
     }
 

@@ -28,9 +28,9 @@ use switch_core::out::Out;
 use switch_core::switch::{ClockRefusal, Switch};
 use wire_set::side::Put;
 
-/// A switch does with what it has in hand what it does. After want of memory it is as it was started, and no frame
-/// goes out.
-pub fn work(switch: &mut Switch, hand: Hand, bytes: &[u8], out: &mut Out) -> Result<(), OutOfMemory>
+// A switch does with what it has in hand what it does. After want of memory it is as it was started, and no frame
+// goes out.
+fn work(switch: &mut Switch, hand: Hand, bytes: &[u8], out: &mut Out) -> Result<(), OutOfMemory>
     requires full { is_empty hand ≡ false }
     requires port { IsHandPort hand }
     requires works { switch.old.works < 2 ^ 28 }
@@ -75,48 +75,48 @@ fn tell_epochs(
     Ok(())
 }
 
-// Notes what a switch shows that has handled what it had in hand, before which it showed this; a line of each port
-// whose state changed is added. After a frame this can only be the port by which it came.
+// A switch has handled what it had in hand, before which it showed what is noted. Notes what it shows now; a line of
+// each port whose state changed is added. After a frame this can only be the port by which it came.
 fn show(
     switch: &Switch,
     s: u8,
     hand: Hand,
-    before: &Note,
     note: &mut Note,
+    room: &mut Note,
     lines: &mut Lines,
 ) -> Result<(), OutOfMemory>
     requires port { IsHandPort hand }
     ensures note { (x : SwitchOf) (bytes : List ℕ) → StandsFor switch.now (handles hand bytes x).switch
-        → before.now ≡ note_of x → note.new ≡ note_of (handles hand bytes x).switch }
+        → note.old ≡ note_of x → note.new ≡ note_of (handles hand bytes x).switch }
     ensures told { (x : SwitchOf) (bytes : List ℕ) → StandsFor switch.now (handles hand bytes x).switch
-        → before.now ≡ note_of x → OnOk result (lines.new ≡ lines.old
+        → note.old ≡ note_of x → OnOk result (lines.new ≡ lines.old
         ++ flat_map (port_line s (note_of x) (note_of (handles hand bytes x).switch)) externals) }
 {
     match hand {
         Hand::Frame { port } => {
-            write_note(note, before);
+            let old = note.ports.get(port);
             switch.show_port(port, note);
-            let old = before.ports.get(port);
-            let new = note.ports.get(port);
-            tell_port(s, port, old, new, lines)
+            tell_port(s, port, old, note.ports.get(port), lines)
         }
         Hand::Empty | Hand::Clock { now: _, samples: _ } => {
-            switch.show(note);
-            tell_ports(s, before, note, lines)
+            switch.show(room);
+            let told = tell_ports(s, note, room, lines);
+            write_note(note, room);
+            told
         }
     }
 }
 
-// A switch handles what it has in hand, before which it showed this; all lines of it are added but those of
-// frames. Notes what it shows now.
-fn handle(
+/// A switch handles what it has in hand, before which it showed what is noted; all lines of it are added but those
+/// of frames. Notes what it shows now; `room` is room for a note.
+pub fn handle(
     switch: &mut Switch,
     s: u8,
     hand: Hand,
     bytes: &[u8],
-    before: &Note,
     out: &mut Out,
     note: &mut Note,
+    room: &mut Note,
     lines: &mut Lines,
 ) -> Result<(), OutOfMemory>
     requires full { is_empty hand ≡ false }
@@ -127,16 +127,17 @@ fn handle(
     ensures works { switch.new.works ≡ switch.old.works + 1 }
     ensures handled { (x : SwitchOf) → StandsFor switch.old x
         → OnOk result (IsHandled x hand bytes.now switch.new out.new) }
-    ensures note { (x : SwitchOf) → StandsFor switch.old x → before.now ≡ note_of x
+    ensures note { (x : SwitchOf) → StandsFor switch.old x → note.old ≡ note_of x
         → OnOk result (note.new ≡ note_of (handles hand bytes.now x).switch) }
-    ensures told { (x : SwitchOf) → StandsFor switch.old x → before.now ≡ note_of x
+    ensures told { (x : SwitchOf) → StandsFor switch.old x → note.old ≡ note_of x
         → OnOk result (lines.new ≡ lines.old ++ hand_lines s hand bytes.now x (handles hand bytes.now x).switch) }
 {
+    let before = note.epoch;
     let had_finished = switch.finish().is_some();
     work(switch, hand, bytes, out)?;
-    show(switch, s, hand, before, note, lines)?;
+    show(switch, s, hand, note, room, lines)?;
     tell_noise(s, hand, out.noframe, lines)?;
-    tell_epochs(s, before.epoch, had_finished, note.epoch, switch, lines)?;
+    tell_epochs(s, before, had_finished, note.epoch, switch, lines)?;
     Ok(())
 }
 
@@ -147,7 +148,8 @@ pub(crate) fn handle_at(
     bytes: &[u8],
     s: u8,
     out: &mut Out,
-    shown: &mut Note,
+    note: &mut Note,
+    room: &mut Note,
     puts: &mut Vec<Option<Put>>,
     lines: &mut Lines,
 ) -> Result<(), OutOfMemory>
@@ -160,20 +162,12 @@ pub(crate) fn handle_at(
     ensures lost { OnErr result (IsSameOrNext (events.Handle s) book.old book.new) }
 {
     let station = book.fabric().station(s);
-    handle(
-        switch,
-        s,
-        station.hand(),
-        bytes,
-        station.note(),
-        out,
-        shown,
-        lines,
-    )?;
+    let hand = station.hand();
+    write_note(note, station.note());
+    handle(switch, s, hand, bytes, out, note, room, lines)?;
     let frames = out.frames.as_slice();
-    puts.clear();
-    puts.reserve(frames.len())?;
-    book.handle(s, frames, shown, switch.is_spent(), puts);
+    puts.resize(frames.len(), None)?;
+    book.handle(s, frames, note, switch.is_spent(), puts.as_mut_slice());
     tell_losses(s, frames, puts, lines)
 }
 

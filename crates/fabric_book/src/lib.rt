@@ -8,6 +8,7 @@
 //! a book after the beginning takes memory.
 #![tactic(auto)]
 
+pub mod account;
 pub mod asking;
 pub mod book;
 pub mod handling;
@@ -15,4 +16,4 @@ pub mod lines;
 pub mod net;
 pub mod power;
 pub mod solo;
-mod telling;
+pub mod telling;

@@ -1,6 +1,6 @@
 //! What is told of an event, or of several.
 
-ghost use Rattle.std.specs.Prelude.{◌≡◌, ◌++◌, ◌∷◌, [], OnOk, OnErr};
+ghost use Rattle.std.specs.Prelude.{◌≡◌, ◌++◌, ◌∷◌, [], option_to_list, OnOk, OnErr};
 ghost use Rattle.fabric_book.specs.Told.{line_if};
 
 use an_base::memory::OutOfMemory;
@@ -55,6 +55,16 @@ impl Lines {
         // As a slice of one, since rattle has no borrow checker's part for `push_reserved` at this type.
         self.lines.extend_from_slice(&[line])?;
         Ok(())
+    }
+
+    // Adds a line at the end, if there is one.
+    pub(crate) fn push_some(&mut self, line: Option<Line>) -> Result<(), OutOfMemory>
+        ensures { OnOk result (self.new ≡ self.old ++ option_to_list line) }
+    {
+        match line {
+            Some(line) => self.push(line),
+            None => Ok(()),
+        }
     }
 
     // Adds a line at the end where something is so.

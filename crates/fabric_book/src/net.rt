@@ -19,7 +19,6 @@ use crate::book::Book;
 use crate::handling::{handle_at, load_at};
 use crate::lines::Lines;
 use crate::power::PowerOn;
-use crate::telling::{epoch_of, hop_line, tell_command, tell_copy};
 use an_base::event::{Event, Journal};
 use an_base::life::Life;
 use an_base::memory::OutOfMemory;
@@ -70,6 +69,7 @@ pub struct Net {
     bytes: Vec<FrameBuf>,
     out: Out,
     note: Note,
+    room: Note,
     puts: Vec<Option<Put>>,
 }
 
@@ -137,6 +137,7 @@ impl Net {
     {
         let (powers, switches) = started(alloc, script)?;
         let bytes = buffers(alloc, script.wiring().count())?;
+        let note = started_note(Life::new(0, 1), 0);
         Ok(Net {
             alloc,
             lost: false,
@@ -145,7 +146,8 @@ impl Net {
             switches,
             bytes,
             out: Out::new(alloc),
-            note: started_note(Life::new(0, 1), 0),
+            room: note.copy(),
+            note,
             puts: Vec::new(alloc),
         })
     }
@@ -261,9 +263,7 @@ impl Net {
         ensures stepped { OnOk result (self.new ≡ with_step (events.Take s port) self.old) }
         ensures told { OnOk result (lines.new ≡ lines.old ++ lines_of (world_of (history_of self.old)) (events.Take s port)) }
     {
-        let far = self.fabric().far_switch(s, port);
-        let copied = self.book.take_at(s, port, &mut self.bytes[usize::from(s)]);
-        tell_copy(far, copied, lines)
+        lines.push_some(self.book.take_at(s, port, &mut self.bytes[usize::from(s)]))
     }
 
     // A switch handles what it has in hand.
@@ -282,6 +282,7 @@ impl Net {
             s,
             &mut self.out,
             &mut self.note,
+            &mut self.room,
             &mut self.puts,
             lines,
         )?;
@@ -309,10 +310,7 @@ impl Net {
         ensures stepped { OnOk result (self.new ≡ with_step (events.Move packet) self.old) }
         ensures told { OnOk result (lines.new ≡ lines.old ++ lines_of (world_of (history_of self.old)) (events.Move packet)) }
     {
-        let (s, entry) = self.fabric().packet_place(packet).unwrap();
-        let epoch = epoch_of(self.fabric().station(s).table_for());
-        let hop = self.book.hop(packet);
-        lines.push(hop_line(packet, s, epoch, entry, hop))
+        lines.push(self.book.hop(packet))
     }
 
     // A switch begins its next life. It stands apart from `make`, which would else have room for a new switch at each
@@ -343,8 +341,7 @@ impl Net {
         ensures stepped { OnOk result (self.new ≡ with_step command self.old) }
         ensures told { OnOk result (lines.new ≡ lines.old ++ lines_of (world_of (history_of self.old)) command) }
     {
-        let told = self.book.command(&command);
-        tell_command(command, told, lines)
+        lines.push_some(self.book.command(&command))
     }
 
     // A switch whose hand is empty takes its next work, as the book chooses it; false where it has none.
@@ -358,7 +355,8 @@ impl Net {
             (length (event_of_work s (next_work (fabric_of (history_of self.old)) s (last_taken s self.old.events))))) }
     {
         let place = usize::from(s);
-        match self.book.take(s, &mut self.bytes[place]) {
+        let (work, _told) = self.book.take(s, &mut self.bytes[place]);
+        match work {
             Work::Nothing { why: _ } => Ok(false),
             Work::Restart { life } => {
                 self.lost = true;

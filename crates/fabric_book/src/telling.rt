@@ -1,6 +1,6 @@
 //! What is told of what a switch does, and of packets.
 
-ghost use Rattle.std.specs.Prelude.{◌≡◌, ◌==◌, ◌++◌, length, not, OnOk, option_copied};
+ghost use Rattle.std.specs.Prelude.{◌≡◌, ◌==◌, ◌++◌, length, not, OnOk, option_copied, option_to_list};
 ghost use Rattle.std.specs.List.{flat_map};
 ghost use Rattle.std.specs.Option.{option_map_or};
 ghost use Rattle.port_monitor.specs.Histories.{externals};
@@ -111,32 +111,26 @@ pub(crate) fn tell_finish(
     }
 }
 
-// A line where a frame or a copy that was put on the wire out of a port was lost.
-fn tell_loss(s: u8, port: u8, put: Option<Put>, lines: &mut Lines) -> Result<(), OutOfMemory>
-    ensures { OnOk result (lines.new ≡ lines.old ++ loss_lines s port put) }
+// What is told of a frame or a copy that was put on the wire out of a port.
+fn loss_line(s: u8, port: u8, put: Option<Put>) -> Option<Line>
+    ensures { option_to_list result ≡ loss_lines s port put }
 {
     match put {
-        Some(Put::Lost { cause }) => lines.push(Line::Lost { s, port, cause }),
-        Some(Put::Kept) | None => Ok(()),
+        Some(Put::Lost { cause }) => Some(Line::Lost { s, port, cause }),
+        Some(Put::Kept) | None => None,
     }
 }
 
-/// A line where a copy of a frame that was taken was lost, which names the end that sent it.
-pub(crate) fn tell_copy(
-    far: Option<(u8, u8)>,
-    copied: Option<Put>,
-    lines: &mut Lines,
-) -> Result<(), OutOfMemory>
-    ensures { OnOk result (lines.new ≡ lines.old ++ copy_line far copied) }
+/// What is told of a copy of a frame that was taken, which names the end that sent it.
+pub(crate) fn copy_line(far: Option<(u8, u8)>, copied: Option<Put>) -> Option<Line>
+    ensures { option_to_list result ≡ copy_line far copied }
 {
-    match far {
-        Some((s, port)) => tell_loss(s, port, copied, lines),
-        None => Ok(()),
-    }
+    let (s, port) = far?;
+    loss_line(s, port, copied)
 }
 
 /// A line for each frame that a switch put and that was lost.
-pub(crate) fn tell_losses(
+pub fn tell_losses(
     s: u8,
     frames: &[FrameOut],
     puts: &[Option<Put>],
@@ -146,7 +140,7 @@ pub(crate) fn tell_losses(
     ensures { OnOk result (lines.new ≡ lines.old ++ losses s frames.now puts.now) }
 {
     'frames: for (frame, put) in frames.iter().zip(puts) {
-        tell_loss(s, frame.port(), *put, lines)?;
+        lines.push_some(loss_line(s, frame.port(), *put))?;
     }
     Ok(())
 }
@@ -181,56 +175,56 @@ pub(crate) fn hop_line(packet: u32, s: u8, epoch: u64, entry: u8, hop: Hop) -> L
     }
 }
 
-// A line where a link went down.
-fn tell_cut(s: u8, port: u8, told: Told, lines: &mut Lines) -> Result<(), OutOfMemory>
-    ensures { OnOk result (lines.new ≡ lines.old ++ cut_lines s port told) }
+// What is told of a link that went down.
+fn cut_line(s: u8, port: u8, told: Told) -> Option<Line>
+    ensures { option_to_list result ≡ cut_lines s port told }
 {
     match told {
-        Told::Cut { dropped } => lines.push(Line::Cut { s, port, dropped }),
-        _ => Ok(()),
+        Told::Cut { dropped } => Some(Line::Cut { s, port, dropped }),
+        _ => None,
     }
 }
 
-// A line where bytes that are no frame were lost.
-fn tell_noise_put(s: u8, port: u8, told: Told, lines: &mut Lines) -> Result<(), OutOfMemory>
-    ensures { OnOk result (lines.new ≡ lines.old ++ noise_put_lines s port told) }
+// What is told of bytes that are no frame.
+fn noise_put_line(s: u8, port: u8, told: Told) -> Option<Line>
+    ensures { option_to_list result ≡ noise_put_lines s port told }
 {
     match told {
-        Told::Noise { put } => tell_loss(s, port, Some(put), lines),
-        _ => Ok(()),
+        Told::Noise { put } => loss_line(s, port, Some(put)),
+        _ => None,
     }
 }
 
-// A line for a packet that a host sent.
-fn tell_sent(host: u16, to: u16, told: Told, lines: &mut Lines) -> Result<(), OutOfMemory>
-    ensures { OnOk result (lines.new ≡ lines.old ++ sent_lines host to told) }
+// What is told of a packet that a host sent.
+fn sent_line(host: u16, to: u16, told: Told) -> Option<Line>
+    ensures { option_to_list result ≡ sent_lines host to told }
 {
     match told {
-        Told::Sent { packet, address } => lines.push(Line::Packet {
+        Told::Sent { packet, address } => Some(Line::Packet {
             packet,
             host,
             to,
             address,
         }),
-        Told::Unsent { packet, cause } => lines.push(Line::Unsent {
+        Told::Unsent { packet, cause } => Some(Line::Unsent {
             packet,
             host,
             to,
             cause,
         }),
-        _ => Ok(()),
+        _ => None,
     }
 }
 
-/// The lines of a command, of which this was told.
-pub(crate) fn tell_command(command: Event, told: Told, lines: &mut Lines) -> Result<(), OutOfMemory>
-    ensures { OnOk result (lines.new ≡ lines.old ++ command_lines command told) }
+/// What is told of a command, of which the fabric told this.
+pub(crate) fn command_line(command: &Event, told: Told) -> Option<Line>
+    ensures { option_to_list result ≡ command_lines command.now told }
 {
-    match command {
-        Event::Fail { s, port } => tell_cut(s, port, told, lines),
-        Event::Repair { s, port } => lines.push(Line::Mended { s, port }),
-        Event::Noise { s, port, n: _ } => tell_noise_put(s, port, told, lines),
-        Event::Send { host, to } => tell_sent(host, to, told, lines),
-        _ => Ok(()),
+    match *command {
+        Event::Fail { s, port } => cut_line(s, port, told),
+        Event::Repair { s, port } => Some(Line::Mended { s, port }),
+        Event::Noise { s, port, n: _ } => noise_put_line(s, port, told),
+        Event::Send { host, to } => sent_line(host, to, told),
+        _ => None,
     }
 }

@@ -169,42 +169,31 @@ impl<B: Staged> Turnstile<B> {
     /// second has the lowest of the numbers that the given seat could give, has seen what that one
     /// has, has no entries of its own and gives no numbers. The given seat is one of this turnstile,
     /// and has a number to give.
-    pub fn split(&self, seat: Seat<B>) -> (Seat<B>, Seat<B>)
+    pub fn split(&self, mut seat: Seat<B>) -> (Seat<B>, Seat<B>)
         requires turnstile { seat.0 ≡ turnstile_id self.now }
         requires more { seat.1.next < seat.1.callers }
         ensures first { result.0 ≡ (seat.0, remaining_view seat.1) }
         ensures second { result.1 ≡ (seat.0, new_view seat.1) }
         ensures no_entry { NoneOf B.owner seat.1.next seat.1.seen }
     {
-        let Seat {
-            mut place,
-            number,
-            next,
-            callers,
-        } = seat;
         let shared = &self.table.shared;
-        let mut other = shared.split_seat::<Fork>(&mut place);
-        shared.load::<Compare<B>>(&mut other, TICKETS);
-        let first = Seat {
+        let mut place = shared.split_seat::<Fork>(&mut seat.place);
+        shared.load::<Compare<B>>(&mut place, TICKETS);
+        let other = Seat {
             place,
-            number,
-            next: next + 1,
-            callers,
+            number: seat.next,
+            next: seat.callers,
+            callers: seat.callers,
         };
-        let second = Seat {
-            place: other,
-            number: next,
-            next: callers,
-            callers,
-        };
-        (first, second)
+        seat.next += 1;
+        (seat, other)
     }
 
     /// Ends the caller of `other`, a seat of this turnstile as `seat` is. The first seat goes on,
     /// with the numbers that it had and those that it could give. It has seen the longer of the two
     /// histories, which goes on from both. The other's number is ended with its entries, as are
     /// those that the other had ended and, with no entries, those that it had not given.
-    pub fn join(&self, seat: Seat<B>, other: Seat<B>) -> Seat<B>
+    pub fn join(&self, mut seat: Seat<B>, other: Seat<B>) -> Seat<B>
         requires turnstile { seat.0 ≡ turnstile_id self.now }
         requires other_turnstile { other.0 ≡ turnstile_id self.now }
         ensures seat { result ≡ (seat.0, joined_view seat.1 other.1) }
@@ -213,26 +202,15 @@ impl<B: Staged> Turnstile<B> {
         ensures mine { own_entries B.owner result.1.seen seat.1.number ≡ seat.1.mine }
     {
         let Seat {
-            mut place,
-            number,
-            next,
-            callers,
-        } = seat;
-        let Seat {
             place: ending,
             number: _,
             next: _,
             callers: _,
         } = other;
         let shared = &self.table.shared;
-        shared.join_seat::<Merge>(&mut place, ending);
-        shared.load::<Compare<B>>(&mut place, TICKETS);
-        Seat {
-            place,
-            number,
-            next,
-            callers,
-        }
+        shared.join_seat::<Merge>(&mut seat.place, ending);
+        shared.load::<Compare<B>>(&mut seat.place, TICKETS);
+        seat
     }
 
     /// Gives the value back with the whole history, which is what the seat has seen. The seat is

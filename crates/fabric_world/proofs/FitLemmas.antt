@@ -97,9 +97,9 @@ may_stay : (script : ScriptOf) → IsScript script → (h : List Event) (c : ℕ
 may_stay script kept h c (ask.Take s out) more fit none =
     let same = world_elsewhere script h more s (others_of c s more fit.0.caller_is none) in
     (fit.0, ap (λ (x : StationOf). not (is_empty x.hand)) same.place ∙ fit.1)
-may_stay script kept h c (ask.Put s d) more fit none =
+may_stay script kept h c (ask.Put s d puts) more fit none =
     let others = others_of c s more fit.0.caller_is none in
-    (fit.0, done_stays (world_after script h) (world_after script (h ++ more)) s d (world_elsewhere script h more s others) (world_hand_elsewhere script kept h more s others) fit.1)
+    (fit.0, done_stays (world_after script h) (world_after script (h ++ more)) s d (world_elsewhere script h more s others) (world_hand_elsewhere script kept h more s others) fit.1, fit.2)
 may_stay script kept h c (ask.Load s t note) more fit none =
     let others = others_of c s more fit.0.caller_is none in
     (fit.0, to_load_stays (world_after script h) (world_after script (h ++ more)) s t note (world_elsewhere script h more s others) fit.1)

@@ -1,4 +1,5 @@
 pub mod WorldLemmas
+pub mod AccountLemmas
 pub mod ElsewhereLemmas
 pub mod HandLemmas
 pub mod InductionLemmas

@@ -12,6 +12,7 @@ pub mod World
 pub mod Lines
 pub mod Histories
 pub mod Heard
+pub mod Accounts
 pub mod Turns
 pub mod Solo
 pub mod Traces

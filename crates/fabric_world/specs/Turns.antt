@@ -1,6 +1,8 @@
 -- What may be asked of a book, which keeps a history for its callers, and what it answers.
 
-use Rattle.std.specs.Prelude.{◌≡◌, ◌+◌, ◌<◌, ℕ, not, List, [], ◌∷◌, ◌++◌, length, Some, is_some, Bool, true, false}
+use Rattle.std.specs.Prelude.{◌≡◌, ◌+◌, ◌<◌, ℕ, not, List, [], ◌∷◌, ◌++◌, length, Option, Some, is_some, option_to_list, Bool, true, false}
+use Rattle.std.specs.List.{flat_map}
+use Rattle.wire_set.specs.declared.side.Put.{Put}
 use Rattle.an_base.specs.Values.{TopoOf}
 use Rattle.an_base.specs.Numbers.{AreNumbers}
 use Rattle.an_base.specs.Ports.{NoteOf}
@@ -22,6 +24,8 @@ use Rattle.fabric_state.specs.declared.work.Drive.{Drive}
 use Rattle.fabric_state.specs.Fabric.{FabricOf, station, is_full_at, held_bytes, load_due_at}
 use Rattle.fabric_state.specs.Lawful.{is_barred}
 use Rattle.fabric_state.specs.Choices.{next_work, event_of_work, next_drive, event_of_drive}
+use Rattle.fabric_state.specs.Effects.{all_put_becomes, wires_at_hand}
+use Rattle.fabric_world.specs.declared.line.PlacedLine.{PlacedLine}
 use Rattle.fabric_world.specs.declared.ask.Done.{Done}
 use Rattle.fabric_world.specs.declared.ask.LoadReply.{LoadReply}
 use Rattle.fabric_world.specs.declared.ask.LoadReply.TheVariants as load
@@ -29,6 +33,7 @@ use Rattle.fabric_world.specs.declared.ask.Ask.{Ask}
 use Rattle.fabric_world.specs.declared.ask.Ask.TheVariants as ask
 use Rattle.fabric_world.specs.declared.ask.Reply.{Reply}
 use Rattle.fabric_world.specs.declared.ask.Reply.TheVariants as reply
+use Rattle.fabric_world.specs.Accounts.{placed_lines}
 use Rattle.fabric_world.specs.World.{WorldOf, world_after, handled}
 use Rattle.fabric_world.specs.Histories.{last_taken}
 
@@ -76,8 +81,9 @@ pub record IsWorkerOf (script : ScriptOf) (place caller : ℕ) : Type 0 where
 abbrev pub MayAsk : ScriptOf → List Event → ℕ → Ask → Type 0
 MayAsk script history caller (ask.Take place out) =
     IsWorkerOf script place caller × (is_full_at (world_after script history).fabric place ≡ false)
-MayAsk script history caller (ask.Put place done) =
+MayAsk script history caller (ask.Put place done puts) =
     IsWorkerOf script place caller × IsDone (world_after script history) place done
+    × (length puts.items ≡ length done.frames)
 MayAsk script history caller (ask.Load place table note) =
     IsWorkerOf script place caller × IsToLoad (world_after script history) place table note
 MayAsk script history caller ask.Drive = caller ≡ 0
@@ -94,42 +100,64 @@ HasBytes (work.Restart life) fabric place out = Unit {0}
 HasBytes (work.Clock now samples) fabric place out = Unit {0}
 HasBytes (work.Nothing reason) fabric place out = Unit {0}
 
+-- all that is told of what comes after a history, where at most one event does
+abbrev pub IsTold : ScriptOf → List Event → List Event → Option PlacedLine → Type 0
+IsTold script history events told =
+    option_to_list told ≡ flat_map (placed_lines (world_after script history)) events
+
 -- what is replied, and the history afterwards
 pub record TakesWork (script : ScriptOf) (history : List Event) (place : ℕ) (job : Work) (out : List ℕ)
-    (after : List Event) : Type 0 where
+    (told : Option PlacedLine) (after : List Event) : Type 0 where
   pub work_is : job ≡ next_work (world_after script history).fabric place (last_taken place history)
   pub event : after ≡ history ++ event_of_work place job
   pub bytes : HasBytes job (world_after script after).fabric place out
+  pub told_is : IsTold script history (event_of_work place job) told
 
-abbrev pub LoadsOrNot : Bool → TableFor → LoadReply → ℕ → List Event → List Event → Type 0
-LoadsOrNot false table answer place history after =
-    (answer ≡ load.Loaded) × (after ≡ history ++ Load place ∷ [])
-LoadsOrNot true table answer place history after = (answer ≡ load.NotNow table) × (after ≡ history)
+-- what becomes of the frames of a switch that gives up what it has in hand
+abbrev pub puts_at : FabricOf → ℕ → List BytesOut → List (Option Put)
+puts_at fabric place frames = all_put_becomes place frames (wires_at_hand fabric place)
 
-pub record Drives (script : ScriptOf) (history : List Event) (did : Drive) (after : List Event) : Type 0 where
+pub record PutsFrames (script : ScriptOf) (history : List Event) (place : ℕ) (done back : Done)
+    (puts : List (Option Put)) (number : ℕ) (after : List Event) : Type 0 where
+  pub same : back ≡ done
+  pub puts_are : puts ≡ puts_at (world_after script history).fabric place done.frames
+  pub event : after ≡ history ++ Handle place ∷ []
+  pub number_is : number ≡ (world_after script after).fabric.events
+
+abbrev pub LoadsOrNot : Bool → TableFor → LoadReply → ℕ → ScriptOf → List Event → List Event → Type 0
+LoadsOrNot false table answer place script history after =
+    (answer ≡ load.Loaded (world_after script after).fabric.events) × (after ≡ history ++ Load place ∷ [])
+LoadsOrNot true table answer place script history after = (answer ≡ load.NotNow table) × (after ≡ history)
+
+pub record Drives (script : ScriptOf) (history : List Event) (did : Drive) (told : Option PlacedLine)
+    (after : List Event) : Type 0 where
   pub drive_is : did ≡ next_drive (world_after script history).fabric
   pub event : after ≡ history ++ event_of_drive did
+  pub told_is : IsTold script history (event_of_drive did) told
 
 abbrev pub AnswersTake : ScriptOf → List Event → ℕ → Reply → List Event → Type 0
-AnswersTake script history place (reply.Take job out) after = TakesWork script history place job out after
+AnswersTake script history place (reply.Take job out told) after =
+    TakesWork script history place job out told after
 AnswersTake script history place other after = ⊥
 
-abbrev pub AnswersPut : List Event → ℕ → Done → Reply → List Event → Type 0
-AnswersPut history place done (reply.Put back) after = (back ≡ done) × (after ≡ history ++ Handle place ∷ [])
-AnswersPut history place done other after = ⊥
+abbrev pub AnswersPut : ScriptOf → List Event → ℕ → Done → Reply → List Event → Type 0
+AnswersPut script history place done (reply.Put back puts number) after =
+    PutsFrames script history place done back puts.items number after
+AnswersPut script history place done other after = ⊥
 
 abbrev pub AnswersLoad : ScriptOf → List Event → ℕ → TableFor → Reply → List Event → Type 0
 AnswersLoad script history place table (reply.Load answer) after =
-    LoadsOrNot (is_barred (world_after script history).fabric) table answer place history after
+    LoadsOrNot (is_barred (world_after script history).fabric) table answer place script history after
 AnswersLoad script history place table other after = ⊥
 
 abbrev pub AnswersDrive : ScriptOf → List Event → Reply → List Event → Type 0
-AnswersDrive script history (reply.Drive did) after = Drives script history did after
+AnswersDrive script history (reply.Drive did told) after = Drives script history did told after
 AnswersDrive script history other after = ⊥
 
 abbrev pub AnswersAsk : ScriptOf → List Event → Ask → Reply → List Event → Type 0
 AnswersAsk script history (ask.Take place out) answer after = AnswersTake script history place answer after
-AnswersAsk script history (ask.Put place done) answer after = AnswersPut history place done answer after
+AnswersAsk script history (ask.Put place done puts) answer after =
+    AnswersPut script history place done answer after
 AnswersAsk script history (ask.Load place table note) answer after =
     AnswersLoad script history place table answer after
 AnswersAsk script history ask.Drive answer after = AnswersDrive script history answer after

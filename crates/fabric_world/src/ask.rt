@@ -1,11 +1,13 @@
 //! What may be asked of a book, and what it replies, as definitions name it; calls hand it over in boxes
 //! (`fabric_book::asking`).
 
+use crate::line::PlacedLine;
 use an_base::port::Note;
 use fabric_state::work::{Drive, Work};
 use frame_region::buffer::FrameBuf;
 use switch_core::out::Frames;
 use switch_core::switch::TableFor;
+use wire_set::side::Put;
 
 /// What came of what a switch had in hand.
 #[derive(Debug, Drop)]
@@ -24,7 +26,10 @@ pub struct Done {
 #[derive(Debug, Drop)]
 pub enum LoadReply {
     /// It is in use.
-    Loaded,
+    Loaded {
+        /// The place of the event in the history, from 1.
+        event: u32,
+    },
     /// It is handed back.
     NotNow(TableFor),
 }
@@ -45,6 +50,8 @@ pub enum Ask {
         s: u8,
         /// What came of it.
         done: Done,
+        /// Where it goes what becomes of each frame.
+        puts: Vec<Option<Put>>,
     },
     /// To use a table.
     Load {
@@ -68,11 +75,17 @@ pub enum Reply {
         work: Work,
         /// The bytes of a frame.
         out: FrameBuf,
+        /// What is told of its event, if something is.
+        told: Option<PlacedLine>,
     },
     /// To `Put`, with the memory of what was given.
     Put {
         /// What was given.
         done: Done,
+        /// What became of each frame.
+        puts: Vec<Option<Put>>,
+        /// The place of the event in the history, from 1.
+        event: u32,
     },
     /// To `Load`.
     Load {
@@ -83,5 +96,7 @@ pub enum Reply {
     Drive {
         /// What was done.
         drive: Drive,
+        /// What is told of its event, if something is.
+        told: Option<PlacedLine>,
     },
 }

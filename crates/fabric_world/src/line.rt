@@ -135,3 +135,12 @@ pub enum Line {
         cause: DropCause,
     },
 }
+
+/// One thing that is told, with the place of its event in the history, from 1.
+#[derive(Clone, Copy, Debug)]
+pub struct PlacedLine {
+    /// The place of the event.
+    pub event: u32,
+    /// What is told of it.
+    pub line: Line,
+}

@@ -91,7 +91,6 @@ asks_not layout channel end packet flow far first here =
 pub kept_queue : (tables : Tables) (p : Vec Packet Global) (e : Vec ℕ Global) (q : Vec QueueOf Global) (r : Vec RouterOf Global) (place : ℕ) (queue : QueueOf) → IsKept tables (made p e q r) → All (λ slot. slot < length p.items) queue.slots → queue.places ≡ min tables.room tables.limit → IsKept tables (made p e (with_item q place queue) r)
 kept_queue tables p e q r place queue kept slots places = record {
   within = kept.within;
-  sets = kept.sets;
   queues = length-set q.items place queue ∙ kept.queues;
   routers = kept.routers;
   count = kept.count;
@@ -156,7 +155,7 @@ module _ (tables : Tables) (p : Vec Packet Global) (e : Vec ℕ Global) (q : Vec
         ap (λ (v : WaitOf). v.packet.packet) (get_or-map (λ (request : RequestOf). wait_at p.items e.items request.packet) ws k d (wait_at p.items e.items d.packet) below)
         ∙ ap (λ (s : ℕ). (packet_at p.items s).packet) same)
 
-    module _ (place exits : ℕ) (old : RouterOf) (packet : Packet) (place_is : place ≡ at) (old_is : old ≡ get_or r.items place old) (packet_is : packet ≡ get_or p.items slot packet) (exits_is : exits ≡ exit_set tables.exits.sets.items (spot at entry) packet.to) where
+    module _ (place exits : ℕ) (old : RouterOf) (packet : Packet) (place_is : place ≡ at) (old_is : old ≡ get_or r.items place old) (packet_is : packet ≡ get_or p.items slot packet) (exits_is : exits ≡ exit_set tables.exits (spot at entry) packet.to) where
       router_here : old ≡ get_or r.items at old
       router_here = old_is ∙ ap (λ (k : ℕ). get_or r.items k old) place_is
 
@@ -220,7 +219,6 @@ module _ (tables : Tables) (p : Vec Packet Global) (e : Vec ℕ Global) (q : Vec
         pub kept_asked : IsKept tables (made p (with_item e slot entry) q (with_item r place new))
         kept_asked = record {
           within = kept.within;
-          sets = kept.sets;
           queues = kept.queues;
           routers = length-set r.items place new ∙ kept.routers;
           count = length-set e.items slot entry ∙ kept.count;
@@ -229,39 +227,39 @@ module _ (tables : Tables) (p : Vec Packet Global) (e : Vec ℕ Global) (q : Vec
           targets = kept.targets;
           queued = kept.queued;
           places = kept.places;
-          asked = λ b none low. subst (λ (k : ℕ). All (IsAsked tables.exits.sets.items (made p (with_item e slot entry) q (with_item r place new)) b) (get_or (set r.items k new) b none).waiting) (sym place_is) (elim (cases_eq b at) [
-            | inl here ↦ subst (λ (x : ℕ). All (IsAsked tables.exits.sets.items (made p (with_item e slot entry) q (with_item r place new)) x) (get_or (set r.items at new) x none).waiting) (sym here) (
+          asked = λ b none low. subst (λ (k : ℕ). All (IsAsked tables.exits (made p (with_item e slot entry) q (with_item r place new)) b) (get_or (set r.items k new) b none).waiting) (sym place_is) (elim (cases_eq b at) [
+            | inl here ↦ subst (λ (x : ℕ). All (IsAsked tables.exits (made p (with_item e slot entry) q (with_item r place new)) x) (get_or (set r.items at new) x none).waiting) (sym here) (
                 let size = kept.routers in
-                subst (λ (x : RouterOf). All (IsAsked tables.exits.sets.items (made p (with_item e slot entry) q (with_item r place new)) at) x.waiting) (sym (get_or-set_same r.items at new none (omega arith))) own)
-            | inr other ↦ subst (λ (x : RouterOf). All (IsAsked tables.exits.sets.items (made p (with_item e slot entry) q (with_item r place new)) b) x.waiting) (sym (get_or-set_other r.items at b new none other)) (before b none low)
+                subst (λ (x : RouterOf). All (IsAsked tables.exits (made p (with_item e slot entry) q (with_item r place new)) at) x.waiting) (sym (get_or-set_same r.items at new none (omega arith))) own)
+            | inr other ↦ subst (λ (x : RouterOf). All (IsAsked tables.exits (made p (with_item e slot entry) q (with_item r place new)) b) x.waiting) (sym (get_or-set_other r.items at b new none other)) (before b none low)
           ]);
           most = All-set (λ (x : RouterOf). x.most ≡ tables.limit) r.items place new (
               let size = kept.routers in
               ap (λ (x : RouterOf). x.most) (new_is) ∙ ap (λ (x : RouterOf). x.most) router_here ∙ kept.most at old (omega arith)) kept.most;
         }
           where
-            one : (b : ℕ) (request : RequestOf) → IsAsked tables.exits.sets.items (made p e q r) b request → request.packet ≢ slot → IsAsked tables.exits.sets.items (made p (with_item e slot entry) q (with_item r place new)) b request
+            one : (b : ℕ) (request : RequestOf) → IsAsked tables.exits (made p e q r) b request → request.packet ≢ slot → IsAsked tables.exits (made p (with_item e slot entry) q (with_item r place new)) b request
             one b request asked other = record {
               slot = asked.slot;
-              ports = asked.ports ∙ ap (λ (n : ℕ). ports_of (exit_set tables.exits.sets.items (spot b n) (packet_at p.items request.packet).to)) (sym (get_or-set_other e.items slot request.packet entry 0 other));
+              ports = asked.ports ∙ ap (λ (n : ℕ). ports_of (exit_set tables.exits (spot b n) (packet_at p.items request.packet).to)) (sym (get_or-set_other e.items slot request.packet entry 0 other));
             }
 
-            before : (b : ℕ) (none : RouterOf) → b < 127 → All (IsAsked tables.exits.sets.items (made p (with_item e slot entry) q (with_item r place new)) b) (get_or r.items b none).waiting
+            before : (b : ℕ) (none : RouterOf) → b < 127 → All (IsAsked tables.exits (made p (with_item e slot entry) q (with_item r place new)) b) (get_or r.items b none).waiting
             before b none low k d below = one b (get_or (get_or r.items b none).waiting k d) (kept.asked b none low k d below) (nowhere b none low k d below)
 
-            mine : IsAsked tables.exits.sets.items (made p (with_item e slot entry) q (with_item r place new)) at (record { packet = slot; ports = ports_of exits })
+            mine : IsAsked tables.exits (made p (with_item e slot entry) q (with_item r place new)) at (record { packet = slot; ports = ports_of exits })
             mine =
                 let c = kept.count in
                 record {
                   slot = slot_low;
                   ports = ap ports_of exits_is
-                      ∙ ap (λ (x : PacketOf). ports_of (exit_set tables.exits.sets.items (spot at entry) x.to)) packet_here
-                      ∙ ap (λ (n : ℕ). ports_of (exit_set tables.exits.sets.items (spot at n) (packet_at p.items slot).to)) (sym (get_or-set_same e.items slot entry 0 (omega arith)));
+                      ∙ ap (λ (x : PacketOf). ports_of (exit_set tables.exits (spot at entry) x.to)) packet_here
+                      ∙ ap (λ (n : ℕ). ports_of (exit_set tables.exits (spot at n) (packet_at p.items slot).to)) (sym (get_or-set_same e.items slot entry 0 (omega arith)));
                 }
 
-            own : All (IsAsked tables.exits.sets.items (made p (with_item e slot entry) q (with_item r place new)) at) new.waiting
-            own = subst (λ (x : RouterOf). All (IsAsked tables.exits.sets.items (made p (with_item e slot entry) q (with_item r place new)) at) x.waiting) (sym new_is) (
-                All-push (IsAsked tables.exits.sets.items (made p (with_item e slot entry) q (with_item r place new)) at) old.waiting (record { packet = slot; ports = ports_of exits }) (subst (λ (x : RouterOf). All (IsAsked tables.exits.sets.items (made p (with_item e slot entry) q (with_item r place new)) at) x.waiting) (sym router_here) (before at old at_low)) mine)
+            own : All (IsAsked tables.exits (made p (with_item e slot entry) q (with_item r place new)) at) new.waiting
+            own = subst (λ (x : RouterOf). All (IsAsked tables.exits (made p (with_item e slot entry) q (with_item r place new)) at) x.waiting) (sym new_is) (
+                All-push (IsAsked tables.exits (made p (with_item e slot entry) q (with_item r place new)) at) old.waiting (record { packet = slot; ports = ports_of exits }) (subst (λ (x : RouterOf). All (IsAsked tables.exits (made p (with_item e slot entry) q (with_item r place new)) at) x.waiting) (sym router_here) (before at old at_low)) mine)
 
 -- two reads of one place
 pub one_read : (queues : List QueueOf) (i j : ℕ) (a b : QueueOf) → i ≡ j → length queues ≡ 1651 → i < 1651 → a ≡ get_or queues i a → b ≡ get_or queues j b → a ≡ b
@@ -285,10 +283,9 @@ empty_is p e q r places most queues routers =
     ∙ ap (λ (qs : List (List PacketOf)). state qs (map (waits_at p.items e.items) (replicate 127 (idle_router most)))) (same_replicate (packets_in p.items) 1651 (empty_queue places))
     ∙ ap (λ (ws : List (List WaitOf)). state (replicate 1651 []) ws) (same_replicate (waits_at p.items e.items) 127 (idle_router most))
 
-pub kept_empty : (tables : Tables) (p : Vec Packet Global) (e : Vec ℕ Global) (q : Vec QueueOf Global) (r : Vec RouterOf Global) → WiresAreWithin tables.wires.items → length tables.exits.sets.items ≡ 209677 → p.items ≡ [] → e.items ≡ [] → tables.limit ≤ vec_capacity p → tables.limit ≤ vec_capacity e → q.items ≡ replicate 1651 (empty_queue (min tables.room tables.limit)) → r.items ≡ replicate 127 (idle_router tables.limit) → IsKept tables (made p e q r)
-kept_empty tables p e q r within sets packets entries pc ec queues routers = record {
+pub kept_empty : (tables : Tables) (p : Vec Packet Global) (e : Vec ℕ Global) (q : Vec QueueOf Global) (r : Vec RouterOf Global) → WiresAreWithin tables.wires.items → p.items ≡ [] → e.items ≡ [] → tables.limit ≤ vec_capacity p → tables.limit ≤ vec_capacity e → q.items ≡ replicate 1651 (empty_queue (min tables.room tables.limit)) → r.items ≡ replicate 127 (idle_router tables.limit) → IsKept tables (made p e q r)
+kept_empty tables p e q r within packets entries pc ec queues routers = record {
   within = within;
-  sets = sets;
   queues = ap (λ (qs : List QueueOf). length qs) queues ∙ length-replicate 1651 (empty_queue (min tables.room tables.limit));
   routers = ap (λ (rs : List RouterOf). length rs) routers ∙ length-replicate 127 (idle_router tables.limit);
   count = ap (λ (xs : List ℕ). length xs) entries ∙ ap (λ (xs : List Packet). length xs) (sym packets);
@@ -297,8 +294,8 @@ kept_empty tables p e q r within sets packets entries pc ec queues routers = rec
   targets = subst (λ (xs : List Packet). All (λ packet. packet.to < 127) xs) (sym packets) (λ k d low. absurd (omega arith));
   queued = subst (λ (qs : List QueueOf). All (λ queue. All (λ slot. slot < length p.items) queue.slots) qs) (sym queues) (All-replicate (λ (queue : QueueOf). All (λ slot. slot < length p.items) queue.slots) 1651 (empty_queue (min tables.room tables.limit)) (λ k d low. absurd (omega arith)));
   places = subst (λ (qs : List QueueOf). All (λ queue. queue.places ≡ min tables.room tables.limit) qs) (sym queues) (All-replicate (λ (queue : QueueOf). queue.places ≡ min tables.room tables.limit) 1651 (empty_queue (min tables.room tables.limit)) refl);
-  asked = λ at none low. subst (λ (rs : List RouterOf). All (IsAsked tables.exits.sets.items (made p e q r) at) (get_or rs at none).waiting) (sym routers) (
-      subst (λ (x : RouterOf). All (IsAsked tables.exits.sets.items (made p e q r) at) x.waiting) (sym (get_or-replicate 127 at (idle_router tables.limit) none low)) (λ k d inside. absurd (omega arith)));
+  asked = λ at none low. subst (λ (rs : List RouterOf). All (IsAsked tables.exits (made p e q r) at) (get_or rs at none).waiting) (sym routers) (
+      subst (λ (x : RouterOf). All (IsAsked tables.exits (made p e q r) at) x.waiting) (sym (get_or-replicate 127 at (idle_router tables.limit) none low)) (λ k d inside. absurd (omega arith)));
   most = subst (λ (rs : List RouterOf). All (λ router. router.most ≡ tables.limit) rs) (sym routers) (All-replicate (λ (router : RouterOf). router.most ≡ tables.limit) 127 (idle_router tables.limit) refl);
 }
 
@@ -346,7 +343,6 @@ kept_more p p' e e' q r tables packet kept more entry pc ec to low =
     let c1 = kept.capacity.1 in
     record {
       within = kept.within;
-      sets = kept.sets;
       queues = kept.queues;
       routers = kept.routers;
       count = omega arith;
@@ -362,8 +358,8 @@ kept_more p p' e e' q r tables packet kept more entry pc ec to low =
           record {
             slot = omega arith;
             ports = here.ports
-                ∙ ap (λ (x : PacketOf). ports_of (exit_set tables.exits.sets.items (spot at (slice_index e.items request.packet)) x.to)) (ap packet_of (sym (get_or_append_left p.items (packet ∷ []) (record { packet = 0; to = 0 }) request.packet slot)) ∙ ap (λ (xs : List Packet). packet_at xs request.packet) (sym more))
-                ∙ ap (λ (i : ℕ). ports_of (exit_set tables.exits.sets.items (spot at i) (packet_at p'.items request.packet).to)) (sym (get_or_append_left e.items (0 ∷ []) 0 request.packet (omega arith)) ∙ ap (λ (xs : List ℕ). slice_index xs request.packet) (sym entry));
+                ∙ ap (λ (x : PacketOf). ports_of (exit_set tables.exits (spot at (slice_index e.items request.packet)) x.to)) (ap packet_of (sym (get_or_append_left p.items (packet ∷ []) (record { packet = 0; to = 0 }) request.packet slot)) ∙ ap (λ (xs : List Packet). packet_at xs request.packet) (sym more))
+                ∙ ap (λ (i : ℕ). ports_of (exit_set tables.exits (spot at i) (packet_at p'.items request.packet).to)) (sym (get_or_append_left e.items (0 ∷ []) 0 request.packet (omega arith)) ∙ ap (λ (xs : List ℕ). slice_index xs request.packet) (sym entry));
           });
       most = kept.most;
     }

@@ -32,10 +32,9 @@ pub same_flow : (old new : Board) → IsSame old new → flow_of new ≡ flow_of
 same_flow old new same = let a = same.packets in let b = same.entries in let c = same.queues in let d = same.routers in cc
 
 -- a router is written
-pub kept_router : (tables : Tables) (p : Vec Packet Global) (e : Vec ℕ Global) (q : Vec QueueOf Global) (r : Vec RouterOf Global) (at place : ℕ) (new : RouterOf) → IsKept tables (made p e q r) → at < 127 → place ≡ at → new.most ≡ tables.limit → All (IsAsked tables.exits.sets.items (made p e q r) at) new.waiting → IsKept tables (made p e q (with_item r place new))
+pub kept_router : (tables : Tables) (p : Vec Packet Global) (e : Vec ℕ Global) (q : Vec QueueOf Global) (r : Vec RouterOf Global) (at place : ℕ) (new : RouterOf) → IsKept tables (made p e q r) → at < 127 → place ≡ at → new.most ≡ tables.limit → All (IsAsked tables.exits (made p e q r) at) new.waiting → IsKept tables (made p e q (with_item r place new))
 kept_router tables p e q r at place new kept low place_is most all = record {
   within = kept.within;
-  sets = kept.sets;
   queues = kept.queues;
   routers = length-set r.items place new ∙ kept.routers;
   count = kept.count;
@@ -44,16 +43,16 @@ kept_router tables p e q r at place new kept low place_is most all = record {
   targets = kept.targets;
   queued = kept.queued;
   places = kept.places;
-  asked = λ b none below. subst (λ (k : ℕ). All (IsAsked tables.exits.sets.items (made p e q (with_item r place new)) b) (get_or (set r.items k new) b none).waiting) (sym place_is) (elim (cases_eq b at) [
-    | inl here ↦ subst (λ (x : ℕ). All (IsAsked tables.exits.sets.items (made p e q (with_item r place new)) x) (get_or (set r.items at new) x none).waiting) (sym here) (
+  asked = λ b none below. subst (λ (k : ℕ). All (IsAsked tables.exits (made p e q (with_item r place new)) b) (get_or (set r.items k new) b none).waiting) (sym place_is) (elim (cases_eq b at) [
+    | inl here ↦ subst (λ (x : ℕ). All (IsAsked tables.exits (made p e q (with_item r place new)) x) (get_or (set r.items at new) x none).waiting) (sym here) (
         let size = kept.routers in
-        subst (λ (x : RouterOf). All (IsAsked tables.exits.sets.items (made p e q (with_item r place new)) at) x.waiting) (sym (get_or-set_same r.items at new none (omega arith))) (λ k d inside. one at (get_or new.waiting k d) (all k d inside)))
-    | inr other ↦ subst (λ (x : RouterOf). All (IsAsked tables.exits.sets.items (made p e q (with_item r place new)) b) x.waiting) (sym (get_or-set_other r.items at b new none other)) (λ k d inside. one b (get_or (get_or r.items b none).waiting k d) (kept.asked b none below k d inside))
+        subst (λ (x : RouterOf). All (IsAsked tables.exits (made p e q (with_item r place new)) at) x.waiting) (sym (get_or-set_same r.items at new none (omega arith))) (λ k d inside. one at (get_or new.waiting k d) (all k d inside)))
+    | inr other ↦ subst (λ (x : RouterOf). All (IsAsked tables.exits (made p e q (with_item r place new)) b) x.waiting) (sym (get_or-set_other r.items at b new none other)) (λ k d inside. one b (get_or (get_or r.items b none).waiting k d) (kept.asked b none below k d inside))
   ]);
   most = All-set (λ (x : RouterOf). x.most ≡ tables.limit) r.items place new most kept.most;
 }
   where
-    one : (b : ℕ) (request : RequestOf) → IsAsked tables.exits.sets.items (made p e q r) b request → IsAsked tables.exits.sets.items (made p e q (with_item r place new)) b request
+    one : (b : ℕ) (request : RequestOf) → IsAsked tables.exits (made p e q r) b request → IsAsked tables.exits (made p e q (with_item r place new)) b request
     one b request asked = record { slot = asked.slot; ports = asked.ports }
 
 module _ (tables : Tables) (p : Vec Packet Global) (e : Vec ℕ Global) (q : Vec QueueOf Global) (r : Vec RouterOf Global) (kept : IsKept tables (made p e q r)) (at place : ℕ) (low : at < 127) (place_is : place ≡ at) (old new : RouterOf) (old_is : old ≡ get_or r.items place old) (most : new.most ≡ old.most) where
@@ -69,16 +68,16 @@ module _ (tables : Tables) (p : Vec Packet Global) (e : Vec ℕ Global) (q : Vec
   old_most : old.most ≡ tables.limit
   old_most = let size = kept.routers in ap (λ (x : RouterOf). x.most) here ∙ kept.most at old (omega arith)
 
-  old_asked : All (IsAsked tables.exits.sets.items (made p e q r) at) old.waiting
-  old_asked = subst (λ (x : RouterOf). All (IsAsked tables.exits.sets.items (made p e q r) at) x.waiting) (sym here) (kept.asked at old low)
+  old_asked : All (IsAsked tables.exits (made p e q r) at) old.waiting
+  old_asked = subst (λ (x : RouterOf). All (IsAsked tables.exits (made p e q r) at) x.waiting) (sym here) (kept.asked at old low)
 
   pub kept_granted : (free : ℕ) (grant : Grant) → Grants free old.waiting new.waiting grant → IsKept tables (made p e q (with_item r place new))
   kept_granted free grant grants = kept_router tables p e q r at place new kept low place_is (most ∙ old_most) (
-      subst (λ (ws : List RequestOf). All (IsAsked tables.exits.sets.items (made p e q r) at) ws) (sym grants.new_is) (
-      all_without (IsAsked tables.exits.sets.items (made p e q r) at) grants.older grants.younger grants.request (subst (λ (ws : List RequestOf). All (IsAsked tables.exits.sets.items (made p e q r) at) ws) grants.old_is old_asked)))
+      subst (λ (ws : List RequestOf). All (IsAsked tables.exits (made p e q r) at) ws) (sym grants.new_is) (
+      all_without (IsAsked tables.exits (made p e q r) at) grants.older grants.younger grants.request (subst (λ (ws : List RequestOf). All (IsAsked tables.exits (made p e q r) at) ws) grants.old_is old_asked)))
 
   pub kept_none : new.waiting ≡ old.waiting → IsKept tables (made p e q (with_item r place new))
-  kept_none same = kept_router tables p e q r at place new kept low place_is (most ∙ old_most) (subst (λ (ws : List RequestOf). All (IsAsked tables.exits.sets.items (made p e q r) at) ws) (sym same) old_asked)
+  kept_none same = kept_router tables p e q r at place new kept low place_is (most ∙ old_most) (subst (λ (ws : List RequestOf). All (IsAsked tables.exits (made p e q r) at) ws) (sym same) old_asked)
 
   pub same_routers : new.waiting ≡ old.waiting → set r.items place new ≡ r.items
   same_routers same =

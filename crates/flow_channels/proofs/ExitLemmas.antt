@@ -24,12 +24,12 @@ pub first_in : {A : Type 0} (xs : List A) (x : A) → slice_get xs 0 ≡ Some x 
 first_in [] x e = absurd (cc)
 first_in {A} (y ∷ xs) x e = (xs, ap (λ (z : A). z ∷ xs) (same_Some y x e))
 
-both : (a b : Bool) → (a && b) ≡ true → (a ≡ true) × (b ≡ true)
+pub both : (a b : Bool) → (a && b) ≡ true → (a ≡ true) × (b ≡ true)
 both true b e = (refl, e)
 both false b e = absurd (cc)
 
 -- the test of a row says that it has the exit
-row_has : (came : Channel) (to exit : ℕ) (row : RowOf) → has_exit came to exit row ≡ true → (row.at ≡ came.at) × (row.entry ≡ came.port) × (row.to ≡ to) × Contains row.exits exit
+pub row_has : (came : Channel) (to exit : ℕ) (row : RowOf) → has_exit came to exit row ≡ true → (row.at ≡ came.at) × (row.entry ≡ came.port) × (row.to ≡ to) × Contains row.exits exit
 row_has came to exit row e =
     let a = both (row.at == came.at) ((row.entry == came.port) && ((row.to == to) && list_any (λ port. port == exit) row.exits)) e in
     let b = both (row.entry == came.port) ((row.to == to) && list_any (λ port. port == exit) row.exits) a.1 in
@@ -42,7 +42,7 @@ row_has came to exit row e =
       (some.0, some.2, get_or_default row.exits some.0 exit some.1 some.2 ∙ some.3 ∙ is),
     )
 
-row_test : (came : Channel) (to exit : ℕ) (row : RowOf) → row.at ≡ came.at → row.entry ≡ came.port → row.to ≡ to → Contains row.exits exit → has_exit came to exit row ≡ true
+pub row_test : (came : Channel) (to exit : ℕ) (row : RowOf) → row.at ≡ came.at → row.entry ≡ came.port → row.to ≡ to → Contains row.exits exit → has_exit came to exit row ≡ true
 row_test came to exit row at entry target has =
     let a = eq-eqb row.at came.at at in
     let b = eq-eqb row.entry came.port entry in

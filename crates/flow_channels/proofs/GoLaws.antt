@@ -89,8 +89,8 @@ module _ (tables : Tables) (board : Board) (kept : IsKept tables board) (layout 
         ∙ get_or-map (λ (r : RequestOf). wait_at board.packets.items board.entries.items r.packet) (router_at board at).waiting k request (waits_for request) low
         ∙ ap waits_for request_is
 
-    asked : IsAsked tables.exits.sets.items board at request
-    asked = subst (λ (r : RequestOf). IsAsked tables.exits.sets.items board at r) request_is (kept.asked at (record { most = 0; waiting = [] }) at_low k request low)
+    asked : IsAsked tables.exits board at request
+    asked = subst (λ (r : RequestOf). IsAsked tables.exits board at r) request_is (kept.asked at (record { most = 0; waiting = [] }) at_low k request low)
 
     pub slot_low : request.packet < length board.packets.items
     slot_low = asked.slot

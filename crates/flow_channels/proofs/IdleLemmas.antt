@@ -62,7 +62,7 @@ nothing_asked = record { packet = 0; ports = [] }
 
 -- whether a request names a port with room
 abbrev Stays : Tables → Board → ℕ → WaitOf → Type 0
-Stays tables board at wait = All (λ port. HasRoom (ways tables) (flow_of board) (spot at port) → ⊥) (ports_of (exit_set tables.exits.sets.items (spot at wait.entry) wait.packet.to))
+Stays tables board at wait = All (λ port. HasRoom (ways tables) (flow_of board) (spot at port) → ⊥) (ports_of (exit_set tables.exits (spot at wait.entry) wait.packet.to))
 
 module _ (tables : Tables) (board : Board) (kept : IsKept tables board) (at : ℕ) (low : at < 127) where
   waits_are : waiting_at (flow_of board) at ≡ waits_at board.packets.items board.entries.items (router_at board at)

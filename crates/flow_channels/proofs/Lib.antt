@@ -4,6 +4,7 @@ pub mod MoveLaws
 pub mod StateLemmas
 pub mod SoundLaws
 pub mod WiredLaws
+pub mod RankedLaws
 pub mod RunLaws
 pub mod WeightLaws
 pub mod EndLaws

@@ -8,7 +8,9 @@ use Rattle.an_base.specs.Values.{EntryOf}
 use Rattle.an_base.specs.Rows.{RowOf}
 use Rattle.an_base.specs.Numbers.{AreNumbers}
 use Rattle.topo_graph.specs.Topology.{IsGraph}
-use Rattle.dep_check.specs.Answer.{Passes}
+use Rattle.dep_check.specs.Channels.{far_at, LeadsTo}
+use Rattle.dep_check.specs.Cycles.{HasNoCycle}
+use Rattle.dep_check.specs.Packets.{AllAreJoined}
 use Rattle.dep_check.specs.Tables.{place_of}
 use Rattle.flow_channels.specs.declared.board.Board.{Board}
 use Rattle.flow_channels.specs.declared.board.Packet.{Packet}
@@ -28,11 +30,12 @@ use Rattle.flow_channels.proofs.MoveLaws.{some_move}
 use Rattle.flow_channels.proofs.RunLaws.{no_moves}
 use Rattle.flow_channels.proofs.SoundLaws.{enter_sound, start_sound, turn_sound}
 use Rattle.flow_channels.proofs.WiredLaws.{wired}
+use Rattle.flow_channels.proofs.RankedLaws.{has_ranks, ranks_in}
 
 abbrev viewed : Tables → List ℕ → FlowOf → FlowView
 viewed tables known flow = record {
   wires = tables.wires.items;
-  sets = tables.exits.sets.items;
+  sets = tables.exits;
   room = tables.room;
   limit = tables.limit;
   known = known;
@@ -206,13 +209,13 @@ running_entered tables old new left packet from layout has kept over may flow pa
     }
 
 -- none yet
-pub over_fresh : (es : List EntryOf) (numbers : List ℕ) (rows : List RowOf) (ranks : List (Option ℕ)) (most : ℕ) (tables : Tables) (board : Board) → IsGraph es → AreNumbers numbers → length numbers ≡ length es → 1 ≤ most → Passes es numbers rows ranks → AreTablesOf (layout_of es numbers rows most) tables.wires.items tables.exits.sets.items tables.room → flow_of board ≡ empty_flow → board.packets.items ≡ [] → IsOver (layout_of es numbers rows most) (view_of tables board)
-over_fresh es numbers rows ranks most tables board graph named count some passes are flow packets = record {
+pub over_fresh : (es : List EntryOf) (numbers : List ℕ) (rows : List RowOf) (most : ℕ) (tables : Tables) (board : Board) → IsGraph es → AreNumbers numbers → length numbers ≡ length es → 1 ≤ most → HasNoCycle (LeadsTo (far_at es numbers) rows) → AllAreJoined (far_at es numbers) numbers rows → AreTablesOf (layout_of es numbers rows most) tables.wires.items tables.exits tables.room → flow_of board ≡ empty_flow → board.packets.items ≡ [] → IsOver (layout_of es numbers rows most) (view_of tables board)
+over_fresh es numbers rows most tables board graph named count some none joined are flow packets = record {
   tables_are = are;
   wired = wired es numbers graph named count rows most some;
-  joined = passes.joined;
-  ranks = ranks;
-  ranked = passes.ranked;
+  joined = joined;
+  ranks = ranks_in (layout_of es numbers rows most);
+  ranked = has_ranks (layout_of es numbers rows most) (wired es numbers graph named count rows most some) none;
   sound = subst (λ (f : FlowOf). IsSound (layout_of es numbers rows most) (map number board.packets.items) f) (sym flow) (
       subst (λ (ks : List ℕ). IsSound (layout_of es numbers rows most) ks empty_flow) (ap (map number) (sym packets)) (start_sound (layout_of es numbers rows most)));
 }

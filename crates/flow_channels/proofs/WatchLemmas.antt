@@ -66,9 +66,9 @@ pub room_as : (layout : LayoutOf) (from to : FlowOf) (channel : Channel) → que
 room_as layout from to channel same (end, far, room) = (end, far, subst (λ (ps : List PacketOf). length ps < layout.most) same room)
 
 pub idle_as : (tables : Tables) (from to : FlowOf) (at : ℕ) → waiting_at to at ≡ waiting_at from at → ((port : ℕ) → IsSpot (spot at port) → queue_at to (spot at port) ≡ queue_at from (spot at port)) → IsIdle tables from at → IsIdle tables to at
-idle_as tables from to at waits queues idle = subst (λ (ws : List WaitOf). All (λ wait. All (λ port. HasRoom (ways tables) to (spot at port) → ⊥) (ports_of (exit_set tables.exits.sets.items (spot at wait.entry) wait.packet.to))) ws) (sym waits) (λ k d low i p inside room.
+idle_as tables from to at waits queues idle = subst (λ (ws : List WaitOf). All (λ wait. All (λ port. HasRoom (ways tables) to (spot at port) → ⊥) (ports_of (exit_set tables.exits (spot at wait.entry) wait.packet.to))) ws) (sym waits) (λ k d low i p inside room.
     let wait = get_or (waiting_at from at) k d in
-    let port = get_or (ports_of (exit_set tables.exits.sets.items (spot at wait.entry) wait.packet.to)) i p in
+    let port = get_or (ports_of (exit_set tables.exits (spot at wait.entry) wait.packet.to)) i p in
     idle k d low i p inside (room_as (ways tables) from to (spot at port) (queues port (wire_spot tables.wires.items (spot at port) room.0 room.1)) room))
 
 -- what comes or goes in a channel
@@ -273,7 +273,7 @@ pub nobody_awake : (tables : Tables) → AreAwake tables empty_flow (replicate 2
 nobody_awake tables = record {
   count = length-replicate {A = ℕ} 2048 0;
   low = λ at has. absurd (nothing_in 2048 at has);
-  others = λ at low out. subst (λ (ws : List WaitOf). All (λ wait. All (λ port. HasRoom (ways tables) empty_flow (spot at port) → ⊥) (ports_of (exit_set tables.exits.sets.items (spot at wait.entry) wait.packet.to))) ws) (sym (get_or-replicate 127 at [] [] low)) (λ k d inside. absurd (omega arith));
+  others = λ at low out. subst (λ (ws : List WaitOf). All (λ wait. All (λ port. HasRoom (ways tables) empty_flow (spot at port) → ⊥) (ports_of (exit_set tables.exits (spot at wait.entry) wait.packet.to))) ws) (sym (get_or-replicate 127 at [] [] low)) (λ k d inside. absurd (omega arith));
 }
 
 -- what is found in the set of what arrives

@@ -93,7 +93,6 @@ pub record IsAsked (sets : List ℕ) (board : Board) (at : ℕ) (request : Reque
 -- them entered; and each has room
 pub record IsKept (tables : Tables) (board : Board) : Type 0 where
   pub within : WiresAreWithin tables.wires.items
-  pub sets : length tables.exits.sets.items ≡ 1651 * 127
   pub queues : length board.queues.items ≡ 1651
   pub routers : length board.routers.items ≡ 127
   pub count : length board.entries.items ≡ length board.packets.items
@@ -103,14 +102,14 @@ pub record IsKept (tables : Tables) (board : Board) : Type 0 where
   pub queued : All (λ queue. All (λ slot. slot < length board.packets.items) queue.slots) board.queues.items
   pub places : All (λ queue. queue.places ≡ min tables.room tables.limit) board.queues.items
   pub asked : (at : ℕ) (none : RouterOf) → at < 127
-      → All (IsAsked tables.exits.sets.items board at) (slice_index_or board.routers.items at none).waiting
+      → All (IsAsked tables.exits board at) (slice_index_or board.routers.items at none).waiting
   pub most : All (λ router. router.most ≡ tables.limit) board.routers.items
 
 -- a flow over these tables is sound
 pub record IsSoundOver (tables : Tables) (flow : FlowOf) : Type 0 where
   pub layout : LayoutOf
   pub known : List ℕ
-  pub tables_are : AreTablesOf layout tables.wires.items tables.exits.sets.items tables.room
+  pub tables_are : AreTablesOf layout tables.wires.items tables.exits tables.room
   pub wired : IsWired layout
   pub joined : JoinsAll layout
   pub few : length known ≤ tables.limit

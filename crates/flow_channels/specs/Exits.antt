@@ -1,7 +1,9 @@
 -- The exits of rows, as a table keeps them.
-use Rattle.std.specs.Prelude.{◌≡◌, ◌<◌, ◌⊎◌, ◌↔◌, ℕ, List, Contains, length}
+use Rattle.std.specs.Prelude.{◌≡◌, ◌<◌, ◌↔◌, ℕ, List, Bool, All, length, slice_index}
 use Rattle.std.specs.Int.{bit_at}
-use Rattle.an_base.specs.Rows.{RowOf}
+use Rattle.an_base.specs.Rows.{ArePorts, RowOf}
+use Rattle.an_base.specs.Values.{EntryOf}
+use Rattle.table_build.specs.Exits.{Begins, IsEntry, may_go_up}
 use Rattle.dep_check.specs.declared.channel.Channel.{Channel}
 use Rattle.dep_check.specs.Channels.{HasExit}
 use Rattle.dep_check.specs.Tables.{IsSpot}
@@ -12,14 +14,27 @@ abbrev pub AreSets : List RowOf → List ℕ → Type 0
 AreSets rows sets = (came : Channel) (to port : ℕ) → IsSpot came → to < 127
     → ((bit_at (exit_set sets came to) port ≡ 1) ↔ HasExit rows came.at came.port to port)
 
--- a row has an exit for what came in at a spot and goes to a number
-abbrev pub RowHas : RowOf → Channel → ℕ → ℕ → Type 0
-RowHas row came to port =
-    (row.at ≡ came.at) × (row.entry ≡ came.port) × (row.to ≡ to) × Contains row.exits port
+-- and they are ports
+pub record AreExitsOf (rows : List RowOf) (sets : List ℕ) : Type 0 where
+  pub each : AreSets rows sets
+  pub ports : All (λ row. ArePorts row.exits) rows
 
--- the exits of a row are added
-pub record AreAdded (row : RowOf) (old new : List ℕ) : Type 0 where
-  pub count : length new ≡ length old
-  pub each : (came : Channel) (to port : ℕ) → IsSpot came → to < 127
-      → ((bit_at (exit_set new came to) port ≡ 1)
-      ↔ ((bit_at (exit_set old came to) port ≡ 1) ⊎ RowHas row came to port))
+-- What private functions alone cite: the same by members.
+
+-- a member has an exit for what came in at a spot and goes to a number: the spot is an entry of it, the
+-- number that of another member, and the exit begins a way there
+pub record LeadsOut (entries : List EntryOf) (numbers : List ℕ) (any : Bool) (place : ℕ) (came : Channel)
+    (to port : ℕ)
+    : Type 0 where
+  pub at : came.at ≡ slice_index numbers place
+  pub entry : IsEntry entries place came.port
+  pub target : ℕ
+  pub low : target < length entries
+  pub number : to ≡ slice_index numbers target
+  pub begins : Begins entries any (may_go_up entries place came.port) place target port
+
+-- the sets have the exits of the members below an end
+abbrev pub AreSetsBelow : List EntryOf → List ℕ → Bool → ℕ → List ℕ → Type 0
+AreSetsBelow entries numbers any end sets = (came : Channel) (to port : ℕ) → IsSpot came → to < 127
+    → ((bit_at (exit_set sets came to) port ≡ 1)
+    ↔ ((place : ℕ) × (place < end) × LeadsOut entries numbers any place came to port))

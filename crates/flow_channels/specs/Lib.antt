@@ -4,11 +4,12 @@ pub mod Flows
 pub mod Moves
 pub mod Runs
 pub mod Sound
+pub mod Exits
 pub mod View
 -- what private functions cite
 pub mod Queue
 pub mod Board
-pub mod Exits
+pub mod Sets
 pub mod Turns
 pub mod Marks
 pub mod Ahead

@@ -24,7 +24,7 @@ pub record FlowView : Type 0 where
 abbrev pub view_of : Tables → Board → FlowView
 view_of tables board = record {
   wires = tables.wires.items;
-  sets = tables.exits.sets.items;
+  sets = tables.exits;
   room = tables.room;
   limit = tables.limit;
   known = map (λ packet. packet.packet) board.packets.items;

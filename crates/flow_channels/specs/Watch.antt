@@ -20,7 +20,7 @@ IsIn sets place = bit_and (slice_index sets place) 1 ≢ 0
 abbrev pub IsIdle : Tables → FlowOf → ℕ → Type 0
 IsIdle tables flow at =
     All (λ wait. All (λ port. HasRoom (ways tables) flow (spot at port) → ⊥)
-    (ports_of (exit_set tables.exits.sets.items (spot at wait.entry) wait.packet.to))) (waiting_at flow at)
+    (ports_of (exit_set tables.exits (spot at wait.entry) wait.packet.to))) (waiting_at flow at)
 
 -- the channels whose first packet is at its target
 pub record AreArriving (tables : Tables) (flow : FlowOf) (sets : List ℕ) : Type 0 where

@@ -282,7 +282,6 @@ impl Board {
     /// Nobody is on the way.
     pub fn new(alloc: Global, tables: &Tables) -> Result<Self, OutOfMemory>
         requires within { WiresAreWithin tables.now.wires.items }
-        requires sets { length tables.now.exits.sets.items ≡ 209677 }
         requires least { 1 ≤ tables.now.limit }
         requires limit { tables.now.limit ≤ 10012 }
         ensures kept { IfOk result (IsKept tables.now) }

@@ -1,7 +1,11 @@
-ghost use Rattle.std.specs.Prelude.{◌≡◌, ◌+◌, ◌≤◌, ◌↔◌, [], ◌∷◌, ◌++◌, length, IfOk, IfSome, IfNone, IsNone};
+ghost use Rattle.std.specs.Prelude.{◌≡◌, ◌+◌, ◌≤◌, ◌↔◌, List, [], ◌∷◌, ◌++◌, length, IfOk, IfSome, IfNone, IsNone};
 ghost use Rattle.std.specs.Prelude.{MatchOption};
-ghost use Rattle.dep_check.specs.Answer.{Passes};
+ghost use Rattle.an_base.specs.Rows.{RowOf};
+ghost use Rattle.dep_check.specs.Channels.{far_at, LeadsTo};
+ghost use Rattle.dep_check.specs.Cycles.{HasNoCycle};
+ghost use Rattle.dep_check.specs.Packets.{AllAreJoined};
 ghost use Rattle.flow_channels.specs.Board.{flow_of};
+ghost use Rattle.flow_channels.specs.Exits.{AreExitsOf};
 ghost use Rattle.flow_channels.specs.Flows.{enters, left_of};
 ghost use Rattle.flow_channels.specs.Layout.{layout_of, LayoutOf};
 ghost use Rattle.flow_channels.specs.Runs.{MayEnter};
@@ -11,13 +15,12 @@ ghost use Rattle.flow_channels.specs.View.{TurnsTo};
 ghost use Rattle.flow_channels.specs.Watch.{IsWatched};
 
 use crate::board::{Arrival, Board, Packet};
+use crate::exits::ExitTable;
 use crate::tables::Tables;
 use crate::watch::Watch;
 use crate::went::Went;
 use an_base::memory::OutOfMemory;
 use an_base::numbers::Numbers;
-use an_base::row::Row;
-use dep_check::check::Ranks;
 use std::alloc::Global;
 use std::marker::Model;
 use topo_graph::graph::Graph;
@@ -89,28 +92,30 @@ fn depart(tables: &Tables, board: &mut Board, watch: &mut Watch) -> Option<Went>
 }
 
 impl Flow {
-    /// No packet is on its way. The ranks are those that `check` answers for these rows; a channel holds
-    /// `b` packets, at least 1; and at most `most` packets may enter, 1 to 10,000.
+    /// No packet is on its way. The exits are those of rows by which no channels lead round and every two
+    /// switches are joined, as of rows that `check` lets pass; a channel holds `b` packets, at least 1; and
+    /// at most `most` packets may enter, 1 to 10,000.
     pub fn new(
         alloc: Global,
         graph: &Graph,
         numbers: &Numbers,
-        rows: &[Row],
-        ranks: &Ranks,
+        exits: ExitTable,
         b: u16,
         most: u32,
     ) -> Result<Self, OutOfMemory>
+        ghost rows: { List RowOf }
         requires same { length numbers.now ≡ length graph.now }
-        requires passes { Passes graph.now numbers.now rows.now ranks.now }
+        requires exits { AreExitsOf rows exits }
+        requires no_cycle { HasNoCycle (LeadsTo (far_at graph.now numbers.now) rows) }
+        requires joined { AllAreJoined (far_at graph.now numbers.now) numbers.now rows }
         requires room { 1 ≤ b }
         requires least { 1 ≤ most }
         requires limit { most ≤ 10000 }
-        ensures { IfOk result (IsFresh (layout_of graph.now numbers.now rows.now b) most) }
+        ensures { IfOk result (IsFresh (layout_of graph.now numbers.now rows b) most) }
     {
-        let _ranks = ranks;
         let _count = graph.count();
         let _numbers = numbers.as_slice();
-        let tables = Tables::of(alloc, graph, numbers, rows, usize::from(b), most)?;
+        let tables = Tables::of(alloc, graph, numbers, exits, usize::from(b), most)?;
         let board = Board::new(alloc, &tables)?;
         let watch = Watch::new(alloc, &tables, &board)?;
         Ok(Flow {

@@ -6,7 +6,7 @@
 #![tactic(auto)]
 
 mod board;
-mod exits;
+pub mod exits;
 pub mod flow;
 pub mod law;
 mod marks;

@@ -1,13 +1,14 @@
-ghost use Rattle.std.specs.Prelude.{◌≡◌, ◌*◌, ◌≤◌, length, IfOk};
+ghost use Rattle.std.specs.Prelude.{◌≡◌, List, length, IfOk};
 ghost use Rattle.an_base.specs.Numbers.{AreNumbers};
+ghost use Rattle.an_base.specs.Rows.{RowOf};
 ghost use Rattle.dep_check.specs.Tables.{IsSpot, wire_at, WiresAreWithin};
 ghost use Rattle.flow_channels.specs.Board.{AreTablesOf};
+ghost use Rattle.flow_channels.specs.Exits.{AreExitsOf};
 ghost use Rattle.flow_channels.specs.Layout.{layout_of};
 
 use crate::exits::ExitTable;
 use an_base::memory::OutOfMemory;
 use an_base::numbers::Numbers;
-use an_base::row::Row;
 use dep_check::channel::Channel;
 use dep_check::spot::place_of;
 use dep_check::wires::wires_of;
@@ -33,21 +34,19 @@ impl Tables {
         alloc: Global,
         graph: &Graph,
         numbers: &Numbers,
-        rows: &[Row],
+        exits: ExitTable,
         room: usize,
         limit: u32,
     ) -> Result<Self, OutOfMemory>
         requires { length numbers.now ≡ length graph.now }
-        ensures tables { IfOk result (λ tables.
-            AreTablesOf (layout_of graph.now numbers.now rows.now room)
-            tables.wires.items tables.exits.sets.items tables.room) }
+        ensures tables { IfOk result (λ tables. (rows : List RowOf) → AreExitsOf rows exits
+            → AreTablesOf (layout_of graph.now numbers.now rows room) tables.wires.items tables.exits tables.room) }
         ensures within { IfOk result (λ tables. WiresAreWithin tables.wires.items) }
-        ensures sets { IfOk result (λ tables. length tables.exits.sets.items ≡ 1651 * 127) }
         ensures limit { IfOk result (λ tables. tables.limit ≡ limit) }
     {
         Ok(Tables {
             wires: wires_of(alloc, graph, numbers)?,
-            exits: ExitTable::of(alloc, rows)?,
+            exits,
             room,
             limit,
         })

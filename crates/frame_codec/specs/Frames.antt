@@ -1,5 +1,6 @@
 -- Which values are frames: each number within its range, and each list in its order.
 use Rattle.std.specs.Prelude.{◌≡◌, ◌≢◌, ℕ, ◌<◌, ◌≤◌, ◌^◌, List, length, All}
+pub use Rattle.an_base.specs.Values.{IsCounted, IsWithin}
 use Rattle.an_base.specs.Values.{LifeId, EndId, Place, PeerAt, EntryOf, PosOf, TopoOf}
 use Rattle.an_base.specs.Order.{PortsRise, LivesRise}
 use Rattle.an_base.specs.Numbers.{AreNumbers}
@@ -11,14 +12,6 @@ use Rattle.an_base.specs.declared.frame.Frame.TheVariants.{Carry, Ack, Probe, Re
 use Rattle.an_base.specs.declared.limits.TheConstants.{PORTS, LAST_PORT, MOST_LEVEL, MOST_NUMBER}
 use Rattle.an_base.specs.declared.limits.TheConstants.{MOST_SWITCHES}
 use Rattle.frame_codec.specs.Spelling.{spelling}
-
--- a number from least to most
-abbrev pub IsWithin : ℕ → ℕ → ℕ → Type 0
-IsWithin least most number = (least ≤ number) × (number ≤ most)
-
--- a number from 1 that four bytes hold
-abbrev pub IsCounted : ℕ → Type 0
-IsCounted number = (1 ≤ number) × (number < 2 ^ 32)
 
 pub record IsLife (life : LifeId) : Type 0 where
   pub uid : life.uid < 2 ^ 48

@@ -8,6 +8,7 @@ use Rattle.an_base.specs.declared.body.Body.{Body}
 use Rattle.an_base.specs.declared.body.Body.TheVariants.{Pos, Answer, Stable, Topo}
 use Rattle.an_base.specs.declared.frame.Frame.{Frame}
 use Rattle.an_base.specs.declared.frame.Frame.TheVariants.{Carry, Ack, Probe, Reply}
+use Rattle.frame_codec.specs.declared.writing.CarryHead.{CarryHead}
 
 -- so many of the lowest bytes of a number, highest first
 unfoldable pub number_bytes : ℕ → ℕ → List ℕ
@@ -68,16 +69,8 @@ body_bytes (Answer answer) = 2 ∷ answer_bytes answer
 body_bytes (Stable entries) = 3 ∷ entries_bytes entries
 body_bytes (Topo topo) = 4 ∷ topo_bytes topo
 
--- what stands before a body in the frame that carries it: the epoch and the ends of its session, and its
--- number there
-pub record CarryHeadOf : Type 0 where
-  pub epoch : ℕ
-  pub from : EndId
-  pub to : EndId
-  pub k : ℕ
-
 -- a body with what stands before it
-abbrev pub carried : CarryHeadOf → Body → CarryOf
+abbrev pub carried : CarryHead → Body → CarryOf
 carried head body = record { epoch = head.epoch; from = head.from; to = head.to; k = head.k; body = body }
 
 -- epoch 8, from 11, to 11, k 4, body

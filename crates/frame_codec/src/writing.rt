@@ -17,7 +17,6 @@ use an_base::links::{Links, PortLink};
 use an_base::position::Position;
 use byteorder::{BigEndian, ByteOrder};
 use frame_region::buffer::FrameBuf;
-use std::marker::Model;
 
 #[tactic(auto, unfolding(crate::specs::Spelling::number_bytes))]
 fn put_number_32(out: &mut FrameBuf, number: u32)
@@ -82,10 +81,10 @@ fn put_position(out: &mut FrameBuf, position: &Position)
     ensures within { IsPosition position.now }
     ensures longer { length out.new ≡ length out.old + 22 }
 {
-    put_life(out, position.root());
-    out.add_few(&[position.level()]);
-    put_life(out, position.parent());
-    out.add_few(&[position.port()]);
+    put_life(out, position.root);
+    out.add_few(&[position.level]);
+    put_life(out, position.parent);
+    out.add_few(&[position.port]);
 }
 
 fn put_link(out: &mut FrameBuf, link: &PortLink)
@@ -129,7 +128,7 @@ fn put_entry(out: &mut FrameBuf, entry: &Entry)
 {
     put_life(out, entry.life);
     put_position(out, &entry.position);
-    out.add_few(&[entry.proposed()]);
+    out.add_few(&[entry.proposed]);
     put_links(out, &entry.links);
 }
 
@@ -161,10 +160,10 @@ fn put_pos(out: &mut FrameBuf, body: PosBody)
     ensures spelled { out.new ≡ out.old ++ pos_bytes body }
     ensures within { IsPos body }
 {
-    put_number_32(out, body.version());
-    put_life(out, body.root());
-    out.add_few(&[body.level()]);
-    put_truth(out, body.to_parent());
+    put_number_32(out, body.version);
+    put_life(out, body.root);
+    out.add_few(&[body.level]);
+    put_truth(out, body.to_parent);
 }
 
 fn put_answer(out: &mut FrameBuf, body: AnswerBody)
@@ -172,8 +171,8 @@ fn put_answer(out: &mut FrameBuf, body: AnswerBody)
     ensures spelled { out.new ≡ out.old ++ answer_bytes body }
     ensures within { IsCounted body.version }
 {
-    put_number_32(out, body.version());
-    put_truth(out, body.to_parent());
+    put_number_32(out, body.version);
+    put_truth(out, body.to_parent);
 }
 
 fn put_topo(out: &mut FrameBuf, body: &TopoBody)
@@ -211,14 +210,15 @@ fn put_body(out: &mut FrameBuf, body: &Body)
 }
 
 fn put_carry(out: &mut FrameBuf, head: &CarryHead, body: &Body)
-    requires { length out.old + 22590 ≤ MOST_FRAME }
+    requires room { length out.old + 22590 ≤ MOST_FRAME }
+    requires number { 1 ≤ head.now.k }
     ensures spelled { out.new ≡ out.old ++ carry_bytes (carried head.now body.now) }
     ensures within { IsCarry (carried head.now body.now) }
 {
     put_number_64(out, head.epoch);
     put_end(out, head.from);
     put_end(out, head.to);
-    put_number_32(out, head.k());
+    put_number_32(out, head.k);
     put_body(out, body);
 }
 
@@ -233,46 +233,20 @@ fn begin(out: &mut FrameBuf, kind: u8)
 /// What stands before the body in the frame that carries it.
 #[derive(Clone, Copy, Debug)]
 pub struct CarryHead {
-    epoch: u64,
-    from: End,
-    to: End,
-    k: u32,
-}
-
-impl Model for CarryHead {
-    ghost use Rattle.std.specs.Prelude.{◌≤◌};
-    ghost use Rattle.frame_codec.specs.Spelling.{CarryHeadOf};
-
-    ghost Value = { CarryHeadOf };
-
-    ghost view = { λ h. record { epoch = h.epoch; from = h.from; to = h.to; k = h.k } };
-
-    ghost invariant = { λ h. 1 ≤ h.k };
-
-    ghost inverse = { λ v. record { epoch = v.epoch; from = v.from; to = v.to; k = v.k } };
-}
-
-impl CarryHead {
-    /// The epoch and the two ends of a session, and the number of the body there, from 1.
-    pub fn new(epoch: u64, from: End, to: End, k: u32) -> Self
-        requires { 1 ≤ k }
-        ensures { result ≡ record { epoch = epoch; from = from; to = to; k = k } }
-    {
-        CarryHead { epoch, from, to, k }
-    }
-
-    /// The number of the body, from 1.
-    pub fn k(&self) -> u32
-        ensures k { result ≡ self.now.k }
-        ensures least { 1 ≤ self.now.k }
-    {
-        self.k
-    }
+    /// The epoch of the session.
+    pub epoch: u64,
+    /// The end that sends the body.
+    pub from: End,
+    /// The end that is to accept it.
+    pub to: End,
+    /// The number of the body in its direction of the session, from 1.
+    pub k: u32,
 }
 
 /// Sets `out` to the spelling of the frame that carries this body, without taking memory. The body
 /// stays where it is.
 pub fn encode_carry(head: &CarryHead, body: &Body, out: &mut FrameBuf)
+    requires { 1 ≤ head.now.k }
     ensures spelled { out.new ≡ spelling (Carry (carried head.now body.now)) }
     ensures within { IsFrame (Carry (carried head.now body.now)) }
 {
@@ -288,7 +262,12 @@ pub fn encode(frame: &Frame, out: &mut FrameBuf)
 {
     match frame {
         Frame::Carry(carry) => {
-            let head = CarryHead::new(carry.epoch, carry.from, carry.to, carry.k());
+            let head = CarryHead {
+                epoch: carry.epoch,
+                from: carry.from,
+                to: carry.to,
+                k: carry.k,
+            };
             encode_carry(&head, &carry.body, out);
         }
         Frame::Ack { epoch, from, to, n } => {

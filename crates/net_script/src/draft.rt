@@ -7,17 +7,6 @@ use crate::script::Script;
 use crate::setting::Came;
 use std::alloc::Global;
 
-/// A part of a text.
-#[derive(Clone, Copy, Debug, PartialEq, Eq)]
-pub enum Part {
-    /// Up to the first line.
-    Header,
-    /// The lines between the first and the last.
-    Items,
-    /// After the last line.
-    After,
-}
-
 /// What so many lines of a text say.
 #[derive(Debug, Drop)]
 pub struct Draft {
@@ -27,6 +16,17 @@ pub struct Draft {
     pub came: Came,
     /// The part of the text in which the next line stands.
     pub part: Part,
+}
+
+/// A part of a text.
+#[derive(Clone, Copy, Debug, PartialEq, Eq)]
+pub enum Part {
+    /// Up to the first line.
+    Header,
+    /// The lines between the first and the last.
+    Items,
+    /// After the last line.
+    After,
 }
 
 impl Draft {

@@ -1,22 +1,28 @@
 //! The fields of lines: what a word says in its place, and what is wrong with it.
 
-ghost use Rattle.std.specs.Prelude.{◌≡◌, ◌≢◌, ◌<◌, ◌≤◌, ◌^◌, not, true, false, length, Contains, IfOk, OnOk};
+ghost use Rattle.std.specs.Prelude.{◌≡◌, ◌≢◌, ◌<◌, ◌≤◌, ◌^◌, [], ◌∷◌, Some, not, true, false, is_some, length, Contains, IfOk, OnOk};
 ghost use Rattle.std.specs.Option.{option_map};
 ghost use Rattle.an_base.specs.declared.limits.TheConstants.{LAST_PORT, MOST_NUMBER, MOST_SWITCHES};
 ghost use Rattle.net_graph.specs.Wires.{uids, used_ports, a_end, b_end};
-ghost use Rattle.net_script.specs.declared.cause.ScriptCause.TheVariants.{PortUsed, NoLink};
-ghost use Rattle.text_lines.specs.Words.{number_value, uid_value};
-ghost use Rattle.text_lines.specs.Faults.{unless};
+ghost use Rattle.net_script.specs.declared.cause.ScriptCause.TheVariants.{BadName, NoSuchName, PortUsed, NoLink};
+ghost use Rattle.text_lines.specs.Words.{is_name, number_value, uid_value};
+ghost use Rattle.text_lines.specs.Faults.{first_of, unless};
 ghost use Rattle.net_script.specs.Commands.{is_used, is_linked, last_time};
 ghost use Rattle.net_script.specs.Scripts.{IsNewName, lives_of};
 ghost use Rattle.net_script.specs.Rules.{number_cause, port_cause, new_name_cause, new_uid_cause, known_cause, had_cause, time_cause, lives_cause, commands_cause, is_taken, is_free, place, had_of};
-ghost use Rattle.text_lines.specs.Faults.{IsField, IsTest};
+ghost use Rattle.text_lines.specs.Faults.{IsField, IsGoodField, IsTest};
 
 use crate::cause::ScriptCause;
-use crate::script::{MOST_COMMANDS, MOST_TIME, Script};
+use crate::script::Script;
 use an_base::limits::MOST_SWITCHES;
 use net_graph::wiring::{Far, LinkAt, Wiring};
 use text_lines::word::{is_name, is_number, number_between, number_of, uid_of};
+
+// The most commands.
+const MOST_COMMANDS: usize = 10_000;
+
+// The latest time of a command.
+const MOST_TIME: u64 = 1_000_000;
 
 /// The number of a range that a word says.
 pub fn number_in(word: &[u8], least: u64, most: u64) -> Result<u64, ScriptCause>
@@ -75,16 +81,25 @@ pub fn new_uid(script: &Script, word: &[u8]) -> Result<u64, ScriptCause>
     Ok(uid)
 }
 
+// The place that a word names, where it is found there if the word is a name.
+fn known<Place: Copy>(word: &[u8], place: Option<Place>) -> Result<Place, ScriptCause>
+    ensures { IsGoodField result
+        (first_of (unless (is_name word.now) BadName ∷ unless (is_some place) NoSuchName ∷ []))
+        (λ found. place ≡ Some found) }
+{
+    if !is_name(word) {
+        return Err(ScriptCause::BadName);
+    }
+    place.ok_or(ScriptCause::NoSuchName)
+}
+
 /// The place of the switch that a word names.
 pub fn known_switch(script: &Script, word: &[u8]) -> Result<u8, ScriptCause>
     ensures place { IsField result (known_cause script.now.switch_names word.now)
         (place script.now.switch_names word.now) }
     ensures range { IfOk result (λ s. s < length script.now.wires.switches) }
 {
-    if !is_name(word) {
-        return Err(ScriptCause::BadName);
-    }
-    script.place_of_switch(word).ok_or(ScriptCause::NoSuchName)
+    known(word, script.place_of_switch(word))
 }
 
 /// The place of the host that a word names.
@@ -93,10 +108,7 @@ pub fn known_host(script: &Script, word: &[u8]) -> Result<u16, ScriptCause>
         (place script.now.names_of_hosts word.now) }
     ensures range { IfOk result (λ h. h < length script.now.wires.hosts) }
 {
-    if !is_name(word) {
-        return Err(ScriptCause::BadName);
-    }
-    script.place_of_host(word).ok_or(ScriptCause::NoSuchName)
+    known(word, script.place_of_host(word))
 }
 
 /// The number that a switch had last, where there is a word for it.

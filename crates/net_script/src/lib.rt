@@ -2,8 +2,8 @@
 //! are on them, within which limits it runs, and what happens to it when.
 //!
 //! It stands on `an_base`, `net_graph` and `text_lines`. Its contract: `reader::read` answers a script
-//! exactly where the bytes are the text of one, and else the first faulty line with its first cause; no
-//! bytes are the text of two scripts.
+//! only where the bytes are the text of one, and else the first faulty line with its first cause; want of
+//! memory may come in place of either. No bytes are the text of two scripts.
 #![tactic(auto)]
 
 pub mod cause;

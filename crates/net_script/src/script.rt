@@ -15,12 +15,6 @@ use std::alloc::Global;
 use std::marker::Model;
 use text_lines::names::Names;
 
-/// The most commands.
-pub const MOST_COMMANDS: usize = 10_000;
-
-/// The latest time of a command.
-pub const MOST_TIME: u64 = 1_000_000;
-
 /// A script: switches and hosts with their names, the links between their ports, commands in the
 /// order of their times, and settings.
 #[derive(Debug, Drop)]

@@ -72,13 +72,13 @@ impl Source for MemorySource {
 
     fn read(&mut self, buf: &mut [u8]) -> Got
         requires { 0 < length buf.old }
+        ensures answer { result ≡ read_answer self.old (length buf.old) }
+        ensures after { self.new ≡ after_read self.old (length buf.old) }
         ensures count { IfPart result (λ n. (1 ≤ n) × (n ≤ length buf.old)) }
         ensures part { IfPart result (λ n. Gave (seen_source self.old) (seen_source self.new) (take n buf.new)) }
         ensures end { OnEnd result (Ends (seen_source self.old) (seen_source self.new)) }
         ensures failed { OnFailed result (OnlyFailed (seen_source self.old) (seen_source self.new)) }
         ensures kept { IsNoLess (seen_source self.old) (seen_source self.new) }
-        ensures answer { result ≡ read_answer self.old (length buf.old) }
-        ensures after { self.new ≡ after_read self.old (length buf.old) }
     {
         self.calls = self.calls.saturating_add(1);
         if is_listed(&self.failing, self.calls) {
@@ -147,12 +147,12 @@ impl Sink for MemorySink {
 
     fn write(&mut self, bytes: &[u8]) -> Took
         requires { 0 < length bytes.now }
+        ensures answer { result ≡ write_answer self.old bytes.now }
+        ensures after { self.new ≡ after_write self.old bytes.now }
         ensures count { IfTaken result (λ n. (1 ≤ n) × (n ≤ length bytes.now)) }
         ensures part { IfTaken result (λ n. Gains (seen_sink self.old) (seen_sink self.new) (take n bytes.now)) }
         ensures failed { OnNotTaken result (OnlyFailed (seen_sink self.old) (seen_sink self.new)) }
         ensures kept { IsNoLess (seen_sink self.old) (seen_sink self.new) }
-        ensures answer { result ≡ write_answer self.old bytes.now }
-        ensures after { self.new ≡ after_write self.old bytes.now }
     {
         self.calls = self.calls.saturating_add(1);
         if is_listed(&self.failing, self.calls) || self.room == 0 {

@@ -5,3 +5,5 @@ pub mod MomentLemmas
 pub mod AccountLemmas
 pub mod BeliefLemmas
 pub mod RememberingLemmas
+pub mod CourseLemmas
+pub mod RetellingLemmas

@@ -12,7 +12,7 @@ use Rattle.fabric_book.specs.Nets.{NetOf, history_of}
 use Rattle.replay.specs.Replays.{HasMade, HasNoEnd, IfIllegal, IsNoReplay}
 use Rattle.replay.specs.declared.refusal.ReplayRefusal.{ReplayRefusal}
 use Rattle.replay.proofs.ReplayLemmas.{events_are, made_these, refused_end}
-use Rattle.report.specs.Events.{IsReportOf, event_text, line_of_end}
+use Rattle.report.specs.Events.{IsReportOf, course_of, event_text, line_of_end}
 use Rattle.report.proofs.ReporterLemmas.{ended_report, ended_tick, so_far, so_far_more, there}
 
 -- A READER
@@ -60,7 +60,7 @@ reading_more script own after text more event net new start old reader is steppe
     }
 
 -- at the end
-pub reading_done : (script own : ScriptOf) (bytes text last : List ℕ) (result : Result Ending ReplayRefusal) (net new : NetOf) (start reader : ReaderOf) → IsReading script start own net text reader → IsJournal script bytes net.events → IfOk result (IsLegal own net.events) → OnOk result (HoldsAndSettles own net.events) → OnOk result (new ≡ net) → IfOk result (λ end. last ≡ text ++ line_of_end own (fabric_of (history_of net)) end) → IfOk result (λ end. IsReportOf script bytes end (fabric_of (history_of new)).tick last)
+pub reading_done : (script own : ScriptOf) (bytes text last : List ℕ) (result : Result Ending ReplayRefusal) (net new : NetOf) (start reader : ReaderOf) → IsReading script start own net text reader → IsJournal script bytes net.events → IfOk result (IsLegal own net.events) → OnOk result (HoldsAndSettles own net.events) → OnOk result (new ≡ net) → IfOk result (λ end. last ≡ text ++ line_of_end own (course_of (fabric_of (history_of net))) end) → IfOk result (λ end. IsReportOf script bytes end (fabric_of (history_of new)).tick last)
 reading_done script own bytes text last (Ok end) net new start reader is is_journal legal claims kept last_is = record {
   journal = net.events;
   is_journal = is_journal;

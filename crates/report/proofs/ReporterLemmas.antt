@@ -3,12 +3,14 @@ use Rattle.std.proofs.Common.{◌≡◌, ◌∙◌, sym, ap, subst, refl, ℕ, �
 use Rattle.std.proofs.lemmas.List.{take_more}
 use Rattle.std.proofs.Math.Seq.{take-append_seam}
 use Rattle.an_base.specs.declared.event.Event.{Event}
-use Rattle.net_script.specs.Scripts.{ScriptOf}
+use Rattle.an_base.specs.Rows.{RowOf}
+use Rattle.net_script.specs.Scripts.{IsScript, ScriptOf}
 use Rattle.outside.specs.Told.{Gains, GainsFront, IsNoLess, Seen, with_back}
 use Rattle.outside.proofs.ToldLemmas.{with_back_none, with_back_twice}
 use Rattle.fabric_state.specs.declared.ending.Ending.{Ending}
 use Rattle.fabric_state.specs.Fabric.{FabricOf}
-use Rattle.fabric_world.specs.Histories.{IsLegal, end_of, fabric_of, world_of}
+use Rattle.fabric_world.specs.Accounts.{rows_behind}
+use Rattle.fabric_world.specs.Histories.{IsLawful, IsLegal, end_of, fabric_of, world_of}
 use Rattle.fabric_world.specs.Lines.{lines_of}
 use Rattle.fabric_world.specs.World.{WorldOf, after_all, begun, step, world_after}
 use Rattle.fabric_world.specs.declared.line.Line.{Line}
@@ -18,7 +20,9 @@ use Rattle.fabric_book.specs.Nets.{NetOf, history_of, with_step}
 use Rattle.replay.specs.Replays.{HasMade, HasNoEnd, IfIllegal, IsRefusal}
 use Rattle.replay.specs.declared.refusal.ReplayRefusal.{ReplayRefusal}
 use Rattle.replay.proofs.ReplayLemmas.{made_next, refused_behind}
-use Rattle.report.specs.Events.{IsReport, all_told, event_text, events_text, last_line, line_of_end, report_text}
+use Rattle.report.specs.Events.{CourseOf, IsReport, all_told, course_after, course_of, event_text, events_text, last_line, line_of_end, report_text}
+use Rattle.report.specs.Retellings.{Comes, HasCome}
+use Rattle.report.proofs.BeliefLemmas.{lawful_last}
 
 -- four texts in a row
 four_joined : (a b c d : List ℕ) → (a ++ (b ++ c)) ++ d ≡ (a ++ b) ++ (c ++ d)
@@ -45,12 +49,12 @@ so_far_more script history event text new so_far_is one =
     ∙ ap (λ (t : List ℕ). codes "report 1\n" ++ t) (ap (λ (t : List ℕ). before ++ t) (sym (append-nil told)) ∙ sym (events_on script (begun script) history (event ∷ [])))
 
 -- with the last line it is the report
-pub whole : (script : ScriptOf) (history : List Event) (end : Ending) (text new : List ℕ) → IsLegal script history end → text ≡ so_far script history → new ≡ text ++ line_of_end script (world_after script history).fabric end → new ≡ report_text script history
+pub whole : (script : ScriptOf) (history : List Event) (end : Ending) (text new : List ℕ) → IsLegal script history end → text ≡ so_far script history → new ≡ text ++ line_of_end script (course_after script history) end → new ≡ report_text script history
 unfolding report_text
 whole script history end text new legal so_far_is last =
-    let fabric = (world_after script history).fabric in
-    last ∙ ap (λ (t : List ℕ). t ++ line_of_end script fabric end) so_far_is
-    ∙ ap (λ (t : List ℕ). so_far script history ++ t) (sym (ap (last_line script fabric) legal.ends))
+    let course = course_after script history in
+    last ∙ ap (λ (t : List ℕ). t ++ line_of_end script course end) so_far_is
+    ∙ ap (λ (t : List ℕ). so_far script history ++ t) (sym (ap (last_line script course) legal.ends))
 
 -- what is so far said is a front of the report
 pub so_far_front : (script : ScriptOf) (journal : List Event) (place : ℕ) → (rest : List ℕ) × (report_text script journal ≡ so_far script (take place journal) ++ rest)
@@ -58,7 +62,7 @@ unfolding report_text
 so_far_front script journal place =
     let before = take place journal in
     let later = events_text script (after_all before (begun script)) (drop place journal) in
-    let end = last_line script (world_after script journal).fabric (end_of script journal) in
+    let end = last_line script (course_after script journal) (end_of script journal) in
     let parts : events_text script (begun script) journal ≡ events_text script (begun script) before ++ later =
     ap (events_text script (begun script)) (sym (take-append-drop place journal)) ∙ events_on script (begun script) before (drop place journal) in
     (later ++ end, ap (λ (t : List ℕ). (codes "report 1\n" ++ t) ++ end) parts ∙ four_joined (codes "report 1\n") (events_text script (begun script) before) later end)
@@ -107,12 +111,31 @@ own_made script own history net same made =
     here (λ s n. HasMade s n.events n) script own history net same made (record { net_is = refl; lawful = made.lawful })
 
 -- what is told of an event
-pub event_told : (own : ScriptOf) (net new : NetOf) (event : Event) (fabric : FabricOf) (lines : List Line) (text more : List ℕ) → new ≡ with_step event net → fabric ≡ fabric_of (history_of new) → lines ≡ lines_of (world_of (history_of net)) event → more ≡ text ++ all_told own fabric lines → more ≡ text ++ event_text own (world_of (history_of net)) event
+pub event_told : (own : ScriptOf) (net new : NetOf) (event : Event) (course : CourseOf) (rows : List RowOf) (lines : List Line) (text more : List ℕ) → new ≡ with_step event net → HasCome new course → rows ≡ rows_behind (fabric_of (history_of new)) event → lines ≡ lines_of (world_of (history_of net)) event
+    → more ≡ text ++ all_told own course rows lines → more ≡ text ++ event_text own (world_of (history_of net)) event
 unfolding event_text
-event_told own net new event fabric lines text more stepped fabric_is lines_is is =
-    let behind = fabric_is ∙ ap (λ (n : NetOf). fabric_of (history_of n)) stepped ∙ ap (λ (w : WorldOf). w.fabric) (world_after-event net.script net.events event) in
-    is ∙ ap (λ (f : FabricOf). text ++ all_told own f lines) behind
-    ∙ ap (λ (ls : List Line). text ++ all_told own (step (world_of (history_of net)) event).fabric ls) lines_is
+event_told own net new event course rows lines text more stepped come rows_are lines_are is =
+    let behind = ap (λ (n : NetOf). fabric_of (history_of n)) stepped ∙ ap (λ (w : WorldOf). w.fabric) (world_after-event net.script net.events event) in
+    is ∙ ap (λ (c : CourseOf). text ++ all_told own c rows lines) (come.course_is ∙ ap course_of behind)
+    ∙ ap (λ (r : List RowOf). text ++ all_told own (course_of (step (world_of (history_of net)) event).fabric) r lines) (rows_are ∙ ap (λ (f : FabricOf). rows_behind f event) behind)
+    ∙ ap (λ (ls : List Line). text ++ all_told own (course_of (step (world_of (history_of net)) event).fabric) (rows_behind (step (world_of (history_of net)) event).fabric event) ls) lines_are
+
+-- and how far the network has come
+pub come_to : (net new : NetOf) (event : Event) (course : CourseOf) → HasCome net course → new ≡ with_step event net → IsLawful new.script new.events → Comes net.script net.events event course
+come_to net new event course come stepped lawful = record {
+  kept = come.kept;
+  lawful = lawful_last net.script net.events event (subst (λ (n : NetOf). IsLawful n.script n.events) stepped lawful);
+  course_is = come.course_is;
+}
+
+pub come_next : (net new : NetOf) (event : Event) (old course : CourseOf) → HasCome net old → new ≡ with_step event net → IsLawful new.script new.events → ((script : ScriptOf) (history : List Event) → Comes script history event old → course ≡ course_after script (history ++ event ∷ [])) → HasCome new course
+come_next net new event old course come stepped lawful follows = record {
+  kept = subst (λ (n : NetOf). IsScript n.script) (sym stepped) come.kept;
+  course_is = subst (λ (n : NetOf). course ≡ course_after n.script n.events) (sym stepped) (follows net.script net.events (come_to net new event old come stepped lawful));
+}
+
+pub come_kept : (net new : NetOf) (course now : CourseOf) → HasCome net course → new ≡ net → now ≡ course → HasCome new now
+come_kept net new course now come net_is course_is = subst (λ (c : CourseOf). HasCome new c) (sym course_is) (subst (λ (n : NetOf). HasCome n course) (sym net_is) come)
 
 -- one event more of a journal
 pub next_made : (script own : ScriptOf) (journal : List Event) (place : ℕ) (event d : Event) (net new : NetOf) → place < length journal → event ≡ get_or journal place d → own ≡ script → HasMade script (take place journal) net → HasMade own (net.events ++ event ∷ []) new → HasMade script (take (place + 1) journal) new
@@ -134,14 +157,14 @@ ended_legal script own journal net end same made legal = there (λ s n. IsLegal 
 pub ended_claims : (script own : ScriptOf) (journal : List Event) (net : NetOf) → own ≡ script → HasMade script journal net → HoldsAndSettles own net.events → HoldsAndSettles script journal
 ended_claims script own journal net same made claims = there (λ s n. HoldsAndSettles s n.events) script own journal net same made claims
 
-pub ended_text : (script own : ScriptOf) (journal : List Event) (net : NetOf) (end : Ending) (written text new : List ℕ) → own ≡ script → HasMade script journal net → IsLegal own net.events end → written ++ text ≡ so_far script journal → new ≡ text ++ line_of_end own (fabric_of (history_of net)) end → written ++ new ≡ report_text script journal
+pub ended_text : (script own : ScriptOf) (journal : List Event) (net : NetOf) (end : Ending) (written text new : List ℕ) → own ≡ script → HasMade script journal net → IsLegal own net.events end → written ++ text ≡ so_far script journal → new ≡ text ++ line_of_end own (course_of (fabric_of (history_of net))) end → written ++ new ≡ report_text script journal
 ended_text script own journal net end written text new same made legal says last =
-    let one = there (λ s n. new ≡ text ++ line_of_end s (fabric_of (history_of n)) end) script own journal net same made last in
+    let one = there (λ s n. new ≡ text ++ line_of_end s (course_of (fabric_of (history_of n))) end) script own journal net same made last in
     whole script journal end (written ++ text) (written ++ new) (ended_legal script own journal net end same made legal) says
-    (ap (λ (t : List ℕ). written ++ t) one ∙ sym (append_assoc written text (line_of_end script (world_after script journal).fabric end)))
+    (ap (λ (t : List ℕ). written ++ t) one ∙ sym (append_assoc written text (line_of_end script (course_after script journal) end)))
 
 -- where its end is asked for
-pub ended_report : (script own : ScriptOf) (journal : List Event) (net : NetOf) (text new : List ℕ) (result : Result Ending ReplayRefusal) → own ≡ script → HasMade script journal net → text ≡ so_far script journal → IfOk result (IsLegal own net.events) → OnOk result (HoldsAndSettles own net.events) → IfOk result (λ end. new ≡ text ++ line_of_end own (fabric_of (history_of net)) end) → IfOk result (λ end. IsReport script journal end new)
+pub ended_report : (script own : ScriptOf) (journal : List Event) (net : NetOf) (text new : List ℕ) (result : Result Ending ReplayRefusal) → own ≡ script → HasMade script journal net → text ≡ so_far script journal → IfOk result (IsLegal own net.events) → OnOk result (HoldsAndSettles own net.events) → IfOk result (λ end. new ≡ text ++ line_of_end own (course_of (fabric_of (history_of net))) end) → IfOk result (λ end. IsReport script journal end new)
 ended_report script own journal net text new (Ok end) same made says legal claims last = record {
   legal = ended_legal script own journal net end same made legal;
   says = ended_text script own journal net end [] text new same made legal says last;
@@ -193,7 +216,7 @@ making_fault script journal place old mid new text making front =
     (rest.1 ∙ ap (λ (t : List ℕ). t ++ rest.0) (sym making.says)) front
 
 -- and the last line
-pub making_last : (script own : ScriptOf) (journal : List Event) (net : NetOf) (end : Ending) (old mid : Seen) (text last : List ℕ) → own ≡ script → HasMade script journal net → IsLegal own net.events end → IsInMaking script journal old mid text → last ≡ text ++ line_of_end own (fabric_of (history_of net)) end → (written : List ℕ) × Gains old mid written × (written ++ last ≡ report_text script journal)
+pub making_last : (script own : ScriptOf) (journal : List Event) (net : NetOf) (end : Ending) (old mid : Seen) (text last : List ℕ) → own ≡ script → HasMade script journal net → IsLegal own net.events end → IsInMaking script journal old mid text → last ≡ text ++ line_of_end own (course_of (fabric_of (history_of net))) end → (written : List ℕ) × Gains old mid written × (written ++ last ≡ report_text script journal)
 making_last script own journal net end old mid text last same made legal making is =
     (making.written, making.gains, ended_text script own journal net end making.written text last same made legal making.says is)
 

@@ -4,12 +4,14 @@ use Rattle.std.specs.Fmt.{decimal}
 use Rattle.std.specs.List.{flat_map}
 use Rattle.std.proofs.lemmas.List.{flat_map_more, take_more}
 use Rattle.std.proofs.lemmas.Grind.{flat_map-append}
-use Rattle.an_base.specs.Values.{EndId}
+use Rattle.an_base.specs.Values.{EndId, LifeId}
 use Rattle.an_base.specs.declared.port.PortState.{PortState}
 use Rattle.an_base.specs.declared.port.PortState.TheVariants as state
 use Rattle.net_script.specs.Scripts.{ScriptOf}
 use Rattle.fabric_world.specs.declared.line.Line.{Line}
-use Rattle.report.specs.Events.{peer_words, spaced, spaced_word}
+use Rattle.fabric_world.specs.declared.line.Line.TheVariants as told
+use Rattle.host_traffic.specs.declared.hop.DropCause.{DropCause}
+use Rattle.report.specs.Events.{packet_words, peer_words, spaced, spaced_word}
 
 -- no words
 pub no_words : (text : List ℕ) → text ≡ text ++ spaced []
@@ -62,3 +64,12 @@ no_peer script state.Host peer other = refl
 no_peer script state.Who peer other = refl
 no_peer script state.Loop peer other = refl
 no_peer script state.Good peer other = absurd (other refl)
+
+-- nor of a packet where something else is told
+pub no_packet : (script : ScriptOf) (lives : List LifeId) (line : Line) → ((packet from to address : ℕ) → line ≢ told.Packet packet from to address) → ((packet from to : ℕ) (why : DropCause) → line ≢ told.Unsent packet from to why)
+    → ((packet place epoch entry exit : ℕ) (host : Option ℕ) → line ≢ told.Moved packet place epoch entry exit host) → ((packet place : ℕ) (why : DropCause) → line ≢ told.Fell packet place why) → packet_words script lives line ≡ []
+no_packet script lives (told.Packet packet from to address) sent unsent moved fell = absurd (sent packet from to address refl)
+no_packet script lives (told.Unsent packet from to why) sent unsent moved fell = absurd (unsent packet from to why refl)
+no_packet script lives (told.Moved packet place epoch entry exit host) sent unsent moved fell = absurd (moved packet place epoch entry exit host refl)
+no_packet script lives (told.Fell packet place why) sent unsent moved fell = absurd (fell packet place why refl)
+no_packet script lives other sent unsent moved fell = refl

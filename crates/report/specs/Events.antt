@@ -1,6 +1,6 @@
 -- The report of a history: the lines of each event in turn, and the last line.
 
-use Rattle.std.specs.Prelude.{◌≡◌, ◌==◌, ◌||◌, ℕ, List, [], ◌∷◌, ◌++◌, codes, Option, Some, None, map, filter, slice_index_or, Bool, if◌then◌else◌}
+use Rattle.std.specs.Prelude.{◌≡◌, ◌==◌, ◌||◌, ℕ, List, [], ◌∷◌, ◌++◌, codes, Option, Some, None, map, filter, slice_get, slice_index_or, Bool}
 use Rattle.std.specs.Fmt.{decimal}
 use Rattle.std.specs.List.{flat_map, list_any, range_with_len}
 use Rattle.std.specs.Option.{option_map_or}
@@ -14,13 +14,13 @@ use Rattle.wire_set.specs.declared.side.Loss.{Loss}
 use Rattle.wire_set.specs.declared.side.Loss.TheVariants as loss
 use Rattle.host_traffic.specs.declared.hop.DropCause.{DropCause}
 use Rattle.host_traffic.specs.declared.hop.DropCause.TheVariants as cause
-use Rattle.table_build.specs.Tables.{TableOf}
 use Rattle.fabric_state.specs.declared.ending.Ending.{Ending}
 use Rattle.fabric_state.specs.declared.ending.Ending.TheVariants as ending
-use Rattle.fabric_state.specs.Fabric.{FabricOf, is_switch, station, table_at}
+use Rattle.fabric_state.specs.Fabric.{FabricOf}
 use Rattle.fabric_world.specs.declared.line.Line.{Line}
 use Rattle.fabric_world.specs.declared.line.Line.TheVariants as line
 use Rattle.fabric_world.specs.World.{WorldOf, begun, step, world_after}
+use Rattle.fabric_world.specs.Accounts.{rows_behind}
 use Rattle.fabric_world.specs.Lines.{lines_of}
 use Rattle.fabric_world.specs.Histories.{IsLegal, end_of}
 use Rattle.fabric_settling.specs.Claims.{HoldsAndSettles}
@@ -36,12 +36,27 @@ spaced_word word = codes " " ++ word
 unfoldable pub spaced : List (List ℕ) → List ℕ
 spaced words = flat_map spaced_word words
 
--- a switch is printed as its present life, and a host by its name
-abbrev pub life_shown : FabricOf → ℕ → Option LifeId
-life_shown fabric place = if is_switch fabric place then Some (station fabric place).note.life else None
+-- How far a network has come, as far as it is told: the present life of each switch, how many events came,
+-- and the tick.
+pub record CourseOf : Type 0 where
+  pub lives : List LifeId
+  pub events : ℕ
+  pub tick : ℕ
 
-abbrev pub switch_text : ScriptOf → FabricOf → ℕ → List ℕ
-switch_text script fabric place = option_map_or (life_text script) (life_shown fabric place) []
+abbrev pub course_of : FabricOf → CourseOf
+course_of fabric = record {
+  lives = map (λ station. station.note.life) fabric.stations;
+  events = fabric.events;
+  tick = fabric.tick;
+}
+
+-- so far the network of a script has come with a history
+abbrev pub course_after : ScriptOf → List Event → CourseOf
+course_after script history = course_of (world_after script history).fabric
+
+-- a switch is printed as its present life, and a host by its name
+abbrev pub switch_text : ScriptOf → List LifeId → ℕ → List ℕ
+switch_text script lives place = option_map_or (life_text script) (slice_get lives place) []
 
 abbrev pub host_text : ScriptOf → ℕ → List ℕ
 host_text script host = slice_index_or script.names_of_hosts host []
@@ -83,39 +98,44 @@ abbrev pub deliver_words : ScriptOf → Option ℕ → List (List ℕ)
 deliver_words script None = []
 deliver_words script (Some host) = codes "deliver" ∷ host_text script host ∷ []
 
--- the words of what is told of an event, in the fabric behind it
-abbrev pub told_words : ScriptOf → FabricOf → Line → List (List ℕ)
-told_words script fabric (line.Port place port state peer) =
-    switch_text script fabric place ∷ codes "port" ∷ decimal port ∷ state_word state
-    ∷ peer_words script state peer
-told_words script fabric (line.NoFrame place port) =
-    switch_text script fabric place ∷ codes "noframe" ∷ decimal port ∷ []
-told_words script fabric (line.Join place epoch) =
-    switch_text script fabric place ∷ codes "join" ∷ decimal epoch ∷ []
-told_words script fabric (line.Spent place) = switch_text script fabric place ∷ codes "spent" ∷ []
-told_words script fabric (line.Finish place epoch root members) =
-    switch_text script fabric place ∷ codes "finish" ∷ decimal epoch ∷ codes "root"
-    ∷ life_text script root ∷ codes "members" ∷ decimal members ∷ []
-told_words script fabric (line.Lost place port why) =
-    codes "lost" ∷ switch_text script fabric place ∷ decimal port ∷ loss_words why
-told_words script fabric (line.Load place epoch number) =
-    switch_text script fabric place ∷ codes "load" ∷ decimal epoch ∷ codes "number" ∷ decimal number ∷ []
-told_words script fabric (line.Cut place port dropped) =
-    codes "fail" ∷ switch_text script fabric place ∷ decimal port ∷ codes "dropped" ∷ decimal dropped ∷ []
-told_words script fabric (line.Mended place port) =
-    codes "repair" ∷ switch_text script fabric place ∷ decimal port ∷ []
-told_words script fabric (line.Restarted place) = codes "restart" ∷ switch_text script fabric place ∷ []
-told_words script fabric (line.Packet packet from to address) =
+-- the words of what is told of a packet, by the lives behind the event
+abbrev pub packet_words : ScriptOf → List LifeId → Line → List (List ℕ)
+packet_words script lives (line.Packet packet from to address) =
     codes "packet" ∷ decimal packet ∷ host_text script from ∷ codes "to" ∷ host_text script to
     ∷ codes "address" ∷ decimal address ∷ []
-told_words script fabric (line.Unsent packet from to why) =
+packet_words script lives (line.Unsent packet from to why) =
     codes "packet" ∷ decimal packet ∷ host_text script from ∷ codes "to" ∷ host_text script to
     ∷ codes "drop" ∷ drop_word why ∷ []
-told_words script fabric (line.Moved packet place epoch entry exit host) =
-    codes "move" ∷ decimal packet ∷ switch_text script fabric place ∷ codes "epoch" ∷ decimal epoch
+packet_words script lives (line.Moved packet place epoch entry exit host) =
+    codes "move" ∷ decimal packet ∷ switch_text script lives place ∷ codes "epoch" ∷ decimal epoch
     ∷ codes "from" ∷ decimal entry ∷ codes "out" ∷ decimal exit ∷ deliver_words script host
-told_words script fabric (line.Fell packet place why) =
-    codes "move" ∷ decimal packet ∷ switch_text script fabric place ∷ codes "drop" ∷ drop_word why ∷ []
+packet_words script lives (line.Fell packet place why) =
+    codes "move" ∷ decimal packet ∷ switch_text script lives place ∷ codes "drop" ∷ drop_word why ∷ []
+packet_words script lives other = []
+
+-- the words of what is told of an event
+abbrev pub told_words : ScriptOf → List LifeId → Line → List (List ℕ)
+told_words script lives (line.Port place port state peer) =
+    switch_text script lives place ∷ codes "port" ∷ decimal port ∷ state_word state
+    ∷ peer_words script state peer
+told_words script lives (line.NoFrame place port) =
+    switch_text script lives place ∷ codes "noframe" ∷ decimal port ∷ []
+told_words script lives (line.Join place epoch) =
+    switch_text script lives place ∷ codes "join" ∷ decimal epoch ∷ []
+told_words script lives (line.Spent place) = switch_text script lives place ∷ codes "spent" ∷ []
+told_words script lives (line.Finish place epoch root members) =
+    switch_text script lives place ∷ codes "finish" ∷ decimal epoch ∷ codes "root"
+    ∷ life_text script root ∷ codes "members" ∷ decimal members ∷ []
+told_words script lives (line.Lost place port why) =
+    codes "lost" ∷ switch_text script lives place ∷ decimal port ∷ loss_words why
+told_words script lives (line.Load place epoch number) =
+    switch_text script lives place ∷ codes "load" ∷ decimal epoch ∷ codes "number" ∷ decimal number ∷ []
+told_words script lives (line.Cut place port dropped) =
+    codes "fail" ∷ switch_text script lives place ∷ decimal port ∷ codes "dropped" ∷ decimal dropped ∷ []
+told_words script lives (line.Mended place port) =
+    codes "repair" ∷ switch_text script lives place ∷ decimal port ∷ []
+told_words script lives (line.Restarted place) = codes "restart" ∷ switch_text script lives place ∷ []
+told_words script lives other = packet_words script lives other
 
 -- the lines of a table: one for entry 0, and one for each other entry that has rows
 abbrev pub has_line : List RowOf → ℕ → Bool
@@ -126,30 +146,25 @@ rows_in_use script life rows =
     table_text (map (row_form script life rows) (filter (has_line rows) (range_with_len 0 13)))
 
 -- behind the line of a load stand those of the table that is then in use
-abbrev pub rows_shown : ScriptOf → Option LifeId → Option TableOf → List ℕ
-rows_shown script None table = []
-rows_shown script (Some life) None = []
-rows_shown script (Some life) (Some table) = rows_in_use script life table.rows
-
-abbrev pub used_text : ScriptOf → FabricOf → ℕ → List ℕ
-used_text script fabric place = rows_shown script (life_shown fabric place) (table_at fabric place)
-
-abbrev pub rows_text : ScriptOf → FabricOf → Line → List ℕ
-rows_text script fabric (line.Load place epoch number) = used_text script fabric place
-rows_text script fabric told = []
+abbrev pub rows_text : ScriptOf → List LifeId → List RowOf → Line → List ℕ
+rows_text script lives rows (line.Load place epoch number) =
+    option_map_or (λ life. rows_in_use script life rows) (slice_get lives place) []
+rows_text script lives rows told = []
 
 -- a line of an event begins with the place of the event in the history, from 1
-unfoldable pub told_text : ScriptOf → FabricOf → Line → List ℕ
-told_text script fabric told =
-    decimal fabric.events ++ spaced (told_words script fabric told) ++ codes "\n"
-    ++ rows_text script fabric told
+unfoldable pub told_text : ScriptOf → CourseOf → List RowOf → Line → List ℕ
+told_text script course rows told =
+    decimal course.events ++ spaced (told_words script course.lives told) ++ codes "\n"
+    ++ rows_text script course.lives rows told
 
-abbrev pub all_told : ScriptOf → FabricOf → List Line → List ℕ
-all_told script fabric lines = flat_map (told_text script fabric) lines
+abbrev pub all_told : ScriptOf → CourseOf → List RowOf → List Line → List ℕ
+all_told script course rows lines = flat_map (told_text script course rows) lines
 
 -- the lines of an event, and of all events from a world on
 unfoldable pub event_text : ScriptOf → WorldOf → Event → List ℕ
-event_text script world event = all_told script (step world event).fabric (lines_of world event)
+event_text script world event =
+    let fabric : FabricOf = (step world event).fabric in
+    all_told script (course_of fabric) (rows_behind fabric event) (lines_of world event)
 
 abbrev pub events_text : ScriptOf → WorldOf → List Event → List ℕ
 events_text script world [] = []
@@ -163,22 +178,22 @@ ending_words script ending.Unsettled = codes "unsettled" ∷ []
 ending_words script ending.Full = codes "full" ∷ []
 ending_words script (ending.Spent life) = codes "spent" ∷ life_text script life ∷ []
 
-abbrev pub place_words : FabricOf → List (List ℕ)
-place_words fabric = codes "tick" ∷ decimal fabric.tick ∷ codes "events" ∷ decimal fabric.events ∷ []
+abbrev pub place_words : CourseOf → List (List ℕ)
+place_words course = codes "tick" ∷ decimal course.tick ∷ codes "events" ∷ decimal course.events ∷ []
 
-unfoldable pub line_of_end : ScriptOf → FabricOf → Ending → List ℕ
-line_of_end script fabric end =
-    codes "end" ++ spaced (ending_words script end ++ place_words fabric) ++ codes "\n"
+unfoldable pub line_of_end : ScriptOf → CourseOf → Ending → List ℕ
+line_of_end script course end =
+    codes "end" ++ spaced (ending_words script end ++ place_words course) ++ codes "\n"
 
-abbrev pub last_line : ScriptOf → FabricOf → Option Ending → List ℕ
-last_line script fabric None = []
-last_line script fabric (Some end) = line_of_end script fabric end
+abbrev pub last_line : ScriptOf → CourseOf → Option Ending → List ℕ
+last_line script course None = []
+last_line script course (Some end) = line_of_end script course end
 
 -- the report of a history
 unfoldable pub report_text : ScriptOf → List Event → List ℕ
 report_text script history =
     codes "report 1\n" ++ events_text script (begun script) history
-    ++ last_line script (world_after script history).fabric (end_of script history)
+    ++ last_line script (course_after script history) (end_of script history)
 
 -- The history is legal with this end, the text is its report, and all that is claimed of it holds.
 pub record IsReport (script : ScriptOf) (history : List Event) (end : Ending) (text : List ℕ) : Type 0 where

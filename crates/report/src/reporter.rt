@@ -4,19 +4,23 @@ ghost use Rattle.std.specs.Prelude.{◌≡◌, ◌<◌, ◌-◌, ◌^◌, ◌∷
 ghost use Rattle.journal.specs.Reading.{HasRead};
 ghost use Rattle.fabric_world.specs.Histories.{IsLegal, fabric_of, world_of};
 ghost use Rattle.fabric_world.specs.World.{world_after};
+ghost use Rattle.fabric_world.specs.Accounts.{rows_behind};
 ghost use Rattle.fabric_settling.specs.Claims.{HoldsAndSettles};
 ghost use Rattle.fabric_book.specs.Nets.{history_of};
 ghost use Rattle.outside.specs.Told.{Failed, Gains, GainsFront, IsNoLess};
 ghost use Rattle.replay.specs.Replays.{HasMade, HasNoEnd, IfIllegal, IsNoReplay, IsRefusal, IsUnlawfulNext};
 ghost use Rattle.replay.specs.declared.refusal.ReplayRefusal.TheVariants as refusal;
-ghost use Rattle.report.specs.Events.{HasLegalEnd, IsReport, IsReportOf, event_text, line_of_end, report_text};
+ghost use Rattle.report.specs.Events.{HasLegalEnd, IsReport, IsReportOf, course_of, event_text, line_of_end, report_text};
+ghost use Rattle.report.specs.Retellings.{HasCome};
 ghost use Rattle.table_report.specs.Names.{life_text};
 ghost use Rattle.report.specs.declared.reporter.ReportStop.TheVariants as stop;
 
+use crate::course::Course;
 use crate::telling::Telling;
 use an_base::event::{Event, Journal};
 use an_base::life::Life;
 use an_base::memory::OutOfMemory;
+use an_base::row::Row;
 use an_base::text::Word;
 use fabric_book::lines::Lines;
 use fabric_book::net::Net;
@@ -71,12 +75,26 @@ pub struct Report {
 // How much of a report is kept before it is written.
 const PIECE: usize = 1 << 15;
 
+// The rows behind an event: those of the table in use behind a load, and none behind others.
+fn rows_behind<'a>(net: &'a Net, event: &Event) -> &'a [Row]
+    ensures { result.now ≡ rows_behind (fabric_of (history_of net.now)) event.now }
+{
+    let Event::Load { s } = *event else {
+        return &[];
+    };
+    match net.table(s) {
+        Some(table) => table.as_slice(),
+        None => &[],
+    }
+}
+
 // A journal that is being replayed, with that part of its report which is kept.
 #[derive(Drop)]
 struct Reporter<'a> {
     alloc: Global,
     script: &'a Script,
     decimals: Decimals,
+    course: Course,
     net: Net,
     lines: Lines,
     text: Vec<u8>,
@@ -86,12 +104,14 @@ impl<'a> Reporter<'a> {
     // At the beginning: the first line.
     fn begin(alloc: Global, script: &'a Script) -> Result<Self, OutOfMemory>
         ensures made { IfOk result (λ reporter. HasMade reporter.script.now [] reporter.net) }
+        ensures course { IfOk result (λ reporter. HasCome reporter.net reporter.course) }
         ensures script { IfOk result (λ reporter. reporter.script.now ≡ script.now) }
         ensures text { IfOk result (λ reporter. reporter.text.items ≡ codes "report 1\n") }
     {
         Ok(Reporter {
             alloc,
             script,
+            course: Course::begin(alloc, script)?,
             lines: Lines::new(alloc),
             text: Vec::from_slice(alloc, b"report 1\n")?,
             decimals: Decimals::new(alloc)?,
@@ -101,9 +121,11 @@ impl<'a> Reporter<'a> {
 
     // The next event, with its lines.
     fn step(&mut self, event: &Event) -> Result<(), ReplayRefusal>
-        requires { HasMade self.old.script.now self.old.net.events self.old.net }
+        requires made { HasMade self.old.script.now self.old.net.events self.old.net }
+        requires course { HasCome self.old.net self.old.course }
         ensures made { OnOk result (HasMade self.old.script.now
             (self.old.net.events ++ event.now ∷ []) self.new.net) }
+        ensures course { OnOk result (HasCome self.new.net self.new.course) }
         ensures script { self.new.script.now ≡ self.old.script.now }
         ensures text { OnOk result (self.new.text.items ≡ self.old.text.items
             ++ event_text self.old.script.now (world_of (history_of self.old.net)) event.now) }
@@ -111,24 +133,27 @@ impl<'a> Reporter<'a> {
             IfIllegal why (IsUnlawfulNext (history_of self.old.net) event.now)) }
     {
         step(&mut self.net, event, &mut self.lines)?;
+        self.course.follow(event);
+        let rows = rows_behind(&self.net, event);
         let telling = Telling {
             alloc: self.alloc,
             script: self.script,
             decimals: &self.decimals,
-            fabric: self.net.fabric(),
+            course: &self.course,
         };
-        telling.push_lines(&mut self.text, self.lines.as_slice())?;
+        telling.push_lines(&mut self.text, self.lines.as_slice(), rows)?;
         Ok(())
     }
 
     // The end, with the last line.
     fn finish(&mut self) -> Result<Ending, ReplayRefusal>
-        requires { HasMade self.old.script.now self.old.net.events self.old.net }
+        requires made { HasMade self.old.script.now self.old.net.events self.old.net }
+        requires course { HasCome self.old.net self.old.course }
         ensures legal { IfOk result (IsLegal self.old.script.now self.old.net.events) }
         ensures claims { OnOk result (HoldsAndSettles self.old.script.now self.old.net.events) }
         ensures net { OnOk result (self.new.net ≡ self.old.net) }
         ensures text { IfOk result (λ end. self.new.text.items ≡ self.old.text.items
-            ++ line_of_end self.old.script.now (fabric_of (history_of self.old.net)) end) }
+            ++ line_of_end self.old.script.now (course_of (fabric_of (history_of self.old.net))) end) }
         ensures refused { IfErr result (λ why. IfIllegal why (HasNoEnd (history_of self.old.net))) }
     {
         let end = end_of(&self.net)?;
@@ -136,7 +161,7 @@ impl<'a> Reporter<'a> {
             alloc: self.alloc,
             script: self.script,
             decimals: &self.decimals,
-            fabric: self.net.fabric(),
+            course: &self.course,
         };
         telling.push_end_line(&mut self.text, &end)?;
         Ok(end)
@@ -146,6 +171,7 @@ impl<'a> Reporter<'a> {
     fn write<K: Sink>(&mut self, sink: &mut K) -> Result<(), WriteFault>
         ensures script { self.new.script.now ≡ self.old.script.now }
         ensures net { self.new.net ≡ self.old.net }
+        ensures course { self.new.course ≡ self.old.course }
         ensures emptied { OnOk result (self.new.text.items ≡ []) }
         ensures all { OnOk result (Gains (K.seen sink.old) (K.seen sink.new) self.old.text.items) }
         ensures front { GainsFront (K.seen sink.old) (K.seen sink.new) self.old.text.items }
@@ -160,6 +186,7 @@ impl<'a> Reporter<'a> {
     // The events of a journal, and the end.
     fn tell(&mut self, journal: &Journal) -> Result<Ending, ReplayRefusal>
         requires made { HasMade self.old.script.now [] self.old.net }
+        requires course { HasCome self.old.net self.old.course }
         requires first { self.old.text.items ≡ codes "report 1\n" }
         ensures report { IfOk result (λ end.
             IsReport self.old.script.now journal.now end self.new.text.items) }
@@ -177,6 +204,7 @@ impl<'a> Reporter<'a> {
     // The events of a journal, of which a reader has read none yet, and the end.
     fn tell_events(&mut self, reader: &mut Reader) -> Result<Ending, ReplayRefusal>
         requires made { HasMade self.old.script.now [] self.old.net }
+        requires course { HasCome self.old.net self.old.course }
         requires first { self.old.text.items ≡ codes "report 1\n" }
         ensures report { (bytes : List ℕ) → HasRead self.old.script.now bytes [] reader.old
             → IfOk result (λ end. IsReportOf self.old.script.now bytes end
@@ -196,6 +224,7 @@ impl<'a> Reporter<'a> {
     fn tell_text(&mut self, bytes: &[u8]) -> Result<Ending, ReplayRefusal>
         requires few { length bytes.now < 2 ^ 32 - 1 }
         requires made { HasMade self.old.script.now [] self.old.net }
+        requires course { HasCome self.old.net self.old.course }
         requires first { self.old.text.items ≡ codes "report 1\n" }
         ensures report { IfOk result (λ end. IsReportOf self.old.script.now bytes.now end
             (fabric_of (history_of self.new.net)).tick self.new.text.items) }
@@ -222,6 +251,7 @@ impl<'a> Reporter<'a> {
     // The report of a journal.
     fn report(&mut self, journal: &Journal) -> Result<Report, ReplayRefusal>
         requires made { HasMade self.old.script.now [] self.old.net }
+        requires course { HasCome self.old.net self.old.course }
         requires first { self.old.text.items ≡ codes "report 1\n" }
         ensures report { IfOk result (λ report.
             IsReport self.old.script.now journal.now report.end report.text.items) }
@@ -239,6 +269,7 @@ impl<'a> Reporter<'a> {
     fn report_text(&mut self, bytes: &[u8]) -> Result<Report, ReplayRefusal>
         requires few { length bytes.now < 2 ^ 32 - 1 }
         requires made { HasMade self.old.script.now [] self.old.net }
+        requires course { HasCome self.old.net self.old.course }
         requires first { self.old.text.items ≡ codes "report 1\n" }
         ensures report { IfOk result (λ report.
             IsReportOf self.old.script.now bytes.now report.end report.tick report.text.items) }
@@ -254,6 +285,7 @@ impl<'a> Reporter<'a> {
     // The report of a legal journal, piece by piece.
     fn write_events<K: Sink>(&mut self, journal: &Journal, sink: &mut K) -> Result<(), ReportStop>
         requires made { HasMade self.old.script.now [] self.old.net }
+        requires course { HasCome self.old.net self.old.course }
         requires first { self.old.text.items ≡ codes "report 1\n" }
         requires legal { HasLegalEnd self.old.script.now journal.now }
         ensures claims { OnOk result (HoldsAndSettles self.old.script.now journal.now) }

@@ -1,28 +1,28 @@
 //! The lines of an event.
 
-ghost use Rattle.std.specs.Prelude.{◌≡◌, ◌==◌, ◌++◌, ◌∷◌, [], codes, OnOk, Some};
+ghost use Rattle.std.specs.Prelude.{◌≡◌, ◌==◌, ◌++◌, ◌∷◌, [], codes, slice_get, OnOk, Some};
+ghost use Rattle.std.specs.Option.{option_map_or};
 ghost use Rattle.std.specs.List.{list_any};
 ghost use Rattle.std.specs.Fmt.{decimal};
 ghost use Rattle.table_report.specs.Names.{life_text};
 ghost use Rattle.report.specs.Events.{all_told, deliver_words, drop_word, ending_words, has_line, host_text};
-ghost use Rattle.report.specs.Events.{life_shown, line_of_end, loss_words, peer_words, place_words, rows_in_use};
-ghost use Rattle.report.specs.Events.{rows_text, spaced, state_word, switch_text, told_text, told_words, used_text};
+ghost use Rattle.report.specs.Events.{line_of_end, loss_words, packet_words, peer_words, place_words, rows_in_use};
+ghost use Rattle.report.specs.Events.{rows_text, spaced, state_word, switch_text, told_text, told_words};
 ghost use Rattle.wire_set.specs.declared.side.Loss.TheVariants as loss;
 ghost use Rattle.fabric_state.specs.declared.ending.Ending.TheVariants as ending;
 ghost use Rattle.fabric_world.specs.declared.line.Line.TheVariants as told;
 
+use crate::course::Course;
 use an_base::life::{End, Life};
 use an_base::memory::OutOfMemory;
 use an_base::port::PortState;
 use an_base::row::Row;
 use fabric_state::ending::Ending;
-use fabric_state::fabric::Fabric;
 use fabric_world::line::Line;
 use host_traffic::hop::DropCause;
 use itoa::Buffer;
 use net_script::script::Script;
 use std::alloc::Global;
-use table_build::table::Table;
 use table_report::decimals::Decimals;
 use table_report::piece::push_life;
 use table_report::row::push_row_line;
@@ -126,13 +126,13 @@ fn has_line(rows: &[Row], entry: u8) -> bool
     entry == 0 || has_rows(rows, entry)
 }
 
-/// What the lines of an event are told with: the script, and the fabric behind the event.
+/// What the lines of an event are told with: the script, and how far the network has come with the event.
 #[derive(Clone, Copy, Drop)]
 pub(crate) struct Telling<'a> {
     pub(crate) alloc: Global,
     pub(crate) script: &'a Script,
     pub(crate) decimals: &'a Decimals,
-    pub(crate) fabric: &'a Fabric,
+    pub(crate) course: &'a Course,
 }
 
 impl Telling<'_> {
@@ -146,22 +146,12 @@ impl Telling<'_> {
         Ok(())
     }
 
-    // The present life of a switch.
-    fn life_shown(&self, s: u8) -> Option<Life>
-        ensures { result ≡ life_shown self.now.fabric.now s }
-    {
-        if s >= self.fabric.count() {
-            return None;
-        }
-        Some(self.fabric.station(s).note().life)
-    }
-
     // Appends a switch behind a space.
     fn push_switch(&self, text: &mut Vec<u8>, s: u8) -> Result<(), OutOfMemory>
         ensures { OnOk result (text.new.items
-            ≡ text.old.items ++ spaced (switch_text self.now.script.now self.now.fabric.now s ∷ [])) }
+            ≡ text.old.items ++ spaced (switch_text self.now.script.now self.now.course.now.lives s ∷ [])) }
     {
-        match self.life_shown(s) {
+        match self.course.life(s) {
             None => push_word(text, b""),
             Some(life) => self.push_life(text, life),
         }
@@ -176,7 +166,7 @@ impl Telling<'_> {
         number: u64,
     ) -> Result<(), OutOfMemory>
         ensures { OnOk result (text.new.items ≡ text.old.items
-            ++ spaced (switch_text self.now.script.now self.now.fabric.now s
+            ++ spaced (switch_text self.now.script.now self.now.course.now.lives s
             ∷ word.now ∷ decimal number ∷ [])) }
     {
         self.push_switch(text, s)?;
@@ -188,7 +178,7 @@ impl Telling<'_> {
     fn push_end(&self, text: &mut Vec<u8>, word: &[u8], s: u8, port: u8) -> Result<(), OutOfMemory>
         ensures { OnOk result (text.new.items ≡ text.old.items
             ++ spaced (word.now
-            ∷ switch_text self.now.script.now self.now.fabric.now s ∷ decimal port ∷ [])) }
+            ∷ switch_text self.now.script.now self.now.course.now.lives s ∷ decimal port ∷ [])) }
     {
         push_word(text, word)?;
         self.push_switch(text, s)?;
@@ -255,7 +245,7 @@ impl Telling<'_> {
     fn push_move(&self, text: &mut Vec<u8>, packet: u32, s: u8) -> Result<(), OutOfMemory>
         ensures { OnOk result (text.new.items ≡ text.old.items
             ++ spaced (codes "move" ∷ decimal packet
-            ∷ switch_text self.now.script.now self.now.fabric.now s ∷ [])) }
+            ∷ switch_text self.now.script.now self.now.course.now.lives s ∷ [])) }
     {
         push_word(text, b"move")?;
         push_number(text, u64::from(packet))?;
@@ -314,7 +304,7 @@ impl Telling<'_> {
         peer: Option<End>,
     ) -> Result<(), OutOfMemory>
         ensures { OnOk result (text.new.items ≡ text.old.items
-            ++ spaced (told_words self.now.script.now self.now.fabric.now (told.Port s port state peer))) }
+            ++ spaced (told_words self.now.script.now self.now.course.now.lives (told.Port s port state peer))) }
     {
         self.push_at(text, s, b"port", u64::from(port))?;
         push_word(text, state_word(state).as_bytes())?;
@@ -324,7 +314,7 @@ impl Telling<'_> {
     // Appends what is told of a switch whose epochs are spent.
     fn push_spent(&self, text: &mut Vec<u8>, s: u8) -> Result<(), OutOfMemory>
         ensures { OnOk result (text.new.items ≡ text.old.items
-            ++ spaced (told_words self.now.script.now self.now.fabric.now (told.Spent s))) }
+            ++ spaced (told_words self.now.script.now self.now.course.now.lives (told.Spent s))) }
     {
         self.push_switch(text, s)?;
         push_word(text, b"spent")
@@ -340,7 +330,7 @@ impl Telling<'_> {
         members: u8,
     ) -> Result<(), OutOfMemory>
         ensures { OnOk result (text.new.items ≡ text.old.items
-            ++ spaced (told_words self.now.script.now self.now.fabric.now
+            ++ spaced (told_words self.now.script.now self.now.course.now.lives
             (told.Finish s epoch root members))) }
     {
         self.push_at(text, s, b"finish", epoch)?;
@@ -353,7 +343,7 @@ impl Telling<'_> {
     // Appends what is told of a frame that was lost.
     fn push_lost(&self, text: &mut Vec<u8>, s: u8, port: u8, why: Loss) -> Result<(), OutOfMemory>
         ensures { OnOk result (text.new.items ≡ text.old.items
-            ++ spaced (told_words self.now.script.now self.now.fabric.now (told.Lost s port why))) }
+            ++ spaced (told_words self.now.script.now self.now.course.now.lives (told.Lost s port why))) }
     {
         self.push_end(text, b"lost", s, port)?;
         push_loss(text, why)
@@ -368,7 +358,7 @@ impl Telling<'_> {
         number: u8,
     ) -> Result<(), OutOfMemory>
         ensures { OnOk result (text.new.items ≡ text.old.items
-            ++ spaced (told_words self.now.script.now self.now.fabric.now (told.Load s epoch number))) }
+            ++ spaced (told_words self.now.script.now self.now.course.now.lives (told.Load s epoch number))) }
     {
         self.push_at(text, s, b"load", epoch)?;
         push_word(text, b"number")?;
@@ -378,7 +368,7 @@ impl Telling<'_> {
     // Appends what is told of a link that went down.
     fn push_cut(&self, text: &mut Vec<u8>, s: u8, port: u8, dropped: u32) -> Result<(), OutOfMemory>
         ensures { OnOk result (text.new.items ≡ text.old.items
-            ++ spaced (told_words self.now.script.now self.now.fabric.now (told.Cut s port dropped))) }
+            ++ spaced (told_words self.now.script.now self.now.course.now.lives (told.Cut s port dropped))) }
     {
         self.push_end(text, b"fail", s, port)?;
         push_word(text, b"dropped")?;
@@ -388,7 +378,7 @@ impl Telling<'_> {
     // Appends what is told of a switch that began its next life.
     fn push_restarted(&self, text: &mut Vec<u8>, s: u8) -> Result<(), OutOfMemory>
         ensures { OnOk result (text.new.items ≡ text.old.items
-            ++ spaced (told_words self.now.script.now self.now.fabric.now (told.Restarted s))) }
+            ++ spaced (told_words self.now.script.now self.now.course.now.lives (told.Restarted s))) }
     {
         push_word(text, b"restart")?;
         self.push_switch(text, s)
@@ -404,7 +394,7 @@ impl Telling<'_> {
         address: u16,
     ) -> Result<(), OutOfMemory>
         ensures { OnOk result (text.new.items ≡ text.old.items
-            ++ spaced (told_words self.now.script.now self.now.fabric.now
+            ++ spaced (told_words self.now.script.now self.now.course.now.lives
             (told.Packet packet host to address))) }
     {
         self.push_packet(text, packet, host, to)?;
@@ -422,7 +412,7 @@ impl Telling<'_> {
         why: DropCause,
     ) -> Result<(), OutOfMemory>
         ensures { OnOk result (text.new.items ≡ text.old.items
-            ++ spaced (told_words self.now.script.now self.now.fabric.now (told.Unsent packet host to why))) }
+            ++ spaced (told_words self.now.script.now self.now.course.now.lives (told.Unsent packet host to why))) }
     {
         self.push_packet(text, packet, host, to)?;
         push_drop(text, why)
@@ -437,38 +427,18 @@ impl Telling<'_> {
         why: DropCause,
     ) -> Result<(), OutOfMemory>
         ensures { OnOk result (text.new.items ≡ text.old.items
-            ++ spaced (told_words self.now.script.now self.now.fabric.now (told.Fell packet s why))) }
+            ++ spaced (told_words self.now.script.now self.now.course.now.lives (told.Fell packet s why))) }
     {
         self.push_move(text, packet, s)?;
         push_drop(text, why)
     }
 
-    // Appends the words of what is told.
-    fn push_told(&self, text: &mut Vec<u8>, line: &Line) -> Result<(), OutOfMemory>
+    // Appends the words of what is told of a packet.
+    fn push_told_of_packet(&self, text: &mut Vec<u8>, line: &Line) -> Result<(), OutOfMemory>
         ensures { OnOk result (text.new.items ≡ text.old.items
-            ++ spaced (told_words self.now.script.now self.now.fabric.now line.now)) }
+            ++ spaced (packet_words self.now.script.now self.now.course.now.lives line.now)) }
     {
         match *line {
-            Line::Port {
-                s,
-                port,
-                state,
-                peer,
-            } => self.push_port(text, s, port, state, peer),
-            Line::NoFrame { s, port } => self.push_at(text, s, b"noframe", u64::from(port)),
-            Line::Join { s, epoch } => self.push_at(text, s, b"join", epoch),
-            Line::Spent { s } => self.push_spent(text, s),
-            Line::Finish {
-                s,
-                epoch,
-                root,
-                members,
-            } => self.push_finish(text, s, epoch, root, members),
-            Line::Lost { s, port, cause } => self.push_lost(text, s, port, cause),
-            Line::Load { s, epoch, number } => self.push_load(text, s, epoch, number),
-            Line::Cut { s, port, dropped } => self.push_cut(text, s, port, dropped),
-            Line::Mended { s, port } => self.push_end(text, b"repair", s, port),
-            Line::Restarted { s } => self.push_restarted(text, s),
             Line::Packet {
                 packet,
                 host,
@@ -493,6 +463,39 @@ impl Telling<'_> {
                 self.push_hop(text, epoch, entry, exit, host)
             }
             Line::Fell { packet, s, cause } => self.push_fell(text, packet, s, cause),
+            _ => Ok(()),
+        }
+    }
+
+    // Appends the words of what is told.
+    fn push_told(&self, text: &mut Vec<u8>, line: &Line) -> Result<(), OutOfMemory>
+        ensures { OnOk result (text.new.items ≡ text.old.items
+            ++ spaced (told_words self.now.script.now self.now.course.now.lives line.now)) }
+    {
+        match *line {
+            Line::Port {
+                s,
+                port,
+                state,
+                peer,
+            } => self.push_port(text, s, port, state, peer),
+            Line::NoFrame { s, port } => self.push_at(text, s, b"noframe", u64::from(port)),
+            Line::Join { s, epoch } => self.push_at(text, s, b"join", epoch),
+            Line::Spent { s } => self.push_spent(text, s),
+            Line::Finish {
+                s,
+                epoch,
+                root,
+                members,
+            } => self.push_finish(text, s, epoch, root, members),
+            Line::Lost { s, port, cause } => self.push_lost(text, s, port, cause),
+            Line::Load { s, epoch, number } => self.push_load(text, s, epoch, number),
+            Line::Cut { s, port, dropped } => self.push_cut(text, s, port, dropped),
+            Line::Mended { s, port } => self.push_end(text, b"repair", s, port),
+            Line::Restarted { s } => self.push_restarted(text, s),
+            Line::Packet { .. } | Line::Unsent { .. } | Line::Moved { .. } | Line::Fell { .. } => {
+                self.push_told_of_packet(text, line)
+            }
         }
     }
 
@@ -517,49 +520,57 @@ impl Telling<'_> {
         Ok(())
     }
 
-    // Appends the rows of the table that a switch has in use.
-    fn push_used(&self, text: &mut Vec<u8>, s: u8) -> Result<(), OutOfMemory>
+    // Appends these rows of the table that a switch has in use.
+    fn push_used(&self, text: &mut Vec<u8>, s: u8, rows: &[Row]) -> Result<(), OutOfMemory>
         ensures { OnOk result (text.new.items ≡ text.old.items
-            ++ used_text self.now.script.now self.now.fabric.now s) }
+            ++ option_map_or (λ life. rows_in_use self.now.script.now life rows.now)
+            (slice_get self.now.course.now.lives s) []) }
     {
-        let Some(life) = self.life_shown(s) else {
+        let Some(life) = self.course.life(s) else {
             return Ok(());
         };
-        match self.fabric.table(s) {
-            None => Ok(()),
-            Some(table) => self.push_table(text, life, table.as_slice()),
-        }
+        self.push_table(text, life, rows)
     }
 
     // Appends the rows that stand behind a line.
-    fn push_rows(&self, text: &mut Vec<u8>, line: &Line) -> Result<(), OutOfMemory>
+    fn push_rows(&self, text: &mut Vec<u8>, line: &Line, rows: &[Row]) -> Result<(), OutOfMemory>
         ensures { OnOk result (text.new.items ≡ text.old.items
-            ++ rows_text self.now.script.now self.now.fabric.now line.now) }
+            ++ rows_text self.now.script.now self.now.course.now.lives rows.now line.now) }
     {
         match *line {
-            Line::Load { s, .. } => self.push_used(text, s),
+            Line::Load { s, .. } => self.push_used(text, s, rows),
             _ => Ok(()),
         }
     }
 
-    // Appends a line, with the rows behind it.
-    fn push_line(&self, text: &mut Vec<u8>, line: &Line) -> Result<(), OutOfMemory>
+    /// Appends a line, with the rows behind it.
+    pub(crate) fn push_line(
+        &self,
+        text: &mut Vec<u8>,
+        line: &Line,
+        rows: &[Row],
+    ) -> Result<(), OutOfMemory>
         ensures { OnOk result (text.new.items ≡ text.old.items
-            ++ told_text self.now.script.now self.now.fabric.now line.now) }
+            ++ told_text self.now.script.now self.now.course.now rows.now line.now) }
     {
-        push_digits(text, u64::from(self.fabric.events()))?;
+        push_digits(text, u64::from(self.course.events()))?;
         self.push_told(text, line)?;
         text.push(b'\n')?;
-        self.push_rows(text, line)
+        self.push_rows(text, line, rows)
     }
 
     /// Appends the lines of an event.
-    pub(crate) fn push_lines(&self, text: &mut Vec<u8>, lines: &[Line]) -> Result<(), OutOfMemory>
+    pub(crate) fn push_lines(
+        &self,
+        text: &mut Vec<u8>,
+        lines: &[Line],
+        rows: &[Row],
+    ) -> Result<(), OutOfMemory>
         ensures { OnOk result (text.new.items ≡ text.old.items
-            ++ all_told self.now.script.now self.now.fabric.now lines.now) }
+            ++ all_told self.now.script.now self.now.course.now rows.now lines.now) }
     {
         'lines: for line in lines {
-            self.push_line(text, line)?;
+            self.push_line(text, line, rows)?;
         }
         Ok(())
     }
@@ -588,18 +599,18 @@ impl Telling<'_> {
 
     // Appends the tick, and the number of events.
     fn push_place(&self, text: &mut Vec<u8>) -> Result<(), OutOfMemory>
-        ensures { OnOk result (text.new.items ≡ text.old.items ++ spaced (place_words self.now.fabric.now)) }
+        ensures { OnOk result (text.new.items ≡ text.old.items ++ spaced (place_words self.now.course.now)) }
     {
         push_word(text, b"tick")?;
-        push_number(text, u64::from(self.fabric.now()))?;
+        push_number(text, u64::from(self.course.tick()))?;
         push_word(text, b"events")?;
-        push_number(text, u64::from(self.fabric.events()))
+        push_number(text, u64::from(self.course.events()))
     }
 
     /// Appends the last line.
     pub(crate) fn push_end_line(&self, text: &mut Vec<u8>, end: &Ending) -> Result<(), OutOfMemory>
         ensures { OnOk result (text.new.items ≡ text.old.items
-            ++ line_of_end self.now.script.now self.now.fabric.now end.now) }
+            ++ line_of_end self.now.script.now self.now.course.now end.now) }
     {
         text.extend_from_slice(b"end")?;
         self.push_ending(text, end)?;

@@ -1,20 +1,19 @@
-use Rattle.std.proofs.Common.{◌≡◌, ◌∙◌, sym, ap, ℕ, List, [], ◌∷◌, ◌++◌, append-nil, map}
-use Rattle.std.specs.List.{zip}
+use Rattle.std.proofs.Common.{◌≡◌, ◌∙◌, sym, ap, ℕ, List, [], ◌∷◌, ◌++◌, append-nil}
 use Rattle.text_lines.specs.Lines.{line_text}
 use Rattle.text_lines.proofs.FormTexts.{go_on}
 use Rattle.net_script.specs.Forms.{form_words, End, header_words}
 use Rattle.net_script.specs.Scripts.{ScriptOf}
-use Rattle.script_text.specs.Canonical.{forms_text, setting_forms, switch_form, link_form, host_form, command_form, forms_of, canonical_text}
+use Rattle.script_text.specs.Canonical.{forms_text, setting_forms, switch_forms, link_forms, host_forms, command_forms, forms_of, canonical_text}
 
 -- the parts of a canonical text
-pub canonical_parts : (s : ScriptOf) (none header settings switches links hosts commands all : List ℕ) → none ≡ [] → header ≡ none ++ line_text header_words → settings ≡ header ++ forms_text (setting_forms s) → switches ≡ settings ++ forms_text (map switch_form (zip s.switch_names s.wires.switches)) → links ≡ switches ++ forms_text (map (link_form s.switch_names) s.wires.links) → hosts ≡ links ++ forms_text (map (host_form s.switch_names) (zip s.names_of_hosts s.wires.hosts)) → commands ≡ hosts ++ forms_text (map (command_form s) s.commands) → all ≡ commands ++ line_text (form_words End) → all ≡ canonical_text s
+pub canonical_parts : (s : ScriptOf) (none header settings switches links hosts commands all : List ℕ) → none ≡ [] → header ≡ none ++ line_text header_words → settings ≡ header ++ forms_text (setting_forms s) → switches ≡ settings ++ forms_text (switch_forms s) → links ≡ switches ++ forms_text (link_forms s) → hosts ≡ links ++ forms_text (host_forms s) → commands ≡ hosts ++ forms_text (command_forms s) → all ≡ commands ++ line_text (form_words End) → all ≡ canonical_text s
 unfolding canonical_text forms_of
 canonical_parts s none header settings switches links hosts commands all nothing e0 e1 e2 e3 e4 e5 e6 =
     let last : all ≡ commands ++ forms_text (End ∷ []) = e6 ∙ ap (λ (b : List ℕ). commands ++ b) (sym (append-nil (line_text (form_words End)))) in
-    let cs = map (command_form s) s.commands in
-    let hs = map (host_form s.switch_names) (zip s.names_of_hosts s.wires.hosts) in
-    let ls = map (link_form s.switch_names) s.wires.links in
-    let ss = map switch_form (zip s.switch_names s.wires.switches) in
+    let cs = command_forms s in
+    let hs = host_forms s in
+    let ls = link_forms s in
+    let ss = switch_forms s in
     let from_hosts = go_on form_words cs (End ∷ []) hosts commands all e5 last in
     let from_links = go_on form_words hs (cs ++ End ∷ []) links hosts all e4 from_hosts in
     let from_switches = go_on form_words ls (hs ++ (cs ++ End ∷ [])) switches links all e3 from_links in

@@ -1,6 +1,6 @@
 use Rattle.std.specs.Prelude.{◌==◌, ℕ, Bool, List, [], ◌∷◌, ◌++◌, map, Option, Some, None, if◌then◌else◌}
 use Rattle.std.specs.Prelude.{slice_index_or}
-use Rattle.std.specs.List.{zip}
+use Rattle.std.specs.List.{flat_map, zip}
 use Rattle.std.specs.Fmt.{decimal}
 use Rattle.an_base.specs.declared.event.Event.{Event}
 use Rattle.an_base.specs.declared.event.Event.TheVariants.{Fail, Repair, Lose, Again, Swap, Noise, Send}
@@ -87,16 +87,29 @@ abbrev pub command_form : ScriptOf → Command → Form
 command_form script command =
     event_form script.switch_names script.names_of_hosts (decimal command.time) command.event
 
--- the lines of a script after the first: the settings, the switches, the links, the hosts, the
--- commands, each in their order, and `end`
+-- the switches, the links, the hosts and the commands, each in their order
+abbrev pub switch_forms : ScriptOf → List Form
+switch_forms script = map switch_form (zip script.switch_names script.wires.switches)
+
+abbrev pub link_forms : ScriptOf → List Form
+link_forms script = map (link_form script.switch_names) script.wires.links
+
+abbrev pub host_forms : ScriptOf → List Form
+host_forms script = map (host_form script.switch_names) (zip script.names_of_hosts script.wires.hosts)
+
+abbrev pub command_forms : ScriptOf → List Form
+command_forms script = map (command_form script) script.commands
+
+-- the lines of a script after the first, the last of which is `end`
 unfoldable pub forms_of : ScriptOf → List Form
 forms_of script =
     setting_forms script
-    ++ (map switch_form (zip script.switch_names script.wires.switches)
-    ++ (map (link_form script.switch_names) script.wires.links
-    ++ (map (host_form script.switch_names) (zip script.names_of_hosts script.wires.hosts)
-    ++ (map (command_form script) script.commands ++ End ∷ []))))
+    ++ (switch_forms script ++ (link_forms script ++ (host_forms script ++ (command_forms script ++ End ∷ []))))
 
 -- the canonical text of a script
 unfoldable pub canonical_text : ScriptOf → List ℕ
 canonical_text script = lines_text (header_words ∷ map form_words (forms_of script))
+
+-- numbers, each behind a space, which a private function alone cites
+abbrev pub spaced_numbers : List ℕ → List ℕ
+spaced_numbers numbers = flat_map (λ word. 32 ∷ word) (map decimal numbers)

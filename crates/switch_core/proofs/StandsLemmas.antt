@@ -5,7 +5,7 @@ use Rattle.switch_core.specs.Switch.{SwitchOf, at_port}
 use Rattle.an_base.specs.Values.{LifeId, EndId}
 use Rattle.an_base.specs.declared.body.Body.{Body}
 use Rattle.an_base.specs.declared.frame.Frame.TheVariants.{Carry, Ack}
-use Rattle.frame_codec.specs.Spelling.{CarryHeadOf, carried, spelling}
+use Rattle.frame_codec.specs.Spelling.{spelling}
 use Rattle.switch_core.specs.Steps.{Step, Sent, still, after, carried_to, ack_to, sends_on, peer_among, pushed, pushed_to}
 use Rattle.epoch_core.specs.Log.{OnPort, on_port}
 use Rattle.std.proofs.lemmas.Bool.{eq-eqb}
@@ -41,12 +41,12 @@ pub stands_same : (old new : Control) (s : SwitchOf) → IsSame old new → Stan
 stands_same old new s same stands = subst (λ c. Stands c s) (sym same) (assumption stands)
 
 -- the spelling of a body that goes out
-pub carried_spelled : (c : Control) (s : SwitchOf) (port k : ℕ) (peer end : EndId) (head : CarryHeadOf) (body : Body) → Stands c s → end ≡ record { life = c.life; port = port } → head ≡ record { epoch = c.epoch; from = end; to = peer; k = k }
-    → spelling (Carry (carried head body)) ≡ (spelled_out (carried_to s port peer (record { k = k; body = body }))).bytes
-carried_spelled c s port k peer end head body stands end_is head_is =
+pub carried_spelled : (c : Control) (s : SwitchOf) (port k : ℕ) (peer end : EndId) (body : Body) → Stands c s → end ≡ record { life = c.life; port = port }
+    → spelling (Carry (record { epoch = c.epoch; from = end; to = peer; k = k; body = body })) ≡ (spelled_out (carried_to s port peer (record { k = k; body = body }))).bytes
+carried_spelled c s port k peer end body stands end_is =
     let from : end ≡ record { life = s.life; port = port } = end_is ∙ ap (λ (l : LifeId). record { life = l; port = port }) stands.life in
-    ap (λ (h : CarryHeadOf). spelling (Carry (carried h body)))
-    (head_is ∙ ap (λ (e : EndId). record { epoch = c.epoch; from = e; to = peer; k = k }) from ∙ ap (λ (n : ℕ). record { epoch = n; from = record { life = s.life; port = port }; to = peer; k = k }) stands.epoch)
+    ap (λ (e : EndId). spelling (Carry (record { epoch = c.epoch; from = e; to = peer; k = k; body = body }))) from
+    ∙ ap (λ (n : ℕ). spelling (Carry (record { epoch = n; from = record { life = s.life; port = port }; to = peer; k = k; body = body }))) stands.epoch
 
 -- and of an acknowledgement
 pub ack_spelled : (c : Control) (s : SwitchOf) (port n : ℕ) (peer end : EndId) → Stands c s → end ≡ record { life = c.life; port = port } → n ≡ last (s.receivings port)

@@ -62,6 +62,19 @@ pub struct Control {
     pub buffer: FrameBuf,
 }
 
+/// What a switch is started with.
+#[derive(Clone, Copy, Debug)]
+pub struct PowerOn {
+    /// The life that it begins.
+    pub life: Life,
+    /// The epoch that it is in, which it has not joined.
+    pub epoch: u64,
+    /// The number that it had before, 1 to 126.
+    pub had: u8,
+    /// Whether its tables are to have all legal routes, else the least ones alone.
+    pub any: bool,
+}
+
 // The other end of the link at a port, if there is one.
 fn peer_of(links: &Links, port: u8) -> Option<End>
     ensures peer { result ≡ peer_among links.now port }
@@ -77,25 +90,19 @@ fn peer_of(links: &Links, port: u8) -> Option<End>
 
 impl Control {
     /// At power-on, with the memory in which frames are spelled.
-    pub fn start(
-        alloc: Global,
-        life: Life,
-        epoch: u64,
-        had: u8,
-        any: bool,
-    ) -> Result<Control, OutOfMemory>
-        ensures { IfOk result (λ control. Stands control (started life epoch had any)) }
+    pub fn start(alloc: Global, on: &PowerOn) -> Result<Control, OutOfMemory>
+        ensures { IfOk result (λ control. Stands control (started on.now.life on.now.epoch on.now.had on.now.any)) }
     {
         Ok(Control {
             alloc,
-            life,
-            any,
-            monitor: Monitor::new(life),
-            epoch,
+            life: on.life,
+            any: on.any,
+            monitor: Monitor::new(on.life),
+            epoch: on.epoch,
             core: None,
             links: Links::new(),
             sessions: Sessions::new(alloc),
-            number: had,
+            number: on.had,
             load_due: false,
             tick: 0,
             spent: false,
@@ -104,18 +111,18 @@ impl Control {
     }
 
     /// As at power-on again, without taking memory.
-    pub fn restart(&mut self, life: Life, epoch: u64, had: u8, any: bool)
-        ensures { Stands self.new (started life epoch had any) }
+    pub fn restart(&mut self, on: &PowerOn)
+        ensures { Stands self.new (started on.now.life on.now.epoch on.now.had on.now.any) }
     {
         let alloc = self.alloc;
-        self.life = life;
-        self.any = any;
-        self.monitor = Monitor::new(life);
-        self.epoch = epoch;
+        self.life = on.life;
+        self.any = on.any;
+        self.monitor = Monitor::new(on.life);
+        self.epoch = on.epoch;
         self.core = None;
         self.links = Links::new();
         self.sessions = Sessions::new(alloc);
-        self.number = had;
+        self.number = on.had;
         self.load_due = false;
         self.tick = 0;
         self.spent = false;
@@ -150,7 +157,12 @@ impl Control {
         ensures same { OnOk result (IsSame self.old self.new) }
         ensures out { OnOk result (Carries self.old port peer k out.old out.new) }
     {
-        let head = CarryHead::new(self.epoch, self.end_at(port), peer, k);
+        let head = CarryHead {
+            epoch: self.epoch,
+            from: self.end_at(port),
+            to: peer,
+            k,
+        };
         encode_carry(&head, self.sessions.body(port, k), &mut self.buffer);
         out.push(port, self.buffer.bytes())?;
         Ok(())
@@ -340,9 +352,7 @@ impl Control {
         if carry.epoch > self.epoch {
             self.join(carry.epoch, out)?;
         }
-        let peer = carry.from;
-        let k = carry.k();
-        self.answer_body(port, peer, k, carry.into_body(), out)?;
+        self.answer_body(port, carry.from, carry.k, carry.body, out)?;
         Ok(())
     }
 

@@ -7,7 +7,7 @@ ghost use Rattle.switch_core.specs.Stands.{Stands};
 ghost use Rattle.switch_core.specs.Kept.{Handles, IsLoadDue, IsWorking, Loads, StandsFor, Ticks, is_spent, load_due};
 ghost use Rattle.switch_core.specs.declared.switch.ClockRefusal.TheVariants as refusal;
 
-use crate::control::Control;
+use crate::control::{Control, PowerOn};
 use crate::out::Out;
 use an_base::body::TopoBody;
 use an_base::life::Life;
@@ -19,24 +19,6 @@ use table_build::table::Table;
 
 /// The most clocks and frames that a switch takes in one life.
 pub const MOST_WORKS: u32 = 268_435_456;
-
-/// What a switch is started with.
-#[derive(Clone, Copy, Debug)]
-struct PowerOn {
-    life: Life,
-    epoch: u64,
-    had: u8,
-    any: bool,
-}
-
-impl PowerOn {
-    // A switch is as at power-on again, without taking memory.
-    fn restart(self, control: &mut Control)
-        ensures { Stands control.new (started self.life self.epoch self.had self.any) }
-    {
-        control.restart(self.life, self.epoch, self.had, self.any);
-    }
-}
 
 /// One life of a switch: what it keeps of what happened to it, and how many clocks and frames came.
 #[derive(Debug, Drop)]
@@ -94,14 +76,15 @@ impl Switch {
         ensures stands { IfOk result (λ switch. StandsFor switch (started life epoch had any)) }
         ensures works { IfOk result (λ switch. switch.works ≡ 0) }
     {
+        let start = PowerOn {
+            life,
+            epoch,
+            had,
+            any,
+        };
         Ok(Switch {
-            start: PowerOn {
-                life,
-                epoch,
-                had,
-                any,
-            },
-            control: Control::start(alloc, life, epoch, had, any)?,
+            control: Control::start(alloc, &start)?,
+            start,
             works: 0,
         })
     }
@@ -131,7 +114,7 @@ impl Switch {
             }
             Err(OutOfMemory) => {
                 out.clear();
-                self.start.restart(&mut self.control);
+                self.control.restart(&self.start);
                 Err(OutOfMemory)
             }
         }
@@ -170,7 +153,7 @@ impl Switch {
             }
             Err(OutOfMemory) => {
                 out.clear();
-                self.start.restart(&mut self.control);
+                self.control.restart(&self.start);
                 Err(ClockRefusal::OutOfMemory)
             }
         }

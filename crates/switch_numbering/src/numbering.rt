@@ -12,7 +12,7 @@ fn is_proposed_by(entries: &[Entry], number: u8) -> bool
     ensures { result ≡ is_proposed (proposals entries.now) number }
 {
     'entries: for entry in entries {
-        if entry.proposed() == number {
+        if entry.proposed == number {
             return true;
         }
     }
@@ -43,11 +43,11 @@ pub fn number(alloc: Global, entries: &Entries) -> Result<Numbers, OutOfMemory>
     let mut numbers = Vec::with_capacity(alloc, entries.len())?;
     let mut others = 0usize;
     'entries: for (i, entry) in entries.iter().enumerate() {
-        if is_proposed_by(&entries[..i], entry.proposed()) {
+        if is_proposed_by(&entries[..i], entry.proposed) {
             numbers.push(free[others])?;
             others += 1;
         } else {
-            numbers.push(entry.proposed())?;
+            numbers.push(entry.proposed)?;
         }
     }
     Ok(Numbers::new(numbers))

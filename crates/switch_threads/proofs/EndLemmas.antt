@@ -9,6 +9,7 @@ use Rattle.fabric_state.specs.declared.ending.Ending.{Ending}
 use Rattle.fabric_state.specs.declared.work.Drive.TheVariants as drive
 use Rattle.fabric_state.specs.Agree.{ending_of}
 use Rattle.fabric_turn.specs.History.{Extends}
+use Rattle.fabric_world.specs.declared.line.PlacedLine.{PlacedLine}
 use Rattle.fabric_world.specs.Histories.{end_of}
 use Rattle.fabric_world.specs.Turns.{Drives}
 use Rattle.fabric_world.specs.World.{WorldOf, world_after}
@@ -32,7 +33,7 @@ told_extends script before after None on is = is
 told_extends script before after (Some end) on is = end_extends script before after end on is
 
 -- an end that is told has come, and nothing with it
-pub end_told : (script : ScriptOf) (h after : List Event) (end : Ending) → Drives script h (drive.Ended end) after → end_of script after ≡ Some end
-end_told script h after end does =
+pub end_told : (script : ScriptOf) (h after : List Event) (end : Ending) (told : Option PlacedLine) → Drives script h (drive.Ended end) told after → end_of script after ≡ Some end
+end_told script h after end told does =
     let f = (world_after script h).fabric in
     ap (end_of script) (does.event ∙ append-nil h) ∙ told_end f (ending_of f) end (sym does.drive_is)

@@ -1,6 +1,7 @@
 -- A worker keeps up with the world when an event of its own comes.
 
 use Rattle.std.specs.Prelude.{◌≡◌, ◌+◌, ◌<◌, ◌≤◌, ℕ, List, [], ◌∷◌, ◌++◌, cond, length, nat_lt, not, Bool, Option, Some, None, true, false, refl}
+use Rattle.std.specs.Option.{option_map}
 use Rattle.std.proofs.Common.{sym, ◌∙◌, ap, subst, arith, true≢false}
 use Rattle.std.proofs.lemmas.List.Elements.{All-head}
 use Rattle.an_base.specs.Ports.{NoteOf}
@@ -8,7 +9,7 @@ use Rattle.an_base.specs.Values.{LifeId, TopoOf}
 use Rattle.an_base.specs.declared.event.Event.{Event}
 use Rattle.an_base.specs.declared.event.Event.TheVariants.{Clock, Handle, Load, Restart, Take}
 use Rattle.an_base.specs.declared.port.Sample.{Sample}
-use Rattle.net_script.specs.Scripts.{ScriptOf}
+use Rattle.net_script.specs.Scripts.{IsScript, ScriptOf}
 use Rattle.table_build.proofs.MadeTables.{only_table}
 use Rattle.table_build.specs.Made.{number_in, table_of}
 use Rattle.table_build.specs.Tables.{TableOf}
@@ -24,9 +25,10 @@ use Rattle.fabric_state.specs.declared.work.Work.TheVariants as work
 use Rattle.fabric_state.specs.declared.work.Work.{Work}
 use Rattle.fabric_state.specs.Choices.{event_of_work, frame_work, next_port, next_work}
 use Rattle.fabric_state.specs.Effects.{restarted, showing}
-use Rattle.fabric_state.specs.Fabric.{FabricOf, StationOf, clock_due_at, held_bytes, is_empty, is_full_at, is_some_spent, room, samples_of, station}
+use Rattle.fabric_state.specs.Fabric.{FabricOf, StationOf, clock_due_at, held_bytes, is_empty, is_full_at, is_some_spent, room, samples_of, station, table_at}
 use Rattle.fabric_state.specs.Lawful.{is_barred, is_command, is_lawful}
 use Rattle.fabric_state.specs.Starts.{next_life_at}
+use Rattle.fabric_world.specs.declared.line.PlacedLine.{PlacedLine}
 use Rattle.fabric_world.specs.Histories.{last_taken}
 use Rattle.fabric_world.specs.Sound.{AllMayCome}
 use Rattle.fabric_world.specs.Turns.{IsToLoad, TakesWork}
@@ -65,12 +67,19 @@ put_own script h s power switch out is =
     subst (λ (v : WorldOf). KeepsUp script v s power switch pending.Work) (sym (world_more script h (Handle s) lawful))
     (put_in script h s power switch is.powered is.start is.works is.fits.1)
 
+-- its switch is the one that handled it then
+pub handled_here : (script : ScriptOf) (h : List Event) (s : ℕ) → is_lawful (world_after script h).fabric (Handle s) ≡ true → (world_after script (h ++ Handle s ∷ [])).switches s ≡ (handled s (world_after script h)).switch
+unfolding effect
+handled_here script h s lawful =
+    let w = world_after script h in
+    ap (λ (v : WorldOf). v.switches s) (world_more script h (Handle s) lawful) ∙ at_same s (handled s w).switch w.switches
+
 -- A table was loaded
 number_made : (topo : TopoOf) (any : Bool) (life : LifeId) (t : TableOf) → t ≡ table_of topo any life → t.number ≡ number_in topo life
 unfolding table_of
 number_made topo any life t made = ap (λ (u : TableOf). u.number) made
 
-to_number : (w : WorldOf) (s : ℕ) (table : TableFor) (note : NoteOf) (is : IsToLoad w s table note) → table.table.number ≡ number_in is.topo (w.switches s).life
+pub to_number : (w : WorldOf) (s : ℕ) (table : TableFor) (note : NoteOf) (is : IsToLoad w s table note) → table.table.number ≡ number_in is.topo (w.switches s).life
 to_number w s table note is =
     let y = w.switches s in
     number_made is.topo y.any y.life table.table (only_table is.topo y.any y.life table.table is.graph is.numbers is.as_many is.table)
@@ -113,6 +122,34 @@ load_own script h s power switch table is unbarred =
     subst (λ (v : WorldOf). KeepsUp script v s power switch pending.Work) (sym (world_more script h (Load s) lawful))
     (load_on script h s power switch to.topo to.finished
     (load_in script h s power switch to.topo is.powered is.start is.works to.empty (subst (λ (n : ℕ). StandsFor switch (loaded n (w.switches s))) number is.fits.1)))
+
+-- its switch is the one that loaded it then, and that table is in use
+loaded_by : (w : WorldOf) (s : ℕ) (topo : TopoOf) → finish_of (w.switches s) ≡ Some topo → (effect (Load s) w).switches s ≡ loaded (number_in topo (w.switches s).life) (w.switches s)
+unfolding effect
+loaded_by w s topo finished =
+    ap (λ (o : Option TopoOf). (loads_with o s w).switches s) finished ∙ at_same s (loaded (number_in topo (w.switches s).life) (w.switches s)) w.switches
+
+pub loaded_here : (script : ScriptOf) (h : List Event) (s : ℕ) (table : TableFor) (note : NoteOf) → is_lawful (world_after script h).fabric (Load s) ≡ true → IsToLoad (world_after script h) s table note
+    → (world_after script (h ++ Load s ∷ [])).switches s ≡ loaded table.table.number ((world_after script h).switches s)
+loaded_here script h s table note lawful to =
+    let w = world_after script h in
+    ap (λ (v : WorldOf). v.switches s) (world_more script h (Load s) lawful) ∙ loaded_by w s to.topo to.finished
+    ∙ ap (λ (n : ℕ). loaded n (w.switches s)) (sym (to_number w s table note to))
+
+used_by : (script : ScriptOf) → IsScript script → (h : List Event) (s : ℕ) → s < length script.wires.switches → (topo : TopoOf) → finish_of ((world_after script h).switches s) ≡ Some topo
+    → table_at (effect (Load s) (world_after script h)).fabric s ≡ Some (table_for topo ((world_after script h).switches s)).table
+unfolding effect
+used_by script kept h s below topo finished =
+    let w = world_after script h in
+    ap (λ (o : Option TopoOf). table_at (loads_with o s w).fabric s) finished
+    ∙ ap (λ (x : StationOf). option_map (λ (t : TableFor). t.table) x.table)
+    (set_here script kept h s below (record (station w.fabric s) { table = Some (table_for topo (w.switches s)); note = note_of (loaded (number_in topo (w.switches s).life) (w.switches s)) }))
+
+pub used_here : (script : ScriptOf) → IsScript script → (h : List Event) (s : ℕ) → s < length script.wires.switches → (table : TableFor) (note : NoteOf) → is_lawful (world_after script h).fabric (Load s) ≡ true
+    → IsToLoad (world_after script h) s table note → table_at (effect (Load s) (world_after script h)).fabric s ≡ Some table.table
+used_here script kept h s below table note lawful to =
+    let y = (world_after script h).switches s in
+    used_by script kept h s below to.topo to.finished ∙ ap (λ (t : TableOf). Some t) (sym (only_table to.topo y.any y.life table.table to.graph to.numbers to.as_many to.table))
 
 -- What a work says of the fabric that chose it
 abbrev pub IsOf : FabricOf → ℕ → Work → Type 0
@@ -180,6 +217,15 @@ module _ (script : ScriptOf) (h : List Event) (s : ℕ) (power : PowerOf) (switc
       ∙ ap (λ (x : StationOf). not (is_empty x.hand)) (set_here script is.powered.kept h s is.powered.within (restarted w.fabric.tick (note_of (next_life s w)) (station w.fabric s)))
       ∙ is.fits.0
 
+  -- the switch is as it was
+  pub clock_switch : is_lawful w.fabric (Clock s) ≡ true → (world_after script (h ++ Clock s ∷ [])).switches s ≡ w.switches s
+  unfolding effect
+  clock_switch lawful = ap (λ (v : WorldOf). v.switches s) (world_more script h (Clock s) lawful)
+
+  pub take_switch : (port : ℕ) → is_lawful w.fabric (Take s port) ≡ true → (world_after script (h ++ Take s port ∷ [])).switches s ≡ w.switches s
+  unfolding effect
+  take_switch port lawful = ap (λ (v : WorldOf). v.switches s) (world_more script h (Take s port) lawful)
+
   pub clock_taken : (now : ℕ) (samples : List Sample) (buffer : List ℕ) → (now ≡ w.fabric.tick) × (samples ≡ samples_of w.fabric s) → is_lawful w.fabric (Clock s) ≡ true
       → HasInHand script (world_after script (h ++ Clock s ∷ [])) s power switch buffer (hand.Clock now samples)
   clock_taken now samples buffer chosen lawful =
@@ -217,11 +263,11 @@ module _ (script : ScriptOf) (h : List Event) (s : ℕ) (power : PowerOf) (switc
       }
 
 -- the lawful event of the work that was taken, and what the work says
-pub taken_comes : (script : ScriptOf) (h : List Event) (s : ℕ) (job : Work) (e : Event) (out : List ℕ) (after : List Event) → s < length script.wires.switches → is_full_at (world_after script h).fabric s ≡ false → TakesWork script h s job out after
-    → event_of_work s job ≡ e ∷ [] → is_lawful (world_after script h).fabric e ≡ true
-taken_comes script h s job e out after below empty takes event =
+pub taken_comes : (script : ScriptOf) (h : List Event) (s : ℕ) (job : Work) (e : Event) (out : List ℕ) (told : Option PlacedLine) (after : List Event) → s < length script.wires.switches → is_full_at (world_after script h).fabric s ≡ false
+    → TakesWork script h s job out told after → event_of_work s job ≡ e ∷ [] → is_lawful (world_after script h).fabric e ≡ true
+taken_comes script h s job e out told after below empty takes event =
     first_comes (world_after script h).fabric e (event_of_work s job)
     (subst (λ (j : Work). AllMayCome (world_after script h).fabric (event_of_work s j)) (sym takes.work_is) (work_is_lawful script h s (last_taken s h) below empty)) event
 
-pub taken_of : (script : ScriptOf) (h : List Event) (s : ℕ) (job : Work) (out : List ℕ) (after : List Event) → TakesWork script h s job out after → IsOf (world_after script h).fabric s job
-taken_of script h s job out after takes = subst (IsOf (world_after script h).fabric s) (sym takes.work_is) (work_is_of (world_after script h).fabric s (last_taken s h))
+pub taken_of : (script : ScriptOf) (h : List Event) (s : ℕ) (job : Work) (out : List ℕ) (told : Option PlacedLine) (after : List Event) → TakesWork script h s job out told after → IsOf (world_after script h).fabric s job
+taken_of script h s job out told after takes = subst (IsOf (world_after script h).fabric s) (sym takes.work_is) (work_is_of (world_after script h).fabric s (last_taken s h))

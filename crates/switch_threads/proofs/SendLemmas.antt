@@ -47,4 +47,4 @@ pub worker_send : IsSend Worker.the_row
 worker_send = search (sendable, crosses, seat_send, desk.the_send, next.the_send) depth 30 fits 3000
 
 pub driver_send : IsSend Driver.the_row
-driver_send = search (sendable, crosses, seat_send, ending.the_send) depth 30 fits 3000
+driver_send = search (sendable, crosses, seat_send, ending.the_send) depth 60 fits 3000

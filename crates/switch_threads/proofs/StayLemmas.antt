@@ -3,9 +3,11 @@
 use Rattle.std.specs.Prelude.{◌≡◌, ◌≢◌, ◌+◌, ◌<◌, ◌≤◌, ℕ, List, [], ◌∷◌, ◌++◌, All, length, not, slice_index_or, Some, refl}
 use Rattle.std.proofs.Common.{sym, ◌∙◌, ap, subst, arith, append_assoc}
 use Rattle.std.proofs.lemmas.List.{append-nil}
+use Rattle.an_base.specs.Ports.{NoteOf}
 use Rattle.an_base.specs.declared.event.Event.{Event}
 use Rattle.net_script.specs.Scripts.{IsScript, ScriptOf}
 use Rattle.wire_set.specs.WireState.{hand_of}
+use Rattle.switch_core.specs.Bytes.{all_spelled}
 use Rattle.switch_core.specs.Kept.{KeptOf, StandsFor}
 use Rattle.switch_core.specs.Steps.{Step, loaded}
 use Rattle.switch_core.specs.Switch.{SwitchOf, note_of}
@@ -14,18 +16,21 @@ use Rattle.fabric_turn.specs.History.{NoneOf}
 use Rattle.fabric_turn.specs.declared.view.View.{View}
 use Rattle.fabric_world.specs.declared.ask.Ask.TheVariants as ask
 use Rattle.fabric_world.specs.Histories.{owner_of}
-use Rattle.fabric_world.specs.Turns.{IsDone, IsToLoad}
+use Rattle.fabric_world.specs.declared.ask.Done.{Done}
+use Rattle.fabric_world.specs.Turns.{IsDone, IsToLoad, is_noise}
 use Rattle.fabric_world.specs.World.{WorldOf, handled, handles, start_of, world_after}
 use Rattle.fabric_world.proofs.CountLemmas.{event_counts}
 use Rattle.fabric_world.proofs.ElsewhereLemmas.{AreSameAt, world_elsewhere}
 use Rattle.fabric_world.proofs.FitLemmas.{fit_stays, others_from_none, world_hand_elsewhere}
 use Rattle.fabric_world.proofs.InductionLemmas.{kept_by}
 use Rattle.fabric_book.specs.Nets.{PowerOf}
+use Rattle.fabric_book.specs.Told.{hand_lines}
 use Rattle.switch_threads.specs.declared.desk.Desk.{Desk}
 use Rattle.switch_threads.specs.declared.desk.Next.TheVariants as next
 use Rattle.switch_threads.specs.declared.desk.Pending.{Pending}
 use Rattle.switch_threads.specs.declared.desk.Pending.TheVariants as pending
-use Rattle.switch_threads.specs.Workers.{IsInStep, IsPending, KeepsUp, done_with}
+use Rattle.switch_threads.specs.declared.desk.Tale.{Tale}
+use Rattle.switch_threads.specs.Workers.{IsInStep, IsPending, IsPrepared, KeepsUp, done_with, lines_at_hand}
 
 -- there are never fewer events
 grow_one : (script : ScriptOf) → IsScript script → (h : List Event) (e : Event) → (world_after script h).fabric.events ≤ (world_after script (h ++ e ∷ [])).fabric.events
@@ -41,11 +46,25 @@ events_grow script kept h (e ∷ more) =
     subst (λ (x : List Event). (world_after script h).fabric.events ≤ (world_after script x).fabric.events) (append_assoc h (e ∷ []) more) (omega (arith, one, rest))
 
 -- what comes of what is in hand stays
-handled_same : (w v : WorldOf) (s : ℕ) → AreSameAt s w v → hand_of v.fabric.wires s ≡ hand_of w.fabric.wires s → handled s v ≡ handled s w
-handled_same w v s same bytes =
-    ap (λ (x : StationOf). handles x.hand (held_bytes v.fabric s) (v.switches s)) same.place
-    ∙ ap (λ xs. handles (station w.fabric s).hand (slice_index_or xs 0 []) (v.switches s)) bytes
-    ∙ ap (handles (station w.fabric s).hand (held_bytes w.fabric s)) same.switch
+module _ (w v : WorldOf) (s : ℕ) (same : AreSameAt s w v) (bytes : hand_of v.fabric.wires s ≡ hand_of w.fabric.wires s) where
+  handled_same : handled s v ≡ handled s w
+  handled_same =
+      ap (λ (x : StationOf). handles x.hand (held_bytes v.fabric s) (v.switches s)) same.place
+      ∙ ap (λ xs. handles (station w.fabric s).hand (slice_index_or xs 0 []) (v.switches s)) bytes
+      ∙ ap (handles (station w.fabric s).hand (held_bytes w.fabric s)) same.switch
+
+  done_same : (done : Done) → IsDone w s done → IsDone v s done
+  done_same done is =
+      let steps = sym handled_same in
+      record {
+        handled_is = record {
+          full = ap (λ (x : StationOf). not (is_empty x.hand)) same.place ∙ is.handled_is.full;
+          frames_are = is.handled_is.frames_are ∙ ap (λ (t : Step). all_spelled t.frames) steps;
+          note_is = is.handled_is.note_is ∙ ap (λ (t : Step). note_of t.switch) steps;
+          spent_is = is.handled_is.spent_is ∙ ap (λ (t : Step). t.switch.spent) steps;
+        };
+        noframe = is.noframe ∙ sym (ap (λ (x : StationOf). is_noise x.hand (held_bytes v.fabric s)) same.place ∙ ap (λ xs. is_noise (station w.fabric s).hand (slice_index_or xs 0 [])) bytes);
+      }
 
 module _ (script : ScriptOf) (kept : IsScript script) (h more : List Event) (s : ℕ) (below : s < length script.wires.switches) (none : NoneOf owner_of (s + 1) more) where
   others : All (λ e. owner_of e ≢ s + 1) more
@@ -61,10 +80,10 @@ module _ (script : ScriptOf) (kept : IsScript script) (h more : List Event) (s :
   fits_stay switch pending.Work is =
       (ap (λ (x : StationOf). not (is_empty x.hand)) same.place ∙ is.0, subst (StandsFor switch) (sym same.switch) is.1)
   fits_stay switch (pending.Put out) is =
+      let w = world_after script h in
       let v = world_after script (h ++ more) in
-      let done = done_with out (handled s (world_after script h)).switch in
-      let may = fit_stays script h (s + 1) (ask.Put s done) more (record { kept = kept; may_ask = (record { within = below; caller_is = refl }, is.0) }) none in
-      subst (λ (t : Step). IsDone v s (done_with out t.switch) × StandsFor switch t.switch) (sym (handled_same (world_after script h) v s same bytes)) (may.may_ask.1, is.1)
+      let done = done_same w v s same bytes (done_with out (handled s w).switch) is.0 in
+      subst (λ (t : Step). IsDone v s (done_with out t.switch) × StandsFor switch t.switch) (sym (handled_same w v s same bytes)) (done, is.1)
   fits_stay switch (pending.Load table) is =
       let w = world_after script h in
       let v = world_after script (h ++ more) in
@@ -83,6 +102,23 @@ module _ (script : ScriptOf) (kept : IsScript script) (h more : List Event) (s :
         fits = fits_stay switch next is.fits;
       }
 
+  -- and what is told of it
+  lines_stay : lines_at_hand (world_after script (h ++ more)) s ≡ lines_at_hand (world_after script h) s
+  lines_stay =
+      let w = world_after script h in
+      let v = world_after script (h ++ more) in
+      ap (λ (x : StationOf). hand_lines s x.hand (held_bytes v.fabric s) (v.switches s) (handled s v).switch) same.place
+      ∙ ap (λ xs. hand_lines s (station w.fabric s).hand (slice_index_or xs 0 []) (v.switches s) (handled s v).switch) bytes
+      ∙ ap (λ (x : SwitchOf). hand_lines s (station w.fabric s).hand (held_bytes w.fabric s) x (handled s v).switch) same.switch
+      ∙ ap (λ (t : Step). hand_lines s (station w.fabric s).hand (held_bytes w.fabric s) (w.switches s) t.switch) (handled_same w v s same bytes)
+
+  pub prepared_stays : (note : NoteOf) (tale : Tale) (next : Pending) → IsPrepared (world_after script h) s note tale next → IsPrepared (world_after script (h ++ more)) s note tale next
+  prepared_stays note tale pending.Work is = is ∙ ap note_of (sym same.switch)
+  prepared_stays note tale (pending.Put out) is =
+      (is.0 ∙ ap (λ (t : Step). note_of t.switch) (sym (handled_same (world_after script h) (world_after script (h ++ more)) s same bytes)), is.1 ∙ sym lines_stay, is.2)
+  prepared_stays note tale (pending.Load table) is =
+      (is.0 ∙ ap (λ (x : SwitchOf). note_of (loaded table.table.number x)) (sym same.switch), is.1)
+
 -- what a worker has to ask for keeps up with the world, by the parts of its desk
 pub record IsAtPlace (view : View Event ScriptOf) (place : ℕ) (power : PowerOf) (switch : KeptOf) (pending : Pending) : Type 0 where
   pub script : ScriptOf
@@ -91,4 +127,4 @@ pub record IsAtPlace (view : View Event ScriptOf) (place : ℕ) (power : PowerOf
   pub keeps_up : KeepsUp script (world_after script view.seen) place power switch pending
 
 abbrev pub at_place : (view : View Event ScriptOf) (desk : Desk) (pending : Pending) → IsInStep view desk (next.Ask pending) → IsAtPlace view desk.s desk.power_on desk.switch.value pending
-at_place view desk pending step = record { script = step.script; begun = step.begun; number = step.number; keeps_up = step.fits }
+at_place view desk pending step = record { script = step.script; begun = step.begun; number = step.number; keeps_up = step.fits.keeps_up }

@@ -1,18 +1,21 @@
 -- A worker and the driver, before and after a call of the turnstile.
 
-use Rattle.std.specs.Prelude.{◌≡◌, ◌+◌, ◌<◌, ◌≤◌, ℕ, List, [], ◌∷◌, ◌++◌, length, not, Bool, Option, Some, IfSome, true, false, refl}
+use Rattle.std.specs.Prelude.{◌≡◌, ◌+◌, ◌<◌, ◌≤◌, ℕ, List, [], ◌++◌, length, not, option_to_list, Bool, Option, Some, IfSome, true, false, refl}
+use Rattle.std.specs.Global.{Box, Vec}
 use Rattle.std.proofs.Common.{sym, ◌∙◌, ap, subst, arith, append_assoc}
 use Rattle.std.proofs.lemmas.List.{append-nil}
 use Rattle.std.proofs.lemmas.List.FromFn.{get_or-map-range_with_len}
 use Rattle.std.proofs.lemmas.Option.{same_Some}
 use Rattle.an_base.specs.Ports.{NoteOf}
 use Rattle.an_base.specs.declared.event.Event.{Event}
-use Rattle.an_base.specs.declared.event.Event.TheVariants.{Clock, Handle, Load, Restart, Take}
+use Rattle.an_base.specs.declared.event.Event.TheVariants.{Clock, Load, Restart, Take}
 use Rattle.net_graph.specs.Wires.{network}
 use Rattle.net_script.specs.Scripts.{IsScript, ScriptOf, restarts_of}
+use Rattle.wire_set.specs.declared.side.Put.{Put}
 use Rattle.switch_core.specs.Bytes.{OutOf}
 use Rattle.switch_core.specs.Kept.{KeptOf, Loads, StandsFor}
-use Rattle.switch_core.specs.Switch.{note_of, started_as}
+use Rattle.switch_core.specs.Steps.{Step, loaded}
+use Rattle.switch_core.specs.Switch.{SwitchOf, note_of, started_as}
 use Rattle.switch_core.specs.declared.switch.TableFor.{TableFor}
 use Rattle.fabric_state.specs.declared.ending.Ending.{Ending}
 use Rattle.fabric_state.specs.declared.hand.Hand.{Hand}
@@ -22,9 +25,9 @@ use Rattle.fabric_state.specs.declared.work.Drive.TheVariants as drive
 use Rattle.fabric_state.specs.declared.work.Work.{Work}
 use Rattle.fabric_state.specs.declared.work.Work.TheVariants as work
 use Rattle.fabric_state.specs.Fabric.{StationOf, held_bytes, is_empty, is_full_at, station, vacant}
-use Rattle.fabric_state.specs.Lawful.{is_barred}
+use Rattle.fabric_state.specs.Lawful.{is_barred, is_lawful}
 use Rattle.fabric_turn.specs.Calls.{Called, DifferByCalls}
-use Rattle.fabric_turn.specs.History.{Extends, NoneOf}
+use Rattle.fabric_turn.specs.History.{Extends, NoneOf, own_entries}
 use Rattle.fabric_turn.specs.declared.view.View.{View}
 use Rattle.fabric_world.specs.declared.ask.Ask.{Ask}
 use Rattle.fabric_world.specs.declared.ask.Ask.TheVariants as ask
@@ -33,25 +36,36 @@ use Rattle.fabric_world.specs.declared.ask.LoadReply.{LoadReply}
 use Rattle.fabric_world.specs.declared.ask.LoadReply.TheVariants as load
 use Rattle.fabric_world.specs.declared.ask.Reply.{Reply}
 use Rattle.fabric_world.specs.declared.ask.Reply.TheVariants as reply
+use Rattle.fabric_world.specs.declared.line.Line.TheVariants as line
+use Rattle.fabric_world.specs.declared.line.PlacedLine.{PlacedLine}
+use Rattle.fabric_world.specs.Accounts.{AccountOf, account_of, placed}
 use Rattle.fabric_world.specs.Histories.{end_of, owner_of}
-use Rattle.fabric_world.specs.Turns.{AnswersAsk, Drives, LoadsOrNot, TakesWork, is_noise}
-use Rattle.fabric_world.specs.World.{begun, first_station, handles, start_of, world_after}
+use Rattle.fabric_world.specs.Turns.{AnswersAsk, Drives, LoadsOrNot, PutsFrames, TakesWork, is_noise, puts_at}
+use Rattle.fabric_world.specs.World.{WorldOf, begun, first_station, handled, handles, start_of, world_after}
 use Rattle.fabric_world.proofs.InductionLemmas.{world_script}
+use Rattle.fabric_world.proofs.NextLemmas.{handle_is_lawful, load_is_lawful}
 use Rattle.fabric_world.proofs.PlaceLemmas.{world_places}
+use Rattle.fabric_book.specs.Accounts.{HasAccount, IsAccount, with_lines, with_load}
 use Rattle.fabric_book.specs.Asking.{ask_of, reply_of}
 use Rattle.fabric_book.specs.Nets.{HasFrame, IsHandled, IsStarted, PowerOf, power_of, start_with}
+use Rattle.fabric_book.specs.Told.{hand_lines, losses}
+use Rattle.fabric_book.specs.declared.account.Account.{Account}
 use Rattle.fabric_book.specs.declared.asking.BookAsk.{BookAsk}
 use Rattle.fabric_book.specs.declared.asking.BookReply.{BookReply}
-use Rattle.fabric_book.proofs.HandLemmas.{done_is, stands_is}
+use Rattle.fabric_book.proofs.DriveLemmas.{driven, driver_owns}
+use Rattle.fabric_book.proofs.HandLemmas.{done_is, stands_is, step_is}
 use Rattle.switch_threads.specs.declared.desk.Desk.{Desk}
 use Rattle.switch_threads.specs.declared.desk.Next.{Next}
 use Rattle.switch_threads.specs.declared.desk.Next.TheVariants as next
 use Rattle.switch_threads.specs.declared.desk.Pending.{Pending}
 use Rattle.switch_threads.specs.declared.desk.Pending.TheVariants as pending
-use Rattle.switch_threads.specs.Workers.{HasInHand, IsDriving, IsInStep, IsNext, IsToDo, IsUpTo, KeepsUp, next_after}
+use Rattle.switch_threads.specs.declared.desk.Tale.{Tale}
+use Rattle.switch_threads.specs.Runs.{IsToldAt, SeatOf}
+use Rattle.switch_threads.specs.Workers.{HasInHand, HasTold, IsDriving, IsInStep, IsNext, IsPrepared, IsToDo, IsUpTo, KeepsUp, lines_at_hand}
 use Rattle.switch_threads.proofs.EndLemmas.{end_told, told_extends}
-use Rattle.switch_threads.proofs.OwnLemmas.{clock_taken, frame_taken, life_begun, load_own, put_own, taken_comes, taken_of}
-use Rattle.switch_threads.proofs.StayLemmas.{IsAtPlace, at_place, others_came}
+use Rattle.switch_threads.proofs.OwnLemmas.{clock_switch, clock_taken, frame_taken, handled_here, life_begun, load_own, loaded_here, put_own, take_switch, taken_comes, taken_of}
+use Rattle.switch_threads.proofs.StayLemmas.{IsAtPlace, at_place, others_came, prepared_stays}
+use Rattle.switch_threads.proofs.ToldLemmas.{drive_told, load_told, put_told, tells_on, work_told}
 
 -- At first
 first_empty : (script : ScriptOf) (s : ℕ) → s < length script.wires.switches → is_full_at (begun script).fabric s ≡ false
@@ -125,6 +139,20 @@ handled_fits script h s power old new buffer in_hand out is start works_are does
       );
     }
 
+-- and what is told of it but of the frames that were lost
+same_lines : (place : ℕ) (h : Hand) (held bytes : List ℕ) (old new : SwitchOf) → HasFrame h held bytes → hand_lines place h bytes old new ≡ hand_lines place h held old new
+same_lines place hand.Empty held bytes old new has = refl
+same_lines place (hand.Clock now samples) held bytes old new has = refl
+same_lines place (hand.Frame port) held bytes old new has = ap (λ (b : List ℕ). hand_lines place (hand.Frame port) b old new) has
+
+pub handled_lines : (w : WorldOf) (s : ℕ) (in_hand : Hand) (bytes : List ℕ) → in_hand ≡ (station w.fabric s).hand → HasFrame (station w.fabric s).hand (held_bytes w.fabric s) bytes
+    → hand_lines s in_hand bytes (w.switches s) (handles in_hand bytes (w.switches s)).switch ≡ lines_at_hand w s
+handled_lines w s in_hand bytes is has =
+    let x = w.switches s in
+    let y = (handled s w).switch in
+    ap (λ (t : Step). hand_lines s in_hand bytes x t.switch) (step_is w s in_hand bytes is has) ∙ ap (λ (k : Hand). hand_lines s k bytes x y) is
+    ∙ same_lines s (station w.fabric s).hand (held_bytes w.fabric s) bytes x y has
+
 -- Of a seat that made a call
 abbrev pub AnswersBook : ScriptOf → List Event → ℕ → Ask → Reply → List Event → Type 0
 AnswersBook script history caller asked answer after = AnswersAsk script history asked answer after
@@ -153,10 +181,13 @@ module _ (view after : View Event ScriptOf) (asked : Ask) (answer : Reply) (call
   calls_differ =
       called.same ∙ ap (λ (xs : List Event). record view { seen = after.seen; mine = xs }) (sym (ap (λ (v : View Event ScriptOf). v.mine) called.same))
 
-  start_stays : (script : ScriptOf) → view.start ≡ Some script → after.start ≡ Some script
+  pub start_stays : (script : ScriptOf) → view.start ≡ Some script → after.start ≡ Some script
   start_stays script begun = ap (λ (v : View Event ScriptOf). v.start) called.same ∙ begun
 
-  seen_extends : Extends view.seen after.seen
+  pub number_stays : (number : ℕ) → view.number ≡ number → after.number ≡ number
+  number_stays number is = ap (λ (v : View Event ScriptOf). v.number) called.same ∙ is
+
+  pub seen_extends : Extends view.seen after.seen
   seen_extends = (called.between ++ called.added, called.seen ∙ append_assoc view.seen called.between called.added)
 
   pub answered : (script : ScriptOf) → view.start ≡ Some script → AnswersAsk script (view.seen ++ called.between) asked answer after.seen
@@ -165,133 +196,261 @@ module _ (view after : View Event ScriptOf) (asked : Ask) (answer : Reply) (call
 
   -- of a worker
   module _ (place : ℕ) (power : PowerOf) (switch : KeptOf) (next : Pending) (step : IsAtPlace view place power switch next) where
-    pub moment : KeepsUp step.script (world_after step.script (view.seen ++ called.between)) place power switch next
-    moment =
-        others_came step.script step.keeps_up.powered.kept view.seen called.between place step.keeps_up.powered.within
-        (subst (λ (n : ℕ). NoneOf owner_of n called.between) step.number called.others) power switch next step.keeps_up
+    others_there : NoneOf owner_of (place + 1) called.between
+    others_there = subst (λ (n : ℕ). NoneOf owner_of n called.between) step.number called.others
 
-    pub steps_on : (seen : List Event) → after.seen ≡ seen → (new : KeptOf) (then : Pending) → KeepsUp step.script (world_after step.script seen) place power new then → IsAtPlace after place power new then
-    steps_on seen is new then keeps = record {
-      script = step.script;
-      begun = start_stays step.script step.begun;
-      number = ap (λ (v : View Event ScriptOf). v.number) called.same ∙ step.number;
-      keeps_up = subst (λ (xs : List Event). KeepsUp step.script (world_after step.script xs) place power new then) (sym is) keeps;
-    }
+    pub moment : KeepsUp step.script (world_after step.script (view.seen ++ called.between)) place power switch next
+    moment = others_came step.script step.keeps_up.powered.kept view.seen called.between place step.keeps_up.powered.within others_there power switch next step.keeps_up
+
+    pub prepared_then : (note : NoteOf) (tale : Tale) → IsPrepared (world_after step.script view.seen) place note tale next → IsPrepared (world_after step.script (view.seen ++ called.between)) place note tale next
+    prepared_then note tale is = prepared_stays step.script step.keeps_up.powered.kept view.seen called.between place step.keeps_up.powered.within others_there note tale next is
+
+    -- which tells of what came
+    pub tells_there : (old new : Account) (more : AccountOf → AccountOf) → ((told : AccountOf) → IsAccount told old → IsAccount (more told) new)
+        → account_of step.script (place + 1) after.seen ≡ more (account_of step.script (place + 1) (view.seen ++ called.between)) → HasTold step.script view old → HasTold step.script after new
+    tells_there old new more adds next told =
+        tells_on view after asked answer called step.script old new more adds
+        (subst (λ (n : ℕ). account_of step.script n after.seen ≡ more (account_of step.script n (view.seen ++ called.between))) (sym step.number) next) told
 
 -- what came of what was in hand was put
-pub put_step : (view after : View Event ScriptOf) (place : ℕ) (power : PowerOf) (switch : KeptOf) (out : OutOf) (done back : Done) → IsAtPlace view place power switch (pending.Put out) → Called owner_of AnswersBook view (ask.Put place done) (reply.Put back) after
-    → IsAtPlace after place power switch pending.Work
-put_step view after place power switch out done back step called =
-    let does = answered view after (ask.Put place done) (reply.Put back) called step.script step.begun in
-    steps_on view after (ask.Put place done) (reply.Put back) called place power switch (pending.Put out) step ((view.seen ++ called.between) ++ Handle place ∷ []) does.1 switch pending.Work
-    (put_own step.script (view.seen ++ called.between) place power switch out (moment view after (ask.Put place done) (reply.Put back) called place power switch (pending.Put out) step))
+module _ (view after : View Event ScriptOf) (place : ℕ) (power : PowerOf) (switch : KeptOf) (out : OutOf) (done back : Done) (puts answers : Vec (Option Put)) (event : ℕ) (step : IsAtPlace view place power switch (pending.Put out))
+    (called : Called owner_of AnswersBook view (ask.Put place done puts) (reply.Put back answers event) after) where
+  pub put_does : PutsFrames step.script (view.seen ++ called.between) place done back answers.items event after.seen
+  put_does = answered view after (ask.Put place done puts) (reply.Put back answers event) called step.script step.begun
+
+  pub put_moment : KeepsUp step.script (world_after step.script (view.seen ++ called.between)) place power switch (pending.Put out)
+  put_moment = moment view after (ask.Put place done puts) (reply.Put back answers event) called place power switch (pending.Put out) step
+
+  pub put_keeps : KeepsUp step.script (world_after step.script after.seen) place power switch pending.Work
+  put_keeps =
+      subst (λ (xs : List Event). KeepsUp step.script (world_after step.script xs) place power switch pending.Work) (sym put_does.event)
+      (put_own step.script (view.seen ++ called.between) place power switch out put_moment)
+
+  module _ (note : NoteOf) (tale : Tale) (prepared : IsPrepared (world_after step.script view.seen) place note tale (pending.Put out)) where
+    put_prepared : IsPrepared (world_after step.script (view.seen ++ called.between)) place note tale (pending.Put out)
+    put_prepared = prepared_then view after (ask.Put place done puts) (reply.Put back answers event) called place power switch (pending.Put out) step note tale prepared
+
+    -- its switch shows the same
+    pub put_note : note ≡ note_of ((world_after step.script after.seen).switches place)
+    put_note =
+        let h = view.seen ++ called.between in
+        let lawful = handle_is_lawful step.script h place step.keeps_up.powered.within put_moment.fits.0.handled_is.full in
+        put_prepared.0 ∙ ap note_of (sym (handled_here step.script h place lawful)) ∙ ap (λ (xs : List Event). note_of ((world_after step.script xs).switches place)) (sym put_does.event)
+
+    -- and it tells of that
+    pub put_tells : (old new : Account) → done.frames ≡ out.frames → ((told : AccountOf) → IsAccount told old → IsAccount (with_lines (placed event (tale.lines ++ losses place back.frames answers.items)) told) new)
+        → HasTold step.script view old → HasTold step.script after new
+    put_tells old new frames adds told =
+        let h = view.seen ++ called.between in
+        let given : back.frames ≡ done.frames = ap (λ (d : Done). d.frames) put_does.same in
+        tells_there view after (ask.Put place done puts) (reply.Put back answers event) called place power switch (pending.Put out) step old new (with_lines (placed event (tale.lines ++ losses place back.frames answers.items))) adds
+        (put_told step.script h after.seen place back.frames answers.items tale.lines event (given ∙ frames ∙ put_moment.fits.0.handled_is.frames_are)
+        (put_does.puts_are ∙ ap (puts_at (world_after step.script h).fabric place) (sym given)) put_prepared.1 put_does.event put_does.number_is) told
 
 -- a table was to be loaded
 abbrev pub asked_after : LoadReply → Pending
-asked_after load.Loaded = pending.Work
+asked_after (load.Loaded event) = pending.Work
 asked_after (load.NotNow table) = pending.Load table
 
-pub load_step : (view after : View Event ScriptOf) (place : ℕ) (power : PowerOf) (switch : KeptOf) (table : TableFor) (note : NoteOf) (came : LoadReply) → IsAtPlace view place power switch (pending.Load table)
-    → Called owner_of AnswersBook view (ask.Load place table note) (reply.Load came) after → IsAtPlace after place power switch (asked_after came)
-load_step view after place power switch table note came step called =
-    by (is_barred (world_after step.script (view.seen ++ called.between)).fabric) refl (answered view after (ask.Load place table note) (reply.Load came) called step.script step.begun)
-  where
-    now : KeepsUp step.script (world_after step.script (view.seen ++ called.between)) place power switch (pending.Load table)
-    now = moment view after (ask.Load place table note) (reply.Load came) called place power switch (pending.Load table) step
+abbrev pub told_of_load : LoadReply → ℕ → TableFor → AccountOf → AccountOf
+told_of_load (load.Loaded event) place table told = with_load (record { event = event; line = line.Load place table.epoch table.table.number }) table.table.rows told
+told_of_load (load.NotNow other) place table told = told
 
-    on : (seen : List Event) → after.seen ≡ seen → (then : Pending) → KeepsUp step.script (world_after step.script seen) place power switch then → IsAtPlace after place power switch then
-    on seen is then keeps = steps_on view after (ask.Load place table note) (reply.Load came) called place power switch (pending.Load table) step seen is switch then keeps
+module _ (view after : View Event ScriptOf) (place : ℕ) (power : PowerOf) (switch : KeptOf) (table : TableFor) (note : NoteOf) (came : LoadReply) (step : IsAtPlace view place power switch (pending.Load table))
+    (called : Called owner_of AnswersBook view (ask.Load place table note) (reply.Load came) after) where
+  load_moment : KeepsUp step.script (world_after step.script (view.seen ++ called.between)) place power switch (pending.Load table)
+  load_moment = moment view after (ask.Load place table note) (reply.Load came) called place power switch (pending.Load table) step
 
-    by : (b : Bool) → is_barred (world_after step.script (view.seen ++ called.between)).fabric ≡ b → LoadsOrNot b table came place (view.seen ++ called.between) after.seen → IsAtPlace after place power switch (asked_after came)
+  load_does : LoadsOrNot (is_barred (world_after step.script (view.seen ++ called.between)).fabric) table came place step.script (view.seen ++ called.between) after.seen
+  load_does = answered view after (ask.Load place table note) (reply.Load came) called step.script step.begun
+
+  load_lawful : is_barred (world_after step.script (view.seen ++ called.between)).fabric ≡ false → is_lawful (world_after step.script (view.seen ++ called.between)).fabric (Load place) ≡ true
+  load_lawful free = load_is_lawful step.script (view.seen ++ called.between) place step.keeps_up.powered.within free load_moment.fits.0.empty load_moment.fits.0.due
+
+  pub load_keeps : KeepsUp step.script (world_after step.script after.seen) place power switch (asked_after came)
+  load_keeps = by (is_barred (world_after step.script (view.seen ++ called.between)).fabric) refl load_does where
+    Keeps : List Event → LoadReply → Type 0
+    Keeps seen answer = KeepsUp step.script (world_after step.script seen) place power switch (asked_after answer)
+
+    by : (b : Bool) → is_barred (world_after step.script (view.seen ++ called.between)).fabric ≡ b → LoadsOrNot b table came place step.script (view.seen ++ called.between) after.seen → Keeps after.seen came
     by false free does =
-        subst (λ (c : LoadReply). IsAtPlace after place power switch (asked_after c)) (sym does.0)
-        (on ((view.seen ++ called.between) ++ Load place ∷ []) does.1 pending.Work (load_own step.script (view.seen ++ called.between) place power switch table now free))
+        subst (Keeps after.seen) (sym does.0)
+        (subst (λ (xs : List Event). KeepsUp step.script (world_after step.script xs) place power switch pending.Work) (sym does.1) (load_own step.script (view.seen ++ called.between) place power switch table load_moment free))
     by true barred does =
-        subst (λ (c : LoadReply). IsAtPlace after place power switch (asked_after c)) (sym does.0) (on (view.seen ++ called.between) does.1 (pending.Load table) now)
+        subst (Keeps after.seen) (sym does.0)
+        (subst (λ (xs : List Event). KeepsUp step.script (world_after step.script xs) place power switch (pending.Load table)) (sym does.1) load_moment)
 
-pub loaded_step : (view : View Event ScriptOf) (desk : Desk) (came : LoadReply) → IsAtPlace view desk.s desk.power_on desk.switch.value (asked_after came) → IsInStep view desk (next_after came)
-loaded_step view desk load.Loaded at = record { script = at.script; begun = at.begun; number = at.number; fits = at.keeps_up }
-loaded_step view desk (load.NotNow table) at = record { script = at.script; begun = at.begun; number = at.number; fits = at.keeps_up }
+  -- it shows the same, and has the same rows where the table is to be loaded later
+  pub load_prepared : (shown : NoteOf) (tale : Tale) → IsPrepared (world_after step.script view.seen) place shown tale (pending.Load table) → IsPrepared (world_after step.script after.seen) place shown tale (asked_after came)
+  load_prepared shown tale prepared = by (is_barred (world_after step.script (view.seen ++ called.between)).fabric) refl load_does where
+    now : IsPrepared (world_after step.script (view.seen ++ called.between)) place shown tale (pending.Load table)
+    now = prepared_then view after (ask.Load place table note) (reply.Load came) called place power switch (pending.Load table) step shown tale prepared
+
+    by : (b : Bool) → is_barred (world_after step.script (view.seen ++ called.between)).fabric ≡ b → LoadsOrNot b table came place step.script (view.seen ++ called.between) after.seen
+        → IsPrepared (world_after step.script after.seen) place shown tale (asked_after came)
+    by false free does =
+        let h = view.seen ++ called.between in
+        let loads = loaded_here step.script h place table (note_of (loaded table.table.number ((world_after step.script h).switches place))) (load_lawful free) load_moment.fits.0 in
+        subst (λ (c : LoadReply). IsPrepared (world_after step.script after.seen) place shown tale (asked_after c)) (sym does.0)
+        (now.0 ∙ ap note_of (sym loads) ∙ ap (λ (xs : List Event). note_of ((world_after step.script xs).switches place)) (sym does.1))
+    by true barred does =
+        subst (λ (c : LoadReply). IsPrepared (world_after step.script after.seen) place shown tale (asked_after c)) (sym does.0)
+        (subst (λ (xs : List Event). IsPrepared (world_after step.script xs) place shown tale (pending.Load table)) (sym does.1) now)
+
+  -- and it tells of that
+  pub load_tells : (old new : Account) → ((told : AccountOf) → IsAccount told old → IsAccount (told_of_load came place table told) new) → HasTold step.script view old → HasTold step.script after new
+  load_tells old new adds told =
+      tells_there view after (ask.Load place table note) (reply.Load came) called place power switch (pending.Load table) step old new (told_of_load came place table) adds
+      (by (is_barred (world_after step.script (view.seen ++ called.between)).fabric) refl load_does) told
+    where
+      Next : LoadReply → Type 0
+      Next c = account_of step.script (place + 1) after.seen ≡ told_of_load c place table (account_of step.script (place + 1) (view.seen ++ called.between))
+
+      by : (b : Bool) → is_barred (world_after step.script (view.seen ++ called.between)).fabric ≡ b → LoadsOrNot b table came place step.script (view.seen ++ called.between) after.seen → Next came
+      by false free does =
+          let h = view.seen ++ called.between in
+          let at = step.keeps_up.powered in
+          let note = note_of (loaded table.table.number ((world_after step.script h).switches place)) in
+          subst Next (sym does.0)
+          (load_told step.script at.kept h after.seen place at.within table note (world_after step.script after.seen).fabric.events (load_lawful free) load_moment.fits.0 does.1 refl)
+      by true barred does = subst Next (sym does.0) (ap (account_of step.script (place + 1)) does.1)
 
 -- work was taken
-pub to_do : (script : ScriptOf) (h seen : List Event) (desk : Desk) (buffer : List ℕ) (job : Work) → KeepsUp script (world_after script h) desk.s desk.power_on desk.switch.value pending.Work → TakesWork script h desk.s job buffer seen
-    → IsToDo script seen (record desk { buffer = buffer }) job
-to_do script h seen desk buffer (work.Nothing reason) now takes =
-    subst (λ (xs : List Event). KeepsUp script (world_after script xs) desk.s desk.power_on desk.switch.value pending.Work) (sym (takes.event ∙ append-nil h)) now
-to_do script h seen desk buffer (work.Clock tick samples) now takes =
-    subst (λ (xs : List Event). HasInHand script (world_after script xs) desk.s desk.power_on desk.switch.value buffer (hand.Clock tick samples)) (sym takes.event)
-    (clock_taken script h desk.s desk.power_on desk.switch.value now tick samples buffer (taken_of script h desk.s (work.Clock tick samples) buffer seen takes)
-    (taken_comes script h desk.s (work.Clock tick samples) (Clock desk.s) buffer seen now.powered.within now.fits.0 takes refl))
-to_do script h seen desk buffer (work.Frame port) now takes =
-    subst (λ (xs : List Event). HasInHand script (world_after script xs) desk.s desk.power_on desk.switch.value buffer (hand.Frame port)) (sym takes.event)
-    (frame_taken script h desk.s desk.power_on desk.switch.value now port buffer (taken_comes script h desk.s (work.Frame port) (Take desk.s port) buffer seen now.powered.within now.fits.0 takes refl)
-    (takes.bytes ∙ ap (λ (xs : List Event). held_bytes (world_after script xs).fabric desk.s) takes.event))
-to_do script h seen desk buffer (work.Restart life) now takes = λ new started.
-    subst (λ (xs : List Event). KeepsUp script (world_after script xs) desk.s desk.power_on new pending.Work) (sym takes.event)
-    (life_begun script h desk.s desk.power_on desk.switch.value now life (taken_of script h desk.s (work.Restart life) buffer seen takes)
-    (taken_comes script h desk.s (work.Restart life) (Restart desk.s) buffer seen now.powered.within now.fits.0 takes refl) new started)
+module _ (script : ScriptOf) (h seen : List Event) (desk : Desk) (buffer : List ℕ) (tale : Box Tale) (told : Option PlacedLine) (now : IsUpTo script h desk pending.Work) where
+  pub to_do : (job : Work) → TakesWork script h desk.s job buffer told seen → IsToDo script seen (record desk { buffer = buffer; tale = tale }) job
+  to_do (work.Nothing reason) takes =
+      let same : h ≡ seen = sym (takes.event ∙ append-nil h) in
+      record {
+        keeps_up = subst (λ (xs : List Event). KeepsUp script (world_after script xs) desk.s desk.power_on desk.switch.value pending.Work) same now.keeps_up;
+        prepared = now.prepared ∙ ap (λ (xs : List Event). note_of ((world_after script xs).switches desk.s)) same;
+      }
+  to_do (work.Clock tick samples) takes =
+      let at = now.keeps_up in
+      let lawful = taken_comes script h desk.s (work.Clock tick samples) (Clock desk.s) buffer told seen at.powered.within at.fits.0 takes refl in
+      record {
+        has = subst (λ (xs : List Event). HasInHand script (world_after script xs) desk.s desk.power_on desk.switch.value buffer (hand.Clock tick samples)) (sym takes.event)
+            (clock_taken script h desk.s desk.power_on desk.switch.value at tick samples buffer (taken_of script h desk.s (work.Clock tick samples) buffer told seen takes) lawful);
+        note_is = now.prepared ∙ ap note_of (sym (clock_switch script h desk.s desk.power_on desk.switch.value at lawful))
+            ∙ ap (λ (xs : List Event). note_of ((world_after script xs).switches desk.s)) (sym takes.event);
+      }
+  to_do (work.Frame port) takes =
+      let at = now.keeps_up in
+      let lawful = taken_comes script h desk.s (work.Frame port) (Take desk.s port) buffer told seen at.powered.within at.fits.0 takes refl in
+      record {
+        has = subst (λ (xs : List Event). HasInHand script (world_after script xs) desk.s desk.power_on desk.switch.value buffer (hand.Frame port)) (sym takes.event)
+            (frame_taken script h desk.s desk.power_on desk.switch.value at port buffer lawful (takes.bytes ∙ ap (λ (xs : List Event). held_bytes (world_after script xs).fabric desk.s) takes.event));
+        note_is = now.prepared ∙ ap note_of (sym (take_switch script h desk.s desk.power_on desk.switch.value at port lawful))
+            ∙ ap (λ (xs : List Event). note_of ((world_after script xs).switches desk.s)) (sym takes.event);
+      }
+  to_do (work.Restart life) takes = λ new started.
+      let at = now.keeps_up in
+      subst (λ (xs : List Event). KeepsUp script (world_after script xs) desk.s desk.power_on new pending.Work) (sym takes.event)
+      (life_begun script h desk.s desk.power_on desk.switch.value at life (taken_of script h desk.s (work.Restart life) buffer told seen takes)
+      (taken_comes script h desk.s (work.Restart life) (Restart desk.s) buffer told seen at.powered.within at.fits.0 takes refl) new started)
 
-pub take_step : (view after : View Event ScriptOf) (desk : Desk) (out buffer : List ℕ) (job : Work) → IsInStep view desk (next.Ask pending.Work)
-    → Called owner_of AnswersBook view (ask.Take desk.s out) (reply.Take job buffer) after → IsInStep after (record desk { buffer = buffer }) (next.Do job)
-take_step view after desk out buffer job step called = record {
-  script = step.script;
-  begun = ap (λ (v : View Event ScriptOf). v.start) called.same ∙ step.begun;
-  number = ap (λ (v : View Event ScriptOf). v.number) called.same ∙ step.number;
-  fits =
-      to_do step.script (view.seen ++ called.between) after.seen desk buffer job
-      (moment view after (ask.Take desk.s out) (reply.Take job buffer) called desk.s desk.power_on desk.switch.value pending.Work (at_place view desk pending.Work step))
-      (answered view after (ask.Take desk.s out) (reply.Take job buffer) called step.script step.begun);
-}
+pub take_step : (view after : View Event ScriptOf) (desk : Desk) (out buffer : List ℕ) (job : Work) (told : Option PlacedLine) (tale : Box Tale) → IsInStep view desk (next.Ask pending.Work)
+    → Called owner_of AnswersBook view (ask.Take desk.s out) (reply.Take job buffer told) after
+    → ((was : AccountOf) → IsAccount was desk.tale.value.account → IsAccount (with_lines (option_to_list told) was) tale.value.account) → IsInStep after (record desk { buffer = buffer; tale = tale }) (next.Do job)
+take_step view after desk out buffer job told tale step called adds =
+    let asked = ask.Take desk.s out in
+    let answer = reply.Take job buffer told in
+    let at = at_place view desk pending.Work step in
+    let h = view.seen ++ called.between in
+    let does = answered view after asked answer called step.script step.begun in
+    let now : IsUpTo step.script h desk pending.Work = record {
+      keeps_up = moment view after asked answer called desk.s desk.power_on desk.switch.value pending.Work at;
+      prepared = prepared_then view after asked answer called desk.s desk.power_on desk.switch.value pending.Work at desk.done.value.note desk.tale.value step.fits.prepared;
+    } in
+    record {
+      script = step.script;
+      begun = start_stays view after asked answer called step.script step.begun;
+      number = number_stays view after asked answer called (desk.s + 1) step.number;
+      fits = to_do step.script h after.seen desk buffer tale told now job does;
+      told = tells_there view after asked answer called desk.s desk.power_on desk.switch.value pending.Work at desk.tale.value.account tale.value.account (with_lines (option_to_list told)) adds
+          (ap (account_of step.script (desk.s + 1)) does.event ∙ work_told step.script h desk.s job ∙ ap (λ (lines : List PlacedLine). with_lines lines (account_of step.script (desk.s + 1) h)) (sym does.told_is)) step.told;
+    }
 
 -- what is to be done before a turn was done
-pub ready_step : (view : View Event ScriptOf) (desk new : Desk) (before then : Next) (step : IsInStep view desk before) → new.s ≡ desk.s
+pub ready_step : (view : View Event ScriptOf) (desk new : Desk) (before then : Next) (step : IsInStep view desk before) → new.s ≡ desk.s → new.tale.value.account ≡ desk.tale.value.account
     → IsNext step.script view.seen new then → IsInStep view new then
-ready_step view desk new before then step place fits = record {
+ready_step view desk new before then step place account fits = record {
   script = step.script;
   begun = step.begun;
   number = step.number ∙ ap (λ (n : ℕ). n + 1) (sym place);
   fits = fits;
+  told = subst (HasTold step.script view) (sym account) step.told;
 }
 
 -- what a worker has is in step
 pub taken_desk : (view : View Event ScriptOf) (has : Option (Desk × Next)) (desk : Desk) (then : Next) → has ≡ Some (desk, then) → IfSome has (λ d. IsInStep view d.0 d.1) → IsInStep view desk then
 taken_desk view has desk then is step = subst (λ (o : Option (Desk × Next)). IfSome o (λ d. IsInStep view d.0 d.1)) is step
 
+-- of nothing nothing is told
+pub first_told : (view : View Event ScriptOf) (script : ScriptOf) (account : Account) → view.seen ≡ [] → view.mine ≡ [] → IsAccount (record { lines = []; rows = [] }) account → HasTold script view account
+first_told view script account seen mine none = record {
+  own = ap (λ (h : List Event). own_entries owner_of h view.number) seen ∙ sym mine;
+  account_is = subst (λ (h : List Event). IsAccount (account_of script view.number h) account) (sym seen) none;
+}
+
+-- an account of which no memory was wanting is of all of them
+pub told_at : (seat : SeatOf) (script : ScriptOf) (account : Account) → seat.1.start ≡ Some script → HasTold script seat.1 account → account.failed ≡ false → IsToldAt seat account
+told_at seat script account begun told whole = (
+  told.own,
+  λ other is. subst (λ (s : ScriptOf). HasAccount (account_of s seat.1.number seat.1.seen) account) (same_Some script other (sym begun ∙ is)) (told.account_is whole),
+)
+
 -- a worker that begins
-pub begun_step : (view : View Event ScriptOf) (script : ScriptOf) (s : ℕ) (desk : Desk) → view.start ≡ Some script → view.number ≡ s + 1 → view.seen ≡ [] → desk.s ≡ s
-    → IsUpTo script [] desk pending.Work → IsInStep view desk (next.Ask pending.Work)
-begun_step view script s desk begun number first place keeps = record {
+pub begun_step : (view : View Event ScriptOf) (script : ScriptOf) (s : ℕ) (desk : Desk) → view.start ≡ Some script → view.number ≡ s + 1 → (view.seen ≡ []) × (view.mine ≡ []) → desk.s ≡ s
+    → IsUpTo script [] desk pending.Work → IsAccount (record { lines = []; rows = [] }) desk.tale.value.account → IsInStep view desk (next.Ask pending.Work)
+begun_step view script s desk begun number first place up none = record {
   script = script;
   begun = begun;
   number = number ∙ ap (λ (n : ℕ). n + 1) (sym place);
-  fits = subst (λ (h : List Event). IsUpTo script h desk pending.Work) (sym first) keeps;
+  fits = subst (λ (h : List Event). IsUpTo script h desk pending.Work) (sym first.0) up;
+  told = first_told view script desk.tale.value.account first.0 first.1 none;
 }
 
 -- the number of a worker's place
 pub place_few : (script : ScriptOf) (history : List Event) (desk : Desk) (pending : Pending) → IsUpTo script history desk pending → desk.s + 1 ≤ 126
 place_few script history desk pending up =
-    let within = up.powered.within in
-    let lives : length script.wires.switches + restarts_of script.commands ≤ 126 = up.powered.kept.lives in
+    let at = up.keeps_up.powered in
+    let within = at.within in
+    let lives : length script.wires.switches + restarts_of script.commands ≤ 126 = at.kept.lives in
     omega (arith, within, lives)
 
 -- the driver did something, or waits, or was told an end
-abbrev pub told_after : Drive → Option Ending → Option Ending
-told_after (drive.Did event) told = told
-told_after drive.Waits told = told
-told_after (drive.Ended end) told = Some end
+abbrev pub end_after : Drive → Option Ending → Option Ending
+end_after (drive.Did event) end = end
+end_after drive.Waits end = end
+end_after (drive.Ended end) before = Some end
 
-pub drive_step : (view after : View Event ScriptOf) (told : Option Ending) (did : Drive) → IsDriving view told → Called owner_of AnswersBook view ask.Drive (reply.Drive did) after → IsDriving after (told_after did told)
-drive_step view after told did is called = record {
+pub drive_step : (view after : View Event ScriptOf) (end : Option Ending) (old new : Account) (did : Drive) (told : Option PlacedLine) → IsDriving view end old → Called owner_of AnswersBook view ask.Drive (reply.Drive did told) after
+    → ((was : AccountOf) → IsAccount was old → IsAccount (with_lines (option_to_list told) was) new) → IsDriving after (end_after did end) new
+drive_step view after end old new did told is called adds = record {
   script = is.script;
   kept = is.kept;
-  begun = ap (λ (v : View Event ScriptOf). v.start) called.same ∙ is.begun;
-  number = ap (λ (v : View Event ScriptOf). v.number) called.same ∙ is.number;
-  told_is = by did (answered view after ask.Drive (reply.Drive did) called is.script is.begun);
+  begun = start_stays view after ask.Drive (reply.Drive did told) called is.script is.begun;
+  number = number_stays view after ask.Drive (reply.Drive did told) called 0 is.number;
+  end_is = by did does;
+  told = tells_on view after ask.Drive (reply.Drive did told) called is.script old new (with_lines (option_to_list told)) adds
+      (subst (λ (n : ℕ). account_of is.script n after.seen ≡ with_lines (option_to_list told) (account_of is.script n h)) (sym is.number)
+      (ap (account_of is.script 0) does.event ∙ drive_told is.script h did own ∙ ap (λ (lines : List PlacedLine). with_lines lines (account_of is.script 0 h)) (sym does.told_is))) is.told;
 } where
-  goes : Extends view.seen after.seen
-  goes = (called.between ++ called.added, called.seen ∙ append_assoc view.seen called.between called.added)
+  h : List Event
+  h = view.seen ++ called.between
 
-  by : (d : Drive) → Drives is.script (view.seen ++ called.between) d after.seen → IfSome (told_after d told) (λ end. end_of is.script after.seen ≡ Some end)
-  by (drive.Did event) does = told_extends is.script view.seen after.seen told goes is.told_is
-  by drive.Waits does = told_extends is.script view.seen after.seen told goes is.told_is
-  by (drive.Ended end) does = end_told is.script (view.seen ++ called.between) after.seen end does
+  does : Drives is.script h did told after.seen
+  does = answered view after ask.Drive (reply.Drive did told) called is.script is.begun
+
+  own : (e : Event) → did ≡ drive.Did e → owner_of e ≡ 0
+  own e is_that =
+      let f = (world_after is.script h).fabric in
+      driver_owns f e (subst IsScript (sym (world_script is.script h)) is.kept) (driven f e (sym does.drive_is ∙ is_that))
+
+  goes : Extends view.seen after.seen
+  goes = seen_extends view after ask.Drive (reply.Drive did told) called
+
+  by : (d : Drive) → Drives is.script h d told after.seen → IfSome (end_after d end) (λ e. end_of is.script after.seen ≡ Some e)
+  by (drive.Did event) does = told_extends is.script view.seen after.seen end goes is.end_is
+  by drive.Waits does = told_extends is.script view.seen after.seen end goes is.end_is
+  by (drive.Ended last) does = end_told is.script h after.seen last told does

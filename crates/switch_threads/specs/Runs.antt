@@ -1,12 +1,19 @@
--- The seats of a run, through its rounds.
+-- The seats of a run, through its rounds, and what their callers have told in the end.
 
-use Rattle.std.specs.Prelude.{◌≡◌, ◌+◌, ◌<◌, ℕ, List, length, Option, slice_index_or}
+use Rattle.std.specs.Prelude.{◌≡◌, ◌+◌, ◌-◌, ◌⊎◌, ◌<◌, ℕ, List, length, Option, Some, slice_index_or}
+use mathlib.Core.Option.{some}
+use lib.ListN.{get_elem?}
 use Rattle.an_base.specs.declared.event.Event.{Event}
 use Rattle.net_script.specs.Scripts.{ScriptOf}
 use Rattle.fabric_state.specs.declared.ending.Ending.{Ending}
+use Rattle.fabric_world.specs.Accounts.{account_of}
+use Rattle.fabric_world.specs.Histories.{owner_of}
+use Rattle.fabric_book.specs.Accounts.{HasAccount}
+use Rattle.fabric_book.specs.declared.account.Account.{Account}
 use Rattle.fabric_turn.specs.Calls.{DifferByCalls}
+use Rattle.fabric_turn.specs.History.{Extends, own_entries}
 use Rattle.fabric_turn.specs.Rule.{first_view}
-use Rattle.fabric_turn.specs.Seats.{HasOneNumber}
+use Rattle.fabric_turn.specs.Seats.{HasAllNumbers, HasOneNumber, ended_caller}
 use Rattle.fabric_turn.specs.Turnstiles.{TurnstileId}
 use Rattle.fabric_turn.specs.declared.view.View.{View}
 
@@ -31,9 +38,29 @@ abbrev pub driver_seat : TurnstileId → ScriptOf → SeatOf
 driver_seat turnstile script =
     (turnstile, record (first_view (callers_of script) script) { next = callers_of script })
 
--- a seat is of this turnstile, and has its own of so many numbers and no other
-abbrev pub IsOneOf : TurnstileId → ℕ → SeatOf → Type 0
-IsOneOf turnstile callers seat = (seat.0 ≡ turnstile) × HasOneNumber callers seat.1
+-- a seat is of this turnstile, which was begun with this script, and has this number and no other
+pub record IsSeatOf (turnstile : TurnstileId) (script : ScriptOf) (number : ℕ) (seat : SeatOf) : Type 0 where
+  pub turnstile_is : seat.0 ≡ turnstile
+  pub begun : seat.1.start ≡ Some script
+  pub number_is : seat.1.number ≡ number
+  pub one : HasOneNumber (callers_of script) seat.1
+
+-- the seats of the workers, in the order of the script
+abbrev pub AreWorkers : TurnstileId → ScriptOf → List SeatOf → Type 0
+AreWorkers turnstile script seats = (k : ℕ) (seat : SeatOf) → k < length seats
+    → IsSeatOf turnstile script (k + 1) (slice_index_or seats k seat)
+
+-- a seat of this turnstile has all numbers
+pub record IsWhole (turnstile : TurnstileId) (script : ScriptOf) (seat : SeatOf) : Type 0 where
+  pub turnstile_is : seat.0 ≡ turnstile
+  pub begun : seat.1.start ≡ Some script
+  pub all : HasAllNumbers seat.1
+
+-- the caller of a seat is the same, and has seen what goes on from there
+pub record HasSeenMore (before after : View Event ScriptOf) : Type 0 where
+  pub number_is : after.number ≡ before.number
+  pub mine_is : after.mine ≡ before.mine
+  pub on : Extends before.seen after.seen
 
 -- a seat made calls, or none
 abbrev pub HasCalled : SeatOf → SeatOf → Type 0
@@ -43,3 +70,35 @@ HasCalled before after = (after.0 ≡ before.0) × DifferByCalls before.1 after.
 abbrev pub HaveCalled : List SeatOf → List SeatOf → Type 0
 HaveCalled before after = (k : ℕ) (seat : SeatOf) → k < length before
     → HasCalled (slice_index_or before k seat) (slice_index_or after k seat)
+
+-- the account is of all events of the caller of a seat that are in what the seat has seen
+abbrev pub IsToldAt : SeatOf → Account → Type 0
+IsToldAt seat account = (own_entries owner_of seat.1.seen seat.1.number ≡ seat.1.mine)
+    × ((script : ScriptOf) → seat.1.start ≡ Some script
+    → HasAccount (account_of script seat.1.number seat.1.seen) account)
+
+-- a seat has these entries of the caller with a number: as its own, or as one that was ended in it
+abbrev pub HasEntries : View Event ScriptOf → ℕ → List Event → Type 0
+HasEntries view number mine = ((number ≡ view.number) × (mine ≡ view.mine))
+    ⊎ ((k : ℕ) × (get_elem? view.ended k ≡ some (ended_caller number mine)))
+
+-- The account is of all events that a caller has added, as a seat knows in which the caller was ended: what the
+-- caller had seen, the seat has seen too.
+pub record IsToldBy (script : ScriptOf) (view : View Event ScriptOf) (number : ℕ) (account : Account)
+    : Type 0 where
+  pub mine : List Event
+  pub has : HasEntries view number mine
+  pub seen : List Event
+  pub on : Extends seen view.seen
+  pub own : own_entries owner_of seen number ≡ mine
+  pub account_is : HasAccount (account_of script number seen) account
+
+-- the accounts of callers: from the last worker down, and of all from the driver on
+abbrev pub AreToldDown : ScriptOf → View Event ScriptOf → List Account → Type 0
+AreToldDown script view accounts = (k : ℕ) (account : Account) → k < length accounts
+    → IsToldBy script view (length script.wires.switches - k) (slice_index_or accounts k account)
+
+abbrev pub AreToldBy : ScriptOf → View Event ScriptOf → List Account → Type 0
+AreToldBy script view accounts = (length accounts ≡ callers_of script)
+    × ((k : ℕ) (account : Account) → k < length accounts
+    → IsToldBy script view k (slice_index_or accounts k account))

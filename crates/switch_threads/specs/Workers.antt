@@ -2,6 +2,7 @@
 -- seat has seen.
 
 use Rattle.std.specs.Prelude.{◌≡◌, ◌+◌, ◌<◌, ◌≤◌, ℕ, List, length, Option, Some, IfSome, false, true}
+use Rattle.an_base.specs.Ports.{NoteOf}
 use Rattle.an_base.specs.declared.event.Event.{Event}
 use Rattle.net_script.specs.Scripts.{IsScript, ScriptOf}
 use Rattle.switch_core.specs.Bytes.{OutOf}
@@ -13,20 +14,25 @@ use Rattle.fabric_state.specs.declared.hand.Hand.{Hand}
 use Rattle.fabric_state.specs.declared.hand.Hand.TheVariants as hand
 use Rattle.fabric_state.specs.declared.work.Work.{Work}
 use Rattle.fabric_state.specs.declared.work.Work.TheVariants as work
-use Rattle.fabric_state.specs.Fabric.{is_full_at, station}
+use Rattle.fabric_state.specs.Fabric.{held_bytes, is_full_at, station}
 use Rattle.fabric_world.specs.declared.ask.Done.{Done}
-use Rattle.fabric_world.specs.declared.ask.LoadReply.{LoadReply}
-use Rattle.fabric_world.specs.declared.ask.LoadReply.TheVariants as load
+use Rattle.fabric_world.specs.declared.line.Line.{Line}
+use Rattle.fabric_world.specs.Accounts.{account_of}
 use Rattle.fabric_world.specs.World.{WorldOf, handled, start_of, world_after}
-use Rattle.fabric_world.specs.Histories.{end_of}
+use Rattle.fabric_world.specs.Histories.{end_of, owner_of}
 use Rattle.fabric_world.specs.Turns.{IsDone, IsToLoad}
+use Rattle.fabric_book.specs.Accounts.{IsAccount}
 use Rattle.fabric_book.specs.Nets.{IsStarted, IsSwitchKept, PowerOf, power_of, start_with}
+use Rattle.fabric_book.specs.Told.{hand_lines}
+use Rattle.fabric_book.specs.declared.account.Account.{Account}
+use Rattle.fabric_turn.specs.History.{own_entries}
 use Rattle.fabric_turn.specs.declared.view.View.{View}
 use Rattle.switch_threads.specs.declared.desk.Desk.{Desk}
 use Rattle.switch_threads.specs.declared.desk.Next.{Next}
 use Rattle.switch_threads.specs.declared.desk.Next.TheVariants as next
 use Rattle.switch_threads.specs.declared.desk.Pending.{Pending}
 use Rattle.switch_threads.specs.declared.desk.Pending.TheVariants as pending
+use Rattle.switch_threads.specs.declared.desk.Tale.{Tale}
 
 -- what came of what a switch had in hand, with what the switch shows then
 abbrev pub done_with : OutOf → SwitchOf → Done
@@ -45,10 +51,21 @@ IsPending world place switch (pending.Load table) =
     IsToLoad world place table (note_of (loaded table.table.number (world.switches place)))
     × StandsFor switch (loaded table.table.number (world.switches place))
 
--- what there is to do after a table was to be loaded
-abbrev pub next_after : LoadReply → Next
-next_after load.Loaded = next.Ask pending.Work
-next_after (load.NotNow table) = next.Later (pending.Load table)
+-- all that is told of what a switch has in hand, once it is handled, but of the frames that are lost
+abbrev pub lines_at_hand : WorldOf → ℕ → List Line
+lines_at_hand world place =
+    hand_lines place (station world.fabric place).hand (held_bytes world.fabric place) (world.switches place)
+    (handled place world).switch
+
+-- What a worker shows and has to tell is of what it has to ask for: the note is what its switch shows then. Of
+-- what was handled it has the lines, and room for what becomes of each frame; of a table the rows.
+abbrev pub IsPrepared : WorldOf → ℕ → NoteOf → Tale → Pending → Type 0
+IsPrepared world place note tale pending.Work = note ≡ note_of (world.switches place)
+IsPrepared world place note tale (pending.Put out) =
+    (note ≡ note_of (handled place world).switch)
+    × (tale.lines ≡ lines_at_hand world place) × (length tale.puts.items ≡ length out.frames)
+IsPrepared world place note tale (pending.Load table) =
+    (note ≡ note_of (loaded table.table.number (world.switches place))) × (tale.rows.items ≡ table.table.rows)
 
 -- This is with what the switch at a place of a script is started.
 pub record IsPowerAt (script : ScriptOf) (place : ℕ) (power : PowerOf) : Type 0 where
@@ -74,15 +91,15 @@ pub record HasInHand (script : ScriptOf) (world : WorldOf) (place : ℕ) (power 
   pub kept : IsSwitchKept world place switch buffer
   pub more : switch.works < world.fabric.events
 
--- Of the desk of a worker, after a history
+-- The desk of a worker, after a history, fits what it has to ask for
+pub record IsUpTo (script : ScriptOf) (history : List Event) (desk : Desk) (next : Pending) : Type 0 where
+  pub keeps_up : KeepsUp script (world_after script history) desk.s desk.power_on desk.switch.value next
+  pub prepared : IsPrepared (world_after script history) desk.s desk.done.value.note desk.tale.value next
 
-abbrev pub IsUpTo : ScriptOf → List Event → Desk → Pending → Type 0
-IsUpTo script history desk next =
-    KeepsUp script (world_after script history) desk.s desk.power_on desk.switch.value next
-
-abbrev pub IsToHandle : ScriptOf → List Event → Desk → Hand → Type 0
-IsToHandle script history desk hand =
-    HasInHand script (world_after script history) desk.s desk.power_on desk.switch.value desk.buffer hand
+-- and what is to be handled
+pub record IsToHandle (script : ScriptOf) (history : List Event) (desk : Desk) (hand : Hand) : Type 0 where
+  pub has : HasInHand script (world_after script history) desk.s desk.power_on desk.switch.value desk.buffer hand
+  pub note_is : desk.done.value.note ≡ note_of ((world_after script history).switches desk.s)
 
 -- What is to be done with the work that a worker took: nothing; to handle what is in hand then; or to begin
 -- the next life, with whichever switch is started in it.
@@ -100,18 +117,27 @@ IsNext script history desk (next.Ask pending) = IsUpTo script history desk pendi
 IsNext script history desk (next.Later pending) = IsUpTo script history desk pending
 IsNext script history desk (next.Do job) = IsToDo script history desk job
 
--- The worker of a seat is in step: the seat's number is that of its place, and what it is to do next fits the
--- world after what the seat has seen.
+-- A caller has told of its events: its seat has all of them that are in what it has seen, and the account is of
+-- these.
+pub record HasTold (script : ScriptOf) (view : View Event ScriptOf) (account : Account) : Type 0 where
+  pub own : own_entries owner_of view.seen view.number ≡ view.mine
+  pub account_is : IsAccount (account_of script view.number view.seen) account
+
+-- The worker of a seat is in step: the seat's number is that of its place, what it is to do next fits the world
+-- after what the seat has seen, and it has told of its events.
 pub record IsInStep (view : View Event ScriptOf) (desk : Desk) (then : Next) : Type 0 where
   pub script : ScriptOf
   pub begun : view.start ≡ Some script
   pub number : view.number ≡ desk.s + 1
   pub fits : IsNext script view.seen desk then
+  pub told : HasTold script view desk.tale.value.account
 
--- The driver has the number 0. Where it was told an end, that is the end of what its seat has seen.
-pub record IsDriving (view : View Event ScriptOf) (told : Option Ending) : Type 0 where
+-- The driver has the number 0, and has told of its events. Where it was told an end, that is the end of what its
+-- seat has seen.
+pub record IsDriving (view : View Event ScriptOf) (end : Option Ending) (account : Account) : Type 0 where
   pub script : ScriptOf
   pub kept : IsScript script
   pub begun : view.start ≡ Some script
   pub number : view.number ≡ 0
-  pub told_is : IfSome told (λ end. end_of script view.seen ≡ Some end)
+  pub end_is : IfSome end (λ end. end_of script view.seen ≡ Some end)
+  pub told : HasTold script view account

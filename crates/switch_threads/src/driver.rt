@@ -1,26 +1,32 @@
 //! The driver of a network.
 
-ghost use Rattle.std.specs.Prelude.{◌≡◌, None};
+ghost use Rattle.std.specs.Prelude.{◌≡◌, None, IfOk};
+ghost use Rattle.net_script.specs.Scripts.{IsScript, ScriptOf};
 ghost use Rattle.fabric_turn.specs.Names.{turnstile_id};
-ghost use Rattle.switch_threads.specs.Runs.{HasCalled};
+ghost use Rattle.fabric_turn.specs.Turnstiles.{TurnstileId};
+ghost use Rattle.switch_threads.specs.Runs.{HasCalled, IsToldAt, driver_seat};
 ghost use Rattle.switch_threads.specs.Workers.{IsDriving};
 
+use an_base::memory::OutOfMemory;
+use fabric_book::account::Account;
 use fabric_book::asking::{BookAsk, BookReply};
 use fabric_book::book::Book;
 use fabric_state::ending::Ending;
 use fabric_state::work::Drive;
 use fabric_turn::{Seat, Turnstile};
+use std::alloc::Global;
 use std::marker::Model;
 use std::sync::Wait;
 
 // The most steps in one round.
 const STEPS: u32 = 64;
 
-/// The driver: its seat, and the end that it was told, if one has come.
+/// The driver: its seat, the end that it was told, if one has come, and what is told of its events.
 #[derive(Drop)]
 pub(crate) struct Driver {
     seat: Seat<Book>,
     end: Option<Ending>,
+    account: Account,
 }
 
 impl Model for Driver {
@@ -31,16 +37,21 @@ impl Model for Driver {
 
     ghost view = { λ d. record { seat = d.seat; end = d.end } };
 
-    ghost invariant = { λ d. IsDriving d.seat.1 d.end };
+    ghost invariant = { λ d. IsDriving d.seat.1 d.end d.account };
 }
 
 impl Driver {
     /// The driver that has this seat, which was told no end yet.
-    pub fn new(seat: Seat<Book>) -> Driver
-        requires { IsDriving seat.1 None }
+    pub fn new(alloc: Global, seat: Seat<Book>) -> Driver
+        requires { (turnstile : TurnstileId) × (script : ScriptOf) × IsScript script
+            × (seat ≡ driver_seat turnstile script) }
         ensures { result ≡ record { seat = seat; end = None } }
     {
-        Driver { seat, end: None }
+        Driver {
+            seat,
+            end: None,
+            account: Account::new(alloc),
+        }
     }
 
     /// The end that it was told.
@@ -50,12 +61,21 @@ impl Driver {
         self.end
     }
 
-    /// Its seat.
-    pub fn into_seat(self) -> Seat<Book>
-        ensures seat { result ≡ self.seat }
-        ensures told { IsDriving self.seat.1 self.end }
+    /// Whether memory was wanting.
+    pub fn failed(&self) -> bool {
+        self.account.failed
+    }
+
+    /// Its seat, and what is told of its events, unless memory was wanting.
+    pub fn into_parts(self) -> Result<(Seat<Book>, Account), OutOfMemory>
+        ensures seat { IfOk result (λ parts. parts.0 ≡ self.seat) }
+        ensures told { IfOk result (λ parts. IsToldAt self.seat parts.1) }
+        ensures end { IfOk result (λ parts. IsDriving self.seat.1 self.end parts.1) }
     {
-        self.seat
+        if self.account.failed {
+            return Err(OutOfMemory);
+        }
+        Ok((self.seat, self.account))
     }
 
     // One step. Whether there may be another one at once.
@@ -63,9 +83,11 @@ impl Driver {
         requires { self.old.seat.0 ≡ turnstile_id turnstile.now }
         ensures { HasCalled self.old.seat self.new.seat }
     {
-        let BookReply::Drive { drive } = turnstile.call(rt, &mut self.seat, BookAsk::Drive) else {
+        let BookReply::Drive { drive, told } = turnstile.call(rt, &mut self.seat, BookAsk::Drive)
+        else {
             unreachable!()
         };
+        self.account.tell(told);
         match drive {
             Drive::Did(_event) => true,
             Drive::Waits => false,

@@ -15,4 +15,4 @@ mod shift;
 mod worker;
 
 pub use gate::{Gate, Open};
-pub use running::run;
+pub use running::{Told, run};

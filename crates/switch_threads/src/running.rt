@@ -1,20 +1,21 @@
 //! A run: rounds of workers and driver, until the driver is told an end.
 
-ghost use Rattle.std.specs.Prelude.{◌≡◌, ◌+◌, ◌<◌, [], All, Some, length, IfOk, OnOk, vec_len};
+ghost use Rattle.std.specs.Prelude.{◌≡◌, ◌+◌, ◌<◌, [], All, Some, length, IfOk, IfSome, OnOk, vec_len};
 ghost use Rattle.net_script.specs.Scripts.{IsScript, ScriptOf};
 ghost use Rattle.fabric_world.specs.Histories.{IsLegal, end_of};
 ghost use Rattle.fabric_settling.specs.Claims.{HoldsAndSettles};
+ghost use Rattle.fabric_book.specs.Accounts.{AreAccounts};
 ghost use Rattle.fabric_turn.specs.Names.{turnstile_id};
-ghost use Rattle.fabric_turn.specs.History.{Extends};
 ghost use Rattle.fabric_turn.specs.Seats.{HasAllNumbers};
-ghost use Rattle.switch_threads.specs.Runs.{callers_of, driver_seat, first_seat};
-ghost use Rattle.switch_threads.specs.Runs.{HasCalled, HaveCalled, IsOneOf};
+ghost use Rattle.switch_threads.specs.Runs.{AreToldBy, AreToldDown, AreWorkers, HasCalled, HasSeenMore, HaveCalled};
+ghost use Rattle.switch_threads.specs.Runs.{IsSeatOf, IsWhole, driver_seat, first_seat};
 
 use crate::driver::Driver;
 use crate::gate::Gate;
 use crate::shift::Shift;
 use crate::worker::Worker;
 use an_base::memory::OutOfMemory;
+use fabric_book::account::Account;
 use fabric_book::book::Book;
 use fabric_book::solo::Run;
 use fabric_state::ending::Ending;
@@ -24,8 +25,21 @@ use std::alloc::Global;
 use std::sync::Wait;
 use std::thread::{Threads, for_each_chunk_mut, for_each_mut, join_mut};
 
+/// A run, with what is told of the events of each caller.
+#[derive(Drop)]
+pub struct Told {
+    /// The run.
+    pub run: Run,
+    /// What is told of the events of the driver, and behind it of those of each worker in the order of the script.
+    pub accounts: Vec<Account>,
+}
+
 // The most threads that the workers have.
 const THREADS: usize = 4;
+
+// The fewest workers of a thread, where there are more than threads: with fewer in each, threads wait for one another
+// longer than they work.
+const FEWEST: usize = 16;
 
 // The most turns of a worker in one round.
 const TURNS: u32 = 64;
@@ -43,8 +57,7 @@ fn open(
     requires { seat ≡ first_seat (turnstile_id turnstile.now) script.now }
     ensures seat { IfOk result (λ r. r.0 ≡ driver_seat (turnstile_id turnstile.now) script.now) }
     ensures count { IfOk result (λ r. vec_len r.1 ≡ length script.now.wires.switches) }
-    ensures workers { IfOk result (λ r.
-        All (IsOneOf (turnstile_id turnstile.now) (callers_of script.now)) r.1.items) }
+    ensures workers { IfOk result (λ r. AreWorkers (turnstile_id turnstile.now) script.now r.1.items) }
     ensures script { IsScript script.now }
 {
     let count = script.wiring().count();
@@ -191,13 +204,23 @@ fn drive<R: Wait>(rt: &R, turnstile: &Turnstile<Book>, shift: &Shift, driver: &m
         let behind_the_door = shift.enter(rt);
         driver.steps(rt, turnstile);
         drop(behind_the_door);
-        if driver.end().is_some() {
+        if driver.end().is_some() || driver.failed() {
             shift.end_with(round);
         }
         if !shift.end_round(rt, round) {
             return;
         }
     }
+}
+
+// How many of so many workers a thread has. Of few each has a thread of its own.
+fn workers_each(workers: usize) -> usize
+    ensures { 0 < result }
+{
+    if workers <= THREADS {
+        return 1;
+    }
+    workers.div_ceil(THREADS).max(FEWEST)
 }
 
 // A shift: in each of its rounds all workers and the driver, beside each other.
@@ -213,7 +236,7 @@ fn make<R: Threads + Wait + Sync, G: Gate>(
     ensures driver { HasCalled driver.old.seat driver.new.seat }
     ensures workers { HaveCalled workers.old workers.new }
 {
-    let each = workers.len().div_ceil(THREADS).max(1);
+    let each = workers_each(workers.len());
     let shift = Shift::new(ROUNDS, workers.len().div_ceil(each).saturating_add(1));
     let shift = &shift;
     join_mut(
@@ -245,7 +268,7 @@ fn shifts<R: Threads + Wait + Sync, G: Gate>(
 {
     'shifts: for _ in rt.forever() {
         make(rt, turnstile, gate, driver, workers);
-        if have_failed(workers) {
+        if driver.failed() || have_failed(workers) {
             return Err(OutOfMemory);
         }
         if let Some(end) = driver.end() {
@@ -255,39 +278,76 @@ fn shifts<R: Threads + Wait + Sync, G: Gate>(
     unreachable!()
 }
 
-// All seats joined into one.
-fn joined(turnstile: &Turnstile<Book>, seat: Seat<Book>, workers: Vec<Worker>) -> Seat<Book>
-    requires turnstile { seat.0 ≡ turnstile_id turnstile.now }
-    requires first { (seat.1.next ≡ seat.1.callers) × (seat.1.ended ≡ []) }
-    requires workers { All (IsOneOf (turnstile_id turnstile.now) seat.1.callers) workers.items }
-    requires all { vec_len workers + 1 ≡ seat.1.callers }
-    ensures turnstile { result.0 ≡ turnstile_id turnstile.now }
-    ensures numbers { HasAllNumbers result.1 }
-    ensures start { result.1.start ≡ seat.1.start }
-    ensures seen { Extends seat.1.seen result.1.seen }
+// The seats of all workers joined to the driver's, the last one first, and what is told of the events of each added.
+fn join_workers(
+    script: &Script,
+    turnstile: &Turnstile<Book>,
+    seat: Seat<Book>,
+    workers: Vec<Worker>,
+    accounts: &mut Vec<Account>,
+) -> Result<Seat<Book>, OutOfMemory>
+    requires first { IsSeatOf (turnstile_id turnstile.now) script.now 0 seat }
+    requires workers { AreWorkers (turnstile_id turnstile.now) script.now workers.items }
+    requires all { vec_len workers ≡ length script.now.wires.switches }
+    requires none { accounts.old.items ≡ [] }
+    ensures seat { IfOk result (λ joined. IsWhole (turnstile_id turnstile.now) script.now joined) }
+    ensures more { IfOk result (λ joined. HasSeenMore seat.1 joined.1) }
+    ensures count { IfOk result (λ _. vec_len accounts.new ≡ length script.now.wires.switches) }
+    ensures told { IfOk result (λ joined. AreToldDown script.now joined.1 accounts.new.items) }
 {
     let mut seat = seat;
     let mut workers = workers;
     'workers: while let Some(worker) = workers.pop() {
-        seat = turnstile.join(seat, worker.into_seat());
+        let (theirs, account) = worker.into_parts()?;
+        seat = turnstile.join(seat, theirs);
+        accounts.push(account)?;
     }
-    seat
+    Ok(seat)
+}
+
+// All seats joined into one, and what is told of the events of each caller, in the order of their numbers.
+fn joined(
+    alloc: Global,
+    script: &Script,
+    turnstile: &Turnstile<Book>,
+    driver: Driver,
+    workers: Vec<Worker>,
+) -> Result<(Seat<Book>, Vec<Account>), OutOfMemory>
+    requires driver { IsSeatOf (turnstile_id turnstile.now) script.now 0 driver.seat }
+    requires workers { AreWorkers (turnstile_id turnstile.now) script.now workers.items }
+    requires all { vec_len workers ≡ length script.now.wires.switches }
+    ensures seat { IfOk result (λ r. IsWhole (turnstile_id turnstile.now) script.now r.0) }
+    ensures end { IfOk result (λ r. IfSome driver.end (λ end. end_of script.now r.0.1.seen ≡ Some end)) }
+    ensures told { IfOk result (λ r. AreToldBy script.now r.0.1 r.1.items) }
+{
+    let (seat, told) = driver.into_parts()?;
+    let mut accounts = Vec::with_capacity(alloc, workers.len() + 1)?;
+    let seat = join_workers(script, turnstile, seat, workers, &mut accounts)?;
+    accounts.push(told)?;
+    accounts.reverse();
+    Ok((seat, accounts))
 }
 
 // The whole run, whose history the seat has seen.
-fn close(turnstile: Turnstile<Book>, seat: Seat<Book>, end: Ending) -> Run
-    requires turnstile { seat.0 ≡ turnstile_id turnstile }
-    requires all { HasAllNumbers seat.1 }
-    ensures { (script : ScriptOf) → seat.1.start ≡ Some script → end_of script seat.1.seen ≡ Some end
-        → IsLegal script result.journal result.end }
+fn close(turnstile: Turnstile<Book>, seat: Seat<Book>, end: Ending, accounts: Vec<Account>) -> Told
+    requires seat { (script : ScriptOf) × IsWhole (turnstile_id turnstile) script seat }
+    ensures legal { (script : ScriptOf) → IsWhole (turnstile_id turnstile) script seat
+        → end_of script seat.1.seen ≡ Some end → IsLegal script result.run.journal result.run.end }
+    ensures told { (script : ScriptOf) → IsWhole (turnstile_id turnstile) script seat
+        → AreToldBy script seat.1 accounts.items
+        → AreAccounts script result.run.journal result.accounts.items }
 {
-    Run {
-        journal: turnstile.close(seat).into_journal(),
-        end,
+    Told {
+        run: Run {
+            journal: turnstile.close(seat).into_journal(),
+            end,
+        },
+        accounts,
     }
 }
 
-// The run with this turnstile, which has its first seat alone. Answers the seat that has seen the whole history.
+// The run with this turnstile, which has its first seat alone. Answers the seat that has seen the whole history, the
+// end, and what is told of the events of each caller.
 fn run_with<R: Threads + Wait + Sync, G: Gate>(
     rt: &R,
     alloc: Global,
@@ -295,24 +355,24 @@ fn run_with<R: Threads + Wait + Sync, G: Gate>(
     gate: &G,
     turnstile: &Turnstile<Book>,
     seat: Seat<Book>,
-) -> Result<(Seat<Book>, Ending), OutOfMemory>
+) -> Result<(Seat<Book>, Ending, Vec<Account>), OutOfMemory>
     requires first { seat ≡ first_seat (turnstile_id turnstile.now) script.now }
-    ensures turnstile { IfOk result (λ r. r.0.0 ≡ turnstile_id turnstile.now) }
-    ensures all { IfOk result (λ r. HasAllNumbers r.0.1) }
-    ensures start { IfOk result (λ r. r.0.1.start ≡ Some script.now) }
+    ensures seat { IfOk result (λ r. IsWhole (turnstile_id turnstile.now) script.now r.0) }
     ensures end { IfOk result (λ r. end_of script.now r.0.1.seen ≡ Some r.1) }
+    ensures told { IfOk result (λ r. AreToldBy script.now r.0.1 r.2.items) }
     ensures script { OnOk result (IsScript script.now) }
 {
     let (seat, mut workers) = open(alloc, script, turnstile, seat)?;
-    let mut driver = Driver::new(seat);
+    let mut driver = Driver::new(alloc, seat);
     let end = shifts(rt, turnstile, gate, &mut driver, workers.as_mut_slice())?;
-    let seat = joined(turnstile, driver.into_seat(), workers);
-    Ok((seat, end))
+    let (seat, accounts) = joined(alloc, script, turnstile, driver, workers)?;
+    Ok((seat, end, accounts))
 }
 
 /// A run of the network of a script: a worker for each switch and the driver, side by side, until the driver
 /// is told an end. `gate` is called round each turn of a worker. It gives a legal history and its end; and
-/// all that is claimed of a lawful history holds of it, also how soon it settles.
+/// all that is claimed of a lawful history holds of it, also how soon it settles. With it what each caller
+/// told of its events: the driver, and the workers in the order of the script.
 ///
 /// It may never return: nothing is promised of when a turn comes, nor that a thread is served at all. Which
 /// of the legal histories it is, and with which end, may differ from run to run.
@@ -321,13 +381,14 @@ pub fn run<R: Threads + Wait + Sync, G: Gate>(
     alloc: Global,
     script: &Script,
     gate: &G,
-) -> Result<Run, OutOfMemory>
-    ensures legal { IfOk result (λ run. IsLegal script.now run.journal run.end) }
-    ensures claims { IfOk result (λ run. HoldsAndSettles script.now run.journal) }
+) -> Result<Told, OutOfMemory>
+    ensures legal { IfOk result (λ told. IsLegal script.now told.run.journal told.run.end) }
+    ensures claims { IfOk result (λ told. HoldsAndSettles script.now told.run.journal) }
+    ensures told { IfOk result (λ told. AreAccounts script.now told.run.journal told.accounts.items) }
 {
     let book = Book::begin(alloc, script)?;
     let callers = u32::from(script.wiring().count()) + 1;
     let (turnstile, seat) = Turnstile::new(alloc, book, callers)?;
-    let (seat, end) = run_with(rt, alloc, script, gate, &turnstile, seat)?;
-    Ok(close(turnstile, seat, end))
+    let (seat, end, accounts) = run_with(rt, alloc, script, gate, &turnstile, seat)?;
+    Ok(close(turnstile, seat, end, accounts))
 }

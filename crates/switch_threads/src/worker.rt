@@ -2,11 +2,12 @@
 
 ghost use Rattle.std.specs.Prelude.{◌≡◌, ◌+◌, ◌<◌, [], length, IfOk, Some};
 ghost use Rattle.fabric_turn.specs.Names.{turnstile_id};
-ghost use Rattle.switch_threads.specs.Runs.{HasCalled};
+ghost use Rattle.switch_threads.specs.Runs.{HasCalled, IsToldAt};
 
 use crate::desk::{Desk, Next, Pending};
 use crate::gate::Gate;
 use an_base::memory::OutOfMemory;
+use fabric_book::account::Account;
 use fabric_book::book::Book;
 use fabric_turn::{Seat, Turnstile};
 use net_script::script::Script;
@@ -50,7 +51,7 @@ impl Worker {
         requires within { s < length script.now.wires.switches }
         requires begun { seat.1.start ≡ Some script.now }
         requires number { seat.1.number ≡ s + 1 }
-        requires first { seat.1.seen ≡ [] }
+        requires first { (seat.1.seen ≡ []) × (seat.1.mine ≡ []) }
         ensures { IfOk result (λ worker. worker ≡ seat) }
     {
         let desk = Desk::new(alloc, script, s)?;
@@ -65,14 +66,22 @@ impl Worker {
 
     /// Whether memory was wanting.
     pub fn failed(&self) -> bool {
-        self.desk.is_none()
+        match &self.desk {
+            Some((desk, _)) => desk.tale.account.failed,
+            None => true,
+        }
     }
 
-    /// Its seat.
-    pub fn into_seat(self) -> Seat<Book>
-        ensures { result ≡ self }
+    /// Its seat, and what is told of its events, unless memory was wanting.
+    pub fn into_parts(self) -> Result<(Seat<Book>, Account), OutOfMemory>
+        ensures seat { IfOk result (λ parts. parts.0 ≡ self) }
+        ensures told { IfOk result (λ parts. IsToldAt self parts.1) }
     {
-        self.seat
+        let Worker { seat, desk, .. } = self;
+        let Some((desk, _next)) = desk else {
+            return Err(OutOfMemory);
+        };
+        Ok((seat, desk.into_account()?))
     }
 
     /// Whether it is to make a turn.

@@ -12,4 +12,4 @@ pub mod law;
 pub mod link;
 pub mod routing;
 pub mod table;
-mod way;
+pub mod way;

@@ -1,8 +1,8 @@
 -- The packets that a script sends, and those that enter a component.
-use Rattle.std.proofs.Common.{◌≡◌, ◌≢◌, ◌∙◌, sym, ap, subst, refl, ℕ, ◌+◌, ◌<◌, ◌≤◌, ◌==◌, List, [], ◌∷◌, ◌++◌, Option, Some, None, true, arith, length, length-append, length-take, get_or, map, take, rules, Fits, w32, inl, inr, All, AllPairs, Contains}
+use Rattle.std.proofs.Common.{◌≡◌, ◌≢◌, ◌∙◌, sym, ap, subst, refl, ℕ, ◌+◌, ◌<◌, ◌≤◌, ◌==◌, List, [], ◌∷◌, ◌++◌, Option, Some, None, true, arith, length, length-append, length-take, get_or, take, rules, Fits, w32, inl, inr, All, AllPairs, Contains}
 use Rattle.std.specs.Prelude.{fold, not, position}
 use Rattle.std.proofs.lemmas.Bool.{and_parts, eqb-true, eqb-false, cases_lt, not-true}
-use Rattle.std.proofs.lemmas.List.{get_or-map, get_or_default, get_or_past, length-map, map_push, take_more}
+use Rattle.std.proofs.lemmas.List.{get_or-map, get_or_default, get_or_past, length-map}
 use Rattle.std.proofs.lemmas.List.Elements.{All-nil, All-cons, All-push, All-weaker, filter_passes}
 use Rattle.std.proofs.lemmas.List.Kept.{AllPairs-filter}
 use Rattle.std.proofs.lemmas.List.Quantifiers.{position-Some}
@@ -104,12 +104,6 @@ packet_fits script i n sends most so_far count =
     let same : length sends ≡ length (sends_after script (take i script.commands)) = ap (λ (l : List Sent). length l) so_far in
     let low : n + 1 ≤ 10001 = omega arith in
     search (rules, low)
-
--- the number of one switch more
-pub numbers_more : (es : List EntryOf) (switches : List SwitchAt) (i n : ℕ) (d : SwitchAt) (old new : List ℕ) → i < length switches → old ≡ map (number_in es) (take i switches) → n ≡ number_in es (get_or switches i d) → new ≡ old ++ n ∷ [] → new ≡ map (number_in es) (take (i + 1) switches)
-numbers_more es switches i n d old new low so_far n_is new_is =
-    new_is ∙ ap (λ (ns : List ℕ). ns ++ n ∷ []) so_far ∙ ap (λ (m : ℕ). map (number_in es) (take i switches) ++ m ∷ []) n_is
-    ∙ sym (ap (map (number_in es)) (take_more switches i d low) ∙ map_push (number_in es) (take i switches) (get_or switches i d))
 
 -- PACKETS THAT ENTER A COMPONENT
 

@@ -1,72 +1,60 @@
 -- A run of the packets that enter a component: they enter, and then come the turns.
-use Rattle.std.proofs.Common.{◌≡◌, ◌≢◌, ◌∙◌, sym, ap, subst, refl, ℕ, suc, ◌+◌, ◌<◌, ◌≤◌, List, [], ◌∷◌, ◌++◌, Bool, Option, arith, append-nil, length, length-take, get_or, map, take, Contains, true, ◌==◌}
-use Rattle.std.specs.List.{flat_map}
+use Rattle.std.proofs.Common.{◌≡◌, ◌≢◌, ◌∙◌, sym, ap, subst, refl, ℕ, suc, ◌+◌, ◌<◌, ◌≤◌, List, [], ◌∷◌, ◌++◌, Bool, Option, arith, length, length-take, get_or, map, take, Contains, true, ◌==◌}
+use Rattle.std.specs.List.{flat_map, range_with_len}
 use Rattle.std.proofs.lemmas.Bool.Decides.{nat_tests}
-use Rattle.std.proofs.lemmas.List.{get_or-map, get_or-take, length-map, take_more, map_push}
+use Rattle.std.proofs.lemmas.List.{get_or-map, get_or-take, get_or_default, length-map, take_more, map_push}
 use Rattle.std.proofs.lemmas.List.Sums.{fold_more}
-use Rattle.std.proofs.lemmas.Grind.{flat_map-append}
 use Rattle.an_base.specs.Values.{EntryOf}
 use Rattle.an_base.specs.Rows.{RowOf}
 use Rattle.net_graph.specs.declared.wiring.SwitchAt.{SwitchAt}
 use Rattle.net_graph.specs.Forest.{IsComponent}
 use Rattle.net_script.specs.Scripts.{ScriptOf, IsScript}
-use Rattle.std.proofs.lemmas.List.FromFn.{length-map-range_with_len}
+use Rattle.std.proofs.lemmas.List.FromFn.{get_or-map-range_with_len, length-map-range_with_len}
 use Rattle.switch_numbering.specs.Numbering.{numbering, number_at as place_number, proposals}
+use Rattle.std.proofs.lemmas.Option.{same_Some}
+use Rattle.topo_graph.specs.Topology.{entry_at, life_at, nothing}
+use Rattle.topo_graph.proofs.PlaceLemmas.{place_found}
+use Rattle.table_build.specs.Made.{table_of}
 use Rattle.table_build.specs.Tables.{IsTable, TableOf}
-use Rattle.dep_check.specs.declared.channel.Channel.{Channel}
-use Rattle.dep_check.specs.declared.refusal.CheckRefusal.{CheckRefusal}
-use Rattle.dep_check.specs.declared.refusal.CheckRefusal.TheVariants.{Cycle, NotJoined, IllegalExit, OutOfMemory}
-use Rattle.dep_check.specs.Answer.{HasAllRanks, IsRefusal, Passes}
+use Rattle.table_build.proofs.MadeTables.{made_table}
 use Rattle.dep_check.specs.Channels.{far_at, LeadsTo}
-use Rattle.dep_check.specs.Cycles.{HasNoCycle, IsLeastCycle}
+use Rattle.dep_check.specs.Cycles.{HasNoCycle}
 use Rattle.dep_check.specs.Laws.{AreTables as AllTables}
-use Rattle.dep_check.proofs.TableLaws.{tables_no_cycle, tables_joined, tables_legal}
+use Rattle.dep_check.specs.Packets.{AllAreJoined}
+use Rattle.dep_check.proofs.TableLaws.{tables_no_cycle, tables_joined}
 use Rattle.flow_channels.specs.declared.went.Went.{Went}
 use Rattle.flow_channels.specs.Flows.{FlowOf, empty_flow, enters}
-use Rattle.flow_channels.specs.Layout.{LayoutOf, layout_of}
+use Rattle.flow_channels.specs.Layout.{HasRanks, LayoutOf, layout_of}
 use Rattle.flow_channels.specs.Moves.{IsTurn}
 use Rattle.flow_channels.specs.Runs.{MayEnter, moves_left, Turns}
 use Rattle.flow_channels.specs.View.{FlowView, IsFresh, IsOver, MayEnterNow}
 use Rattle.flow_channels.proofs.EndLaws.{turn_less}
+use Rattle.flow_channels.proofs.RankedLaws.{has_ranks, ranks_in}
+use Rattle.flow_channels.proofs.WiredLaws.{wired}
 use Rattle.table_report.specs.declared.sent.Sent.{Sent}
-use Rattle.table_report.specs.Expect.{AreTables}
+use Rattle.table_report.specs.Expect.{AreTables, table_at}
 use Rattle.table_report.specs.Flows.{entered_flow, layout_in, with_entered}
-use Rattle.table_report.specs.FlowRuns.{AreOwnRows, HasEntered, IsNumbered, IsRanked, IsReady, IsRunFrom}
+use Rattle.table_report.specs.FlowRuns.{AreOwnRows, HasEntered, IsNumbered, IsOwnLayout, IsRanked, IsReady, IsRunFrom}
 use Rattle.table_report.specs.Sends.{entering, MayAllEnter, number_at, numbers_in, sends_of}
 use Rattle.table_report.proofs.ComponentTree.{component_tree}
 use Rattle.table_report.proofs.FlowSends.{may_enter}
 use Rattle.table_report.proofs.PartLemmas.{all_tables, component_numbering}
-use Rattle.table_report.proofs.TextLemmas.{tables_more}
 
--- A COMPONENT'S OWN ROWS ARE NOT REFUSED
+-- A COMPONENT'S OWN ROWS
 
--- the least cycle is a cycle
-no_empty : (Step : Channel → Channel → Type 0) (cs : List Channel) → IsLeastCycle Step cs → HasNoCycle Step → ⊥
-no_empty Step [] a none = a
-no_empty Step (c ∷ cs) a none = none c cs a.from.closed
+-- they lead no channels round, and join all switches
+pub own_no_cycle : (any : Bool) (es : List EntryOf) (numbers : List ℕ) (rows : List RowOf) → AreOwnRows any es numbers rows → HasNoCycle (LeadsTo (far_at es numbers) rows)
+own_no_cycle any es numbers rows own = let n = own.numbered in tables_no_cycle es numbers any rows n.graph n.named n.count own.tables
 
-pub only_want : (any : Bool) (es : List EntryOf) (numbers : List ℕ) (rows : List RowOf) (refusal : CheckRefusal) → AreOwnRows any es numbers rows → IsRefusal es numbers rows refusal → refusal ≡ OutOfMemory
-only_want any es numbers rows (Cycle channels) own is =
-    let n = own.numbered in
-    absurd (no_empty (LeadsTo (far_at es numbers) rows) channels is (tables_no_cycle es numbers any rows n.graph n.named n.count own.tables))
-only_want any es numbers rows (NotJoined from to at entry) own is =
-    let n = own.numbered in
-    absurd (tables_joined es numbers any rows n.graph n.named n.count own.tables n.tree from to at entry is.1.meets)
-only_want any es numbers rows (IllegalExit at entry to exit) own is =
-    let n = own.numbered in
-    absurd (tables_legal es numbers any rows n.graph n.named n.count own.tables at entry to exit is.2.illegal)
-only_want any es numbers rows OutOfMemory own is = refl
+pub own_joined : (any : Bool) (es : List EntryOf) (numbers : List ℕ) (rows : List RowOf) → AreOwnRows any es numbers rows → AllAreJoined (far_at es numbers) numbers rows
+own_joined any es numbers rows own = let n = own.numbered in tables_joined es numbers any rows n.graph n.named n.count own.tables n.tree
 
--- they pass, with the ranks of their channels
-pub own_pass : (any : Bool) (es : List EntryOf) (numbers : List ℕ) (rows : List RowOf) (ranks : List (Option ℕ)) → AreOwnRows any es numbers rows → HasAllRanks es numbers rows ranks → Passes es numbers rows ranks
-own_pass any es numbers rows ranks own has =
-    let n = own.numbered in
-    record {
-      no_cycle = has.no_cycle;
-      joined = tables_joined es numbers any rows n.graph n.named n.count own.tables n.tree;
-      legal = tables_legal es numbers any rows n.graph n.named n.count own.tables;
-      ranked = has.ranked;
-    }
+-- so the channels of their layout have ranks
+pub own_ranks : (es : List EntryOf) (numbers sets : List ℕ) (room : ℕ) (layout : LayoutOf) → 1 ≤ room → IsOwnLayout es numbers sets room layout → HasRanks layout (ranks_in layout)
+own_ranks es numbers sets room layout some is =
+    let n = is.own.numbered in
+    subst (λ (l : LayoutOf). HasRanks l (ranks_in l)) (sym is.is)
+    (has_ranks (layout_of es numbers layout.rows room) (wired es numbers n.graph n.named n.count layout.rows room some) (own_no_cycle is.any es numbers layout.rows is.own))
 
 -- THEY ENTER
 
@@ -146,15 +134,26 @@ turns_on layout old now new moves all went turns turn is = subst (λ (ms : List 
 pub named_all : (es : List EntryOf) (ns : List ℕ) → ns ≡ numbering es → length ns ≡ length es
 named_all es ns is = ap (λ (l : List ℕ). length l) is ∙ length-map-range_with_len (place_number (proposals es)) 0 (length es)
 
--- one table more
-pub rows_more : (any : Bool) (es : List EntryOf) (x : ℕ) (tables : List TableOf) (table : TableOf) (old more new : List RowOf) → AreTables es any x tables → old ≡ flat_map (λ t. t.rows) tables → IsTable es (numbering es) any x table → more ≡ table.rows → new ≡ old ++ more → (all : List TableOf) × AreTables es any (x + 1) all × (new ≡ flat_map (λ t. t.rows) all)
-rows_more any es x tables table old more new are so_far is more_is new_is =
-    let rows : TableOf → List RowOf = λ t. t.rows in (
-      tables ++ table ∷ [],
-      tables_more es any x tables table are is,
-      new_is ∙ ap (λ (rs : List RowOf). rs ++ more) so_far ∙ ap (λ (rs : List RowOf). flat_map rows tables ++ rs) more_is
-          ∙ sym (flat_map-append rows tables (table ∷ []) ∙ ap (λ (rs : List RowOf). flat_map rows tables ++ rs) (append-nil table.rows)),
-    )
+-- the tables of all members, and their rows
+pub member_tables : List EntryOf → Bool → List TableOf
+member_tables es any = map (λ place. table_of (record { entries = es; numbers = numbering es }) any (life_at es place)) (range_with_len 0 (length es))
+
+abbrev pub member_rows : List EntryOf → Bool → List RowOf
+member_rows es any = flat_map (λ table. table.rows) (member_tables es any)
+
+pub are_member_tables : (es : List EntryOf) (any : Bool) → IsNumbered es (numbering es) → AreTables es any (length es) (member_tables es any)
+unfolding member_tables
+are_member_tables es any n = record { count = length-map-range_with_len table 0 (length es); each = each }
+  where
+    table : ℕ → TableOf
+    table place = table_of (record { entries = es; numbers = numbering es }) any (life_at es place)
+
+    each : (place : ℕ) → place < length es → IsTable es (numbering es) any place (table_at (map table (range_with_len 0 (length es))) place)
+    each place low =
+        let (there, found, is) = made_table (record { entries = es; numbers = numbering es }) any (life_at es place) n.graph n.named n.count (place, entry_at es place, low, sym (get_or_default es place nothing (entry_at es place) low), refl) in
+        let same : there ≡ place = same_Some there place (sym found ∙ place_found es place (life_at es place) n.graph.rising low refl) in
+        subst (λ (t : TableOf). IsTable es (numbering es) any place t) (sym (get_or-map-range_with_len table 0 (length es) place place (record { number = 0; rows = [] }) low (omega arith)))
+        (subst (λ (x : ℕ). IsTable es (numbering es) any x (table place)) same is)
 
 -- the graph of a component, with its numbers
 pub numbered_component : (s : ScriptOf) (root : ℕ) (es graph : List EntryOf) (numbers : List ℕ) → IsScript s → IsComponent s.wires root es → graph ≡ es → numbers ≡ numbering es → IsNumbered graph numbers
@@ -179,13 +178,14 @@ those_may_enter s root es switches numbers home those sends kept component named
     (subst (λ (h : List ℕ). MayAllEnter (numbering es) h those) (sym own)
     (subst (λ (ss : List Sent). MayAllEnter (numbering es) (numbers_in s.wires.switches es) ss) (sym same) all))
 
--- the rows of all tables are a component's own
-pub own_rows : (any : Bool) (es : List EntryOf) (numbers : List ℕ) (tables : List TableOf) (rows : List RowOf) → numbers ≡ numbering es → IsNumbered es numbers → AreTables es any (length es) tables → rows ≡ flat_map (λ t. t.rows) tables → AreOwnRows any es numbers rows
-own_rows any es numbers tables rows named numbered are is = record {
-  numbered = numbered;
-  tables = subst (λ (rs : List RowOf). AllTables es numbers any rs) (sym is)
-      (subst (λ (ns : List ℕ). AllTables es ns any (flat_map (λ t. t.rows) tables)) (sym named) (all_tables es (numbering es) any tables are.count are.each));
-}
+-- these rows are a component's own
+pub own_rows : (any : Bool) (es : List EntryOf) (numbers : List ℕ) → numbers ≡ numbering es → IsNumbered es numbers → AreOwnRows any es numbers (member_rows es any)
+own_rows any es numbers named numbered =
+    let tables = are_member_tables es any (subst (λ (ns : List ℕ). IsNumbered es ns) named numbered) in
+    record {
+      numbered = numbered;
+      tables = subst (λ (ns : List ℕ). AllTables es ns any (member_rows es any)) (sym named) (all_tables es (numbering es) any (member_tables es any) tables.count tables.each);
+    }
 
 -- a flow that is fresh has room for as many packets as may enter
 pub ready : (layout : LayoutOf) (most : ℕ) (sends : List Sent) (view : FlowView) → IsFresh layout most view → length sends ≤ most → IsReady layout sends view
@@ -200,13 +200,11 @@ pub record IsRun (any : Bool) (room : ℕ) (entries : List EntryOf) (home : List
       (entered_flow home sends) moves
 
 -- the moves of those that entered are a run
-pub ran : (any : Bool) (room : ℕ) (es : List EntryOf) (numbers home : List ℕ) (sends : List Sent) (tables : List TableOf) (rows : List RowOf) (moves : List Went) (start : FlowOf) → numbers ≡ numbering es → AreTables es any (length es) tables → rows ≡ flat_map (λ t. t.rows) tables → start ≡ entered_flow home sends → IsRunFrom (layout_of es numbers rows room) start moves → IsRun any room es home sends moves
-ran any room es numbers home sends tables rows moves start named are rows_are start_is run = record {
-  tables = tables;
-  are = are;
-  run = subst (λ (f : FlowOf). IsRunFrom (layout_of es (numbering es) (flat_map (λ t. t.rows) tables) room) f moves) start_is
-      (subst (λ (rs : List RowOf). IsRunFrom (layout_of es (numbering es) rs room) start moves) rows_are
-      (subst (λ (ns : List ℕ). IsRunFrom (layout_of es ns rows room) start moves) named run));
+pub ran : (any : Bool) (room : ℕ) (es : List EntryOf) (numbers home : List ℕ) (sends : List Sent) (moves : List Went) → numbers ≡ numbering es → IsNumbered es numbers → IsRunFrom (layout_of es numbers (member_rows es any) room) (entered_flow home sends) moves → IsRun any room es home sends moves
+ran any room es numbers home sends moves named numbered run = record {
+  tables = member_tables es any;
+  are = are_member_tables es any (subst (λ (ns : List ℕ). IsNumbered es ns) named numbered);
+  run = subst (λ (ns : List ℕ). IsRunFrom (layout_of es ns (member_rows es any) room) (entered_flow home sends) moves) named run;
 }
 
 -- where none enters none moves
@@ -217,12 +215,4 @@ none_ran any room es home [] tables moves are empty still = record {
   are = are;
   run = subst (λ (ms : List Went). IsRunFrom (layout_in room (record { entries = es; tables = tables })) empty_flow ms) (sym still)
       (record { end = empty_flow; turns = refl; done = refl });
-}
-
--- its channels have the ranks that were answered for its rows
-pub is_ranked : (es : List EntryOf) (numbers : List ℕ) (rows given : List RowOf) (ranks : List (Option ℕ)) (room : ℕ) (view : FlowView) → given ≡ rows → Passes es numbers given ranks → IsOver (layout_of es numbers rows room) view → IsRanked ranks view
-is_ranked es numbers rows given ranks room view same passes over = record {
-  layout = layout_of es numbers rows room;
-  over = over;
-  ranked = (subst (λ (rs : List RowOf). Passes es numbers rs ranks) same passes).ranked;
 }

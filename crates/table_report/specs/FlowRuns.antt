@@ -2,23 +2,18 @@ use Rattle.std.specs.Prelude.{◌≡◌, ◌+◌, ◌<◌, ◌≤◌, ◌++◌, 
 use Rattle.an_base.specs.Values.{EntryOf}
 use Rattle.an_base.specs.Numbers.{AreNumbers}
 use Rattle.an_base.specs.Rows.{RowOf}
-use Rattle.std.specs.List.{flat_map}
 use Rattle.net_script.specs.Scripts.{ScriptOf}
 use Rattle.switch_numbering.specs.Numbering.{numbering}
-use Rattle.table_build.specs.Tables.{TableOf}
 use Rattle.topo_graph.specs.Topology.{IsGraph, IsTree}
-use Rattle.dep_check.specs.Channels.{IsChannel, LeadsTo}
-use Rattle.dep_check.specs.Cycles.{AreRanks}
 use Rattle.dep_check.specs.Laws.{AreTables as AllTables}
-use Rattle.dep_check.specs.Tables.{rank_at}
 use Rattle.flow_channels.specs.declared.went.Went.{Went}
+use Rattle.flow_channels.specs.Exits.{AreExitsOf}
 use Rattle.flow_channels.specs.Flows.{FlowOf, empty_flow, left_of}
-use Rattle.flow_channels.specs.Layout.{LayoutOf, layout_of}
+use Rattle.flow_channels.specs.Layout.{HasRanks, LayoutOf, layout_of}
 use Rattle.flow_channels.specs.Runs.{Turns}
 use Rattle.flow_channels.specs.View.{FlowView, IsOver}
 use Rattle.table_report.specs.declared.sent.Sent.{Sent}
 use Rattle.table_report.specs.Check.{name_of}
-use Rattle.table_report.specs.Expect.{AreTables}
 use Rattle.table_report.specs.Flows.{entered_flow, entries_of, flow_told, FlowPart, IsFlowPart, is_out, part_lines, went_line}
 
 -- What private functions alone cite: a run of the packets that enter a component.
@@ -36,14 +31,19 @@ pub record AreOwnRows (any : Bool) (entries : List EntryOf) (numbers : List ℕ)
   pub numbered : IsNumbered entries numbers
   pub tables : AllTables entries numbers any rows
 
--- the graph of a component, the numbers of its members, and the rows of their tables
-pub record AreTabled (any : Bool) (entries graph : List EntryOf) (numbers : List ℕ) (rows : List RowOf)
-    : Type 0 where
+-- the graph of a component, the numbers of its members, and the exits of their tables
+pub record AreTabled (any : Bool) (entries graph : List EntryOf) (numbers sets : List ℕ) : Type 0 where
   pub graph_is : graph ≡ entries
   pub numbers_are : numbers ≡ numbering graph
-  pub tables : List TableOf
-  pub are : AreTables graph any (length graph) tables
-  pub rows_are : rows ≡ flat_map (λ table. table.rows) tables
+  pub exits : (rows : List RowOf) → AllTables graph numbers any rows → AreExitsOf rows sets
+
+-- a layout of a component, by the rows of the tables of its members, whose exits these are
+pub record IsOwnLayout (entries : List EntryOf) (numbers sets : List ℕ) (room : ℕ) (layout : LayoutOf)
+    : Type 0 where
+  pub any : Bool
+  pub own : AreOwnRows any entries numbers layout.rows
+  pub exits : AreExitsOf layout.rows sets
+  pub is : layout ≡ layout_of entries numbers layout.rows room
 
 -- a flow that no packet entered yet, with room for these
 pub record IsReady (layout : LayoutOf) (sends : List Sent) (view : FlowView) : Type 0 where
@@ -62,7 +62,7 @@ pub record HasEntered (home : List ℕ) (sends : List Sent) (old new : FlowView)
 pub record IsRanked (ranks : List (Option ℕ)) (view : FlowView) : Type 0 where
   pub layout : LayoutOf
   pub over : IsOver layout view
-  pub ranked : AreRanks (IsChannel layout.far) (LeadsTo layout.far layout.rows) (rank_at ranks)
+  pub ranked : HasRanks layout ranks
 
 -- these are turns from a flow on, until no packet is left
 pub record IsRunFrom (layout : LayoutOf) (start : FlowOf) (moves : List Went) : Type 0 where
@@ -79,12 +79,9 @@ pub record AreNames (script : ScriptOf) (entries : List EntryOf) (numbers : List
       (number : ℕ) → number < end
       → slice_index_or names number [] ≡ 32 ∷ name_of script entries numbers number
 
--- a flow over rows, and the ranks of its channels, into which packets have come
-pub record IsBegun (room : ℕ) (entries : List EntryOf) (numbers : List ℕ) (rows : List RowOf) (home : List ℕ)
-    (sends : List Sent) (ranks : List (Option ℕ)) (view : FlowView)
-    : Type 0 where
-  pub ranked : IsRanked ranks view
-  pub over : IsOver (layout_of entries numbers rows room) view
+-- a flow over a layout, into which packets have come
+pub record IsBegun (layout : LayoutOf) (home : List ℕ) (sends : List Sent) (view : FlowView) : Type 0 where
+  pub over : IsOver layout view
   pub flow_is : view.flow ≡ entered_flow home sends
 
 -- the turns from a flow on until no packet is left, with their lines behind a text and those that go out

@@ -1,12 +1,12 @@
 ghost use Rattle.std.specs.Prelude.{◌≡◌, ◌≢◌, ◌==◌, ◌<◌, ◌++◌, [], ◌∷◌, length, map, filter, ℕ, IfOk, IfSome, OnOk};
 ghost use Rattle.std.specs.List.{list_all, list_any};
-ghost use Rattle.dep_check.specs.Channels.{place_in};
 ghost use Rattle.an_base.specs.Numbers.{AreNumbers};
 ghost use Rattle.net_graph.specs.Forest.{IsComponent, IsForest};
 ghost use Rattle.table_script.specs.Tables.{AreTablesOf, IsTables, TablesOf};
+ghost use Rattle.dep_check.specs.Channels.{place_in};
+ghost use Rattle.dep_check.specs.Tables.{rank_at};
 ghost use Rattle.dep_check.specs.declared.refusal.CheckRefusal.TheVariants.{Cycle, IllegalExit, NotJoined};
 ghost use Rattle.dep_check.specs.declared.refusal.CheckRefusal.TheVariants as why;
-ghost use Rattle.dep_check.specs.Tables.{rank_at};
 ghost use Rattle.table_report.specs.Check.{channel_text, entry_text, is_row_of, IsJudged, Judges, members_of, name_of, number_of, number_ranks, numbers_of, rank_line, rank_lines, ranks_text, refusal_line, renumbered, rows_of};
 ghost use Rattle.table_report.specs.Runs.{AreRuns, IsRun};
 
@@ -55,11 +55,10 @@ fn numbers_of(
     ensures kept { IsTables tables.now }
 {
     let given = tables.numbers();
-    let mut numbers = Vec::with_capacity(alloc, entries.len())?;
-    'members: for entry in entries {
-        numbers.push(number_of(switches, given, entry))?;
-    }
-    Ok(numbers)
+    entries
+        .iter()
+        .map(|entry| number_of(switches, given, entry))
+        .collect(alloc)
 }
 
 // Whether a switch is a member.
@@ -77,11 +76,10 @@ fn members_of(
 ) -> Result<Vec<bool>, AllocError>
     ensures { IfOk result (λ members. members.items ≡ members_of switches.now entries.now) }
 {
-    let mut members = Vec::with_capacity(alloc, switches.len())?;
-    'switches: for switch in switches {
-        members.push(is_member(entries, switch.uid))?;
-    }
-    Ok(members)
+    switches
+        .iter()
+        .map(|switch| is_member(entries, switch.uid))
+        .collect(alloc)
 }
 
 // The row, with the number of its switch.
@@ -156,9 +154,13 @@ fn place_in(numbers: &[u8], number: u8) -> Option<usize>
     numbers.iter().position(|n| *n == number)
 }
 
-// What the names of switches come from, within one component.
+// What comes of appending to a text: nothing, or want of memory.
+type Appended = Result<(), AllocError>;
+
+// What the names of switches come from, within one component, and the memory that printing takes.
 #[derive(Clone, Copy, Drop)]
 struct Naming<'a> {
+    alloc: Global,
     script: &'a Script,
     entries: &'a [Entry],
     numbers: &'a [u8],
@@ -167,7 +169,7 @@ struct Naming<'a> {
 
 impl Naming<'_> {
     // Appends the name of the switch that has a number.
-    fn push(&self, alloc: Global, text: &mut Vec<u8>, number: u8) -> Result<(), AllocError>
+    fn push(&self, text: &mut Vec<u8>, number: u8) -> Appended
         ensures { OnOk result (text.new.items ≡ text.old.items
             ++ name_of self.now.script.now self.now.entries.now self.now.numbers.now number) }
     {
@@ -175,202 +177,147 @@ impl Naming<'_> {
             return Ok(());
         };
         let entry = &self.entries[x];
-        push_life(alloc, text, self.script, entry.life)?;
+        push_life(self.alloc, text, self.script, entry.life)?;
         Ok(())
     }
 
     // Appends a channel.
     #[tactic(auto, unfolding(crate::specs::Check::channel_text))]
-    fn push_channel(
-        &self,
-        alloc: Global,
-        text: &mut Vec<u8>,
-        channel: Channel,
-    ) -> Result<(), AllocError>
+    fn push_channel(&self, text: &mut Vec<u8>, channel: Channel) -> Appended
         ensures { OnOk result (text.new.items ≡ text.old.items
             ++ channel_text self.now.script.now self.now.entries.now self.now.numbers.now channel) }
     {
         text.extend_from_slice(b" ")?;
-        self.push(alloc, text, channel.at)?;
+        self.push(text, channel.at)?;
         text.extend_from_slice(b":")?;
-        push_decimal(alloc, text, u64::from(channel.port))
+        push_decimal(self.alloc, text, u64::from(channel.port))
     }
 
     // Appends the rank of a channel.
     #[tactic(auto, unfolding(crate::specs::Check::rank_line))]
-    fn push_rank(
-        &self,
-        alloc: Global,
-        text: &mut Vec<u8>,
-        channel: Channel,
-        rank: u16,
-    ) -> Result<(), AllocError>
+    fn push_rank(&self, text: &mut Vec<u8>, channel: Channel, rank: u16) -> Appended
         ensures { OnOk result (text.new.items ≡ text.old.items
             ++ rank_line self.now.script.now self.now.entries.now self.now.numbers.now channel rank) }
     {
         text.extend_from_slice(b"rank ")?;
-        self.push(alloc, text, channel.at)?;
+        self.push(text, channel.at)?;
         text.extend_from_slice(b" ")?;
-        push_decimal(alloc, text, u64::from(channel.port))?;
+        push_decimal(self.alloc, text, u64::from(channel.port))?;
         text.extend_from_slice(b" ")?;
-        push_decimal(alloc, text, u64::from(rank))?;
+        push_decimal(self.alloc, text, u64::from(rank))?;
         text.extend_from_slice(b"\n")
     }
 
     // Appends the rank at a port of the switch that has a number, if this is a channel.
-    fn push_port(
-        &self,
-        alloc: Global,
-        text: &mut Vec<u8>,
-        ranks: &Ranks,
-        channel: Channel,
-    ) -> Result<(), AllocError>
+    fn push_port(&self, text: &mut Vec<u8>, ranks: &Ranks, channel: Channel) -> Appended
         ensures { OnOk result (text.new.items ≡ text.old.items
             ++ rank_lines self.now.script.now self.now.entries.now self.now.numbers.now channel (rank_at ranks.now channel)) }
     {
         match ranks.rank(channel.at, channel.port) {
-            Some(rank) => self.push_rank(alloc, text, channel, rank),
+            Some(rank) => self.push_rank(text, channel, rank),
             None => Ok(()),
         }
     }
 
     // Appends the ranks of the channels of the switch that has a number, by rising port.
-    fn push_ranks_at(
-        &self,
-        alloc: Global,
-        text: &mut Vec<u8>,
-        ranks: &Ranks,
-        number: u8,
-    ) -> Result<(), AllocError>
+    fn push_ranks_at(&self, text: &mut Vec<u8>, ranks: &Ranks, number: u8) -> Appended
         ensures { OnOk result (text.new.items ≡ text.old.items
             ++ number_ranks self.now.script.now self.now.entries.now self.now.numbers.now ranks.now number) }
     {
         'ports: for port in 0..13u8 {
-            self.push_port(alloc, text, ranks, Channel { at: number, port })?;
+            self.push_port(text, ranks, Channel { at: number, port })?;
         }
         Ok(())
     }
 
     // Appends the ranks of all channels, by rising number.
     #[tactic(auto, unfolding(crate::specs::Check::ranks_text))]
-    fn push_ranks(&self, alloc: Global, text: &mut Vec<u8>, ranks: &Ranks) -> Result<(), AllocError>
+    fn push_ranks(&self, text: &mut Vec<u8>, ranks: &Ranks) -> Appended
         ensures { OnOk result (text.new.items ≡ text.old.items
             ++ ranks_text self.now.script.now self.now.entries.now self.now.numbers.now ranks.now) }
     {
         'numbers: for number in 0..127u8 {
-            self.push_ranks_at(alloc, text, ranks, number)?;
+            self.push_ranks_at(text, ranks, number)?;
         }
         Ok(())
     }
 
     // Appends the line of a cycle.
     #[tactic(auto, unfolding(crate::specs::Check::refusal_line))]
-    fn push_cycle(
-        &self,
-        alloc: Global,
-        text: &mut Vec<u8>,
-        channels: &Channels,
-    ) -> Result<(), AllocError>
+    fn push_cycle(&self, text: &mut Vec<u8>, channels: &Channels) -> Appended
         ensures { OnOk result (text.new.items ≡ text.old.items
             ++ refusal_line self.now.script.now self.now.entries.now self.now.numbers.now (Cycle channels.now)) }
     {
         text.extend_from_slice(b"refused cycle")?;
         'channels: for channel in channels.as_slice() {
-            self.push_channel(alloc, text, *channel)?;
+            self.push_channel(text, *channel)?;
         }
         text.extend_from_slice(b"\n")
     }
 
     // Appends the line of a pair that is not joined.
     #[tactic(auto, unfolding(crate::specs::Check::refusal_line))]
-    fn push_pair(
-        &self,
-        alloc: Global,
-        text: &mut Vec<u8>,
-        from: u8,
-        to: u8,
-        at: u8,
-        entry: u8,
-    ) -> Result<(), AllocError>
+    fn push_pair(&self, text: &mut Vec<u8>, from: u8, to: u8, at: u8, entry: u8) -> Appended
         ensures { OnOk result (text.new.items ≡ text.old.items
             ++ refusal_line self.now.script.now self.now.entries.now self.now.numbers.now (NotJoined from to at entry)) }
     {
         text.extend_from_slice(b"refused pair ")?;
-        self.push(alloc, text, from)?;
+        self.push(text, from)?;
         text.extend_from_slice(b" to ")?;
-        self.push(alloc, text, to)?;
+        self.push(text, to)?;
         text.extend_from_slice(b" at ")?;
-        self.push_entry(alloc, text, at, entry)?;
+        self.push_entry(text, at, entry)?;
         text.extend_from_slice(b"\n")?;
         Ok(())
     }
 
     // Appends the place of an entry.
-    fn push_entry(
-        &self,
-        alloc: Global,
-        text: &mut Vec<u8>,
-        at: u8,
-        entry: u8,
-    ) -> Result<(), AllocError>
+    fn push_entry(&self, text: &mut Vec<u8>, at: u8, entry: u8) -> Appended
         ensures { OnOk result (text.new.items ≡ text.old.items
             ++ entry_text self.now.script.now self.now.entries.now self.now.numbers.now at entry) }
     {
-        self.push(alloc, text, at)?;
+        self.push(text, at)?;
         text.extend_from_slice(b" entry ")?;
-        push_decimal(alloc, text, u64::from(entry))
+        push_decimal(self.alloc, text, u64::from(entry))
     }
 
     // Appends the line of an illegal exit.
     #[tactic(auto, unfolding(crate::specs::Check::refusal_line))]
-    fn push_illegal(
-        &self,
-        alloc: Global,
-        text: &mut Vec<u8>,
-        at: u8,
-        entry: u8,
-        to: u8,
-        exit: u8,
-    ) -> Result<(), AllocError>
+    fn push_illegal(&self, text: &mut Vec<u8>, at: u8, entry: u8, to: u8, exit: u8) -> Appended
         ensures { OnOk result (text.new.items ≡ text.old.items
             ++ refusal_line self.now.script.now self.now.entries.now self.now.numbers.now (IllegalExit at entry to exit)) }
     {
         text.extend_from_slice(b"refused exit ")?;
-        self.push_entry(alloc, text, at, entry)?;
+        self.push_entry(text, at, entry)?;
         text.extend_from_slice(b" to ")?;
-        push_decimal(alloc, text, u64::from(to))?;
+        push_decimal(self.alloc, text, u64::from(to))?;
         text.extend_from_slice(b" by ")?;
-        push_decimal(alloc, text, u64::from(exit))?;
+        push_decimal(self.alloc, text, u64::from(exit))?;
         text.extend_from_slice(b"\n")?;
         Ok(())
     }
 
     // Appends the line of what is refused.
     #[tactic(auto, unfolding(crate::specs::Check::refusal_line))]
-    fn push_refusal(
-        &self,
-        alloc: Global,
-        text: &mut Vec<u8>,
-        refusal: &CheckRefusal,
-    ) -> Result<(), OutOfMemory>
+    fn push_refusal(&self, text: &mut Vec<u8>, refusal: &CheckRefusal) -> Result<(), OutOfMemory>
         ensures line { OnOk result (text.new.items ≡ text.old.items
             ++ refusal_line self.now.script.now self.now.entries.now self.now.numbers.now refusal.now) }
         ensures told { OnOk result (refusal.now ≢ why.OutOfMemory) }
     {
         match refusal {
-            CheckRefusal::Cycle { channels } => self.push_cycle(alloc, text, channels)?,
+            CheckRefusal::Cycle { channels } => self.push_cycle(text, channels)?,
             CheckRefusal::NotJoined {
                 from,
                 to,
                 at,
                 entry,
-            } => self.push_pair(alloc, text, *from, *to, *at, *entry)?,
+            } => self.push_pair(text, *from, *to, *at, *entry)?,
             CheckRefusal::IllegalExit {
                 at,
                 entry,
                 to,
                 exit,
-            } => self.push_illegal(alloc, text, *at, *entry, *to, *exit)?,
+            } => self.push_illegal(text, *at, *entry, *to, *exit)?,
             CheckRefusal::OutOfMemory => return Err(OutOfMemory),
         }
         Ok(())
@@ -411,18 +358,19 @@ fn judge_rows(
 {
     let graph = Graph::of(alloc, component)?;
     let naming = Naming {
+        alloc,
         script,
         entries: component.as_slice(),
         numbers: numbers.as_slice(),
     };
     match check(alloc, &graph, numbers, rows) {
         Ok(ranks) => {
-            naming.push_ranks(alloc, text, &ranks)?;
+            naming.push_ranks(text, &ranks)?;
             Ok(true)
         }
         Err(refusal) => {
             text.clear();
-            naming.push_refusal(alloc, text, &refusal)?;
+            naming.push_refusal(text, &refusal)?;
             Ok(false)
         }
     }

@@ -5,7 +5,6 @@ ghost use Rattle.table_report.specs.Decimals.{AreDecimals};
 use crate::piece::push_bytes;
 use an_base::text::{Word, push_decimal};
 use std::alloc::{AllocError, Global};
-use std::marker::Model;
 
 // A number in decimal.
 fn word_of(alloc: Global, n: u16) -> Result<Word, AllocError>
@@ -31,23 +30,13 @@ fn words_of(alloc: Global) -> Result<Vec<Word>, AllocError>
 #[derive(Debug, Drop)]
 pub struct Decimals {
     words: Vec<Word>,
-}
-
-impl Model for Decimals {
-    ghost use Rattle.std.specs.Prelude.{List, ℕ};
-    ghost use Rattle.table_report.specs.Decimals.{AreDecimals};
-
-    ghost Value = { List (List ℕ) };
-
-    ghost view = { λ d. d.words.items };
-
-    ghost invariant = { λ d. AreDecimals 256 d.words.items };
+    ghost decimals: { AreDecimals 256 words.items },
 }
 
 impl Decimals {
     /// The numbers below 256.
     pub fn new(alloc: Global) -> Result<Self, AllocError>
-        ensures { IfOk result (AreDecimals 256) }
+        ensures { IfOk result (λ decimals. AreDecimals 256 decimals.words.items) }
     {
         Ok(Decimals {
             words: words_of(alloc)?,

@@ -11,7 +11,7 @@ ghost use Rattle.table_report.specs.Expect.{AreTables, component_form, expect_te
 ghost use Rattle.table_report.specs.Rows.{table_forms};
 
 use crate::decimals::Decimals;
-use crate::piece::life_word;
+use crate::piece::Lives;
 use crate::row::push_row_lines;
 use an_base::entry::{Entries, Entry};
 use an_base::memory::OutOfMemory;
@@ -27,22 +27,18 @@ use text_lines::spelling::push_line;
 use topo_graph::graph::Graph;
 
 // Appends the line of a member: its level and, below the root, its parent and its port to it.
-fn push_member(
-    alloc: Global,
-    text: &mut Vec<u8>,
-    script: &Script,
-    entry: &Entry,
-) -> Result<(), OutOfMemory>
+fn push_member(lives: &Lives, text: &mut Vec<u8>, entry: &Entry) -> Result<(), OutOfMemory>
     ensures { OnOk result
-        (text.new.items ≡ text.old.items ++ line_text (table_words (member_form script.now entry.now))) }
+        (text.new.items ≡ text.old.items
+        ++ line_text (table_words (member_form lives.now.script.now entry.now))) }
 {
-    let name = life_word(alloc, script, entry.life)?;
+    let name = lives.word(entry.life)?;
     let (mut level, mut port) = (Buffer::new(), Buffer::new());
     let level = level.format(entry.position.level).as_bytes();
     if entry.position.level == 0 {
         return push_line(text, &[b"member", &name, b"level", level]);
     }
-    let parent = life_word(alloc, script, entry.position.parent)?;
+    let parent = lives.word(entry.position.parent)?;
     let port = port.format(entry.position.port).as_bytes();
     push_line(
         text,
@@ -53,60 +49,53 @@ fn push_member(
 }
 
 // Appends the lines of the members.
-fn push_members(
-    alloc: Global,
-    text: &mut Vec<u8>,
-    script: &Script,
-    entries: &[Entry],
-) -> Result<(), OutOfMemory>
+fn push_members(lives: &Lives, text: &mut Vec<u8>, entries: &[Entry]) -> Result<(), OutOfMemory>
     ensures { OnOk result
-        (text.new.items ≡ text.old.items ++ table_text (map (member_form script.now) entries.now)) }
+        (text.new.items ≡ text.old.items
+        ++ table_text (map (member_form lives.now.script.now) entries.now)) }
 {
     'members: for entry in entries {
-        push_member(alloc, text, script, entry)?;
+        push_member(lives, text, entry)?;
     }
     Ok(())
 }
 
 // Appends the line of a member's number.
 fn push_numbered(
-    alloc: Global,
+    lives: &Lives,
     text: &mut Vec<u8>,
-    script: &Script,
     entry: &Entry,
     number: u8,
 ) -> Result<(), OutOfMemory>
     ensures { OnOk result (text.new.items ≡ text.old.items
-        ++ line_text (table_words (number_form script.now (entry.now, number)))) }
+        ++ line_text (table_words (number_form lives.now.script.now (entry.now, number)))) }
 {
-    let name = life_word(alloc, script, entry.life)?;
+    let name = lives.word(entry.life)?;
     let mut digits = Buffer::new();
     push_line(text, &[b"number", &name, digits.format(number).as_bytes()])
 }
 
 // Appends the lines of the numbers of the members.
 fn push_numbers(
-    alloc: Global,
+    lives: &Lives,
     text: &mut Vec<u8>,
-    script: &Script,
     entries: &[Entry],
     numbers: &[u8],
 ) -> Result<(), OutOfMemory>
     requires { length numbers.now ≡ length entries.now }
     ensures { OnOk result (text.new.items ≡ text.old.items
-        ++ table_text (map (number_form script.now) (zip entries.now numbers.now))) }
+        ++ table_text (map (number_form lives.now.script.now) (zip entries.now numbers.now))) }
 {
     'numbers: for (i, entry) in entries.iter().enumerate() {
-        push_numbered(alloc, text, script, entry, numbers[i])?;
+        push_numbered(lives, text, entry, numbers[i])?;
     }
     Ok(())
 }
 
 // Appends the lines of the tables of the members, from what these share.
 fn push_shared(
-    alloc: Global,
+    lives: &Lives,
     text: &mut Vec<u8>,
-    script: &Script,
     decimals: &Decimals,
     graph: &Graph,
     numbers: &Numbers,
@@ -117,20 +106,20 @@ fn push_shared(
     requires routing { IsRouting graph.now numbers.now routing.now }
     ensures { OnOk result ((ts : List TableOf)
         × AreTables graph.now any (length graph.now) ts
-        × (text.new.items ≡ text.old.items ++ table_text (table_forms script.now graph.now 0 ts))) }
+        × (text.new.items ≡ text.old.items
+        ++ table_text (table_forms lives.now.script.now graph.now 0 ts))) }
 {
     'members: for x in 0..graph.count() {
-        let table = Table::of(alloc, graph, numbers, routing, x, any)?;
-        push_row_lines(alloc, text, script, decimals, graph, x, table.as_slice())?;
+        let table = Table::of(lives.alloc, graph, numbers, routing, x, any)?;
+        push_row_lines(lives, text, decimals, graph, x, table.as_slice())?;
     }
     Ok(())
 }
 
 // Appends the lines of the tables of the members.
 fn push_tables(
-    alloc: Global,
+    lives: &Lives,
     text: &mut Vec<u8>,
-    script: &Script,
     decimals: &Decimals,
     component: &Entries,
     numbers: &Numbers,
@@ -139,29 +128,24 @@ fn push_tables(
     requires { numbers.now ≡ numbering component.now }
     ensures { OnOk result ((ts : List TableOf)
         × AreTables component.now any (length component.now) ts
-        × (text.new.items ≡ text.old.items ++ table_text (table_forms script.now component.now 0 ts))) }
+        × (text.new.items ≡ text.old.items
+        ++ table_text (table_forms lives.now.script.now component.now 0 ts))) }
 {
-    let graph = Graph::of(alloc, component)?;
-    let routing = Routing::of(alloc, &graph, numbers)?;
-    push_shared(
-        alloc, text, script, decimals, &graph, numbers, &routing, any,
-    )
+    let graph = Graph::of(lives.alloc, component)?;
+    let routing = Routing::of(lives.alloc, &graph, numbers)?;
+    push_shared(lives, text, decimals, &graph, numbers, &routing, any)
 }
 
 // Appends the line of a component.
 #[tactic(auto, using(std::proofs::lemmas::List::get_or_default))]
-fn push_head(
-    alloc: Global,
-    text: &mut Vec<u8>,
-    script: &Script,
-    entries: &[Entry],
-) -> Result<(), OutOfMemory>
+fn push_head(lives: &Lives, text: &mut Vec<u8>, entries: &[Entry]) -> Result<(), OutOfMemory>
     requires some { 1 ≤ length entries.now }
     ensures { OnOk result
-        (text.new.items ≡ text.old.items ++ line_text (table_words (component_form script.now entries.now))) }
+        (text.new.items ≡ text.old.items
+        ++ line_text (table_words (component_form lives.now.script.now entries.now))) }
 {
     let first = &entries[0];
-    let root = life_word(alloc, script, first.position.root)?;
+    let root = lives.word(first.position.root)?;
     let mut digits = Buffer::new();
     let count = digits.format(entries.len()).as_bytes();
     push_line(text, &[b"component", &root, b"members", count])
@@ -169,9 +153,8 @@ fn push_head(
 
 // Appends the lines of a component.
 fn push_component(
-    alloc: Global,
+    lives: &Lives,
     text: &mut Vec<u8>,
-    script: &Script,
     decimals: &Decimals,
     component: &Entries,
     any: bool,
@@ -179,32 +162,27 @@ fn push_component(
     ensures { OnOk result ((ts : List TableOf)
         × AreTables component.now any (length component.now) ts
         × (text.new.items ≡ text.old.items
-        ++ table_text (part_forms script.now (record { entries = component.now; tables = ts })))) }
+        ++ table_text (part_forms lives.now.script.now (record { entries = component.now; tables = ts })))) }
 {
     let entries = component.as_slice();
-    let numbers = number(alloc, component)?;
-    push_head(alloc, text, script, entries)?;
-    push_members(alloc, text, script, entries)?;
-    push_numbers(alloc, text, script, entries, numbers.as_slice())?;
-    push_tables(alloc, text, script, decimals, component, &numbers, any)
+    let numbers = number(lives.alloc, component)?;
+    push_head(lives, text, entries)?;
+    push_members(lives, text, entries)?;
+    push_numbers(lives, text, entries, numbers.as_slice())?;
+    push_tables(lives, text, decimals, component, &numbers, any)
 }
 
 // The text of the components.
-fn text_of(
-    alloc: Global,
-    script: &Script,
-    forest: &[Entries],
-    any: bool,
-) -> Result<Vec<u8>, OutOfMemory>
+fn text_of(lives: &Lives, forest: &[Entries], any: bool) -> Result<Vec<u8>, OutOfMemory>
     ensures { IfOk result (λ text. (parts : List Part)
         × (map (λ p. p.entries) parts ≡ forest.now)
         × All (λ p. AreTables p.entries any (length p.entries) p.tables) parts
-        × (text.items ≡ expect_text script.now parts)) }
+        × (text.items ≡ expect_text lives.now.script.now parts)) }
 {
-    let decimals = Decimals::new(alloc)?;
-    let mut text = Vec::new(alloc);
+    let decimals = Decimals::new(lives.alloc)?;
+    let mut text = Vec::new(lives.alloc);
     'components: for component in forest {
-        push_component(alloc, &mut text, script, &decimals, component, any)?;
+        push_component(lives, &mut text, &decimals, component, any)?;
     }
     push_line(&mut text, &[b"end"])?;
     Ok(text)
@@ -219,5 +197,5 @@ pub fn expect(alloc: Global, script: &Script) -> Result<Vec<u8>, OutOfMemory>
     ensures { IfOk result (λ text. IsExpectOf script.now text.items) }
 {
     let forest = trees(alloc, script.wiring())?;
-    text_of(alloc, script, &forest, script.any_routes())
+    text_of(&Lives { alloc, script }, &forest, script.any_routes())
 }

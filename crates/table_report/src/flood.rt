@@ -9,7 +9,7 @@ ghost use Rattle.broadcast_flood.specs.declared.hop.FloodHop.{FloodHop as FloodH
 ghost use Rattle.table_report.specs.Floods.{AreFloods, flood_lines, flood_text, FloodPart, From, Goes};
 ghost use Rattle.table_report.specs.Floods.{IsFloodOf, line_words, lines_told, part_lines};
 
-use crate::piece::life_word;
+use crate::piece::Lives;
 use an_base::entry::Entries;
 use an_base::life::Life;
 use an_base::memory::OutOfMemory;
@@ -23,16 +23,11 @@ use text_lines::spelling::push_line;
 use topo_graph::graph::Graph;
 
 // Appends the line of a hop.
-fn push_hop(
-    alloc: Global,
-    text: &mut Vec<u8>,
-    script: &Script,
-    hop: &FloodHop,
-) -> Result<(), OutOfMemory>
+fn push_hop(lives: &Lives, text: &mut Vec<u8>, hop: &FloodHop) -> Result<(), OutOfMemory>
     ensures { OnOk result (text.new.items
-        ≡ text.old.items ++ line_text (line_words script.now (Goes hop.now))) }
+        ≡ text.old.items ++ line_text (line_words lives.now.script.now (Goes hop.now))) }
 {
-    let name = life_word(alloc, script, hop.at)?;
+    let name = lives.word(hop.at)?;
     let mut digits = Buffer::new();
     let port = digits.format(hop.port).as_bytes();
     if hop.up {
@@ -42,31 +37,22 @@ fn push_hop(
 }
 
 // Appends the lines of hops.
-fn push_hops(
-    alloc: Global,
-    text: &mut Vec<u8>,
-    script: &Script,
-    hops: &[FloodHop],
-) -> Result<(), OutOfMemory>
-    ensures { OnOk result (text.new.items ≡ text.old.items ++ lines_told script.now (map Goes hops.now)) }
+fn push_hops(lives: &Lives, text: &mut Vec<u8>, hops: &[FloodHop]) -> Result<(), OutOfMemory>
+    ensures { OnOk result (text.new.items ≡ text.old.items
+        ++ lines_told lives.now.script.now (map Goes hops.now)) }
 {
     'hops: for hop in hops {
-        push_hop(alloc, text, script, hop)?;
+        push_hop(lives, text, hop)?;
     }
     Ok(())
 }
 
 // Appends the line of who sends a broadcast.
-fn push_from(
-    alloc: Global,
-    text: &mut Vec<u8>,
-    script: &Script,
-    life: Life,
-) -> Result<(), OutOfMemory>
+fn push_from(lives: &Lives, text: &mut Vec<u8>, life: Life) -> Result<(), OutOfMemory>
     ensures { OnOk result (text.new.items
-        ≡ text.old.items ++ line_text (line_words script.now (From life))) }
+        ≡ text.old.items ++ line_text (line_words lives.now.script.now (From life))) }
 {
-    let name = life_word(alloc, script, life)?;
+    let name = lives.word(life)?;
     push_line(text, &[b"flood", &name])
 }
 
@@ -81,26 +67,24 @@ fn push_copies(text: &mut Vec<u8>, members: usize) -> Result<(), OutOfMemory>
 
 // Appends the lines of the broadcast from a member.
 fn push_flood(
-    alloc: Global,
+    lives: &Lives,
     text: &mut Vec<u8>,
-    script: &Script,
     members: usize,
     from: Life,
     hops: &[FloodHop],
 ) -> Result<(), OutOfMemory>
     ensures { OnOk result (text.new.items
-        ≡ text.old.items ++ lines_told script.now (flood_lines members from hops.now)) }
+        ≡ text.old.items ++ lines_told lives.now.script.now (flood_lines members from hops.now)) }
 {
-    push_from(alloc, text, script, from)?;
-    push_hops(alloc, text, script, hops)?;
+    push_from(lives, text, from)?;
+    push_hops(lives, text, hops)?;
     push_copies(text, members)
 }
 
 // Appends the lines of the broadcasts from the members of a component, which go so.
 fn push_broadcasts(
-    alloc: Global,
+    lives: &Lives,
     text: &mut Vec<u8>,
-    script: &Script,
     component: &Entries,
     flood: &Flood,
 ) -> Result<(), OutOfMemory>
@@ -108,45 +92,40 @@ fn push_broadcasts(
     ensures { OnOk result ((floods : List (List FloodHopOf))
         × AreFloods component.now (length component.now) floods
         × (text.new.items ≡ text.old.items
-        ++ lines_told script.now (part_lines (record { entries = component.now; floods = floods })))) }
+        ++ lines_told lives.now.script.now (part_lines (record { entries = component.now; floods = floods })))) }
 {
     let members = component.len();
     'members: for entry in component.as_slice() {
-        let hops = flood.hops(alloc, entry.life)?;
-        push_flood(alloc, text, script, members, entry.life, &hops)?;
+        let hops = flood.hops(lives.alloc, entry.life)?;
+        push_flood(lives, text, members, entry.life, &hops)?;
     }
     Ok(())
 }
 
 // The same, where it is found how they go.
-fn push_floods(
-    alloc: Global,
-    text: &mut Vec<u8>,
-    script: &Script,
-    component: &Entries,
-) -> Result<(), OutOfMemory>
+fn push_floods(lives: &Lives, text: &mut Vec<u8>, component: &Entries) -> Result<(), OutOfMemory>
     requires { IsTree component.now }
     ensures { OnOk result ((floods : List (List FloodHopOf))
         × AreFloods component.now (length component.now) floods
         × (text.new.items ≡ text.old.items
-        ++ lines_told script.now (part_lines (record { entries = component.now; floods = floods })))) }
+        ++ lines_told lives.now.script.now (part_lines (record { entries = component.now; floods = floods })))) }
 {
-    let graph = Graph::of(alloc, component)?;
-    let flood = Flood::of(alloc, &graph)?;
-    push_broadcasts(alloc, text, script, component, &flood)
+    let graph = Graph::of(lives.alloc, component)?;
+    let flood = Flood::of(lives.alloc, &graph)?;
+    push_broadcasts(lives, text, component, &flood)
 }
 
 // The text of the components.
-fn text_of(alloc: Global, script: &Script, forest: &[Entries]) -> Result<Vec<u8>, OutOfMemory>
+fn text_of(lives: &Lives, forest: &[Entries]) -> Result<Vec<u8>, OutOfMemory>
     requires { All IsTree forest.now }
     ensures { IfOk result (λ text. (parts : List FloodPart)
         × (map (λ p. p.entries) parts ≡ forest.now)
         × All (λ p. AreFloods p.entries (length p.entries) p.floods) parts
-        × (text.items ≡ flood_text script.now parts)) }
+        × (text.items ≡ flood_text lives.now.script.now parts)) }
 {
-    let mut text = Vec::new(alloc);
+    let mut text = Vec::new(lives.alloc);
     'components: for component in forest {
-        push_floods(alloc, &mut text, script, component)?;
+        push_floods(lives, &mut text, component)?;
     }
     push_line(&mut text, &[b"end"])?;
     Ok(text)
@@ -159,5 +138,5 @@ pub fn flood(alloc: Global, script: &Script) -> Result<Vec<u8>, OutOfMemory>
     ensures { IfOk result (λ text. IsFloodOf script.now text.items) }
 {
     let forest = trees(alloc, script.wiring())?;
-    text_of(alloc, script, &forest)
+    text_of(&Lives { alloc, script }, &forest)
 }

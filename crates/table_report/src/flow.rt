@@ -1,6 +1,6 @@
 //! What becomes of the packets that a script sends, where channels hold a few each.
 
-ghost use Rattle.std.specs.Prelude.{◌≡◌, ◌+◌, ◌-◌, ◌++◌, ◌∷◌, ◌<◌, ◌≤◌, ℕ, Bool, List, [], codes, count_by, filter, length};
+ghost use Rattle.std.specs.Prelude.{◌≡◌, ◌+◌, ◌-◌, ◌++◌, ◌∷◌, ◌<◌, ◌≤◌, ℕ, Bool, List, Option, [], codes, count_by, filter, length};
 ghost use Rattle.std.specs.Prelude.{Contains, IfOk, IfSome, OnOk, slice_index_or, vec_capacity, vec_len};
 ghost use Rattle.std.specs.Fmt.{decimal};
 ghost use Rattle.std.specs.List.{flat_map};
@@ -9,19 +9,14 @@ ghost use Rattle.net_graph.specs.Forest.{IsComponent, IsForest};
 ghost use Rattle.net_script.specs.Scripts.{IsScript, ScriptOf};
 ghost use Rattle.text_lines.specs.Lines.{line_text};
 ghost use Rattle.switch_numbering.specs.Numbering.{numbering};
-ghost use Rattle.table_build.specs.Routing.{IsRouting};
-ghost use Rattle.table_build.specs.Tables.{IsTable, TableOf};
-ghost use Rattle.dep_check.specs.declared.refusal.CheckRefusal.TheVariants as why;
-ghost use Rattle.dep_check.specs.Answer.{Passes};
 ghost use Rattle.dep_check.specs.Channels.{place_in};
-ghost use Rattle.flow_channels.specs.Layout.{LayoutOf, layout_of};
+ghost use Rattle.flow_channels.specs.Layout.{LayoutOf};
 ghost use Rattle.flow_channels.specs.View.{IsOver};
 ghost use Rattle.table_report.specs.Check.{name_of};
-ghost use Rattle.table_report.specs.Expect.{AreTables};
 ghost use Rattle.table_report.specs.Flows.{entered_flow, fate_lines, flow_told, flow_words};
 ghost use Rattle.table_report.specs.Flows.{IsFlowOf, is_out, went_line};
 ghost use Rattle.table_report.specs.Flows.FlowLine.{Arrives, Ends, Moves};
-ghost use Rattle.table_report.specs.FlowRuns.{AreNames, AreOwnRows, HasEntered, IsRanked};
+ghost use Rattle.table_report.specs.FlowRuns.{AreNames, HasEntered, IsOwnLayout, IsRanked};
 ghost use Rattle.table_report.specs.FlowRuns.{AreTabled, IsBegun, IsReady, IsToldPart, IsToldRun};
 ghost use Rattle.table_report.specs.Sends.{entering, homes_of, is_entering, is_local, MayAllEnter, numbers_in, sends_of};
 
@@ -30,10 +25,8 @@ use crate::sent::{Home, Sent, count_local, entering, homes_of, is_joined, sends_
 use an_base::entry::{Entries, Entry};
 use an_base::memory::OutOfMemory;
 use an_base::numbers::Numbers;
-use an_base::row::Row;
 use an_base::text::Word;
-use dep_check::check::{Ranks, ranks_over};
-use dep_check::refusal::CheckRefusal;
+use flow_channels::exits::ExitTable;
 use flow_channels::flow::Flow;
 use flow_channels::went::Went;
 use itoa::Buffer;
@@ -41,99 +34,31 @@ use net_graph::forest::trees;
 use net_script::script::Script;
 use std::alloc::Global;
 use switch_numbering::numbering::number;
-use table_build::routing::Routing;
-use table_build::table::Table;
 use text_lines::names::Names;
 use text_lines::spelling::push_line;
 use topo_graph::graph::Graph;
 
-// Appends the rows of the table of the member at a place.
-fn push_table(
-    alloc: Global,
-    rows: &mut Vec<Row>,
-    graph: &Graph,
-    numbers: &Numbers,
-    routing: &Routing,
-    x: u8,
-    any: bool,
-) -> Result<(), OutOfMemory>
-    requires routing { IsRouting graph.now numbers.now routing.now }
-    requires count { length numbers.now ≡ length graph.now }
-    requires within { x < length graph.now }
-    ensures { OnOk result ((table : TableOf) × IsTable graph.now numbers.now any x table
-        × (rows.new.items ≡ rows.old.items ++ table.rows)) }
-{
-    let table = Table::of(alloc, graph, numbers, routing, x, any)?;
-    let mut more = table.into_rows();
-    rows.append(&mut more)?;
-    Ok(())
-}
-
-// The rows of the tables of all members.
-fn rows_of(
-    alloc: Global,
-    graph: &Graph,
-    numbers: &Numbers,
-    any: bool,
-) -> Result<Vec<Row>, OutOfMemory>
-    requires { numbers.now ≡ numbering graph.now }
-    ensures { IfOk result (λ rows. (tables : List TableOf) × AreTables graph.now any (length graph.now) tables
-        × (rows.items ≡ flat_map (λ table. table.rows) tables)) }
-{
-    let routing = Routing::of(alloc, graph, numbers)?;
-    let count = usize::from(graph.count());
-    let mut rows = Vec::with_capacity(alloc, 13 * count * count)?;
-    'members: for x in 0..graph.count() {
-        push_table(alloc, &mut rows, graph, numbers, &routing, x, any)?;
-    }
-    Ok(rows)
-}
-
-// The graph of a component, the numbers of its members, and the rows of their tables.
+// The graph of a component, the numbers of its members, and the exits of their tables.
 #[derive(Drop)]
 struct Tabled {
     graph: Graph,
     numbers: Numbers,
-    rows: Vec<Row>,
+    exits: ExitTable,
 }
 
 impl Tabled {
     // Those of a component.
     fn of(alloc: Global, component: &Entries, any: bool) -> Result<Self, OutOfMemory>
-        ensures { IfOk result (λ tabled. AreTabled any component.now tabled.graph tabled.numbers tabled.rows.items) }
+        ensures { IfOk result (λ tabled. AreTabled any component.now tabled.graph tabled.numbers tabled.exits) }
     {
         let graph = Graph::of(alloc, component)?;
         let numbers = number(alloc, component)?;
-        let rows = rows_of(alloc, &graph, &numbers, any)?;
+        let exits = ExitTable::of(alloc, &graph, &numbers, any)?;
         Ok(Tabled {
             graph,
             numbers,
-            rows,
+            exits,
         })
-    }
-}
-
-// A refusal that can only be want of memory.
-fn want(refusal: CheckRefusal) -> OutOfMemory
-    requires { refusal ≡ why.OutOfMemory }
-{
-    let _refusal = refusal;
-    OutOfMemory
-}
-
-// The ranks of the channels of a component: its own tables are never refused, and so they are not judged.
-fn ranks_of(
-    alloc: Global,
-    graph: &Graph,
-    numbers: &Numbers,
-    rows: &[Row],
-) -> Result<Ranks, OutOfMemory>
-    requires { (any : Bool) × AreOwnRows any graph.now numbers.now rows.now }
-    ensures { IfOk result (Passes graph.now numbers.now rows.now) }
-{
-    match ranks_over(alloc, graph, numbers, rows) {
-        Ok(ranks) => Ok(ranks),
-        Err(refusal) => Err(want(refusal)),
     }
 }
 
@@ -149,26 +74,26 @@ fn enter_all(flow: &mut Flow, home: &Home, sends: &[Sent])
     }
 }
 
-// A flow into which packets that enter a component have come, and the ranks of its channels.
+// A flow into which packets that enter a component have come.
 fn begun(
     alloc: Global,
     graph: &Graph,
     numbers: &Numbers,
-    rows: &[Row],
+    exits: ExitTable,
     home: &Home,
     sends: &[Sent],
     b: u16,
-) -> Result<(Flow, Ranks), OutOfMemory>
-    requires own { (any : Bool) × AreOwnRows any graph.now numbers.now rows.now }
+) -> Result<Flow, OutOfMemory>
+    ghost layout: { LayoutOf }
+    requires own { IsOwnLayout graph.now numbers.now exits b layout }
     requires sends { MayAllEnter numbers.now home.now sends.now }
     requires room { 1 ≤ b }
-    ensures { IfOk result (λ begun. IsBegun b graph.now numbers.now rows.now home.now sends.now begun.1 begun.0) }
+    ensures { IfOk result (IsBegun layout home.now sends.now) }
 {
-    let ranks = ranks_of(alloc, graph, numbers, rows)?;
     let most = sends.len().max(1) as u32;
-    let mut flow = Flow::new(alloc, graph, numbers, rows, &ranks, b, most)?;
+    let mut flow = Flow::new(alloc, graph, numbers, exits, b, most)?;
     enter_all(&mut flow, home, sends);
-    Ok((flow, ranks))
+    Ok(flow)
 }
 
 // The place of a number.
@@ -329,9 +254,9 @@ fn push_turns(
     out: &mut usize,
     names: &[Word],
     flow: &mut Flow,
-    ranks: &Ranks,
 ) -> Result<(), OutOfMemory>
-    requires ranked { IsRanked ranks.now flow.old }
+    ghost ranks: { List (Option ℕ) }
+    requires ranked { IsRanked ranks flow.old }
     requires named { (script : ScriptOf) × (entries : List EntryOf)
         × AreNames script entries (numbering entries) 256 names.now }
     requires few { out.old ≤ length text.old.items }
@@ -340,7 +265,6 @@ fn push_turns(
         → IsToldRun layout script entries flow.old.flow text.old.items text.new.items out.old out.new) }
     ensures few { OnOk result (out.new ≤ length text.new.items) }
 {
-    let _ranks = ranks;
     'turns: while let Some(went) = flow.turn() {
         push_went(text, names, went)?;
         *out += usize::from(is_out(went));
@@ -354,25 +278,30 @@ fn push_run(
     text: &mut Vec<u8>,
     out: &mut usize,
     script: &Script,
-    tabled: &Tabled,
+    tabled: Tabled,
     home: &Home,
     those: &[Sent],
     b: u16,
 ) -> Result<(), OutOfMemory>
-    requires numbered { tabled.now.numbers ≡ numbering tabled.now.graph }
-    requires own { (any : Bool) × AreOwnRows any tabled.now.graph tabled.now.numbers tabled.now.rows.items }
-    requires those { MayAllEnter tabled.now.numbers home.now those.now }
+    ghost layout: { LayoutOf }
+    requires numbered { tabled.numbers ≡ numbering tabled.graph }
+    requires own { IsOwnLayout tabled.graph tabled.numbers tabled.exits b layout }
+    requires those { MayAllEnter tabled.numbers home.now those.now }
     requires room { 1 ≤ b }
     requires few { out.old ≤ length text.old.items }
-    ensures told { OnOk result (IsToldRun (layout_of tabled.now.graph tabled.now.numbers tabled.now.rows.items b)
-        script.now tabled.now.graph (entered_flow home.now those.now) text.old.items text.new.items out.old out.new) }
+    ensures told { OnOk result (IsToldRun layout script.now tabled.graph (entered_flow home.now those.now)
+        text.old.items text.new.items out.old out.new) }
     ensures few { OnOk result (out.new ≤ length text.new.items) }
 {
-    let (graph, numbers) = (&tabled.graph, &tabled.numbers);
+    let Tabled {
+        graph,
+        numbers,
+        exits,
+    } = tabled;
     let entries = graph.entries().as_slice();
     let names = names_of(alloc, script, entries, numbers.as_slice())?;
-    let (mut flow, ranks) = begun(alloc, graph, numbers, &tabled.rows, home, those, b)?;
-    push_turns(text, out, &names, &mut flow, &ranks)
+    let mut flow = begun(alloc, &graph, &numbers, exits, home, those, b)?;
+    push_turns(text, out, &names, &mut flow)
 }
 
 // Appends the lines of the moves of those packets that enter a component, and adds how many go out of a switch.
@@ -396,11 +325,11 @@ fn push_entering(
         (IsToldPart script.now b component.now text.old.items text.new.items out.old out.new) }
     ensures few { OnOk result (out.new ≤ length text.new.items) }
 {
-    let tabled = Tabled::of(alloc, component, script.any_routes())?;
     if those.is_empty() {
         return Ok(());
     }
-    push_run(alloc, text, out, script, &tabled, home, those, b)
+    let tabled = Tabled::of(alloc, component, script.any_routes())?;
+    push_run(alloc, text, out, script, tabled, home, those, b)
 }
 
 // The same of those of the packets that enter it.

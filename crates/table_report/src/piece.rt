@@ -66,3 +66,19 @@ pub fn life_word(alloc: Global, script: &Script, life: Life) -> Result<Vec<u8>, 
     push_life(alloc, &mut word, script, life)?;
     Ok(word)
 }
+
+/// The lives of a script's switches as they are printed, and the memory that their words take.
+#[derive(Clone, Copy, Drop)]
+pub(crate) struct Lives<'a> {
+    pub(crate) alloc: Global,
+    pub(crate) script: &'a Script,
+}
+
+impl Lives<'_> {
+    // The word for a life.
+    pub(crate) fn word(&self, life: Life) -> Result<Vec<u8>, AllocError>
+        ensures { IfOk result (λ word. word.items ≡ life_text self.now.script.now life) }
+    {
+        life_word(self.alloc, self.script, life)
+    }
+}

@@ -7,7 +7,7 @@ ghost use Rattle.table_report.specs.Pieces.{spaced_pair};
 ghost use Rattle.table_report.specs.Expect.{table_text};
 
 use crate::decimals::Decimals;
-use crate::piece::push_life;
+use crate::piece::{Lives, push_life};
 use an_base::life::Life;
 use an_base::row::Row;
 use net_script::script::Script;
@@ -99,9 +99,8 @@ pub fn push_row_line(
 /// Appends the lines of the table of the member at a place: one for each entry, 0 and the ports with
 /// a link, with the number of each other member and the exits towards it.
 pub(crate) fn push_row_lines(
-    alloc: Global,
+    lives: &Lives,
     text: &mut Vec<u8>,
-    script: &Script,
     decimals: &Decimals,
     graph: &Graph,
     x: u8,
@@ -109,12 +108,12 @@ pub(crate) fn push_row_lines(
 ) -> Result<(), AllocError>
     requires { x < length graph.now }
     ensures { OnOk result (text.new.items ≡ text.old.items
-        ++ table_text (member_rows script.now graph.now x rows.now)) }
+        ++ table_text (member_rows lives.now.script.now graph.now x rows.now)) }
 {
     let life = graph.life(x);
     'entries: for entry in 0..13u8 {
         if is_entry(graph, x, entry) {
-            push_row_line(alloc, text, script, decimals, life, rows, entry)?;
+            push_row_line(lives.alloc, text, lives.script, decimals, life, rows, entry)?;
         }
     }
     Ok(())

@@ -111,10 +111,10 @@ impl Home {
         ensures { IfOk result (λ home. home ≡ numbers_in switches.now component.now) }
     {
         let named = number(alloc, component)?;
-        let mut numbers = Vec::with_capacity(alloc, switches.len())?;
-        'switches: for switch in switches {
-            numbers.push(number_in(component, &named, *switch))?;
-        }
+        let numbers = switches
+            .iter()
+            .map(|switch| number_in(component, &named, *switch))
+            .collect(alloc)?;
         Ok(Home { numbers })
     }
 

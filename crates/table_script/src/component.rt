@@ -1,13 +1,24 @@
 //! The components of links.
 
-ghost use Rattle.std.specs.Prelude.{◌≡◌, ◌==◌, ◌<◌, All, map, IfOk, if◌then◌else◌};
+ghost use Rattle.std.specs.Prelude.{◌≡◌, ◌==◌, ◌<◌, All, length, map, IfOk, if◌then◌else◌};
 ghost use Rattle.std.specs.List.{range_with_len};
 ghost use Rattle.net_graph.specs.Wires.{IsLink};
 ghost use Rattle.table_script.specs.Tables.{AreLabels};
 
 use an_base::memory::OutOfMemory;
 use net_graph::wiring::LinkAt;
+use net_script::script::Script;
 use std::alloc::Global;
+
+/// The network that tables are of: its script, and the labels of its components.
+#[derive(Clone, Copy, Drop)]
+pub struct Network<'a> {
+    /// The script.
+    pub script: &'a Script,
+    /// A label for each switch, by place.
+    pub labels: &'a [u8],
+    ghost fit: { AreLabels (length script.now.wires.switches) script.now.wires.links labels.now },
+}
 
 /// Labels of so many switches, by place, which are alike exactly for the switches of one component of the
 /// links. It looks once at each link, and at each label once for each link that joins two components.

@@ -9,7 +9,6 @@ ghost use Rattle.net_script.specs.Rules.{number_cause};
 ghost use Rattle.text_lines.specs.Words.{is_number, number_value};
 ghost use Rattle.text_lines.specs.Faults.{unless};
 ghost use Rattle.text_lines.specs.Lines.{parts_of};
-ghost use Rattle.table_script.specs.Tables.{AreLabels};
 ghost use Rattle.table_script.specs.TableForms.{NumberLine, RowLine, EndLine};
 ghost use Rattle.table_script.specs.TableRules.{are_ports, port_words, is_colon, is_pair, are_pairs, row_of, entry_cause, is_numbered, IsKept};
 ghost use Rattle.table_script.specs.TableTexts.{AddsTableForm, IsFaultyTableForm};
@@ -17,6 +16,7 @@ ghost use Rattle.table_script.specs.TableSteps.{IsNoRow, ReadsTable, IsWrongTabl
 ghost use Rattle.text_lines.specs.Faults.{IsField};
 ghost use Rattle.text_lines.specs.Stops.{IsStep};
 
+use crate::component::Network;
 use crate::table_draft::{EntryAt, NumberAt, TableDraft};
 use crate::table_words::next_word;
 use an_base::row::{Exits, Row};
@@ -28,39 +28,34 @@ use text_lines::line::first_of;
 use text_lines::stop::Stop;
 use text_lines::word::{is, is_number, number_of};
 
-/// Adds what a line of tables of these words says, of which the first is not `row`. The labels are those of
-/// the components.
+/// Adds what a line of tables of these words says, of which the first is not `row`.
 pub fn read_table_form(
     draft: &mut TableDraft,
-    script: &Script,
-    labels: &[u8],
+    network: &Network,
     words: &[&[u8]],
 ) -> Result<(), ScriptStop>
-    requires labels { AreLabels (length script.now.wires.switches) script.now.wires.links labels.now }
-    requires kept { IsKept script.now draft.old }
+    requires kept { IsKept network.now.script.now draft.old }
     requires words { IsNoRow (map (λ w. w.now) words.now) }
-    ensures { IsStep result (AddsTableForm script.now draft.old (map (λ w. w.now) words.now) draft.new)
-        (IsFaultyTableForm script.now draft.old (map (λ w. w.now) words.now)) }
+    ensures { IsStep result (AddsTableForm network.now.script.now draft.old (map (λ w. w.now) words.now) draft.new)
+        (IsFaultyTableForm network.now.script.now draft.old (map (λ w. w.now) words.now)) }
 {
     match words {
-        [first, rest @ ..] => read_first_word(draft, script, labels, first, rest),
+        [first, rest @ ..] => read_first_word(draft, network, first, rest),
         _ => Err(Stop::Fault(ScriptCause::UnknownWord)),
     }
 }
 
 fn read_first_word(
     draft: &mut TableDraft,
-    script: &Script,
-    labels: &[u8],
+    network: &Network,
     first: &[u8],
     rest: &[&[u8]],
 ) -> Result<(), ScriptStop>
-    requires labels { AreLabels (length script.now.wires.switches) script.now.wires.links labels.now }
-    requires kept { IsKept script.now draft.old }
+    requires kept { IsKept network.now.script.now draft.old }
     requires word { bytes_eq first.now (codes "row") ≡ false }
-    ensures { IsStep result (AddsTableForm script.now draft.old (first.now
+    ensures { IsStep result (AddsTableForm network.now.script.now draft.old (first.now
         ∷ map (λ w. w.now) rest.now) draft.new)
-        (IsFaultyTableForm script.now draft.old (first.now ∷ map (λ w. w.now) rest.now)) }
+        (IsFaultyTableForm network.now.script.now draft.old (first.now ∷ map (λ w. w.now) rest.now)) }
 {
     if is(first, "component") {
         return Ok(());
@@ -69,28 +64,26 @@ fn read_first_word(
         return Ok(());
     }
     if is(first, "number") {
-        return read_number_words(draft, script, labels, rest);
+        return read_number_words(draft, network, rest);
     }
     if is(first, "end") && rest.is_empty() {
-        return read_table_end(draft, script);
+        return read_table_end(draft, network.script);
     }
     Err(Stop::Fault(ScriptCause::UnknownWord))
 }
 
 fn read_number_words(
     draft: &mut TableDraft,
-    script: &Script,
-    labels: &[u8],
+    network: &Network,
     words: &[&[u8]],
 ) -> Result<(), ScriptStop>
-    requires labels { AreLabels (length script.now.wires.switches) script.now.wires.links labels.now }
-    requires kept { IsKept script.now draft.old }
-    ensures { IsStep result (AddsTableForm script.now draft.old (codes "number"
+    requires kept { IsKept network.now.script.now draft.old }
+    ensures { IsStep result (AddsTableForm network.now.script.now draft.old (codes "number"
         ∷ map (λ w. w.now) words.now) draft.new)
-        (IsFaultyTableForm script.now draft.old (codes "number" ∷ map (λ w. w.now) words.now)) }
+        (IsFaultyTableForm network.now.script.now draft.old (codes "number" ∷ map (λ w. w.now) words.now)) }
 {
     match words {
-        [name, n] => read_number_line(draft, script, labels, name, n),
+        [name, n] => read_number_line(draft, network, name, n),
         _ => Err(Stop::Fault(ScriptCause::UnknownWord)),
     }
 }
@@ -98,22 +91,20 @@ fn read_number_words(
 #[tactic(auto, unfolding(crate::specs::TableRules::number_line_cause))]
 fn read_number_line(
     draft: &mut TableDraft,
-    script: &Script,
-    labels: &[u8],
+    network: &Network,
     name: &[u8],
     n: &[u8],
 ) -> Result<(), ScriptStop>
-    requires labels { AreLabels (length script.now.wires.switches) script.now.wires.links labels.now }
-    requires kept { IsKept script.now draft.old }
-    ensures { IsStep result (ReadsTable script.now draft.old (NumberLine name.now n.now) draft.new)
-        (IsWrongTable script.now draft.old (NumberLine name.now n.now)) }
+    requires kept { IsKept network.now.script.now draft.old }
+    ensures { IsStep result (ReadsTable network.now.script.now draft.old (NumberLine name.now n.now) draft.new)
+        (IsWrongTable network.now.script.now draft.old (NumberLine name.now n.now)) }
 {
-    let s = known_switch(script, name)?;
+    let s = known_switch(network.script, name)?;
     if draft.is_numbered(s) {
         return Err(Stop::Fault(ScriptCause::NameTwice));
     }
     let number = number_in(n, 1, 126)? as u8;
-    if draft.is_number_taken(labels, s, number) {
+    if draft.is_number_taken(network.labels, s, number) {
         return Err(Stop::Fault(ScriptCause::NameTwice));
     }
     draft.push_number(NumberAt { s, number })?;

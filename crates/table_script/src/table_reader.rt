@@ -3,7 +3,7 @@
 ghost use Rattle.std.specs.Prelude.{◌≡◌, ◌≢◌, ◌<◌, ◌-◌, ◌^◌, ◌∷◌, length, map, IfOk, IfErr, OnOk};
 ghost use Rattle.std.specs.List.{range_with_len};
 ghost use Rattle.net_script.specs.declared.draft.Part.TheVariants.{After};
-ghost use Rattle.table_script.specs.Tables.{AreLabels, AreTablesOf};
+ghost use Rattle.table_script.specs.Tables.{AreTablesOf};
 ghost use Rattle.table_script.specs.TableRules.{IsKept, number_of, tables_of};
 ghost use Rattle.text_lines.specs.Lines.{parts_of, words_of};
 ghost use Rattle.table_script.specs.TableTexts.{AddsTable, IsFaultyTable, AddsTableWords, IsFaultyTableWords};
@@ -12,7 +12,7 @@ ghost use Rattle.net_script.specs.Texts.{Adds, IsFaulty};
 ghost use Rattle.text_lines.specs.Stops.{IsStep};
 ghost use Rattle.table_script.specs.TableSteps.{told_of, IsReady, IsRefusalWith};
 
-use crate::component::labels_of;
+use crate::component::{Network, labels_of};
 use crate::table_draft::TableDraft;
 use crate::table_form::{read_row_words, read_table_form};
 use crate::table_words::{before_comment, next_word};
@@ -86,13 +86,13 @@ fn read_told(reading: &mut Reading, alloc: Global, line: &[u8]) -> Result<(), Sc
     match reading.script.part {
         Part::Header => read_script_line(reading, alloc, line),
         Part::Items => read_script_line(reading, alloc, line),
-        Part::After => read_table_line(
-            &mut reading.tables,
-            alloc,
-            &reading.script.script,
-            &reading.labels,
-            line,
-        ),
+        Part::After => {
+            let network = Network {
+                script: &reading.script.script,
+                labels: &reading.labels,
+            };
+            read_table_line(&mut reading.tables, alloc, &network, line)
+        }
     }
 }
 
@@ -116,14 +116,12 @@ fn read_script_line(reading: &mut Reading, alloc: Global, line: &[u8]) -> Result
 fn read_table_line(
     draft: &mut TableDraft,
     alloc: Global,
-    script: &Script,
-    labels: &[u8],
+    network: &Network,
     line: &[u8],
 ) -> Result<(), ScriptStop>
-    requires labels { AreLabels (length script.now.wires.switches) script.now.wires.links labels.now }
-    requires kept { IsKept script.now draft.old }
-    ensures step { IsStep result (AddsTable script.now draft.old line.now draft.new) (IsFaultyTable script.now draft.old line.now) }
-    ensures kept { OnOk result (IsKept script.now draft.new) }
+    requires kept { IsKept network.now.script.now draft.old }
+    ensures step { IsStep result (AddsTable network.now.script.now draft.old line.now draft.new) (IsFaultyTable network.now.script.now draft.old line.now) }
+    ensures kept { OnOk result (IsKept network.now.script.now draft.new) }
 {
     if line.len() > MOST_TABLE_LINE {
         return Err(Stop::Fault(ScriptCause::LineTooLong));
@@ -132,7 +130,7 @@ fn read_table_line(
         return Err(Stop::Fault(ScriptCause::NotAscii));
     }
     match next_word(before_comment(line)) {
-        Some((first, rest)) => read_table_words(draft, alloc, script, labels, line, first, rest),
+        Some((first, rest)) => read_table_words(draft, alloc, network, line, first, rest),
         None => Ok(()),
     }
 }
@@ -141,28 +139,26 @@ fn read_table_line(
 fn read_table_words(
     draft: &mut TableDraft,
     alloc: Global,
-    script: &Script,
-    labels: &[u8],
+    network: &Network,
     line: &[u8],
     first: &[u8],
     rest: &[u8],
 ) -> Result<(), ScriptStop>
-    requires labels { AreLabels (length script.now.wires.switches) script.now.wires.links labels.now }
-    requires kept { IsKept script.now draft.old }
+    requires kept { IsKept network.now.script.now draft.old }
     requires words { words_of line.now ≡ first.now ∷ parts_of rest.now }
     ensures step { IsStep result
-        (AddsTableWords draft.old.ended script.now draft.old (words_of line.now) draft.new)
-        (IsFaultyTableWords draft.old.ended script.now draft.old (words_of line.now)) }
-    ensures kept { OnOk result (IsKept script.now draft.new) }
+        (AddsTableWords draft.old.ended network.now.script.now draft.old (words_of line.now) draft.new)
+        (IsFaultyTableWords draft.old.ended network.now.script.now draft.old (words_of line.now)) }
+    ensures kept { OnOk result (IsKept network.now.script.now draft.new) }
 {
     if draft.is_ended() {
         return Err(Stop::Fault(ScriptCause::AfterEnd));
     }
     if is(first, "row") {
-        return read_row_words(draft, script, rest);
+        return read_row_words(draft, network.script, rest);
     }
     let words = words(alloc, line)?;
-    read_table_form(draft, script, labels, &words)
+    read_table_form(draft, network, &words)
 }
 
 // The script and the tables that the lines say.

@@ -185,7 +185,7 @@ impl Graph {
         ensures most { result ≤ MOST_LEVEL }
     {
         let entry = &self.entries.as_slice()[usize::from(x)];
-        entry.position.level()
+        entry.position.level
     }
 
     /// The place and the port at the far side of a port of the entry at a place, if the graph has a

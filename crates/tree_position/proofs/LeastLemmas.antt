@@ -9,7 +9,8 @@ use Rattle.an_base.specs.Values.{Place, PeerAt}
 use Rattle.an_base.specs.Order.{position_cmp}
 use Rattle.an_base.proofs.OrderingLemmas.{not_above, at_most}
 use Rattle.an_base.proofs.OrderLaws.{position_total}
-use Rattle.tree_position.specs.Position.{OfferOf, candidate, candidates, lesser, least, noted, IsLeast}
+use Rattle.tree_position.specs.declared.offers.Offer.{Offer}
+use Rattle.tree_position.specs.Position.{candidate, candidates, lesser, least, noted, IsLeast}
 
 -- the least of two lists one after the other
 pub least-append : (p : Place) (qs rs : List Place) → least p (qs ++ rs) ≡ least (least p qs) rs
@@ -17,7 +18,7 @@ least-append p [] rs = refl
 least-append p (q ∷ qs) rs = least-append (lesser p q) qs rs
 
 -- the candidates of one more link
-candidates_suc : (links : List PeerAt) (f : PeerAt → Option OfferOf) (i : ℕ) (k : PeerAt) → i < length links → candidates (take (suc i) links) (map f (take (suc i) links)) ≡ candidates (take i links) (map f (take i links)) ++ candidate (get_or links i k) (f (get_or links i k))
+candidates_suc : (links : List PeerAt) (f : PeerAt → Option Offer) (i : ℕ) (k : PeerAt) → i < length links → candidates (take (suc i) links) (map f (take (suc i) links)) ≡ candidates (take i links) (map f (take i links)) ++ candidate (get_or links i k) (f (get_or links i k))
 candidates_suc [] f i k low = absurd (omega arith)
 candidates_suc (link ∷ links) f zero k low = append-nil (candidate link (f link))
 candidates_suc (link ∷ links) f (suc i) k low =
@@ -25,7 +26,7 @@ candidates_suc (link ∷ links) f (suc i) k low =
     ∙ sym (append_assoc (candidate link (f link)) (candidates (take i links) (map f (take i links))) (candidate (get_or links i k) (f (get_or links i k))))
 
 -- the least with one more link
-pub least_more : (p best next : Place) (links : List PeerAt) (f : PeerAt → Option OfferOf) (i : ℕ) (k : PeerAt) (found : List Place) → i < length links → k ≡ get_or links i k → best ≡ least p (candidates (take i links) (map f (take i links))) → found ≡ candidate k (f k) → next ≡ least best found → next ≡ least p (candidates (take (i + 1) links) (map f (take (i + 1) links)))
+pub least_more : (p best next : Place) (links : List PeerAt) (f : PeerAt → Option Offer) (i : ℕ) (k : PeerAt) (found : List Place) → i < length links → k ≡ get_or links i k → best ≡ least p (candidates (take i links) (map f (take i links))) → found ≡ candidate k (f k) → next ≡ least best found → next ≡ least p (candidates (take (i + 1) links) (map f (take (i + 1) links)))
 least_more p best next links f i k found low at so_far finds is =
     is ∙ ap (λ (b : Place). least b found) so_far ∙ ap (least (least p (candidates (take i links) (map f (take i links))))) finds
     ∙ ap (λ (x : PeerAt). least (least p (candidates (take i links) (map f (take i links)))) (candidate x (f x))) at
@@ -34,12 +35,12 @@ least_more p best next links f i k found low at so_far finds is =
     ∙ ap (λ (n : ℕ). least p (candidates (take n links) (map f (take n links)))) (sym (add-one i))
 
 -- no offers at first
-pub no_offers : (links : List PeerAt) (f : PeerAt → Option OfferOf) → ((k : PeerAt) → f k ≡ None) → map f links ≡ replicate (length links) None
+pub no_offers : (links : List PeerAt) (f : PeerAt → Option Offer) → ((k : PeerAt) → f k ≡ None) → map f links ≡ replicate (length links) None
 no_offers [] f none = refl
 no_offers (l ∷ links) f none = let a = none l in let b = no_offers links f none in cc
 
 -- the offers after one more
-pub noted_is : (links : List PeerAt) (offers : List (Option OfferOf)) (port : ℕ) (offer : OfferOf) → port < length offers → map (λ k. get_or (set offers port (Some offer)) k.port None) links ≡ noted links (map (λ k. get_or offers k.port None) links) port offer
+pub noted_is : (links : List PeerAt) (offers : List (Option Offer)) (port : ℕ) (offer : Offer) → port < length offers → map (λ k. get_or (set offers port (Some offer)) k.port None) links ≡ noted links (map (λ k. get_or offers k.port None) links) port offer
 noted_is [] offers port offer low = refl
 noted_is (l ∷ links) offers port offer low =
     let rest = noted_is links offers port offer low in
@@ -55,7 +56,7 @@ same_at zero k x = refl
 same_at (suc n) zero x = refl
 same_at (suc n) (suc k) x = same_at n k x
 
-pub none_at : (k : ℕ) → get_or {A = Option OfferOf} (replicate 13 None) k None ≡ None
+pub none_at : (k : ℕ) → get_or {A = Option Offer} (replicate 13 None) k None ≡ None
 none_at k = same_at 13 k None
 
 -- one of the two, and at most both

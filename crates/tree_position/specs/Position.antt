@@ -5,34 +5,30 @@ use Rattle.std.specs.Ordering.{is_lt, is_le}
 use Rattle.an_base.specs.Values.{LifeId, Place, PeerAt}
 use Rattle.an_base.specs.Order.{position_cmp}
 use Rattle.an_base.specs.declared.limits.TheConstants.{MOST_LEVEL}
-
--- what a neighbour offers: its root, and its level
-pub record OfferOf : Type 0 where
-  pub root : LifeId
-  pub level : ℕ
+use Rattle.tree_position.specs.declared.offers.Offer.{Offer}
 
 -- a life, its links by rising port, and the last offer on each
 pub record OffersOf : Type 0 where
   pub me : LifeId
   pub links : List PeerAt
-  pub offered : List (Option OfferOf)
+  pub offered : List (Option Offer)
 
 -- the position of a life that is its own root
 abbrev pub self_root : LifeId → Place
 self_root me = record { root = me; level = 0; parent = me; port = 0 }
 
 -- what an offer on a link gives: the same root, one level further, behind this link
-abbrev pub below_offer : PeerAt → OfferOf → Place
+abbrev pub below_offer : PeerAt → Offer → Place
 below_offer link offer =
     record { root = offer.root; level = offer.level + 1; parent = link.peer.life; port = link.port }
 
 -- the position that the last offer on a link gives; one of the deepest level gives none: no tree is deeper
-abbrev pub candidate : PeerAt → Option OfferOf → List Place
+abbrev pub candidate : PeerAt → Option Offer → List Place
 candidate link None = []
 candidate link (Some offer) = if nat_lt offer.level MOST_LEVEL then below_offer link offer ∷ [] else []
 
 -- the candidates of all links
-abbrev pub candidates : List PeerAt → List (Option OfferOf) → List Place
+abbrev pub candidates : List PeerAt → List (Option Offer) → List Place
 candidates [] offered = []
 candidates (link ∷ links) [] = []
 candidates (link ∷ links) (offer ∷ offered) = candidate link offer ++ candidates links offered
@@ -47,11 +43,11 @@ least first [] = first
 least first (second ∷ others) = least (lesser first second) others
 
 -- the least of the own position as a root and of the candidates
-abbrev pub position_of : LifeId → List PeerAt → List (Option OfferOf) → Place
+abbrev pub position_of : LifeId → List PeerAt → List (Option Offer) → Place
 position_of me links offered = least (self_root me) (candidates links offered)
 
 -- the offers after one more on a port
-abbrev pub noted : List PeerAt → List (Option OfferOf) → ℕ → OfferOf → List (Option OfferOf)
+abbrev pub noted : List PeerAt → List (Option Offer) → ℕ → Offer → List (Option Offer)
 noted [] offered port offer = offered
 noted (link ∷ links) [] port offer = []
 noted (link ∷ links) (old ∷ offered) port offer =

@@ -20,25 +20,6 @@ pub struct Offer {
     pub level: u8,
 }
 
-impl Model for Offer {
-    ghost use Rattle.tree_position.specs.Position.{OfferOf};
-
-    ghost Value = { OfferOf };
-
-    ghost view = { λ o. record { root = o.root; level = o.level } };
-
-    ghost inverse = { λ v. record { root = v.root; level = v.level } };
-}
-
-impl Offer {
-    /// The offer of this root and level.
-    pub fn new(root: Life, level: u8) -> Self
-        ensures { result ≡ record { root = root; level = level } }
-    {
-        Offer { root, level }
-    }
-}
-
 /// The last offer on each link of a life. It takes no memory. Contracts see the life, its links by
 /// rising port, and for each link the last offer, if there was one.
 #[derive(Debug, Drop)]
@@ -107,7 +88,7 @@ impl Offers {
           offered = noted self.old.links self.old.offered port (record { root = root; level = level });
         } }
     {
-        self.offers[usize::from(port)] = Some(Offer::new(root, level));
+        self.offers[usize::from(port)] = Some(Offer { root, level });
     }
 
     /// The least of the life's own position as a root and of what the offers give.

@@ -84,8 +84,8 @@ fn settled<R: Threads + Wait + Sync + Abort, G: Gate>(
 ) -> Result<Journal, Fail> {
     let script = read(alloc, THREE)?;
     let run = run(rt, alloc, &script, gate)?;
-    assert!(rt; matches!(run.end, Ending::Settled));
-    Ok(run.journal)
+    assert!(rt; matches!(run.run.end, Ending::Settled));
+    Ok(run.run.journal)
 }
 
 // A journal has an event.

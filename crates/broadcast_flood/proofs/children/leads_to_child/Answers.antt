@@ -7,10 +7,10 @@ use Rattle.broadcast_flood.proofs.children.leads_to_child.Goals as goal
 pub returns-in-Some : goal.returns-in-Some
 returns-in-Some c =
     let es = c.args.graph.now in
-    let at : c.port.result ≡ parent_port es c.in-Some.child = c.port.ensures.port ∙ ap (λ (p : Place). p.port) c.position.ensures in
+    let at : c.result.inside.port ≡ parent_port es c.in-Some.child = ap (λ (p : Place). p.port) (c.result.view_is ∙ c.position.ensures) in
     let far = sym c.in-Some.ensures.far in (
-      λ test. is_child es c.args.x c.args.port c.in-Some.child c.in-Some.far_port c.requires far (sym at ∙ eqb-true c.port.result c.in-Some.far_port test),
-      λ down. eq-eqb c.port.result c.in-Some.far_port (at ∙ child_is es c.args.x c.args.port c.in-Some.child c.in-Some.far_port c.requires far down),
+      λ test. is_child es c.args.x c.args.port c.in-Some.child c.in-Some.far_port c.requires far (sym at ∙ eqb-true c.result.inside.port c.in-Some.far_port test),
+      λ down. eq-eqb c.result.inside.port c.in-Some.far_port (at ∙ child_is es c.args.x c.args.port c.in-Some.child c.in-Some.far_port c.requires far down),
     )
 
 pub returns-in-None : goal.returns-in-None

@@ -13,7 +13,7 @@ use Rattle.fabric_book.specs.Nets.{IsSwitchKept}
 use Rattle.fabric_book.specs.Told.{losses}
 use Rattle.fabric_book.proofs.HandLemmas.{done_is, hand_below, hand_filled, hand_full, hand_port, hand_within, hand_working, hand_works, handled_told, stands_is}
 use Rattle.fabric_book.proofs.OwnLemmas.{handle_own}
-use Rattle.fabric_book.proofs.TellLemmas.{all_become}
+use Rattle.fabric_book.proofs.TellLemmas.{all_become, filled}
 use Rattle.fabric_book.proofs.WorldFacts.{place_sound}
 use Rattle.fabric_book.proofs.handling.handle_at.Goals as goal
 
@@ -26,13 +26,13 @@ pub handle-requires-clause-full : goal.handle-requires-clause-full
 handle-requires-clause-full c =
     let h = c.args.book.now in
     let at : c.station-station.result.now ≡ station (fabric_of h) c.args.s = c.station-station.ensures ∙ ap (λ (f : FabricOf). station f c.args.s) c.fabric.ensures in
-    ap is_empty (c.hand.ensures ∙ ap (λ (x : StationOf). x.hand) at) ∙ hand_filled h.script c.requires.script h.events c.args.s c.requires.lawful
+    ap is_empty (c.hand-hand.ensures ∙ ap (λ (x : StationOf). x.hand) at) ∙ hand_filled h.script c.requires.script h.events c.args.s c.requires.lawful
 
 pub handle-requires-clause-port : goal.handle-requires-clause-port
 handle-requires-clause-port c =
     let h = c.args.book.now in
     let at : c.station-station.result.now ≡ station (fabric_of h) c.args.s = c.station-station.ensures ∙ ap (λ (f : FabricOf). station f c.args.s) c.fabric.ensures in
-    subst IsHandPort (sym (c.hand.ensures ∙ ap (λ (x : StationOf). x.hand) at)) (hand_port h.script c.requires.script h.events c.args.s c.requires.lawful)
+    subst IsHandPort (sym (c.hand-hand.ensures ∙ ap (λ (x : StationOf). x.hand) at)) (hand_port h.script c.requires.script h.events c.args.s c.requires.lawful)
 
 pub handle-requires-clause-works : goal.handle-requires-clause-works
 handle-requires-clause-works c =
@@ -54,10 +54,10 @@ handle-requires-2-clause-done c =
     let h = c.args.book.now in
     let x = (world_of h).switches c.args.s in
     let at : c.station-station.result.now ≡ station (fabric_of h) c.args.s = c.station-station.ensures ∙ ap (λ (f : FabricOf). station f c.args.s) c.fabric.ensures in
-    let hand : c.hand.result ≡ (station (fabric_of h) c.args.s).hand = c.hand.ensures ∙ ap (λ (y : StationOf). y.hand) at in
+    let hand : c.hand-hand.result ≡ (station (fabric_of h) c.args.s).hand = c.hand-hand.ensures ∙ ap (λ (y : StationOf). y.hand) at in
     let is = c.in_ok-handle.ensures.handled x c.requires.kept.stands in
-    let shown = c.note.ensures ∙ ap (λ (y : StationOf). y.note) at ∙ (place_sound h.script c.requires.script h.events c.args.s (hand_within h.script c.requires.script h.events c.args.s c.requires.lawful)).note in
-    done_is (world_of h) c.args.s c.hand.result c.args.bytes.now hand c.requires.kept.frame c.as_slice-frames.result.now c.handle.new.note c.is_spent.result (hand_full h.script c.requires.script h.events c.args.s c.requires.lawful)
+    let shown = c.write_note.ensures ∙ c.note.ensures ∙ ap (λ (y : StationOf). y.note) at ∙ (place_sound h.script c.requires.script h.events c.args.s (hand_within h.script c.requires.script h.events c.args.s c.requires.lawful)).note in
+    done_is (world_of h) c.args.s c.hand-hand.result c.args.bytes.now hand c.requires.kept.frame c.as_slice-frames.result.now c.handle.new.note c.is_spent.result (hand_full h.script c.requires.script h.events c.args.s c.requires.lawful)
     (c.as_slice-frames.ensures.all ∙ ap (λ (o : OutOf). o.frames) c.out.view_is ∙ is.frames) (c.in_ok-handle.ensures.note x c.requires.kept.stands shown) (c.is_spent.ensures.stands _ is.stands)
 
 pub tell_losses-requires : goal.tell_losses-requires
@@ -65,21 +65,21 @@ tell_losses-requires c =
     let h = c.args.book.now in
     let frames = c.as_slice-frames.result.now in
     let wires = wires_at_hand (fabric_of h) c.args.s in
-    let items : c.handle-2.new.puts.items ≡ all_put_becomes c.args.s frames wires =
-    c.handle-2.ensures.puts ∙ ap (λ (xs : List (Option Put)). xs ++ all_put_becomes c.args.s frames wires) (c.in_ok-reserve.ensures.items ∙ c.clear.ensures.items) in
-    ap (length {A = Option Put}) (c.deref.ensures.value ∙ items) ∙ all_become c.args.s frames wires
+    let long = ap (length {A = Option Put}) c.handle-2.ensures.puts ∙ all_become c.args.s frames wires ∙ sym c.in_ok-resize.ensures.len in
+    let items : c.deref.result.now ≡ all_put_becomes c.args.s frames wires = c.deref.ensures.value ∙ filled _ c.handle-2.new.puts _ long ∙ c.handle-2.ensures.puts in
+    ap (length {A = Option Put}) items ∙ all_become c.args.s frames wires
 
 pub returns-clause-kept : goal.returns-clause-kept
 returns-clause-kept c =
     let h = c.args.book.now in
     let s = c.args.s in
     let at : c.station-station.result.now ≡ station (fabric_of h) c.args.s = c.station-station.ensures ∙ ap (λ (f : FabricOf). station f c.args.s) c.fabric.ensures in
-    let hand : c.hand.result ≡ (station (fabric_of h) c.args.s).hand = c.hand.ensures ∙ ap (λ (y : StationOf). y.hand) at in
+    let hand : c.hand-hand.result ≡ (station (fabric_of h) c.args.s).hand = c.hand-hand.ensures ∙ ap (λ (y : StationOf). y.hand) at in
     let is = c.in_ok-handle.ensures.handled ((world_of h).switches s) c.requires.kept.stands in
     let after : IsSwitchKept (world_of c.handle-2.new.self) c.args.s c.handle.new.switch c.args.bytes.now =
     subst (λ (g : HistoryOf). IsSwitchKept (world_of g) s c.handle.new.switch c.args.bytes.now) (sym c.handle-2.ensures.handled)
     (handle_own h.script c.requires.script h.events s (hand_within h.script c.requires.script h.events s c.requires.lawful) c.requires.lawful c.args.switch.now c.handle.new.switch c.args.bytes.now c.args.bytes.now c.requires.kept c.handle.ensures.start c.handle.ensures.works
-    (stands_is (world_of h) s c.hand.result c.args.bytes.now hand c.requires.kept.frame c.handle.new.switch is.stands)) in
+    (stands_is (world_of h) s c.hand-hand.result c.args.bytes.now hand c.requires.kept.frame c.handle.new.switch is.stands)) in
     on_ok_weaker c.tell_losses.result (λ _. after) c.tell_losses.ensures
 
 pub returns-clause-told : goal.returns-clause-told
@@ -90,13 +90,13 @@ returns-clause-told c =
     let frames = c.as_slice-frames.result.now in
     let wires = wires_at_hand (fabric_of h) s in
     let at : c.station-station.result.now ≡ station (fabric_of h) c.args.s = c.station-station.ensures ∙ ap (λ (f : FabricOf). station f c.args.s) c.fabric.ensures in
-    let hand : c.hand.result ≡ (station (fabric_of h) c.args.s).hand = c.hand.ensures ∙ ap (λ (y : StationOf). y.hand) at in
+    let hand : c.hand-hand.result ≡ (station (fabric_of h) c.args.s).hand = c.hand-hand.ensures ∙ ap (λ (y : StationOf). y.hand) at in
     let is = c.in_ok-handle.ensures.handled x c.requires.kept.stands in
-    let items : c.handle-2.new.puts.items ≡ all_put_becomes c.args.s frames wires =
-    c.handle-2.ensures.puts ∙ ap (λ (xs : List (Option Put)). xs ++ all_put_becomes c.args.s frames wires) (c.in_ok-reserve.ensures.items ∙ c.clear.ensures.items) in
-    let shown = c.note.ensures ∙ ap (λ (y : StationOf). y.note) at ∙ (place_sound h.script c.requires.script h.events s (hand_within h.script c.requires.script h.events s c.requires.lawful)).note in
+    let long = ap (length {A = Option Put}) c.handle-2.ensures.puts ∙ all_become c.args.s frames wires ∙ sym c.in_ok-resize.ensures.len in
+    let items : c.deref.result.now ≡ all_put_becomes c.args.s frames wires = c.deref.ensures.value ∙ filled _ c.handle-2.new.puts _ long ∙ c.handle-2.ensures.puts in
+    let shown = c.write_note.ensures ∙ c.note.ensures ∙ ap (λ (y : StationOf). y.note) at ∙ (place_sound h.script c.requires.script h.events s (hand_within h.script c.requires.script h.events s c.requires.lawful)).note in
     on_ok_weaker c.tell_losses.result
     (λ (told : c.tell_losses.new.lines ≡ c.handle.new.lines ++ losses c.args.s c.as_slice-frames.result.now c.deref.result.now).
-    handled_told (world_of h) s c.hand.result c.args.bytes.now hand c.requires.kept.frame frames c.deref.result.now c.args.lines.now c.handle.new.lines c.tell_losses.new.lines
-    (c.as_slice-frames.ensures.all ∙ ap (λ (o : OutOf). o.frames) c.out.view_is ∙ is.frames) (c.deref.ensures.value ∙ items) (c.in_ok-handle.ensures.told x c.requires.kept.stands shown) told)
+    handled_told (world_of h) s c.hand-hand.result c.args.bytes.now hand c.requires.kept.frame frames c.deref.result.now c.args.lines.now c.handle.new.lines c.tell_losses.new.lines
+    (c.as_slice-frames.ensures.all ∙ ap (λ (o : OutOf). o.frames) c.out.view_is ∙ is.frames) items (c.in_ok-handle.ensures.told x c.requires.kept.stands shown) told)
     c.tell_losses.ensures

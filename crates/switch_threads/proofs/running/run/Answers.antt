@@ -17,8 +17,14 @@ run_with-requires-clause-first g c κs within =
     let many : c.count.result ≡ length script.wires.switches = c.count.ensures.count ∙ ap (λ (w : Wires). length w.switches) c.wiring.ensures.wires in
     opened_first (turnstile_id c.in_ok-turnstile.turnstile) script c.in_ok-book.book (c.from-callers.result + 1) c.in_ok-turnstile.seat c.in_ok-turnstile.ensures (omega (arith, many, c.from-callers.ensures)) c.in_ok-book.ensures
 
+pub close-requires : goal.close-requires
+close-requires g c = record { seat = (c.args.script.now, c.in_ok-seat.ensures.seat) }
+
 pub returns-clause-legal : goal.returns-clause-legal
-returns-clause-legal g c = c.close.ensures c.args.script.now c.in_ok-seat.ensures.start c.in_ok-seat.ensures.end
+returns-clause-legal g c = c.close.ensures.legal c.args.script.now c.in_ok-seat.ensures.seat c.in_ok-seat.ensures.end
 
 pub returns-clause-claims : goal.returns-clause-claims
-returns-clause-claims g c = holds_and_settles c.args.script.now c.in_ok-seat.ensures.script c.close.result.journal (returns-clause-legal g c).lawful
+returns-clause-claims g c = holds_and_settles c.args.script.now c.in_ok-seat.ensures.script c.close.result.run.journal (returns-clause-legal g c).lawful
+
+pub returns-clause-told : goal.returns-clause-told
+returns-clause-told g c = c.close.ensures.told c.args.script.now c.in_ok-seat.ensures.seat c.in_ok-seat.ensures.told

@@ -13,7 +13,7 @@ push_numbers-requires c = rw (c.as_slice.ensures.all, c.in_ok-numbers.ensures, c
 
 pub returns : goal.returns
 returns c =
-    let s = c.args.script.now in
+    let s = c.args.lives.now.script.now in
     let es = c.args.component.now in
     let t0 = c.args.text.now.items in
     let t1 = c.push_head.new.text.items in

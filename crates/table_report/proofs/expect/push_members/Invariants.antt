@@ -4,4 +4,4 @@ use Rattle.table_report.proofs.expect.push_members.Given as goal
 
 -- the members so far
 abbrev pub invariant-members : goal.invariant-members
-invariant-members l = l.text.items ≡ l.fn.text.items ++ table_text (map (member_form l.script) (take l.entry-index l.entries))
+invariant-members l = l.text.items ≡ l.fn.text.items ++ table_text (map (member_form l.lives.script.now) (take l.entry-index l.entries))

@@ -7,4 +7,4 @@ use Rattle.table_report.proofs.expect.push_numbers.Goals as goal
 pub numbers-preserved : goal.numbers-preserved
 numbers-preserved c =
     let e = c.index-entries-i.result in
-    pairs_more table_words (number_form c.args.script.now) c.args.entries.now c.args.numbers.now c.numbers.i e _ 0 c.args.text.now.items c.numbers.text.items c.push_numbered.new.text.items (omega arith) (omega (arith, c.requires)) c.index-entries-i.is c.numbers.invariant c.in_ok-push_numbered.ensures
+    pairs_more table_words (number_form c.args.lives.now.script.now) c.args.entries.now c.args.numbers.now c.numbers.i e _ 0 c.args.text.now.items c.numbers.text.items c.push_numbered.new.text.items (omega arith) (omega (arith, c.requires)) c.index-entries-i.is c.numbers.invariant c.in_ok-push_numbered.ensures

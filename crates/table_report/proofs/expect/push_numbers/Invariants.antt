@@ -5,4 +5,4 @@ use Rattle.table_report.proofs.expect.push_numbers.Given as goal
 
 -- the numbers so far
 abbrev pub invariant-numbers : goal.invariant-numbers
-invariant-numbers l = l.text.items ≡ l.fn.text.items ++ table_text (map (number_form l.script) (zip (take l.i l.entries) (take l.i l.numbers)))
+invariant-numbers l = l.text.items ≡ l.fn.text.items ++ table_text (map (number_form l.lives.script.now) (zip (take l.i l.entries) (take l.i l.numbers)))

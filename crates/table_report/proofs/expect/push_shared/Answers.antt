@@ -10,7 +10,7 @@ of-requires-clause-count c = rw c.requires.numbers (numbered c.args.graph.now)
 
 pub members-preserved : goal.members-preserved
 members-preserved c =
-    let s = c.args.script.now in
+    let s = c.args.lives.now.script.now in
     let es = c.args.graph.now in
     let i = c.members.invariant in
     let table = c.in_ok-table.table in

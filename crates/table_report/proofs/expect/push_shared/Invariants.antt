@@ -6,4 +6,4 @@ use Rattle.table_report.proofs.expect.push_shared.Given as goal
 
 -- the tables so far
 abbrev pub invariant-members : goal.invariant-members
-invariant-members l = (ts : List TableOf) × AreTables l.graph l.any l.x ts × (l.text.items ≡ l.fn.text.items ++ table_text (table_forms l.script l.graph 0 ts))
+invariant-members l = (ts : List TableOf) × AreTables l.graph l.any l.x ts × (l.text.items ≡ l.fn.text.items ++ table_text (table_forms l.lives.script.now l.graph 0 ts))

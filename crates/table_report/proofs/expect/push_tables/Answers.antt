@@ -16,5 +16,5 @@ push_shared-requires-clause-numbers c = c.requires ∙ ap numbering (sym c.in_ok
 
 pub returns : goal.returns
 returns c =
-    subst (λ (es : List EntryOf). OnOk c.push_shared.result ((ts : List TableOf) × AreTables es c.args.any (length es) ts × (c.push_shared.new.text.items ≡ c.args.text.now.items ++ table_text (table_forms c.args.script.now es 0 ts))))
+    subst (λ (es : List EntryOf). OnOk c.push_shared.result ((ts : List TableOf) × AreTables es c.args.any (length es) ts × (c.push_shared.new.text.items ≡ c.args.text.now.items ++ table_text (table_forms c.args.lives.now.script.now es 0 ts))))
     c.in_ok-graph.ensures c.push_shared.ensures

@@ -5,4 +5,4 @@ use Rattle.table_report.proofs.flood.push_broadcasts.Given as goal
 
 -- the broadcasts so far
 abbrev pub invariant-members : goal.invariant-members
-invariant-members l = (floods : List (List FloodHop)) × AreFloods l.component l.entry-index floods × (l.text.items ≡ l.fn.text.items ++ lines_told l.script (member_lines (length l.component) (take l.entry-index l.component) floods))
+invariant-members l = (floods : List (List FloodHop)) × AreFloods l.component l.entry-index floods × (l.text.items ≡ l.fn.text.items ++ lines_told l.lives.script.now (member_lines (length l.component) (take l.entry-index l.component) floods))

@@ -4,4 +4,4 @@ use Rattle.table_report.proofs.flood.push_hops.Given as goal
 
 -- the hops so far
 abbrev pub invariant-hops : goal.invariant-hops
-invariant-hops l = l.text.items ≡ l.fn.text.items ++ lines_told l.script (map Goes (take l.hop-index l.hops))
+invariant-hops l = l.text.items ≡ l.fn.text.items ++ lines_told l.lives.script.now (map Goes (take l.hop-index l.hops))

@@ -6,20 +6,20 @@ use Rattle.table_report.proofs.FlowTexts.{all_turned, byte_is, byte_small, line_
 use Rattle.table_report.proofs.flow.push_turns.Goals as goal
 
 pub turns-init : goal.turns-init
-turns-init c = (c.requires.ranked, λ layout script entries over named. (over, none_turned layout script entries c.args.flow.now.flow c.args.text.now.items c.args.out.now), c.requires.few)
+turns-init g c = (c.requires.0, λ layout script entries over named. (over, none_turned layout script entries c.args.flow.now.flow c.args.text.now.items c.args.out.now), c.requires.1.1)
 
 pub turns-smaller : goal.turns-smaller
-turns-smaller c =
+turns-smaller g c =
     let ranked = c.turns.invariant.0 in
-    turn_falls c.args.ranks.now c.turns.flow c.turn.new.self c.in-Some.went ranked (c.in-Some.ensures.turned ranked.layout ranked.over).0
+    turn_falls g.ranks c.turns.flow c.turn.new.self c.in-Some.went ranked (c.in-Some.ensures.turned ranked.layout ranked.over).0
 
 pub turns-preserved : goal.turns-preserved
-turns-preserved c =
+turns-preserved g c =
     let ranked = c.turns.invariant.0 in
     let went = c.in-Some.went in
     let text = c.turns.text.items in
     let new = c.push_went.new.text.items in
-    let (script', entries', named') = c.requires.named in
+    let (script', entries', named') = c.requires.1.0 in
     let longer = line_longer (went_line script' entries' went) text new (c.in_ok-push_went.ensures script' entries' named') in
     let one = byte_small c.is_out.result c.from.result c.from.ensures in
     let few = c.turns.invariant.2 in (
@@ -36,6 +36,6 @@ turns-preserved c =
     )
 
 pub returns-clause-told : goal.returns-clause-told
-returns-clause-told c = λ layout script entries over named.
+returns-clause-told g c = λ layout script entries over named.
     let so_far = c.turns.invariant.1 layout script entries over named in
     all_turned layout script entries c.args.flow.now.flow c.turns.flow.flow c.args.text.now.items c.turns.text.items c.args.out.now c.turns.out so_far.1 (c.in_default.ensures.none.0 refl)

@@ -11,10 +11,10 @@ use Rattle.table_report.proofs.flow.push_turns.Given as goal
 
 -- the turns so far, of which each takes one from the moves that may be left, and their lines
 abbrev pub invariant-turns : goal.invariant-turns
-invariant-turns l =
-    IsRanked l.ranks l.flow
+invariant-turns g l =
+    IsRanked g.ranks l.flow
     × ((layout : LayoutOf) (script : ScriptOf) (entries : List EntryOf) → IsOver layout l.fn.flow → AreNames script entries (numbering entries) 256 l.names → IsOver layout l.flow × IsToldSoFar layout script entries l.fn.flow.flow l.flow.flow l.fn.text.items l.text.items l.fn.out l.out)
     × (l.out ≤ length l.text.items)
 
 abbrev pub decreases-turns : goal.decreases-turns
-decreases-turns l = moves_left l.ranks l.flow.flow
+decreases-turns g l = moves_left g.ranks l.flow.flow

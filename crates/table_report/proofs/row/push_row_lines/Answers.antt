@@ -11,7 +11,7 @@ use Rattle.table_report.proofs.row.push_row_lines.Goals.{then-is_entry+in_ok-pus
 
 pub entries-preserved : goal.entries-preserved
 entries-preserved c =
-    let s = c.args.script.now in
+    let s = c.args.lives.now.script.now in
     let g = c.args.graph.now in
     let rows = c.args.rows.now in
     elim c.if-is_entry.branch [

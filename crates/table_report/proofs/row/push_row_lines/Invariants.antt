@@ -9,4 +9,4 @@ use Rattle.table_report.proofs.row.push_row_lines.Given as goal
 
 -- the entries so far
 abbrev pub invariant-entries : goal.invariant-entries
-invariant-entries l = l.text.items ≡ l.fn.text.items ++ table_text (map (row_form l.script (life_at l.graph l.x) l.rows) (filter (is_entry l.graph l.x) (range_with_len 0 l.entry)))
+invariant-entries l = l.text.items ≡ l.fn.text.items ++ table_text (map (row_form l.lives.script.now (life_at l.graph l.x) l.rows) (filter (is_entry l.graph l.x) (range_with_len 0 l.entry)))

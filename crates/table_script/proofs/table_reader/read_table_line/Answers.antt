@@ -14,10 +14,10 @@ pub returns-in-Some-clause-step : goal.returns-in-Some-clause-step
 unfolding words_of
 returns-in-Some-clause-step c =
     let bytes : bytes_cause 4000 c.args.line.now ≡ None = search rules in
-    line_step c.read_table_words.result c.args.script.now c.args.draft.now c.read_table_words.new.draft c.args.line.now c.in-Some.first.now (parts_of c.in-Some.rest.now) bytes (sym (ap parts_of c.before_comment.ensures) ∙ c.in-Some.ensures.some) c.read_table_words.ensures.step
+    line_step c.read_table_words.result c.args.network.now.script.now c.args.draft.now c.read_table_words.new.draft c.args.line.now c.in-Some.first.now (parts_of c.in-Some.rest.now) bytes (sym (ap parts_of c.before_comment.ensures) ∙ c.in-Some.ensures.some) c.read_table_words.ensures.step
 
 pub returns-in-None-clause-step : goal.returns-in-None-clause-step
 unfolding words_of
 returns-in-None-clause-step c =
     let bytes : bytes_cause 4000 c.args.line.now ≡ None = search rules in
-    empty_line c.args.script.now c.args.draft.now c.args.line.now bytes (sym (ap parts_of c.before_comment.ensures) ∙ c.in-None.ensures.none)
+    empty_line c.args.network.now.script.now c.args.draft.now c.args.line.now bytes (sym (ap parts_of c.before_comment.ensures) ∙ c.in-None.ensures.none)

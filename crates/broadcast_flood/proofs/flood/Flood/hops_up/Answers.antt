@@ -31,7 +31,7 @@ ups-preserved c =
     let items = c.in_ok-push.ensures.items ∙ ap (λ (l : LifeId). made l c.ups.port) life ∙ ap (made (life_at es c.ups.at)) c.ups.invariant.port in
     record {
       leads = subst (λ (hops : List FloodHop). LeadsUpTo es c.args.x c.in-Some.parent hops) (sym items) (one_up es c.args.x c.ups.at c.in-Some.parent c.in-Some.field-0-1 c.ups.hops.items graph c.ups.invariant.leads there);
-      port = c.port-port-in-Some.ensures.port ∙ ap (λ (p : Place). p.port) c.position-in-Some.ensures ∙ ap (λ (entries : List EntryOf). parent_port entries c.in-Some.parent) c.self.view_is;
+      port = ap (λ (p : Place). p.port) (c.port-in-Some.view_is ∙ c.position-in-Some.ensures) ∙ ap (λ (entries : List EntryOf). parent_port entries c.in-Some.parent) c.self.view_is;
     }
 
 pub returns : goal.returns

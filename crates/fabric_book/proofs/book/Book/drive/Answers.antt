@@ -6,34 +6,34 @@ use Rattle.fabric_state.specs.Choices.{next_drive}
 use Rattle.fabric_world.specs.Histories.{HistoryOf, fabric_of}
 use Rattle.fabric_settling.specs.Settling.{SettlesSoon}
 use Rattle.fabric_settling.proofs.Whole.{settles_soon}
-use Rattle.fabric_book.proofs.BookLemmas.{fabric_at, good_at, history_at}
+use Rattle.fabric_book.proofs.BookLemmas.{drives_by, fabric_at, good_at, history_at}
 use Rattle.fabric_book.proofs.DriveLemmas.{drive_lawful, driven, driven_soon, unsettled_late}
 use Rattle.fabric_book.proofs.WorldFacts.{drive_may_come}
 use Rattle.fabric_book.proofs.book.Book.drive.Goals as goal
 
-pub drive_by-requires-clause-lawful : goal.drive_by-requires-clause-lawful
-drive_by-requires-clause-lawful c =
+pub drive_by-line-requires-clause-lawful : goal.drive_by-line-requires-clause-lawful
+drive_by-line-requires-clause-lawful c =
     let b = c.self.inside in
     let h = c.args.self.now in
     let is : next_drive (fabric_of h) ≡ drive.Did c.in-Did.event = ap next_drive (sym (fabric_at b.fabric b.entries.items b.taken.items (vec_capacity b.entries) c.self.invariant c.args.self.now c.self.view_is)) ∙ sym c.drive-drive.ensures ∙ c.in-Did.is in
     drive_lawful (fabric_of h) c.in-Did.event (drive_may_come h.script (good_at b.fabric b.entries.items b.taken.items (vec_capacity b.entries) c.self.invariant c.args.self.now c.self.view_is) h.events) is
 
-pub drive_by-requires-clause-driver : goal.drive_by-requires-clause-driver
-drive_by-requires-clause-driver c =
+pub drive_by-line-requires-clause-driver : goal.drive_by-line-requires-clause-driver
+drive_by-line-requires-clause-driver c =
     let b = c.self.inside in
     let h = c.args.self.now in
     let is : next_drive (fabric_of h) ≡ drive.Did c.in-Did.event = ap next_drive (sym (fabric_at b.fabric b.entries.items b.taken.items (vec_capacity b.entries) c.self.invariant c.args.self.now c.self.view_is)) ∙ sym c.drive-drive.ensures ∙ c.in-Did.is in
     driven (fabric_of h) c.in-Did.event is
 
-pub returns-in-Did-clause-settles : goal.returns-in-Did-clause-settles
-returns-in-Did-clause-settles c =
+pub returns-clause-settles : goal.returns-clause-settles
+returns-clause-settles c =
     let b = c.self.inside in
     let h = c.args.self.now in
     let kept = good_at b.fabric b.entries.items b.taken.items (vec_capacity b.entries) c.self.invariant h c.self.view_is in
     let lawful = history_at b.fabric b.entries.items b.taken.items (vec_capacity b.entries) c.self.invariant h c.self.view_is in
     let is : next_drive (fabric_of h) ≡ drive.Did c.in-Did.event = ap next_drive (sym (fabric_at b.fabric b.entries.items b.taken.items (vec_capacity b.entries) c.self.invariant h c.self.view_is)) ∙ sym c.drive-drive.ensures ∙ c.in-Did.is in
     let may = drive_lawful (fabric_of h) c.in-Did.event (drive_may_come h.script kept h.events) is in
-    subst (λ (x : HistoryOf). SettlesSoon x.script x.events) (sym c.drive_by.ensures) (driven_soon h kept lawful c.in-Did.event may)
+    subst (λ (x : HistoryOf). SettlesSoon x.script x.events) (sym c.drive_by-line.ensures.made) (driven_soon h kept lawful c.in-Did.event may)
 
 pub returns-in_default-clause-settles : goal.returns-in_default-clause-settles
 returns-in_default-clause-settles c =
@@ -49,3 +49,10 @@ returns-in_default-clause-in_time c =
     let kept = good_at b.fabric b.entries.items b.taken.items (vec_capacity b.entries) c.self.invariant h c.self.view_is in
     let lawful = history_at b.fabric b.entries.items b.taken.items (vec_capacity b.entries) c.self.invariant h c.self.view_is in
     λ ended. unsettled_late h kept lawful (ap next_drive (sym (fabric_at b.fabric b.entries.items b.taken.items (vec_capacity b.entries) c.self.invariant h c.self.view_is)) ∙ sym c.drive-drive.ensures ∙ ended)
+
+pub returns-clause-did : goal.returns-clause-did
+returns-clause-did c =
+    let b = c.self.inside in
+    let h = c.args.self.now in
+    drives_by h c.drive_by-line.new.self c.drive-drive.result c.in-Did.event c.placed.result c.drive_by-line.result (c.drive-drive.ensures ∙ ap next_drive (fabric_at b.fabric b.entries.items b.taken.items (vec_capacity b.entries) c.self.invariant h c.self.view_is))
+    c.in-Did.is c.drive_by-line.ensures.made c.placed.ensures c.drive_by-line.ensures.told

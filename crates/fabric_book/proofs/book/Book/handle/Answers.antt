@@ -10,7 +10,7 @@ use Rattle.fabric_book.proofs.book.Book.handle.Goals as goal
 pub show-requires-clause-room : goal.show-requires-clause-room
 show-requires-clause-room c =
     let b = c.self.inside in
-    let is : c.put_and_tell.new.fabric ≡ record (emptied c.args.s b.fabric) { wires = all_put_out c.args.s c.args.frames.now (emptied c.args.s b.fabric).wires } = c.put_and_tell.ensures.put ∙ ap (λ (f : FabricOf). record f { wires = all_put_out c.args.s c.args.frames.now f.wires }) c.release.ensures in
+    let is : c.put_all.new.fabric ≡ record (emptied c.args.s b.fabric) { wires = all_put_out c.args.s c.args.frames.now (emptied c.args.s b.fabric).wires } = c.put_all.ensures.put ∙ ap (λ (f : FabricOf). record f { wires = all_put_out c.args.s c.args.frames.now f.wires }) c.release.ensures in
     subst (λ (f : FabricOf). f.events + full_hands f < f.script.limits.events) (sym is) (handled_room b.fabric b.entries.items b.taken.items (vec_capacity b.entries) c.self.invariant c.args.self.now c.self.view_is c.args.s c.requires.within c.args.frames.now c.args.note.now c.args.spent c.requires.done)
 
 pub push_reserved-requires : goal.push_reserved-requires
@@ -23,4 +23,4 @@ pub invariant_of-self : goal.invariant_of-self
 invariant_of-self c =
     let b = c.self.inside in
     kept_as _ _ _ _ _ _ _ _ (handled_kept b.fabric b.entries.items b.taken.items (vec_capacity b.entries) c.self.invariant c.args.self.now c.self.view_is c.args.s c.requires.within c.args.frames.now c.args.note.now c.args.spent c.requires.done)
-    (three_parts b.fabric _ _ _ c.args.s c.args.frames.now c.args.note.now c.args.spent c.release.ensures c.put_and_tell.ensures.put c.show.ensures) c.push_reserved.ensures.items refl c.push_reserved.ensures.capacity
+    (three_parts b.fabric _ _ _ c.args.s c.args.frames.now c.args.note.now c.args.spent c.release.ensures c.put_all.ensures.put c.show.ensures) c.push_reserved.ensures.items refl c.push_reserved.ensures.capacity

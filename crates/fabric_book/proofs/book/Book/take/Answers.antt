@@ -16,13 +16,13 @@ work-work-requires-clause-boot c =
     let b = c.self.inside in
     boot_fits b.fabric b.entries.items b.taken.items (vec_capacity b.entries) c.args.s c.self.invariant (below_at b.fabric b.entries.items b.taken.items (vec_capacity b.entries) c.self.invariant c.args.self.now c.self.view_is c.args.s c.requires.within)
 
-pub begin_work-requires : goal.begin_work-requires
-begin_work-requires c =
+pub begin_work-line-requires : goal.begin_work-line-requires
+begin_work-line-requires c =
     let b = c.self.inside in
     work_at b.fabric b.entries.items b.taken.items (vec_capacity b.entries) c.self.invariant c.args.self.now c.self.view_is c.args.s c.index.result.now c.work-work.result c.work-work.ensures c.requires.within c.requires.empty
 
 pub returns-clause-work : goal.returns-clause-work
 returns-clause-work c =
     let b = c.self.inside in
-    takes_at b.fabric b.entries.items b.taken.items (vec_capacity b.entries) c.self.invariant c.args.self.now c.self.view_is c.args.s c.index.result.now c.work-work.result c.begin_work.new.out c.begin_work.new.self c.work-work.ensures
-    (c.index.ensures ∙ ap (λ k. slice_index_or b.taken.items k c.index.result.now) c.from.ensures) c.requires.within c.begin_work.ensures.event c.begin_work.ensures.bytes
+    takes_at b.fabric b.entries.items b.taken.items (vec_capacity b.entries) c.self.invariant c.args.self.now c.self.view_is c.args.s c.index.result.now c.work-work.result c.begin_work-line.new.out c.placed.result c.begin_work-line.result c.begin_work-line.new.self c.work-work.ensures
+    (c.index.ensures ∙ ap (λ k. slice_index_or b.taken.items k c.index.result.now) c.from.ensures) c.requires.within c.begin_work-line.ensures.event c.begin_work-line.ensures.bytes c.placed.ensures c.begin_work-line.ensures.told

@@ -4,7 +4,7 @@ use Rattle.std.proofs.Common.{◌∙◌, ap, arith, slice_set, vec_capacity}
 use Rattle.an_base.specs.declared.event.Event.TheVariants.{Take}
 use Rattle.fabric_state.specs.Fabric.{FabricOf, held_bytes}
 use Rattle.fabric_book.specs.Kept.{IsKept}
-use Rattle.fabric_book.proofs.BookLemmas.{has_room, kept_as, lawful_at, take_below, take_kept, taken_long}
+use Rattle.fabric_book.proofs.BookLemmas.{has_room, kept_as, lawful_at, take_below, take_kept, taken_long, taken_told}
 use Rattle.fabric_book.proofs.book.Book.take_at.Goals as goal
 
 pub index_mut-requires : goal.index_mut-requires
@@ -31,3 +31,9 @@ pub returns-clause-bytes : goal.returns-clause-bytes
 returns-clause-bytes c =
     let kept : IsKept c.take-copied.new.self c.push_reserved.new.self.items (slice_set c.self.inside.taken.items c.from.result c.args.port) (vec_capacity c.push_reserved.new.self) = invariant_of-self c in
     c.take-copied.ensures.bytes ∙ ap (λ (f : FabricOf). held_bytes f c.args.s) kept.fabric_is
+
+pub returns-clause-told : goal.returns-clause-told
+returns-clause-told c =
+    let b = c.self.inside in
+    taken_told b.fabric b.entries.items b.taken.items (vec_capacity b.entries) c.self.invariant c.args.self.now c.self.view_is c.args.s c.args.port c.far_switch-far.result c.take-copied.result c.copy_line.result
+    c.far_switch-far.ensures c.take-copied.ensures.copied c.copy_line.ensures

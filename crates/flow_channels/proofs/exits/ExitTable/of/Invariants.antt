@@ -1,13 +1,12 @@
-use Rattle.std.proofs.Common.{◌≡◌, length, take}
-use Rattle.std.specs.Prelude.{All}
-use Rattle.an_base.specs.Rows.{ArePorts}
-use Rattle.flow_channels.specs.Exits.{AreSets}
+use Rattle.std.proofs.Common.{◌≡◌, ◌+◌, ◌*◌, length}
+use Rattle.flow_channels.specs.Exits.{AreSetsBelow}
+use Rattle.flow_channels.specs.Sets.{AreStarts, all_sets}
 use Rattle.flow_channels.proofs.exits.ExitTable.of.Given as goal
 
--- the sets have the exits of the rows so far
-abbrev pub invariant-rows : goal.invariant-rows
-invariant-rows l = record {
-  count : length l.sets.items ≡ 209677;
-  sets : AreSets (take l.row-index l.rows) l.sets.items;
-  ports : All (λ row. ArePorts row.exits) (take l.row-index l.rows);
+-- the sets have the exits of the members so far
+abbrev pub invariant-members : goal.invariant-members
+invariant-members l = record {
+  starts : AreStarts l.starts.items l.sets.items;
+  below : AreSetsBelow l.graph l.numbers l.any l.x (all_sets l.starts.items l.sets.items);
+  count : length l.sets.items ≡ 127 + 254 * l.x;
 }

@@ -8,21 +8,21 @@ use Rattle.flow_channels.proofs.ViewLaws.{over_fresh}
 use Rattle.flow_channels.proofs.flow.Flow.new.Goals as goal
 
 pub invariant_of-result : goal.invariant_of-result
-invariant_of-result c =
-    let r = c.requires in
+invariant_of-result g c =
+    let (same, (exits, (no_cycle, (joined, (room, (least, most)))))) = c.requires in
     let t = c.in_ok-tables in
     let b = c.in_ok-board in
     let limit = t.ensures.limit in
-    let least = r.least in
-    let most = r.limit in
-    let are = subst (λ (n : ℕ). AreTablesOf (layout_of c.args.graph.now c.args.numbers.now c.args.rows.now n) t.tables.wires.items t.tables.exits.sets.items t.tables.room) c.from.ensures t.ensures.tables in (
+    let graph = c.args.graph.now in
+    let numbers = c.args.numbers.now in
+    let are = subst (λ (n : ℕ). AreTablesOf (layout_of graph numbers g.rows n) t.tables.wires.items t.tables.exits t.tables.room) c.from.ensures (t.ensures.tables g.rows exits) in (
       record {
         running = record {
           kept = b.ensures.kept;
           least = omega arith;
           limit = omega arith;
-          layout = layout_of c.args.graph.now c.args.numbers.now c.args.rows.now c.args.b;
-          over = over_fresh c.args.graph.now c.args.numbers.now c.args.rows.now c.args.ranks.now c.args.b t.tables b.board c.count-count.ensures.graph c.as_slice-numbers.ensures.numbers r.same r.room r.passes are b.ensures.flow b.ensures.packets;
+          layout = layout_of graph numbers g.rows c.args.b;
+          over = over_fresh graph numbers g.rows c.args.b t.tables b.board c.count-count.ensures.graph c.as_slice-numbers.ensures.numbers same room no_cycle joined are b.ensures.flow b.ensures.packets;
         };
         left_is = ap left_of (sym b.ensures.flow);
         few = omega arith;
@@ -31,13 +31,15 @@ invariant_of-result c =
     )
 
 pub returns : goal.returns
-returns c =
-    let r = c.requires in
+returns g c =
+    let (same, (exits, (no_cycle, (joined, (room, (least, most)))))) = c.requires in
     let t = c.in_ok-tables in
     let b = c.in_ok-board in
-    let are = subst (λ (n : ℕ). AreTablesOf (layout_of c.args.graph.now c.args.numbers.now c.args.rows.now n) t.tables.wires.items t.tables.exits.sets.items t.tables.room) c.from.ensures t.ensures.tables in
+    let graph = c.args.graph.now in
+    let numbers = c.args.numbers.now in
+    let are = subst (λ (n : ℕ). AreTablesOf (layout_of graph numbers g.rows n) t.tables.wires.items t.tables.exits t.tables.room) c.from.ensures (t.ensures.tables g.rows exits) in
     record {
-      over = over_fresh c.args.graph.now c.args.numbers.now c.args.rows.now c.args.ranks.now c.args.b t.tables b.board c.count-count.ensures.graph c.as_slice-numbers.ensures.numbers r.same r.room r.passes are b.ensures.flow b.ensures.packets;
+      over = over_fresh graph numbers g.rows c.args.b t.tables b.board c.count-count.ensures.graph c.as_slice-numbers.ensures.numbers same room no_cycle joined are b.ensures.flow b.ensures.packets;
       limit_is = t.ensures.limit;
       known_is = ap (map (λ (packet : Packet). packet.packet)) b.ensures.packets;
       flow_is = b.ensures.flow;

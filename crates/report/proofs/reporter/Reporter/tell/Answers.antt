@@ -25,6 +25,7 @@ events-preserved c =
     let new = c.step.new.self in
     record {
       made = next_made script old.script.now journal place _ _ old.net new.net c.events-test.true refl before.same before.made c.in_ok-step.ensures.made;
+      come = c.in_ok-step.ensures.course;
       same = c.in_ok-step.ensures.script ∙ before.same;
       says = next_text script old.script.now journal place _ _ old.net [] old.text.items new.text.items c.events-test.true refl before.same before.made before.says c.in_ok-step.ensures.text;
     }

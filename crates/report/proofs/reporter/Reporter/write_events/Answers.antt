@@ -4,7 +4,7 @@ use Rattle.outside.specs.Told.{GainsFront}
 use Rattle.replay.specs.Replays.{HasMade, IsRefusal}
 use Rattle.replay.proofs.ReplayLemmas.{legal_is_not_refused, refused_at, refused_behind}
 use Rattle.report.specs.Events.{report_text}
-use Rattle.report.proofs.ReporterLemmas.{IsInMaking, all_written, ended_claims, front_of, front_so_far, last_fault, making_fault, making_last, making_more, making_none, making_written, next_made}
+use Rattle.report.proofs.ReporterLemmas.{IsInMaking, all_written, come_kept, ended_claims, front_of, front_so_far, last_fault, making_fault, making_last, making_more, making_none, making_written, next_made}
 use Rattle.report.proofs.reporter.Reporter.write_events.Goals as goal
 use Rattle.report.proofs.reporter.Reporter.write_events.Goals.{then-len-ge-PIECE+in_ok-write, else-len-ge-PIECE}
 
@@ -12,6 +12,7 @@ use Rattle.report.proofs.reporter.Reporter.write_events.Goals.{then-len-ge-PIECE
 pub events-init : goal.events-init
 events-init g c = record {
   made = c.requires.made;
+  come = c.requires.course;
   same = refl;
   making = making_none c.args.self.now.script.now (g.K.Sink.seen c.args.sink.now) c.args.self.now.text.items c.requires.first;
 }
@@ -84,10 +85,11 @@ events-preserved g c =
     elim c.if-len-ge-PIECE.branch [
       | then-len-ge-PIECE+in_ok-write w ↦ rw (w.self-is, w.sink-is) (record {
         made = subst (HasMade script (take (place + 1) journal)) (sym w.in_ok-write.ensures.net) made;
+        come = come_kept new.net w.write.new.self.net new.course w.write.new.self.course c.in_default.ensures.course w.in_ok-write.ensures.net w.in_ok-write.ensures.course;
         same = w.in_ok-write.ensures.script ∙ same;
         making = making_written script (take (place + 1) journal) old mid (g.K.Sink.seen w.write.new.sink) new.text.items w.write.new.self.text.items making w.in_ok-write.ensures.all w.in_ok-write.ensures.kept w.in_ok-write.ensures.emptied;
       })
-      | else-len-ge-PIECE w ↦ rw (w.self-is, w.sink-is) (record { made = made; same = same; making = making })
+      | else-len-ge-PIECE w ↦ rw (w.self-is, w.sink-is) (record { made = made; come = c.in_default.ensures.course; same = same; making = making })
     ]
 
 -- behind the last event stands the last line

@@ -9,9 +9,9 @@ pub returns : goal.returns
 unfolding told_text
 returns c =
     let script = c.args.self.now.script.now in
-    let fabric = c.args.self.now.fabric.now in
+    let course = c.args.self.now.course.now in
     let line = c.args.line.now in
-    let number = c.in_ok-push_digits.ensures ∙ ap (λ (n : ℕ). c.args.text.now.items ++ decimal n) (c.from.ensures ∙ c.events.ensures.events) in
+    let number = c.in_ok-push_digits.ensures ∙ ap (λ (n : ℕ). c.args.text.now.items ++ decimal n) (c.from.ensures ∙ c.events.ensures) in
     IfOk-weaker c.push_rows.result _ _
-    (λ done is. four_pieces c.args.text.now.items _ _ _ _ (decimal fabric.events) (spaced (told_words script fabric line)) (10 ∷ []) (rows_text script fabric line) number c.in_ok-push_told.ensures c.in_ok-push.ensures.items is)
+    (λ done is. four_pieces c.args.text.now.items _ _ _ _ (decimal course.events) (spaced (told_words script course.lives line)) (10 ∷ []) (rows_text script course.lives c.args.rows.now line) number c.in_ok-push_told.ensures c.in_ok-push.ensures.items is)
     c.push_rows.ensures

@@ -1,11 +1,14 @@
 -- Work was asked for, and done.
 
-use Rattle.std.proofs.Common.{◌++◌}
+use Rattle.std.specs.Box.{with_value}
+use Rattle.std.proofs.Common.{◌++◌, ap, subst, sym}
 use Rattle.fabric_world.specs.declared.ask.Ask.TheVariants as ask
+use Rattle.fabric_book.specs.Accounts.{IsAccount}
 use Rattle.fabric_book.specs.Asking.{reply_of}
 use Rattle.fabric_book.specs.declared.asking.BookAsk.TheVariants as book_ask
 use Rattle.fabric_book.specs.declared.asking.BookReply.TheVariants as book_reply
 use Rattle.switch_threads.specs.declared.desk.Pending.TheVariants as pending
+use Rattle.switch_threads.specs.declared.desk.Tale.{Tale}
 use Rattle.switch_threads.proofs.AskLemmas.{replies_take, take_fit}
 use Rattle.switch_threads.proofs.StayLemmas.{at_place}
 use Rattle.switch_threads.proofs.TurnLemmas.{answered, as_asked, calls_differ, take_step}
@@ -37,6 +40,15 @@ returns-clause-step g c =
     let desk = c.args.self in
     let view = c.args.seat.now.1 in
     let after = c.call.new.seat.1 in
-    let called = as_asked view after (book_ask.Take desk.s desk.buffer) (book_reply.Take c.in-Take.work c.in-Take.out) c.in-Take.ensures.called in
-    let took = take_step view after desk desk.buffer c.in-Take.out c.in-Take.work c.requires.step called in
-    record { script = took.script; begun = took.begun; number = took.number; fits = c.after_take.ensures took.script after.seen (record desk { buffer = c.in-Take.out }) took.fits }
+    let was = c.deref_mut.result.now in
+    let called = as_asked view after (book_ask.Take desk.s desk.buffer) (book_reply.Take c.in-Take.work c.in-Take.out c.in-Take.told) c.in-Take.ensures.called in
+    let tale = with_value desk.tale (record { puts = was.puts; lines = was.lines; rows = was.rows; account = c.tell.new.self }) in
+    let took = take_step view after desk desk.buffer c.in-Take.out c.in-Take.work c.in-Take.told tale c.requires.step called
+    (λ told is. c.tell.ensures told (subst (IsAccount told) (sym (ap (λ (x : Tale). x.account) c.deref_mut.ensures.value)) is)) in
+    record {
+      script = took.script;
+      begun = took.begun;
+      number = took.number;
+      fits = c.after_take.ensures took.script after.seen (record desk { buffer = c.in-Take.out; tale = tale }) took.fits;
+      told = took.told;
+    }

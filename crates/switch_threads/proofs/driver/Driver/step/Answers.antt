@@ -8,13 +8,13 @@ use Rattle.fabric_book.specs.declared.asking.BookAsk.TheVariants as book_ask
 use Rattle.fabric_book.specs.declared.asking.BookReply.TheVariants as book_reply
 use Rattle.switch_threads.specs.Workers.{IsDriving}
 use Rattle.switch_threads.proofs.AskLemmas.{drive_fit, replies_drive}
-use Rattle.switch_threads.proofs.TurnLemmas.{answered, as_asked, drive_step, told_after}
+use Rattle.switch_threads.proofs.TurnLemmas.{answered, as_asked, drive_step, end_after}
 use Rattle.switch_threads.proofs.driver.Driver.step.Goals as goal
 
 pub call-requires-clause-fit : goal.call-requires-clause-fit
 call-requires-clause-fit g c =
     let d = c.self.inside in
-    drive_fit d.seat.1 d.end c.self.invariant
+    drive_fit d.seat.1 d.end d.account c.self.invariant
 
 pub unreachable-requires : goal.unreachable-requires
 unreachable-requires g c =
@@ -28,16 +28,22 @@ pub invariant_of-self : goal.invariant_of-self
 invariant_of-self g c =
     let d = c.self.inside in
     let after = c.call.new.seat.1 in
-    subst (λ (did : Drive). IsDriving after (told_after did d.end)) c.in-Did.is (drive_step d.seat.1 after d.end c.in-Drive.drive c.self.invariant (as_asked d.seat.1 after book_ask.Drive (book_reply.Drive c.in-Drive.drive) c.in-Drive.ensures.called))
+    let new = c.tell.new.self in
+    subst (λ (did : Drive). IsDriving after (end_after did d.end) new) c.in-Did.is
+    (drive_step d.seat.1 after d.end d.account new c.in-Drive.drive c.in-Drive.told c.self.invariant (as_asked d.seat.1 after book_ask.Drive (book_reply.Drive c.in-Drive.drive c.in-Drive.told) c.in-Drive.ensures.called) c.tell.ensures)
 
 pub invariant_of-self-in-Waits : goal.invariant_of-self-in-Waits
 invariant_of-self-in-Waits g c =
     let d = c.self.inside in
     let after = c.call.new.seat.1 in
-    subst (λ (did : Drive). IsDriving after (told_after did d.end)) c.in-Waits.is (drive_step d.seat.1 after d.end c.in-Drive.drive c.self.invariant (as_asked d.seat.1 after book_ask.Drive (book_reply.Drive c.in-Drive.drive) c.in-Drive.ensures.called))
+    let new = c.tell.new.self in
+    subst (λ (did : Drive). IsDriving after (end_after did d.end) new) c.in-Waits.is
+    (drive_step d.seat.1 after d.end d.account new c.in-Drive.drive c.in-Drive.told c.self.invariant (as_asked d.seat.1 after book_ask.Drive (book_reply.Drive c.in-Drive.drive c.in-Drive.told) c.in-Drive.ensures.called) c.tell.ensures)
 
 pub invariant_of-self-in-Ended : goal.invariant_of-self-in-Ended
 invariant_of-self-in-Ended g c =
     let d = c.self.inside in
     let after = c.call.new.seat.1 in
-    subst (λ (did : Drive). IsDriving after (told_after did d.end)) c.in-Ended.is (drive_step d.seat.1 after d.end c.in-Drive.drive c.self.invariant (as_asked d.seat.1 after book_ask.Drive (book_reply.Drive c.in-Drive.drive) c.in-Drive.ensures.called))
+    let new = c.tell.new.self in
+    subst (λ (did : Drive). IsDriving after (end_after did d.end) new) c.in-Ended.is
+    (drive_step d.seat.1 after d.end d.account new c.in-Drive.drive c.in-Drive.told c.self.invariant (as_asked d.seat.1 after book_ask.Drive (book_reply.Drive c.in-Drive.drive c.in-Drive.told) c.in-Drive.ensures.called) c.tell.ensures)

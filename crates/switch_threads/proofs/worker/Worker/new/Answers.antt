@@ -12,4 +12,4 @@ overflow_add-result c =
 
 pub invariant_of-result : goal.invariant_of-result
 invariant_of-result c =
-    begun_step c.args.seat.1 c.args.script.now c.args.s c.in_ok-desk.desk c.requires.begun c.requires.number c.requires.first c.in_ok-desk.ensures.place c.in_ok-desk.ensures.up
+    begun_step c.args.seat.1 c.args.script.now c.args.s c.in_ok-desk.desk c.requires.begun c.requires.number c.requires.first c.in_ok-desk.ensures.place c.in_ok-desk.ensures.up c.in_ok-desk.ensures.told

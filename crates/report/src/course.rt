@@ -1,0 +1,88 @@
+//! How far a network has come, as far as it is told.
+
+ghost use Rattle.std.specs.Prelude.{◌≡◌, ◌++◌, ◌∷◌, [], List, slice_get, IfOk};
+ghost use Rattle.an_base.specs.declared.event.Event.{Event};
+ghost use Rattle.net_script.specs.Scripts.{IsScript, ScriptOf};
+ghost use Rattle.report.specs.Events.{course_after};
+ghost use Rattle.report.specs.Retellings.{Comes};
+
+use an_base::event::Event;
+use an_base::life::Life;
+use an_base::memory::OutOfMemory;
+use net_script::script::Script;
+use std::alloc::Global;
+use std::marker::Model;
+
+/// How far a network has come: the present life of each switch, how many events came, and the tick.
+#[derive(Drop)]
+pub(crate) struct Course {
+    lives: Vec<Life>,
+    events: u32,
+    tick: u32,
+}
+
+impl Model for Course {
+    ghost use Rattle.report.specs.Events.{CourseOf};
+
+    ghost Value = { CourseOf };
+
+    ghost view = { λ c. record { lives = c.lives.items; events = c.events; tick = c.tick } };
+}
+
+impl Course {
+    /// The course of a network in which nothing has come yet.
+    pub fn begin(alloc: Global, script: &Script) -> Result<Course, OutOfMemory>
+        ensures course { IfOk result (λ course. course ≡ course_after script.now []) }
+        ensures kept { IsScript script.now }
+    {
+        let wiring = script.wiring();
+        let count = wiring.count();
+        let mut lives = Vec::with_capacity(alloc, usize::from(count))?;
+        'switches: for s in 0..count {
+            lives.push(wiring.life(s))?;
+        }
+        Ok(Course {
+            lives,
+            events: 0,
+            tick: 0,
+        })
+    }
+
+    /// The present life of a switch, if there is one at this place.
+    pub fn life(&self, s: u8) -> Option<Life>
+        ensures { result ≡ slice_get self.now.lives s }
+    {
+        self.lives.get(usize::from(s)).copied()
+    }
+
+    /// How many events came.
+    pub fn events(&self) -> u32
+        ensures { result ≡ self.now.events }
+    {
+        self.events
+    }
+
+    /// The tick.
+    pub fn tick(&self) -> u32
+        ensures { result ≡ self.now.tick }
+    {
+        self.tick
+    }
+
+    /// A lawful event comes.
+    pub fn follow(&mut self, event: &Event)
+        requires { (script : ScriptOf) × (history : List Event) × Comes script history event.now self.old }
+        ensures { (script : ScriptOf) (history : List Event) → Comes script history event.now self.old
+            → self.new ≡ course_after script (history ++ event.now ∷ []) }
+    {
+        self.events += 1;
+        match *event {
+            Event::Tick => self.tick += 1,
+            Event::Restart { s } => {
+                let life = self.lives[usize::from(s)];
+                self.lives[usize::from(s)] = Life::new(life.uid(), life.boot() + 1);
+            }
+            _ => {}
+        }
+    }
+}

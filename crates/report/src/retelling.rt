@@ -1,0 +1,248 @@
+//! The report of a run, of whose events each caller has told.
+
+ghost use Rattle.std.specs.Prelude.{◌≡◌, ◌∷◌, ◌++◌, [], List, IfOk, IfSome, IsNone, OnOk, codes, map};
+ghost use Rattle.an_base.specs.Rows.{RowOf};
+ghost use Rattle.an_base.specs.declared.event.Event.{Event};
+ghost use Rattle.net_script.specs.Scripts.{IsScript};
+ghost use Rattle.fabric_world.specs.declared.line.Line.{Line};
+ghost use Rattle.fabric_world.specs.declared.line.PlacedLine.{PlacedLine};
+ghost use Rattle.fabric_world.specs.Accounts.{loaded_rows, placed, rows_behind};
+ghost use Rattle.fabric_world.specs.Histories.{IsLegal, owner_of};
+ghost use Rattle.fabric_world.specs.World.{WorldOf, step, world_after};
+ghost use Rattle.fabric_settling.specs.Claims.{HoldsAndSettles};
+ghost use Rattle.fabric_book.specs.Accounts.{AreAccounts};
+ghost use Rattle.report.specs.Events.{IsReport, all_told, course_after, line_of_end, report_text};
+ghost use Rattle.report.specs.Retellings.{IsNotNext, IsRetelling, told_in};
+
+use crate::course::Course;
+use crate::reporter::Report;
+use crate::telling::Telling;
+use an_base::event::{Event, Journal};
+use an_base::memory::OutOfMemory;
+use an_base::row::Row;
+use fabric_book::account::Account;
+use fabric_state::ending::Ending;
+use fabric_world::line::{Line, PlacedLine};
+use net_script::script::Script;
+use std::alloc::Global;
+use std::marker::Model;
+use table_report::decimals::Decimals;
+
+// To whom an event belongs: the worker of a switch, from 1, or the driver, 0.
+fn owner_of(event: &Event) -> usize
+    ensures { result ≡ owner_of event.now }
+{
+    match *event {
+        Event::Clock { s }
+        | Event::Take { s, port: _ }
+        | Event::Handle { s }
+        | Event::Load { s }
+        | Event::Restart { s } => usize::from(s) + 1,
+        _ => 0,
+    }
+}
+
+// What is left of an account that is being retold.
+#[derive(Drop)]
+struct Left<'a> {
+    lines: &'a [PlacedLine],
+    rows: &'a [Vec<Row>],
+}
+
+impl<'a> Model for Left<'a> {
+    ghost use Rattle.std.specs.Prelude.{map};
+    ghost use Rattle.fabric_world.specs.Accounts.{AccountOf};
+
+    ghost Value = { AccountOf };
+
+    ghost view = { λ l. record { lines = l.lines.now; rows = map (λ rows. rows.items) l.rows.now } };
+}
+
+impl<'a> Left<'a> {
+    // All of an account.
+    fn all(account: &'a Account) -> Self
+        ensures { result ≡ told_in account.now }
+    {
+        Left {
+            lines: &account.lines,
+            rows: &account.rows,
+        }
+    }
+
+    // The rows behind an event: those of the next table behind a load, and none behind others.
+    fn rows_behind(&mut self, event: &Event) -> &'a [Row]
+        ensures { (world : WorldOf) (more : List (List RowOf)) → self.old.rows ≡ loaded_rows world event.now ++ more
+            → (result.now ≡ rows_behind (step world event.now).fabric event.now)
+            × (self.new ≡ record self.old { rows = more }) }
+    {
+        if !matches!(event, Event::Load { .. }) {
+            return &[];
+        }
+        let Some((rows, more)) = self.rows.split_first() else {
+            return &[];
+        };
+        self.rows = more;
+        rows
+    }
+
+    // The next line, if it is of the event at this place.
+    fn next_line(&mut self, event: u32) -> Option<&'a Line>
+        ensures line { IfSome result (λ line. self.old ≡ record self.new {
+          lines = record { event = event; line = line.now } ∷ self.new.lines;
+        }) }
+        ensures rows { self.new.rows ≡ self.old.rows }
+        ensures none { IsNone result → (self.new ≡ self.old) × IsNotNext event self.old.lines }
+    {
+        let (told, more) = self.lines.split_first()?;
+        if told.event != event {
+            return None;
+        }
+        self.lines = more;
+        Some(&told.line)
+    }
+
+    // The lines of the event that came last, with the rows behind it.
+    fn tell(
+        &mut self,
+        telling: &Telling,
+        rows: &[Row],
+        text: &mut Vec<u8>,
+    ) -> Result<(), OutOfMemory>
+        ensures left { (lines : List Line) (more : List PlacedLine)
+            → self.old.lines ≡ placed telling.now.course.now.events lines ++ more
+            → IsNotNext telling.now.course.now.events more
+            → OnOk result (self.new ≡ record self.old { lines = more }) }
+        ensures told { (lines : List Line) (more : List PlacedLine)
+            → self.old.lines ≡ placed telling.now.course.now.events lines ++ more
+            → IsNotNext telling.now.course.now.events more
+            → OnOk result (text.new.items
+            ≡ text.old.items ++ all_told telling.now.script.now telling.now.course.now rows.now lines) }
+    {
+        'lines: while let Some(line) = self.next_line(telling.course.events()) {
+            telling.push_line(text, line, rows)?;
+        }
+        Ok(())
+    }
+}
+
+// A journal whose report is made of what each caller has told.
+#[derive(Drop)]
+struct Retelling<'a> {
+    alloc: Global,
+    script: &'a Script,
+    decimals: Decimals,
+    course: Course,
+    left: Vec<Left<'a>>,
+    text: Vec<u8>,
+}
+
+// All that each caller has told.
+fn all_left(alloc: Global, accounts: &[Account]) -> Result<Vec<Left<'_>>, OutOfMemory>
+    ensures { IfOk result (λ left. left.items ≡ map told_in accounts.now) }
+{
+    let mut left = Vec::with_capacity(alloc, accounts.len())?;
+    'accounts: for account in accounts {
+        left.push(Left::all(account))?;
+    }
+    Ok(left)
+}
+
+impl<'a> Retelling<'a> {
+    // At the beginning: the first line.
+    fn begin(
+        alloc: Global,
+        script: &'a Script,
+        accounts: &'a [Account],
+    ) -> Result<Self, OutOfMemory>
+        ensures script { IfOk result (λ retelling. retelling.script.now ≡ script.now) }
+        ensures kept { IsScript script.now }
+        ensures course { IfOk result (λ retelling. retelling.course ≡ course_after script.now []) }
+        ensures left { IfOk result (λ retelling. retelling.left.items ≡ map told_in accounts.now) }
+        ensures text { IfOk result (λ retelling. retelling.text.items ≡ codes "report 1\n") }
+    {
+        Ok(Retelling {
+            alloc,
+            script,
+            course: Course::begin(alloc, script)?,
+            decimals: Decimals::new(alloc)?,
+            left: all_left(alloc, accounts)?,
+            text: Vec::from_slice(alloc, b"report 1\n")?,
+        })
+    }
+
+    // The next event, with its lines.
+    fn step(&mut self, event: &Event) -> Result<(), OutOfMemory>
+        requires { (before events : List Event) × IsRetelling self.old.script.now before (event.now ∷ events)
+            self.old.course self.old.left.items self.old.text.items }
+        ensures script { self.new.script.now ≡ self.old.script.now }
+        ensures told { (before events : List Event) → IsRetelling self.old.script.now before (event.now ∷ events)
+            self.old.course self.old.left.items self.old.text.items
+            → OnOk result (IsRetelling self.old.script.now (before ++ event.now ∷ []) events
+            self.new.course self.new.left.items self.new.text.items) }
+    {
+        self.course.follow(event);
+        let left = &mut self.left[owner_of(event)];
+        let rows = left.rows_behind(event);
+        let telling = Telling {
+            alloc: self.alloc,
+            script: self.script,
+            decimals: &self.decimals,
+            course: &self.course,
+        };
+        left.tell(&telling, rows, &mut self.text)
+    }
+
+    // The end, with the last line.
+    fn finish(&mut self, end: &Ending) -> Result<(), OutOfMemory>
+        ensures text { OnOk result (self.new.text.items
+            ≡ self.old.text.items ++ line_of_end self.old.script.now self.old.course end.now) }
+        ensures course { self.new.course ≡ self.old.course }
+    {
+        let telling = Telling {
+            alloc: self.alloc,
+            script: self.script,
+            decimals: &self.decimals,
+            course: &self.course,
+        };
+        telling.push_end_line(&mut self.text, end)
+    }
+
+    // The events of a journal, and this end.
+    fn tell(&mut self, journal: &Journal, end: &Ending) -> Result<(), OutOfMemory>
+        requires legal { IsLegal self.old.script.now journal.now end.now }
+        requires first { IsRetelling self.old.script.now [] journal.now
+            self.old.course self.old.left.items self.old.text.items }
+        ensures text { OnOk result (self.new.text.items ≡ report_text self.old.script.now journal.now) }
+        ensures course { OnOk result (self.new.course ≡ course_after self.old.script.now journal.now) }
+    {
+        let events = journal.as_slice();
+        'events: for event in events {
+            self.step(event)?;
+        }
+        self.finish(end)
+    }
+}
+
+/// The report of a legal journal with this end, of whose events each caller has told: the driver, and the worker of
+/// each switch in the order of the script.
+pub fn retold(
+    alloc: Global,
+    script: &Script,
+    journal: &Journal,
+    end: Ending,
+    accounts: &[Account],
+) -> Result<Report, OutOfMemory>
+    requires legal { IsLegal script.now journal.now end }
+    requires claims { HoldsAndSettles script.now journal.now }
+    requires accounts { AreAccounts script.now journal.now accounts.now }
+    ensures report { IfOk result (λ report. IsReport script.now journal.now report.end report.text.items) }
+    ensures tick { IfOk result (λ report. report.tick ≡ (world_after script.now journal.now).fabric.tick) }
+{
+    let mut retelling = Retelling::begin(alloc, script, accounts)?;
+    retelling.tell(journal, &end)?;
+    Ok(Report {
+        end,
+        tick: retelling.course.tick(),
+        text: retelling.text,
+    })
+}
