@@ -13,7 +13,7 @@ use Rattle.dep_check.specs.Walks.{IsClear}
 
 -- packets from one spot get stuck at another
 abbrev pub GetsStuck : Steps → Channel → Channel → Type 0
-GetsStuck steps start end = (n : ℕ) × Walk (Step steps) n start end × IsStuck steps end
+GetsStuck steps start end = (distance : ℕ) × Walk (Step steps) distance start end × IsStuck steps end
 
 -- a switch of the topology, other than the target, from entry 0 of which packets get stuck
 pub record IsStuckFrom (numbers : List ℕ) (steps : Steps) (to from : ℕ) : Type 0 where
@@ -30,10 +30,10 @@ pub record StaysClear (numbers : List ℕ) (steps : Steps) (to from : ℕ) (seen
 
 -- the first such below end
 abbrev pub FirstStuck : List ℕ → Steps → ℕ → ℕ → Option ℕ → Type 0
-FirstStuck numbers steps to end None = (f : ℕ) → f < end → IsStuckFrom numbers steps to f → ⊥
+FirstStuck numbers steps to end None = (other : ℕ) → other < end → IsStuckFrom numbers steps to other → ⊥
 FirstStuck numbers steps to end (Some from) =
     (from < end) × IsStuckFrom numbers steps to from
-    × ((f : ℕ) → f < end → IsStuckFrom numbers steps to f → from ≤ f)
+    × ((other : ℕ) → other < end → IsStuckFrom numbers steps to other → from ≤ other)
 
 -- a pair of different switches of the topology that is not joined
 pub record IsParted (far : Channel → Option Channel) (numbers : List ℕ) (rows : List RowOf) (from to : ℕ)
@@ -46,28 +46,30 @@ pub record IsParted (far : Channel → Option Channel) (numbers : List ℕ) (row
 
 -- the first switch that is not joined to the target
 abbrev pub FirstOf : (Channel → Option Channel) → List ℕ → List RowOf → ℕ → Option ℕ → Type 0
-FirstOf far numbers rows to None = (f : ℕ) → IsParted far numbers rows f to → ⊥
+FirstOf far numbers rows to None = (other : ℕ) → IsParted far numbers rows other to → ⊥
 FirstOf far numbers rows to (Some from) =
-    IsParted far numbers rows from to × ((f : ℕ) → IsParted far numbers rows f to → from ≤ f)
+    IsParted far numbers rows from to × ((other : ℕ) → IsParted far numbers rows other to → from ≤ other)
 
 -- a pair is not after another
 abbrev pub IsPairUpTo : ℕ → ℕ → ℕ → ℕ → Type 0
-IsPairUpTo a b c d = (a ≤ c) × (a ≡ c → b ≤ d)
+IsPairUpTo from to other_from other_to = (from ≤ other_from) × (from ≡ other_from → to ≤ other_to)
 
 -- the least pair that is not joined, of the targets below end
 pub record IsLeastParted (far : Channel → Option Channel) (numbers : List ℕ) (rows : List RowOf) (end : ℕ)
     (pair : Pair) : Type 0 where
   pub parted : IsParted far numbers rows pair.from pair.to
   pub below : pair.to < end
-  pub least : (f t : ℕ) → t < end → IsParted far numbers rows f t → IsPairUpTo pair.from pair.to f t
+  pub least : (from to : ℕ) → to < end → IsParted far numbers rows from to
+      → IsPairUpTo pair.from pair.to from to
 
 abbrev pub IsLeastPair : (Channel → Option Channel) → List ℕ → List RowOf → ℕ → Option Pair → Type 0
-IsLeastPair far numbers rows end None = (f t : ℕ) → t < end → IsParted far numbers rows f t → ⊥
+IsLeastPair far numbers rows end None = (from to : ℕ) → to < end → IsParted far numbers rows from to → ⊥
 IsLeastPair far numbers rows end (Some pair) = IsLeastParted far numbers rows end pair
 
 -- the least spot where packets from one get stuck
 abbrev pub IsLeastEnd : Steps → Channel → Option Channel → Type 0
-IsLeastEnd steps start None = (e : Channel) → IsSpot e → GetsStuck steps start e → ⊥
+IsLeastEnd steps start None = (other : Channel) → IsSpot other → GetsStuck steps start other → ⊥
 IsLeastEnd steps start (Some end) =
     IsSpot end × GetsStuck steps start end
-    × ((e : Channel) → IsSpot e → GetsStuck steps start e → IsTrue (is_le (channel_cmp end e)))
+    × ((other : Channel) → IsSpot other → GetsStuck steps start other
+    → IsTrue (is_le (channel_cmp end other)))

@@ -4,4 +4,4 @@ use Rattle.std.specs.Int.{bit_at}
 
 -- a set has only ports, 0 to 12
 abbrev pub HasOnlyPorts : ℕ → Type 0
-HasOnlyPorts set = (p : ℕ) → bit_at set p ≡ 1 → p < 13
+HasOnlyPorts set = (port : ℕ) → bit_at set port ≡ 1 → port < 13

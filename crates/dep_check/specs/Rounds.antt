@@ -11,53 +11,58 @@ use Rattle.dep_check.specs.Search.{Step, IsDue, IsHeld, AreNearest, AreNearestBe
 -- the level 0 at each goal, and no other level
 pub record AreGoals (Goal : Channel → Type 0) (levels : List (Option ℕ)) : Type 0 where
   pub count : length levels ≡ 1651
-  pub some : (s : Channel) (n : ℕ) → IsSpot s → level_at levels s ≡ Some n → (n ≡ 0) × Goal s
-  pub none : (s : Channel) → IsSpot s → level_at levels s ≡ None → Goal s → ⊥
+  pub some : (spot : Channel) (level : ℕ) → IsSpot spot → level_at levels spot ≡ Some level
+      → (level ≡ 0) × Goal spot
+  pub none : (spot : Channel) → IsSpot spot → level_at levels spot ≡ None → Goal spot → ⊥
 
 -- a spot gets a level next
-pub record GetsLevel (rule : Rule) (steps : Steps) (levels : List (Option ℕ)) (s : Channel) : Type 0 where
-  pub spot : IsSpot s
-  pub none : level_at levels s ≡ None
-  pub due : IsDue rule steps levels s
+pub record GetsLevel (rule : Rule) (steps : Steps) (levels : List (Option ℕ)) (channel : Channel)
+    : Type 0 where
+  pub spot : IsSpot channel
+  pub none : level_at levels channel ≡ None
+  pub due : IsDue rule steps levels channel
 
 -- To a list are added only spots that get a level next, and of those that were looked at all that do.
 pub record AddsDue (rule : Rule) (steps : Steps) (levels : List (Option ℕ)) (Looked : Channel → Type 0)
     (old new : List Channel) : Type 0 where
-  pub each : (s : Channel) → Contains new s → Contains old s ⊎ GetsLevel rule steps levels s
-  pub kept : (s : Channel) → Contains old s → Contains new s
+  pub each : (spot : Channel) → Contains new spot → Contains old spot ⊎ GetsLevel rule steps levels spot
+  pub kept : (spot : Channel) → Contains old spot → Contains new spot
   pub whole :
-      (s : Channel) → Looked s → IsSpot s → level_at levels s ≡ None
-      → Contains new s ⊎ IsHeld rule steps levels s
+      (spot : Channel) → Looked spot → IsSpot spot → level_at levels spot ≡ None
+      → Contains new spot ⊎ IsHeld rule steps levels spot
 
 -- a step leads to one of the list
 abbrev pub LeadsToOne : Steps → List Channel → Channel → Type 0
-LeadsToOne steps last s = (b : Channel) × Contains last b × Step steps s b
+LeadsToOne steps last spot = (after : Channel) × Contains last after × Step steps spot after
 
 -- the list has the spots that get a level next
 pub record AreDue (rule : Rule) (steps : Steps) (levels : List (Option ℕ)) (due : List Channel) : Type 0 where
-  pub each : (s : Channel) → Contains due s → GetsLevel rule steps levels s
+  pub each : (spot : Channel) → Contains due spot → GetsLevel rule steps levels spot
   pub whole :
-      (s : Channel) → IsSpot s → level_at levels s ≡ None → Contains due s ⊎ IsHeld rule steps levels s
+      (spot : Channel) → IsSpot spot → level_at levels spot ≡ None
+      → Contains due spot ⊎ IsHeld rule steps levels spot
 
 -- those of a list that had no level have this one, and are the raised ones
 pub record IsRaisedTo (level : ℕ) (had : List (Option ℕ)) (due : List Channel) (levels : List (Option ℕ))
     (raised : List Channel) : Type 0 where
   pub count : length levels ≡ 1651
-  pub kept : (s : Channel) (n : ℕ) → IsSpot s → level_at had s ≡ Some n → level_at levels s ≡ Some n
+  pub kept : (spot : Channel) (own : ℕ) → IsSpot spot → level_at had spot ≡ Some own
+      → level_at levels spot ≡ Some own
   pub new :
-      (s : Channel) (n : ℕ) → IsSpot s → level_at had s ≡ None → level_at levels s ≡ Some n
-      → (n ≡ level) × Contains due s
-  pub all : (s : Channel) → Contains due s → (n : ℕ) × (level_at levels s ≡ Some n)
+      (spot : Channel) (own : ℕ) → IsSpot spot → level_at had spot ≡ None → level_at levels spot ≡ Some own
+      → (own ≡ level) × Contains due spot
+  pub all : (spot : Channel) → Contains due spot → (own : ℕ) × (level_at levels spot ≡ Some own)
   pub whole :
-      (s : Channel) → IsSpot s → level_at had s ≡ None → level_at levels s ≡ Some level → Contains raised s
-  pub each : (s : Channel) → Contains raised s → IsSpot s × (level_at levels s ≡ Some level)
+      (spot : Channel) → IsSpot spot → level_at had spot ≡ None → level_at levels spot ≡ Some level
+      → Contains raised spot
+  pub each : (spot : Channel) → Contains raised spot → IsSpot spot × (level_at levels spot ≡ Some level)
 
 -- the levels below a round, by a rule
 abbrev pub AreLevelsBelow : Rule → Steps → ℕ → List (Option ℕ) → Type 0
-AreLevelsBelow (Nearest goal) steps round levels = AreNearestBelow steps (λ s. s ≡ goal) round levels
+AreLevelsBelow (Nearest goal) steps round levels = AreNearestBelow steps (λ spot. spot ≡ goal) round levels
 AreLevelsBelow Rank steps round levels = AreRankedBelow steps round levels
 
 -- and all of them
 abbrev pub AreLevels : Rule → Steps → List (Option ℕ) → Type 0
-AreLevels (Nearest goal) steps levels = AreNearest steps (λ s. s ≡ goal) levels
+AreLevels (Nearest goal) steps levels = AreNearest steps (λ spot. spot ≡ goal) levels
 AreLevels Rank steps levels = AreRanked steps levels

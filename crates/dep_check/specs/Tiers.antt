@@ -7,25 +7,28 @@ use Rattle.dep_check.specs.Search.{IsStep}
 
 -- the tier that a table has for a spot
 abbrev pub tier_at : List ℕ → Channel → ℕ
-tier_at tiers s = slice_index_or tiers (place_of s) 0
+tier_at tiers spot = slice_index_or tiers (place_of spot) 0
 
 -- no step from a spot leads to a lower tier
 abbrev pub RisesFrom : Steps → List ℕ → Channel → Type 0
-RisesFrom steps tiers s = (e : ℕ) (b : Channel) → IsStep steps s e b → tier_at tiers s ≤ tier_at tiers b
+RisesFrom steps tiers spot =
+    (exit : ℕ) (after : Channel) → IsStep steps spot exit after → tier_at tiers spot ≤ tier_at tiers after
 
 -- the step by an exit does
 abbrev pub SinksBy : Steps → List ℕ → Channel → ℕ → Type 0
-SinksBy steps tiers s e = (b : Channel) × IsStep steps s e b × (tier_at tiers b < tier_at tiers s)
+SinksBy steps tiers spot exit =
+    (after : Channel) × IsStep steps spot exit after × (tier_at tiers after < tier_at tiers spot)
 
 -- no step leads to a lower tier
 abbrev pub AreTiers : Steps → List ℕ → Type 0
-AreTiers steps tiers = (s : Channel) → RisesFrom steps tiers s
+AreTiers steps tiers = (spot : Channel) → RisesFrom steps tiers spot
 
 -- the step by an exit leads to a spot's own tier
 abbrev pub HasPeerBy : Steps → List ℕ → Channel → ℕ → Type 0
-HasPeerBy steps tiers s e = (b : Channel) × IsStep steps s e b × (tier_at tiers b ≡ tier_at tiers s)
+HasPeerBy steps tiers spot exit =
+    (after : Channel) × IsStep steps spot exit after × (tier_at tiers after ≡ tier_at tiers spot)
 
 -- some step from a spot leads to its own tier
 abbrev pub HasPeer : Steps → List ℕ → Channel → Type 0
-HasPeer steps tiers s =
-    (e : ℕ) × (b : Channel) × IsStep steps s e b × (tier_at tiers b ≡ tier_at tiers s)
+HasPeer steps tiers spot =
+    (exit : ℕ) × (after : Channel) × IsStep steps spot exit after × (tier_at tiers after ≡ tier_at tiers spot)

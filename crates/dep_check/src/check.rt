@@ -34,7 +34,7 @@ impl Model for Ranks {
 
     ghost Value = { List (Option ℕ) };
 
-    ghost view = { λ r. r.levels.items };
+    ghost view = { λ ranks. ranks.levels.items };
 }
 
 impl Ranks {
@@ -56,8 +56,8 @@ impl Ranks {
 // Whether each channel has a rank.
 fn are_all_ranked(steps: &Steps, levels: &[Option<u16>]) -> bool
     ensures { MatchBool result
-        ((s : Channel) → IsSpot s → IsLinked steps.now s → level_at levels.now s ≡ None → ⊥)
-        ((s : Channel) × IsSpot s × IsLinked steps.now s × (level_at levels.now s ≡ None)) }
+        ((spot : Channel) → IsSpot spot → IsLinked steps.now spot → level_at levels.now spot ≡ None → ⊥)
+        ((spot : Channel) × IsSpot spot × IsLinked steps.now spot × (level_at levels.now spot ≡ None)) }
 {
     'spots: for place in 0..SPOTS {
         let spot = spot_at(place);
@@ -84,9 +84,10 @@ fn ranked_by(
     rows: &[Row],
 ) -> Result<RankedSteps, CheckRefusal>
     requires { length numbers.now ≡ length graph.now }
-    ensures wires { IfOk result (λ r. AreWires (far_at graph.now numbers.now) r.wires.items) }
-    ensures exits { IfOk result (λ r. AreExitsBelow rows.now None (length rows.now) r.steps.exits.items) }
-    ensures ranked { IfOk result (λ r. HasAllRanks graph.now numbers.now rows.now r.levels.items) }
+    ensures wires { IfOk result (λ ranked. AreWires (far_at graph.now numbers.now) ranked.wires.items) }
+    ensures exits { IfOk result (λ ranked.
+        AreExitsBelow rows.now None (length rows.now) ranked.steps.exits.items) }
+    ensures ranked { IfOk result (λ ranked. HasAllRanks graph.now numbers.now rows.now ranked.levels.items) }
     ensures refused { IfErr result (IsRefusal graph.now numbers.now rows.now) }
 {
     let wires = wires_of(alloc, graph, numbers)?;

@@ -17,30 +17,33 @@ ghost use Rattle.dep_check.specs.declared.refusal.CheckRefusal.TheVariants.{OutO
 /// The rows of the tables of all members are never refused: where the positions are the tree of the
 /// links, for any distinct numbers, whether packets take any legal route or shortest ones alone.
 pub fn tables_are_never_refused()
-    ensures no_cycle { (es : List EntryOf) (numbers : List ℕ) (any : Bool) (rows : List RowOf) → IsGraph es
-        → AreNumbers numbers → length numbers ≡ length es → AreTables es numbers any rows
-        → HasNoCycle (LeadsTo (far_at es numbers) rows) }
-    ensures joined { (es : List EntryOf) (numbers : List ℕ) (any : Bool) (rows : List RowOf) → IsGraph es
-        → IsTree es
-        → AreNumbers numbers → length numbers ≡ length es → AreTables es numbers any rows
-        → AllAreJoined (far_at es numbers) numbers rows }
-    ensures legal { (es : List EntryOf) (numbers : List ℕ) (any : Bool) (rows : List RowOf) → IsGraph es
-        → AreNumbers numbers → length numbers ≡ length es → AreTables es numbers any rows
-        → AllAreLegal es numbers rows }
+    ensures no_cycle { (entries : List EntryOf) (numbers : List ℕ) (any : Bool) (rows : List RowOf)
+        → IsGraph entries
+        → AreNumbers numbers → length numbers ≡ length entries → AreTables entries numbers any rows
+        → HasNoCycle (LeadsTo (far_at entries numbers) rows) }
+    ensures joined { (entries : List EntryOf) (numbers : List ℕ) (any : Bool) (rows : List RowOf)
+        → IsGraph entries → IsTree entries
+        → AreNumbers numbers → length numbers ≡ length entries → AreTables entries numbers any rows
+        → AllAreJoined (far_at entries numbers) numbers rows }
+    ensures legal { (entries : List EntryOf) (numbers : List ℕ) (any : Bool) (rows : List RowOf)
+        → IsGraph entries
+        → AreNumbers numbers → length numbers ≡ length entries → AreTables entries numbers any rows
+        → AllAreLegal entries numbers rows }
 {}
 
 /// Rows have one answer, but for want of memory: what passes is not refused, a refusal is one, and
 /// the ranks are.
 pub fn one_answer()
-    ensures passed { (es : List EntryOf) (numbers : List ℕ) (rows : List RowOf) (ranks : List (Option ℕ))
+    ensures passed { (entries : List EntryOf) (numbers : List ℕ) (rows : List RowOf) (ranks : List (Option ℕ))
         (refusal : CheckRefusal)
-        → Passes es numbers rows ranks → IsRefusal es numbers rows refusal → refusal ≡ OutOfMemory }
-    ensures refused { (es : List EntryOf) (numbers : List ℕ) (rows : List RowOf) (a b : CheckRefusal)
-        → IsRefusal es numbers rows a → IsRefusal es numbers rows b
-        → (a ≡ b) ⊎ (a ≡ OutOfMemory) ⊎ (b ≡ OutOfMemory) }
-    ensures ranked { (es : List EntryOf) (numbers : List ℕ) (rows : List RowOf)
+        → Passes entries numbers rows ranks → IsRefusal entries numbers rows refusal → refusal ≡ OutOfMemory }
+    ensures refused { (entries : List EntryOf) (numbers : List ℕ) (rows : List RowOf)
+        (one other : CheckRefusal)
+        → IsRefusal entries numbers rows one → IsRefusal entries numbers rows other
+        → (one ≡ other) ⊎ (one ≡ OutOfMemory) ⊎ (other ≡ OutOfMemory) }
+    ensures ranked { (entries : List EntryOf) (numbers : List ℕ) (rows : List RowOf)
         (ranks others : List (Option ℕ)) (channel : Channel)
-        → Passes es numbers rows ranks → Passes es numbers rows others
+        → Passes entries numbers rows ranks → Passes entries numbers rows others
         → rank_at ranks channel ≡ rank_at others channel }
 {}
 
@@ -50,20 +53,21 @@ pub fn one_answer()
 /// switch to another that cannot go on is at its target; and from wherever one is, some following
 /// goes on to there.
 pub fn packets_reach_their_targets()
-    ensures bounded { (es : List EntryOf) (numbers : List ℕ) (rows : List RowOf) (ranks : List (Option ℕ))
-        (to links : ℕ) (start end : Channel)
-        → Passes es numbers rows ranks → Walk (GoesOn (far_at es numbers) rows to) (suc links) start end
+    ensures bounded { (entries : List EntryOf) (numbers : List ℕ) (rows : List RowOf)
+        (ranks : List (Option ℕ)) (to links : ℕ) (start end : Channel)
+        → Passes entries numbers rows ranks
+        → Walk (GoesOn (far_at entries numbers) rows to) (suc links) start end
         → (exit rank : ℕ) × HasExit rows start.at start.port to exit
         × (rank_at ranks (record { at = start.at; port = exit }) ≡ Some rank) × (links ≤ rank) }
-    ensures ended { (es : List EntryOf) (numbers : List ℕ) (rows : List RowOf) (ranks : List (Option ℕ))
+    ensures ended { (entries : List EntryOf) (numbers : List ℕ) (rows : List RowOf) (ranks : List (Option ℕ))
         (from to links : ℕ) (end : Channel)
-        → Passes es numbers rows ranks → GoesBetween numbers from to
-        → Walk (GoesOn (far_at es numbers) rows to) links (record { at = from; port = 0 }) end
-        → ((next : Channel) → ¬ GoesOn (far_at es numbers) rows to end next) → end.at ≡ to }
-    ensures reached { (es : List EntryOf) (numbers : List ℕ) (rows : List RowOf) (ranks : List (Option ℕ))
-        (from to links : ℕ) (there : Channel)
-        → Passes es numbers rows ranks → GoesBetween numbers from to
-        → Walk (GoesOn (far_at es numbers) rows to) links (record { at = from; port = 0 }) there
-        → (more : ℕ) × (end : Channel) × Walk (GoesOn (far_at es numbers) rows to) more there end
+        → Passes entries numbers rows ranks → GoesBetween numbers from to
+        → Walk (GoesOn (far_at entries numbers) rows to) links (record { at = from; port = 0 }) end
+        → ((next : Channel) → ¬ GoesOn (far_at entries numbers) rows to end next) → end.at ≡ to }
+    ensures reached { (entries : List EntryOf) (numbers : List ℕ) (rows : List RowOf)
+        (ranks : List (Option ℕ)) (from to links : ℕ) (there : Channel)
+        → Passes entries numbers rows ranks → GoesBetween numbers from to
+        → Walk (GoesOn (far_at entries numbers) rows to) links (record { at = from; port = 0 }) there
+        → (more : ℕ) × (end : Channel) × Walk (GoesOn (far_at entries numbers) rows to) more there end
         × (end.at ≡ to) }
 {}

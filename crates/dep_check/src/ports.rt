@@ -23,7 +23,7 @@ pub fn has(set: u16, port: u8) -> bool
 /// The ports of a set, and none of its other bits.
 pub fn only_ports(set: u16) -> u16
     ensures ports { HasOnlyPorts result }
-    ensures same { (p : ℕ) → p < 13 → has_port result p ≡ has_port set p }
+    ensures same { (port : ℕ) → port < 13 → has_port result port ≡ has_port set port }
 {
     set & 8191
 }

@@ -21,7 +21,7 @@ fn position_of(numbers: &[u8], number: u8) -> Option<usize>
 /// The place of the switch that has a number, if one has it.
 pub fn place_in(numbers: &Numbers, number: u8) -> Option<u8>
     ensures place { result ≡ place_in numbers.now number }
-    ensures low { IfSome result (λ x. x < length numbers.now) }
+    ensures low { IfSome result (λ place. place < length numbers.now) }
     ensures numbers { AreNumbers numbers.now }
 {
     let place = position_of(numbers.as_slice(), number)?;

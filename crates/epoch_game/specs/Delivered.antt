@@ -10,37 +10,40 @@ use Rattle.epoch_game.specs.Slice.{Node, Slice, Names}
 use Rattle.epoch_game.specs.Leaving.{WasStableRoot}
 use Rattle.epoch_game.specs.Detection.{Reached, IsMemberEntry, IsDetected}
 
--- z has joined and names port p of x as the far end of its port q, and x has accepted on p all that z sent
--- there
-pub record AcceptedAllOf (s : Slice) (x : LifeId) (n : Node) (p : ℕ) (z : LifeId) (q : ℕ) : Type 0 where
+-- the other has joined and names the port of the life as the far end of its own, and the life has accepted on
+-- it all that the other sent there
+pub record AcceptedAllOf (state : Slice) (life : LifeId) (node : Node) (port : ℕ) (other : LifeId)
+    (other_port : ℕ) : Type 0 where
   pub far : Node
-  pub joined : s z ≡ Some far
-  pub back : Names far.card q x p
-  pub all : on_port p n.log ≡ sent far.card q far.log
+  pub joined : state other ≡ Some far
+  pub back : Names far.card other_port life port
+  pub all : on_port port node.log ≡ sent far.card other_port far.log
 
--- x has joined, each of its links is named at both ends, and x has accepted all that was sent to it
-pub record AcceptedAll (s : Slice) (x : LifeId) : Type 0 where
+-- the life has joined, each of its links is named at both ends, and it has accepted all that was sent to it
+pub record AcceptedAll (state : Slice) (life : LifeId) : Type 0 where
   pub node : Node
-  pub joined : s x ≡ Some node
-  pub links : (p : ℕ) (z : LifeId) (q : ℕ) → Names node.card p z q → AcceptedAllOf s x node p z q
+  pub joined : state life ≡ Some node
+  pub links : (port : ℕ) (other : LifeId) (other_port : ℕ) → Names node.card port other other_port
+      → AcceptedAllOf state life node port other other_port
 
--- nothing is under way among the lives that are reached from x
+-- nothing is under way among the lives that are reached from this one
 abbrev pub IsDelivered : Slice → LifeId → Type 0
-IsDelivered s x = (y : LifeId) → Reached s x y → AcceptedAll s y
+IsDelivered state life = (other : LifeId) → Reached state life other → AcceptedAll state other
 
--- What holds of the lives that are reached from x where nothing is under way among them:
-pub record HasEnded (lives : List LifeId) (s : Slice) (x : LifeId) : Type 0 where
+-- What holds of the lives that are reached from one where nothing is under way among them:
+pub record HasEnded (lives : List LifeId) (state : Slice) (life : LifeId) : Type 0 where
   -- one of them is stable with itself as root, so each is in its place in the tree of shortest walks to it,
   -- and is stable
   pub root : LifeId
-  pub was : WasStableRoot s root
-  pub detected : IsDetected lives s root
+  pub was : WasStableRoot state root
+  pub detected : IsDetected lives state root
   -- the same lives are reached from it
-  pub members : (y : LifeId) → (Reached s x y) ↔ (Reached s root y)
+  pub members : (other : LifeId) → (Reached state life other) ↔ (Reached state root other)
   -- each has finished, and all with one topology
   pub topology : TopoOf
-  pub finished : (y : LifeId) (n : Node) → Reached s x y → s y ≡ Some n → finish n.card n.log ≡ Some topology
+  pub finished : (other : LifeId) (node : Node) → Reached state life other → state other ≡ Some node
+      → finish node.card node.log ≡ Some topology
   -- it has the present entry of each of them and no other, by rising life, and the numbering of these
-  pub entries : (e : EntryOf) → (Contains topology.entries e) ↔ (IsMemberEntry s x e)
+  pub entries : (entry : EntryOf) → (Contains topology.entries entry) ↔ (IsMemberEntry state life entry)
   pub rising : LivesRise topology.entries
   pub numbers : topology.numbers ≡ numbering topology.entries

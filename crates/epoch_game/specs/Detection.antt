@@ -11,106 +11,121 @@ use Rattle.epoch_core.specs.Epoch.{version, position, is_stable, own_entry, repo
 use Rattle.epoch_game.specs.Slice.{Earlier, Node, Slice, Names, Run}
 use Rattle.epoch_game.specs.Leaving.{WasStableRoot}
 
--- r, and the lives that are reached from it by walks on which each life names the next one among its links
-pub data Reached (s : Slice) (r : LifeId) : LifeId → Type 0 where
-  start : Reached s r r
-  next : (x z : LifeId) (p q : ℕ) (n : Node) → Reached s r x → s x ≡ Some n → Names n.card p z q
-      → Reached s r z
+-- a life, and those that are reached from it by walks on which each life names the next one among its links
+pub data Reached (state : Slice) (from : LifeId) : LifeId → Type 0 where
+  start : Reached state from from
+  next : (life other : LifeId) (port other_port : ℕ) (node : Node) → Reached state from life
+      → state life ≡ Some node → Names node.card port other other_port
+      → Reached state from other
 
--- x has joined, and its port p leads to z
-pub record IsNextTo (s : Slice) (x : LifeId) (p : ℕ) (z : LifeId) : Type 0 where
+-- the life has joined, and its port leads to the other
+pub record IsNextTo (state : Slice) (life : LifeId) (own_port : ℕ) (other : LifeId) : Type 0 where
   pub node : Node
-  pub joined : s x ≡ Some node
+  pub joined : state life ≡ Some node
   pub port : ℕ
-  pub named : Names node.card p z port
+  pub named : Names node.card own_port other port
 
--- a walk of n links from x to y
+-- a walk of so many links from one life to another
 abbrev pub WalkTo : Slice → ℕ → LifeId → LifeId → Type 0
-WalkTo s zero x y = x ≡ y
-WalkTo s (suc n) x y = (p : ℕ) × (z : LifeId) × IsNextTo s x p z × WalkTo s n z y
+WalkTo state zero from to = from ≡ to
+WalkTo state (suc links) from to =
+    (port : ℕ) × (neighbour : LifeId) × IsNextTo state from port neighbour × WalkTo state links neighbour to
 
--- n is the length of a shortest walk from x to y
-pub record IsDistance (s : Slice) (x y : LifeId) (n : ℕ) : Type 0 where
-  pub walk : WalkTo s n x y
-  pub least : (m : ℕ) → WalkTo s m x y → n ≤ m
+-- a shortest walk from one life to another has so many links
+pub record IsDistance (state : Slice) (from to : LifeId) (links : ℕ) : Type 0 where
+  pub walk : WalkTo state links from to
+  pub least : (walked : ℕ) → WalkTo state walked from to → links ≤ walked
 
--- z, to which port o of x leads, is one link nearer to r than x at this level
-pub record IsNearer (s : Slice) (r x : LifeId) (from o : ℕ) (z : LifeId) : Type 0 where
-  pub next : IsNextTo s x o z
+-- the other, to which the port of the life leads, is one link nearer to the root than the life at its level
+pub record IsNearer (state : Slice) (root_life life : LifeId) (own_level own_port : ℕ) (other : LifeId)
+    : Type 0 where
+  pub next : IsNextTo state life own_port other
   pub far : ℕ
-  pub distance : IsDistance s z r far
-  pub level : far + 1 ≡ from
+  pub distance : IsDistance state other root_life far
+  pub level : far + 1 ≡ own_level
 
--- the place of x in the tree of shortest walks to r: below r the parent is the least of the neighbours that
--- are one link nearer, by the least port to it
-pub record IsTreePlace (s : Slice) (r x : LifeId) (p : Place) : Type 0 where
-  pub root : p.root ≡ r
-  pub level : IsDistance s x r p.level
-  pub at_root : x ≡ r → (p.parent ≡ r) × (p.port ≡ 0)
-  pub parent : x ≢ r → IsNearer s r x p.level p.port p.parent
-  pub least : (o : ℕ) (z : LifeId) → x ≢ r → IsNearer s r x p.level o z
-      → IsTrue (is_le (life_cmp p.parent z)) × (p.parent ≡ z → p.port ≤ o)
+-- the place of a life in the tree of shortest walks to the root: below the root the parent is the least of
+-- the neighbours that are one link nearer, by the least port to it
+pub record IsTreePlace (state : Slice) (root_life life : LifeId) (place : Place) : Type 0 where
+  pub root : place.root ≡ root_life
+  pub level : IsDistance state life root_life place.level
+  pub at_root : life ≡ root_life → (place.parent ≡ root_life) × (place.port ≡ 0)
+  pub parent : life ≢ root_life → IsNearer state root_life life place.level place.port place.parent
+  pub least : (port : ℕ) (other : LifeId) → life ≢ root_life
+      → IsNearer state root_life life place.level port other
+      → IsTrue (is_le (life_cmp place.parent other)) × (place.parent ≡ other → place.port ≤ port)
 
--- z has joined and names port p of x at its port q
-pub record IsNamedBack (s : Slice) (x : LifeId) (z : LifeId) (p q : ℕ) : Type 0 where
+-- the other has joined and names the port of the life at its own
+pub record IsNamedBack (state : Slice) (life : LifeId) (other : LifeId) (port other_port : ℕ) : Type 0 where
   pub node : Node
-  pub joined : s z ≡ Some node
-  pub named : Names node.card q x p
+  pub joined : state other ≡ Some node
+  pub named : Names node.card other_port life port
 
--- x has joined, and each of its links is named at both ends
-pub record IsJoined (s : Slice) (x : LifeId) : Type 0 where
+-- the life has joined, and each of its links is named at both ends
+pub record IsJoined (state : Slice) (life : LifeId) : Type 0 where
   pub node : Node
-  pub joined : s x ≡ Some node
-  pub links : (p : ℕ) (z : LifeId) (q : ℕ) → Names node.card p z q → IsNamedBack s x z p q
+  pub joined : state life ≡ Some node
+  pub links : (port : ℕ) (other : LifeId) (other_port : ℕ) → Names node.card port other other_port
+      → IsNamedBack state life other port other_port
 
 -- the life is at its place, and will be
-pub record IsSettled (lives : List LifeId) (s : Slice) (r x : LifeId) (n : Node) : Type 0 where
-  pub place : IsTreePlace s r x (position n.card n.log)
-  pub stable : is_stable n.card n.log ≡ true
-  pub version : (t : Slice) (m : Node) → Run lives s t → t x ≡ Some m
-      → version m.card m.log ≡ version n.card n.log
-  pub stays : (t : Slice) (m : Node) → Run lives s t → t x ≡ Some m
-      → position m.card m.log ≡ position n.card n.log
+pub record IsSettled (lives : List LifeId) (state : Slice) (root_life life : LifeId) (node : Node)
+    : Type 0 where
+  pub place : IsTreePlace state root_life life (position node.card node.log)
+  pub stable : is_stable node.card node.log ≡ true
+  pub version : (later : Slice) (later_node : Node) → Run lives state later → later life ≡ Some later_node
+      → version later_node.card later_node.log ≡ version node.card node.log
+  pub stays : (later : Slice) (later_node : Node) → Run lives state later → later life ≡ Some later_node
+      → position later_node.card later_node.log ≡ position node.card node.log
 
--- e is the present entry of a life that is reached
-pub record IsMemberEntry (s : Slice) (r : LifeId) (e : EntryOf) : Type 0 where
+-- the entry is the present one of a life that is reached
+pub record IsMemberEntry (state : Slice) (from : LifeId) (entry : EntryOf) : Type 0 where
   pub life : LifeId
   pub node : Node
-  pub reached : Reached s r life
-  pub joined : s life ≡ Some node
-  pub is : e ≡ own_entry node.card node.log
+  pub reached : Reached state from life
+  pub joined : state life ≡ Some node
+  pub is : entry ≡ own_entry node.card node.log
 
--- What holds where r was stable at some moment with itself as root:
-pub record IsDetected (lives : List LifeId) (s : Slice) (r : LifeId) : Type 0 where
-  -- each life that is reached from r has joined, and each of its links is named at both ends
-  pub joined : (x : LifeId) → Reached s r x → IsJoined s x
-  -- r is the least of them
-  pub least : (x : LifeId) → Reached s r x → IsTrue (is_le (life_cmp r x))
+-- What holds where a life was stable at some moment with itself as root:
+pub record IsDetected (lives : List LifeId) (state : Slice) (root_life : LifeId) : Type 0 where
+  -- each life that is reached from it has joined, and each of its links is named at both ends
+  pub joined : (life : LifeId) → Reached state root_life life → IsJoined state life
+  -- it is the least of them
+  pub least : (life : LifeId) → Reached state root_life life → IsTrue (is_le (life_cmp root_life life))
   -- each has its place in the tree, is stable, and neither place nor version ever changes again
-  pub settled : (x : LifeId) (n : Node) → Reached s r x → s x ≡ Some n → IsSettled lives s r x n
+  pub settled : (life : LifeId) (node : Node) → Reached state root_life life → state life ≡ Some node
+      → IsSettled lives state root_life life node
   -- the same lives are reached ever after
-  pub members : (t : Slice) (x : LifeId) → Run lives s t → (Reached t r x) ↔ (Reached s r x)
-  -- the report of r, whenever it was stable, has the entry of each of them and no other, by rising life
-  pub entries : (n : Node) (h : Log) → s r ≡ Some n → Earlier h n.log → is_stable n.card h ≡ true
-      → (e : EntryOf)
-      → (Contains (report n.card h) e) ↔ (IsMemberEntry s r e)
-  pub rising : (n : Node) (h : Log) → s r ≡ Some n → Earlier h n.log → is_stable n.card h ≡ true
-      → LivesRise (report n.card h)
+  pub members : (later : Slice) (life : LifeId) → Run lives state later
+      → (Reached later root_life life) ↔ (Reached state root_life life)
+  -- its report, whenever it was stable, has the entry of each of them and no other, by rising life
+  pub entries : (root_node : Node) (moment : Log) → state root_life ≡ Some root_node
+      → Earlier moment root_node.log → is_stable root_node.card moment ≡ true
+      → (entry : EntryOf)
+      → (Contains (report root_node.card moment) entry) ↔ (IsMemberEntry state root_life entry)
+  pub rising : (root_node : Node) (moment : Log) → state root_life ≡ Some root_node
+      → Earlier moment root_node.log → is_stable root_node.card moment ≡ true
+      → LivesRise (report root_node.card moment)
   -- each topology that one of them has accepted, or that was sent to it, is that report with its numbering
-  pub accepted : (x : LifeId) (m : Node) (p : ℕ) (t : TopoOf) (n : Node) (h : Log) → Reached s r x
-      → s x ≡ Some m
-      → Contains m.log (record { port = p; body = Topo t })
-      → s r ≡ Some n → Earlier h n.log → is_stable n.card h ≡ true → t ≡ topology_of (report n.card h)
-  pub sent : (x z : LifeId) (m k : Node) (p q : ℕ) (t : TopoOf) (n : Node) (h : Log) → Reached s r x
-      → s x ≡ Some m
-      → Names m.card p z q → s z ≡ Some k → Contains (sent k.card q k.log) (Topo t)
-      → s r ≡ Some n → Earlier h n.log → is_stable n.card h ≡ true → t ≡ topology_of (report n.card h)
+  pub accepted : (life : LifeId) (node : Node) (port : ℕ) (topology : TopoOf) (root_node : Node)
+      (moment : Log) → Reached state root_life life
+      → state life ≡ Some node
+      → Contains node.log (record { port = port; body = Topo topology })
+      → state root_life ≡ Some root_node → Earlier moment root_node.log
+      → is_stable root_node.card moment ≡ true → topology ≡ topology_of (report root_node.card moment)
+  pub sent : (life other : LifeId) (node other_node : Node) (port other_port : ℕ) (topology : TopoOf)
+      (root_node : Node) (moment : Log) → Reached state root_life life
+      → state life ≡ Some node
+      → Names node.card port other other_port → state other ≡ Some other_node
+      → Contains (sent other_node.card other_port other_node.log) (Topo topology)
+      → state root_life ≡ Some root_node → Earlier moment root_node.log
+      → is_stable root_node.card moment ≡ true → topology ≡ topology_of (report root_node.card moment)
 
--- x has finished with the report of a life that was stable with itself as root, and from which it is reached;
--- its entries are those of the lives that are reached from there
-pub record FinishedUnder (s : Slice) (x : LifeId) (t : TopoOf) : Type 0 where
+-- a life has finished with the report of one that was stable with itself as root, and from which it is
+-- reached; its entries are those of the lives that are reached from there
+pub record FinishedUnder (state : Slice) (life : LifeId) (held : TopoOf) : Type 0 where
   pub root : LifeId
-  pub was : WasStableRoot s root
-  pub topology : t ≡ topology_of (report was.node.card was.moment)
-  pub reached : Reached s root x
-  pub entries : (e : EntryOf) → (Contains t.entries e) ↔ (IsMemberEntry s root e)
+  pub was : WasStableRoot state root
+  pub topology : held ≡ topology_of (report was.node.card was.moment)
+  pub reached : Reached state root life
+  pub entries : (entry : EntryOf) → (Contains held.entries entry) ↔ (IsMemberEntry state root entry)

@@ -19,89 +19,105 @@ pub record Game : Type 0 where
 
 -- one epoch of it
 abbrev pub slice : ℕ → Game → Slice
-slice e g x = g.nodes x e
+slice epoch game life = game.nodes life epoch
 
 -- at first each life is in some epoch that it has not joined
 abbrev pub begins : (LifeId → ℕ) → Game
-begins first = record { present = first; nodes = λ x e. None; loaded = λ x e. false }
+begins first = record { present = first; nodes = λ life epoch. None; loaded = λ life epoch. false }
 
--- the game with another node of x in an epoch
+-- the game with another node of a life in an epoch
 abbrev pub with_node_in : Game → ℕ → LifeId → Node → LifeId → ℕ → Option Node
-with_node_in g e x n y f = if e == f then with_node (slice f g) x n y else g.nodes y f
+with_node_in game epoch life node other other_epoch =
+    if epoch == other_epoch then with_node (slice other_epoch game) life node other
+    else game.nodes other other_epoch
 
 abbrev pub with_present : Game → LifeId → ℕ → LifeId → ℕ
-with_present g x e y = if is_eq (life_cmp x y) then e else g.present y
+with_present game life epoch other = if is_eq (life_cmp life other) then epoch else game.present other
 
 abbrev pub with_loaded : Game → LifeId → ℕ → LifeId → ℕ → Bool
-with_loaded g x e y f = if is_eq (life_cmp x y) then (if e == f then true else g.loaded y f) else g.loaded y f
+with_loaded game life epoch other other_epoch =
+    if is_eq (life_cmp life other) then (if epoch == other_epoch then true else game.loaded other other_epoch)
+    else game.loaded other other_epoch
 
--- x joins epoch e, in which it has this card
+-- a life joins an epoch, in which it has this card
 abbrev pub after_join : Game → LifeId → ℕ → CardOf → Game
-after_join g x e c =
+after_join game life epoch card =
     record {
-      present = with_present g x e;
-      nodes = with_node_in g e x (record { card = c; log = [] });
-      loaded = g.loaded;
+      present = with_present game life epoch;
+      nodes = with_node_in game epoch life (record { card = card; log = [] });
+      loaded = game.loaded;
     }
 
--- x accepts a body on a port in its present epoch
+-- a life accepts a body on a port in its present epoch
 abbrev pub after_accept : Game → LifeId → Node → ℕ → Body → Game
-after_accept g x n p b =
-    let next : Node = record { card = n.card; log = record { port = p; body = b } ∷ n.log } in
-    record { present = g.present; nodes = with_node_in g (g.present x) x next; loaded = g.loaded }
+after_accept game life node port body =
+    let next : Node = record { card = node.card; log = record { port = port; body = body } ∷ node.log } in
+    record {
+      present = game.present;
+      nodes = with_node_in game (game.present life) life next;
+      loaded = game.loaded;
+    }
 
--- x loads in its present epoch
+-- a life loads in its present epoch
 abbrev pub after_load : Game → LifeId → Game
-after_load g x = record { present = g.present; nodes = g.nodes; loaded = with_loaded g x (g.present x) }
+after_load game life =
+    record { present = game.present; nodes = game.nodes; loaded = with_loaded game life (game.present life) }
 
 -- some life has sent a body in the epoch
-pub record HasSent (g : Game) (e : ℕ) : Type 0 where
+pub record HasSent (game : Game) (epoch : ℕ) : Type 0 where
   pub life : LifeId
   pub node : Node
-  pub joined : g.nodes life e ≡ Some node
+  pub joined : game.nodes life epoch ≡ Some node
   pub port : ℕ
   pub sent : sent node.card port node.log ≢ []
 
 -- the epoch is a greater one: the next, or one in which a body was sent
-pub record MayJoin (g : Game) (x : LifeId) (e : ℕ) : Type 0 where
-  pub greater : g.present x < e
-  pub known : (e ≡ g.present x + 1) ⊎ HasSent g e
+pub record MayJoin (game : Game) (life : LifeId) (epoch : ℕ) : Type 0 where
+  pub greater : game.present life < epoch
+  pub known : (epoch ≡ game.present life + 1) ⊎ HasSent game epoch
 
 -- The moves: a life joins a greater epoch and leaves its present one; a life accepts in its present epoch, on
--- port p, the next body of what z sent on q, where each names the other, even if z has left; a life that has
--- finished loads in its present epoch, once.
-pub data Play (lives : List LifeId) (g : Game) : Game → Type 0 where
-  none : Play lives g g
-  joins : (h : Game) (x : LifeId) (e : ℕ) (c : CardOf) → Play lives g h
-      → MayJoin h x e → Contains lives x → IsCardOf x c
-      → Play lives g (after_join h x e c)
-  accepts : (h : Game) (x z : LifeId) (p q : ℕ) (n m : Node) (b : Body) → Play lives g h
-      → h.nodes x (h.present x) ≡ Some n → h.nodes z (h.present x) ≡ Some m → Names n.card p z q
-      → Names m.card q x p
-      → Earlier (b ∷ on_port p n.log) (sent m.card q m.log)
-      → Play lives g (after_accept h x n p b)
-  loads : (h : Game) (x : LifeId) (n : Node) (t : TopoOf) → Play lives g h
-      → h.nodes x (h.present x) ≡ Some n → finish n.card n.log ≡ Some t → h.loaded x (h.present x) ≡ false
-      → Play lives g (after_load h x)
+-- a port, the next body of what another sent on the far one, where each names the other, even if that
+-- one has left; a life that has finished loads in its present epoch, once.
+pub data Play (lives : List LifeId) (game : Game) : Game → Type 0 where
+  none : Play lives game game
+  joins : (later : Game) (life : LifeId) (epoch : ℕ) (card : CardOf) → Play lives game later
+      → MayJoin later life epoch → Contains lives life → IsCardOf life card
+      → Play lives game (after_join later life epoch card)
+  accepts : (later : Game) (life other : LifeId) (port other_port : ℕ) (node other_node : Node) (body : Body)
+      → Play lives game later
+      → later.nodes life (later.present life) ≡ Some node
+      → later.nodes other (later.present life) ≡ Some other_node → Names node.card port other other_port
+      → Names other_node.card other_port life port
+      → Earlier (body ∷ on_port port node.log) (sent other_node.card other_port other_node.log)
+      → Play lives game (after_accept later life node port body)
+  loads : (later : Game) (life : LifeId) (node : Node) (topology : TopoOf) → Play lives game later
+      → later.nodes life (later.present life) ≡ Some node → finish node.card node.log ≡ Some topology
+      → later.loaded life (later.present life) ≡ false
+      → Play lives game (after_load later life)
 
 -- a life has finished in the epoch
-pub record HasFinished (g : Game) (x : LifeId) (e : ℕ) : Type 0 where
+pub record HasFinished (game : Game) (life : LifeId) (epoch : ℕ) : Type 0 where
   pub node : Node
-  pub joined : g.nodes x e ≡ Some node
+  pub joined : game.nodes life epoch ≡ Some node
   pub topology : TopoOf
   pub finish : finish node.card node.log ≡ Some topology
 
--- What holds of an epoch in which r was stable at some moment with itself as root, now and in all that the
--- game may still do:
-pub record IsDetectedIn (lives : List LifeId) (g : Game) (e : ℕ) (r : LifeId) : Type 0 where
-  pub detected : IsDetected lives (slice e g) r
-  -- the same lives are reached from r in that epoch ever after
-  pub members : (h : Game) (x : LifeId) → Play lives g h
-      → (Reached (slice e h) r x) ↔ (Reached (slice e g) r x)
+-- What holds of an epoch in which a life was stable at some moment with itself as root, now and in all that
+-- the game may still do:
+pub record IsDetectedIn (lives : List LifeId) (game : Game) (epoch : ℕ) (root_life : LifeId) : Type 0 where
+  pub detected : IsDetected lives (slice epoch game) root_life
+  -- the same lives are reached from it in that epoch ever after
+  pub members : (later : Game) (life : LifeId) → Play lives game later
+      → (Reached (slice epoch later) root_life life) ↔ (Reached (slice epoch game) root_life life)
   -- and each keeps its version and its position there
-  pub version : (x : LifeId) (n m : Node) (h : Game) → Reached (slice e g) r x → g.nodes x e ≡ Some n
-      → Play lives g h
-      → h.nodes x e ≡ Some m → version m.card m.log ≡ version n.card n.log
-  pub position : (x : LifeId) (n m : Node) (h : Game) → Reached (slice e g) r x → g.nodes x e ≡ Some n
-      → Play lives g h
-      → h.nodes x e ≡ Some m → position m.card m.log ≡ position n.card n.log
+  pub version : (life : LifeId) (node later_node : Node) (later : Game)
+      → Reached (slice epoch game) root_life life → game.nodes life epoch ≡ Some node
+      → Play lives game later
+      → later.nodes life epoch ≡ Some later_node
+      → version later_node.card later_node.log ≡ version node.card node.log
+  pub position : (life : LifeId) (node later_node : Node) (later : Game)
+      → Reached (slice epoch game) root_life life → game.nodes life epoch ≡ Some node
+      → Play lives game later
+      → later.nodes life epoch ≡ Some later_node
+      → position later_node.card later_node.log ≡ position node.card node.log

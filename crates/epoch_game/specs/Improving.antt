@@ -7,43 +7,49 @@ use Rattle.epoch_core.specs.Epoch.{version, position}
 use Rattle.epoch_core.specs.Laws.{IsAtMost}
 use Rattle.epoch_game.specs.Slice.{Earlier, Node, Slice, Names}
 
--- y had this root at some moment, at this level or a lesser one
-pub record Had (s : Slice) (r : LifeId) (most : ℕ) (y : LifeId) : Type 0 where
+-- the life had this root at some moment, at this level or a lesser one
+pub record Had (state : Slice) (root_life : LifeId) (most : ℕ) (life : LifeId) : Type 0 where
   pub node : Node
-  pub joined : s y ≡ Some node
+  pub joined : state life ≡ Some node
   pub moment : Log
   pub earlier : Earlier moment node.log
-  pub root : (position node.card moment).root ≡ r
+  pub root : (position node.card moment).root ≡ root_life
   pub level : (position node.card moment).level ≤ most
 
 -- one life more than the level says had the root of the place, each at its level or a lesser one
-pub record IsShared (s : Slice) (p : Place) : Type 0 where
+pub record IsShared (state : Slice) (place : Place) : Type 0 where
   pub lives : List LifeId
-  pub apart : AllPairs (λ a b. a ≢ b) lives
-  pub count : length lives ≡ suc p.level
-  pub had : (y : LifeId) → Contains lives y → Had s p.root p.level y
+  pub apart : AllPairs (λ one another. one ≢ another) lives
+  pub count : length lives ≡ suc place.level
+  pub had : (life : LifeId) → Contains lives life → Had state place.root place.level life
 
--- what a neighbour's position gives behind the link at port p to z, whatever its level
+-- what a neighbour's position gives behind the link to it at a port, whatever its level
 abbrev pub behind_link : PosOf → LifeId → ℕ → Place
-behind_link told z p = record { root = told.root; level = told.level + 1; parent = z; port = p }
+behind_link told other port = record { root = told.root; level = told.level + 1; parent = other; port = port }
 
--- What holds of the positions of each life x that has joined, at moments of it:
-pub record OnlyImproves (s : Slice) : Type 0 where
+-- What holds of the positions of each life that has joined, at moments of it:
+pub record OnlyImproves (state : Slice) : Type 0 where
   -- later positions are no greater
-  pub improving : (x : LifeId) (n : Node) (h g : Log) → s x ≡ Some n → Earlier h g → Earlier g n.log
-      → IsAtMost (position n.card g) (position n.card h)
+  pub improving : (life : LifeId) (node : Node) (before after : Log) → state life ≡ Some node
+      → Earlier before after → Earlier after node.log
+      → IsAtMost (position node.card after) (position node.card before)
   -- none is above what the last offer on a link gives: the bound on levels takes away no candidate that would
   -- be the least
-  pub uncut : (x : LifeId) (n : Node) (h : Log) (p : ℕ) (z : LifeId) (q : ℕ) (told : PosOf) → s x ≡ Some n
-      → Earlier h n.log
-      → Names n.card p z q → last_pos (on_port p h) ≡ Some told
-      → IsAtMost (position n.card h) (behind_link told z p)
+  pub uncut : (life : LifeId) (node : Node) (moment : Log) (port : ℕ) (other : LifeId) (other_port : ℕ)
+      (told : PosOf) → state life ≡ Some node
+      → Earlier moment node.log
+      → Names node.card port other other_port → last_pos (on_port port moment) ≡ Some told
+      → IsAtMost (position node.card moment) (behind_link told other port)
   -- a later version has no greater position
-  pub later : (x : LifeId) (n : Node) (h g : Log) → s x ≡ Some n → Earlier h n.log → Earlier g n.log
-      → version n.card h ≤ version n.card g → IsAtMost (position n.card g) (position n.card h)
+  pub later : (life : LifeId) (node : Node) (moment another : Log) → state life ≡ Some node
+      → Earlier moment node.log → Earlier another node.log
+      → version node.card moment ≤ version node.card another
+      → IsAtMost (position node.card another) (position node.card moment)
   -- a position is never taken again
-  pub once : (x : LifeId) (n : Node) (h g : Log) → s x ≡ Some n → Earlier h n.log → Earlier g n.log
-      → position n.card h ≡ position n.card g → version n.card h ≡ version n.card g
+  pub once : (life : LifeId) (node : Node) (moment another : Log) → state life ≡ Some node
+      → Earlier moment node.log → Earlier another node.log
+      → position node.card moment ≡ position node.card another
+      → version node.card moment ≡ version node.card another
   -- as many lives as its level says came before it at its root
-  pub shared : (x : LifeId) (n : Node) (h : Log) → s x ≡ Some n → Earlier h n.log
-      → IsShared s (position n.card h)
+  pub shared : (life : LifeId) (node : Node) (moment : Log) → state life ≡ Some node → Earlier moment node.log
+      → IsShared state (position node.card moment)

@@ -8,10 +8,10 @@ use Rattle.an_base.specs.declared.body.Body.{Body}
 use Rattle.epoch_core.specs.Log.{CardOf, Log, on_port}
 use Rattle.epoch_core.specs.Epoch.{sent}
 
--- Lists have the newest first. h is what l was at some moment, or is now: a tail of it.
+-- Lists have the newest first. The one is what the other was at some moment, or is now: a tail of it.
 abbrev pub Earlier : {A : Type 0} → List A → List A → Type 0
-Earlier h [] = h ≡ []
-Earlier h (x ∷ l) = (h ≡ x ∷ l) ⊎ Earlier h l
+Earlier moment [] = moment ≡ []
+Earlier moment (newest ∷ rest) = (moment ≡ newest ∷ rest) ⊎ Earlier moment rest
 
 -- a life that joined an epoch: what was fixed then, and what it accepted since
 pub record Node : Type 0 where
@@ -25,38 +25,45 @@ Slice = LifeId → Option Node
 
 -- nobody has joined
 abbrev pub nobody : Slice
-nobody x = None
+nobody life = None
 
--- the epoch with another node of x
+-- the epoch with another node of a life
 abbrev pub with_node : Slice → LifeId → Node → Slice
-with_node s x n y = if is_eq (life_cmp x y) then Some n else s y
+with_node state life node other = if is_eq (life_cmp life other) then Some node else state other
 
 -- the far end of the link at a port
 abbrev pub link_at : ℕ → List PeerAt → Option EndId
-link_at p [] = None
-link_at p (k ∷ ks) = if k.port == p then Some k.peer else link_at p ks
+link_at port [] = None
+link_at port (link ∷ rest) = if link.port == port then Some link.peer else link_at port rest
 
--- the life names port q of z as the far end of its port p
+-- the life names a port of another as the far end of its own port
 abbrev pub Names : CardOf → ℕ → LifeId → ℕ → Type 0
-Names c p z q = link_at p c.links ≡ Some (record { life = z; port = q })
+Names card port other other_port = link_at port card.links ≡ Some (record { life = other; port = other_port })
 
--- what x may join with: its links by rising port, 1 to 12, and none to itself. The ends that they name need
--- not exist, nor name x.
-pub record IsCardOf (x : LifeId) (c : CardOf) : Type 0 where
-  pub me : c.me ≡ x
-  pub ports : PortsRise c.links
-  pub least : All (λ k. 1 ≤ k.port) c.links
-  pub most : All (λ k. k.port ≤ 12) c.links
-  pub others : All (λ k. k.peer.life ≢ x) c.links
+-- what a life may join with: its links by rising port, 1 to 12, and none to itself. The ends that they name
+-- need not exist, nor name the life.
+pub record IsCardOf (life : LifeId) (card : CardOf) : Type 0 where
+  pub me : card.me ≡ life
+  pub ports : PortsRise card.links
+  pub least : All (λ link. 1 ≤ link.port) card.links
+  pub most : All (λ link. link.port ≤ 12) card.links
+  pub others : All (λ link. link.peer.life ≢ life) card.links
 
--- The lives and moves of an epoch: one of the lives joins with a card of its own, or accepts on port p the
--- next body of what z sent on q, where each names the other. A life that leaves only makes no more moves.
-pub data Run (lives : List LifeId) (s : Slice) : Slice → Type 0 where
-  none : Run lives s s
-  joins : (t : Slice) (x : LifeId) (c : CardOf) → Run lives s t
-      → t x ≡ None → Contains lives x → IsCardOf x c
-      → Run lives s (with_node t x (record { card = c; log = [] }))
-  accepts : (t : Slice) (x z : LifeId) (p q : ℕ) (n m : Node) (b : Body) → Run lives s t
-      → t x ≡ Some n → t z ≡ Some m → Names n.card p z q → Names m.card q x p
-      → Earlier (b ∷ on_port p n.log) (sent m.card q m.log)
-      → Run lives s (with_node t x (record { card = n.card; log = record { port = p; body = b } ∷ n.log }))
+-- The lives and moves of an epoch: one of the lives joins with a card of its own, or accepts on a port the
+-- next body of what another sent on the far one, where each names the other. A life that leaves only makes no
+-- more moves.
+pub data Run (lives : List LifeId) (state : Slice) : Slice → Type 0 where
+  none : Run lives state state
+  joins : (later : Slice) (life : LifeId) (card : CardOf) → Run lives state later
+      → later life ≡ None → Contains lives life → IsCardOf life card
+      → Run lives state (with_node later life (record { card = card; log = [] }))
+  accepts : (later : Slice) (life other : LifeId) (port other_port : ℕ) (node other_node : Node) (body : Body)
+      → Run lives state later
+      → later life ≡ Some node → later other ≡ Some other_node → Names node.card port other other_port
+      → Names other_node.card other_port life port
+      → Earlier (body ∷ on_port port node.log) (sent other_node.card other_port other_node.log)
+      → Run lives state
+      (with_node later life (record {
+        card = node.card;
+        log = record { port = port; body = body } ∷ node.log;
+      }))

@@ -19,21 +19,21 @@ ghost use Rattle.epoch_game.specs.Game.{Game, slice, begins, Play, HasFinished, 
 /// to its parent, the report of a stable moment of that version, the last position that it answered,
 /// and the topology with which it finished. The last answer names the version that has its number.
 pub fn streams_show_their_senders()
-    ensures { (lives : List LifeId) (s : Slice) → Run lives nobody s → HasStreams lives s }
+    ensures { (lives : List LifeId) (state : Slice) → Run lives nobody state → HasStreams lives state }
 {}
 
 /// From then on a life that has joined keeps its card, and its list only grows.
 pub fn lists_only_grow()
-    ensures { (lives : List LifeId) (s t : Slice) (x : LifeId) (n : Node)
-        → Run lives s t → s x ≡ Some n → HasGrown t x n }
+    ensures { (lives : List LifeId) (state later : Slice) (life : LifeId) (node : Node)
+        → Run lives state later → state life ≡ Some node → HasGrown later life node }
 {}
 
 /// In every run of at most 126 lives the position of a life only gets less, is never above what the last
 /// offer on a link gives, of whatever level, and is never taken again once left; and one life more than
 /// its level says had its root at that level or a lesser one.
 pub fn positions_only_improve()
-    ensures { (lives : List LifeId) (s : Slice)
-        → length lives ≤ 126 → Run lives nobody s → OnlyImproves s }
+    ensures { (lives : List LifeId) (state : Slice)
+        → length lives ≤ 126 → Run lives nobody state → OnlyImproves state }
 {}
 
 /// In every run of at most 126 lives a life that is stable stays so while its version stays. Who was not
@@ -42,16 +42,16 @@ pub fn positions_only_improve()
 /// last version with it. So nobody leaves a life that was once stable with itself as root, and whoever
 /// ever had it as root is stable.
 pub fn nobody_leaves_a_stable_root()
-    ensures { (lives : List LifeId) (s : Slice)
-        → length lives ≤ 126 → Run lives nobody s → NobodyLeaves s }
+    ensures { (lives : List LifeId) (state : Slice)
+        → length lives ≤ 126 → Run lives nobody state → NobodyLeaves state }
 {}
 
 /// In every run of at most 126 lives the report of a stable life has its own entry, and otherwise
 /// entries that lives had under its root. In its present version it has the present entry of each life
 /// whose present positions lead to it.
 pub fn reports_are_true()
-    ensures { (lives : List LifeId) (s : Slice)
-        → length lives ≤ 126 → Run lives nobody s → ReportsAreTrue s }
+    ensures { (lives : List LifeId) (state : Slice)
+        → length lives ≤ 126 → Run lives nobody state → ReportsAreTrue state }
 {}
 
 /// In every run of at most 126 lives, once a life is stable with itself as root: each life that is
@@ -60,79 +60,87 @@ pub fn reports_are_true()
 /// of each of them and no other; and each topology that reaches one of them is that report with its
 /// numbering. No other life is ever reached from it.
 pub fn a_stable_root_detects_the_end()
-    ensures { (lives : List LifeId) (s : Slice) (r : LifeId)
-        → length lives ≤ 126 → Run lives nobody s → WasStableRoot s r → IsDetected lives s r }
+    ensures { (lives : List LifeId) (state : Slice) (root_life : LifeId)
+        → length lives ≤ 126 → Run lives nobody state → WasStableRoot state root_life
+        → IsDetected lives state root_life }
 {}
 
 /// In every run of at most 126 lives, whoever has finished holds the report and numbering of a life
 /// that was stable with itself as root, and is reached from it.
 pub fn a_finish_comes_from_a_stable_root()
-    ensures { (lives : List LifeId) (s : Slice) (x : LifeId) (n : Node) (t : TopoOf)
-        → length lives ≤ 126 → Run lives nobody s
-        → s x ≡ Some n → finish n.card n.log ≡ Some t → FinishedUnder s x t }
+    ensures { (lives : List LifeId) (state : Slice) (life : LifeId) (node : Node) (topology : TopoOf)
+        → length lives ≤ 126 → Run lives nobody state
+        → state life ≡ Some node → finish node.card node.log ≡ Some topology
+        → FinishedUnder state life topology }
 {}
 
 /// In every run of at most 126 lives no life is reached from two lives that were stable as their own
 /// roots.
 pub fn stable_roots_share_no_life()
-    ensures { (lives : List LifeId) (s : Slice) (r q x : LifeId)
-        → length lives ≤ 126 → Run lives nobody s → WasStableRoot s r → WasStableRoot s q
-        → Reached s r x → Reached s q x → r ≡ q }
+    ensures { (lives : List LifeId) (state : Slice) (root_life other_root life : LifeId)
+        → length lives ≤ 126 → Run lives nobody state → WasStableRoot state root_life
+        → WasStableRoot state other_root
+        → Reached state root_life life → Reached state other_root life → root_life ≡ other_root }
 {}
 
 /// In every run of at most 126 lives two lives that have finished under one root hold one topology.
 pub fn one_root_gives_one_topology()
-    ensures { (lives : List LifeId) (s : Slice) (x y : LifeId) (n m : Node) (t u : TopoOf) (e f : EntryOf)
-        → length lives ≤ 126 → Run lives nobody s
-        → s x ≡ Some n → finish n.card n.log ≡ Some t → Contains t.entries e
-        → s y ≡ Some m → finish m.card m.log ≡ Some u → Contains u.entries f
-        → e.position.root ≡ f.position.root → t ≡ u }
+    ensures { (lives : List LifeId) (state : Slice) (life other : LifeId) (node other_node : Node)
+        (topology other_topology : TopoOf) (entry other_entry : EntryOf)
+        → length lives ≤ 126 → Run lives nobody state
+        → state life ≡ Some node → finish node.card node.log ≡ Some topology → Contains topology.entries entry
+        → state other ≡ Some other_node → finish other_node.card other_node.log ≡ Some other_topology
+        → Contains other_topology.entries other_entry
+        → entry.position.root ≡ other_entry.position.root → topology ≡ other_topology }
 {}
 
 /// In every run of at most 126 lives the topology with which a life has finished is a graph, and each
 /// of its entries has its place in the tree of shortest walks to the least life. So its lives are one
 /// component of its links.
 pub fn a_finish_is_a_tree()
-    ensures { (lives : List LifeId) (s : Slice) (x : LifeId) (n : Node) (t : TopoOf)
-        → length lives ≤ 126 → Run lives nobody s
-        → s x ≡ Some n → finish n.card n.log ≡ Some t → IsGraph t.entries × IsTree t.entries }
+    ensures { (lives : List LifeId) (state : Slice) (life : LifeId) (node : Node) (topology : TopoOf)
+        → length lives ≤ 126 → Run lives nobody state
+        → state life ≡ Some node → finish node.card node.log ≡ Some topology
+        → IsGraph topology.entries × IsTree topology.entries }
 {}
 
-/// In every run of at most 126 lives, where each life that is reached from x over links has joined, with
+/// In every run of at most 126 lives, where each life that is reached from one over links has joined, with
 /// each of its links named at both ends, and has accepted all that was sent to it: one of them is
 /// stable with itself as root, all are stable in their places in the tree of shortest walks to it, and
 /// each has finished with one topology, whose entries are those of these lives and no other.
 pub fn a_delivered_component_has_finished()
-    ensures { (lives : List LifeId) (s : Slice) (x : LifeId)
-        → length lives ≤ 126 → Run lives nobody s → IsDelivered s x → HasEnded lives s x }
+    ensures { (lives : List LifeId) (state : Slice) (life : LifeId)
+        → length lives ≤ 126 → Run lives nobody state → IsDelivered state life → HasEnded lives state life }
 {}
 
 /// What the game of all epochs does is a run of each epoch, in which a life that has left makes no more
 /// moves. So the laws of an epoch hold in each epoch of every state of the game, and from each such state on.
 pub fn each_epoch_is_a_run()
-    ensures reached { (lives : List LifeId) (first : LifeId → ℕ) (g : Game) (e : ℕ)
-        → Play lives (begins first) g → Run lives nobody (slice e g) }
-    ensures later { (lives : List LifeId) (first : LifeId → ℕ) (g h : Game) (e : ℕ)
-        → Play lives (begins first) g → Play lives g h → Run lives (slice e g) (slice e h) }
+    ensures reached { (lives : List LifeId) (first : LifeId → ℕ) (game : Game) (epoch : ℕ)
+        → Play lives (begins first) game → Run lives nobody (slice epoch game) }
+    ensures later { (lives : List LifeId) (first : LifeId → ℕ) (game later : Game) (epoch : ℕ)
+        → Play lives (begins first) game → Play lives game later
+        → Run lives (slice epoch game) (slice epoch later) }
 {}
 
 /// In every state of the game of at most 126 lives, and in each epoch: once a life is stable with itself
 /// as root, all that is said above of the lives reached from it holds, and nothing that the game still
 /// does changes which lives these are, nor the version or the position of one of them.
 pub fn termination_is_detected()
-    ensures { (lives : List LifeId) (first : LifeId → ℕ) (g : Game) (e : ℕ) (r : LifeId)
-        → length lives ≤ 126 → Play lives (begins first) g → WasStableRoot (slice e g) r
-        → IsDetectedIn lives g e r }
+    ensures { (lives : List LifeId) (first : LifeId → ℕ) (game : Game) (epoch : ℕ) (root_life : LifeId)
+        → length lives ≤ 126 → Play lives (begins first) game → WasStableRoot (slice epoch game) root_life
+        → IsDetectedIn lives game epoch root_life }
 {}
 
 /// In every state of the game, who has loaded in an epoch has finished there.
 pub fn who_has_loaded_has_finished()
-    ensures { (lives : List LifeId) (first : LifeId → ℕ) (g : Game) (x : LifeId) (e : ℕ)
-        → Play lives (begins first) g → g.loaded x e ≡ true → HasFinished g x e }
+    ensures { (lives : List LifeId) (first : LifeId → ℕ) (game : Game) (life : LifeId) (epoch : ℕ)
+        → Play lives (begins first) game → game.loaded life epoch ≡ true → HasFinished game life epoch }
 {}
 
 /// In every state of the game no life has joined an epoch above its present one.
 pub fn no_life_has_joined_an_epoch_ahead()
-    ensures { (lives : List LifeId) (first : LifeId → ℕ) (g : Game) (x : LifeId) (e : ℕ) (n : Node)
-        → Play lives (begins first) g → g.nodes x e ≡ Some n → e ≤ g.present x }
+    ensures { (lives : List LifeId) (first : LifeId → ℕ) (game : Game) (life : LifeId) (epoch : ℕ)
+        (node : Node)
+        → Play lives (begins first) game → game.nodes life epoch ≡ Some node → epoch ≤ game.present life }
 {}

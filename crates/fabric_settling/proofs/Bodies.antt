@@ -55,7 +55,7 @@ use Rattle.fabric_settling.proofs.Works.{all_joined}
 
 -- each link is a run from its base on
 abbrev pub AreRuns : ScriptOf → Type 0
-AreRuns script = (h : List Event) → is_some_spent (world_after script h).fabric ≡ false → (l : LinkOf) → IsLinkOf script l → (l.s ≡ l.t → ⊥) → IsRun (last script h + 259) (world_after script h) l
+AreRuns script = (h : List Event) → is_some_spent (world_after script h).fabric ≡ false → (l : LinkOf) → IsLinkOf script l → (l.place ≡ l.far_place → ⊥) → IsRun (last script h + 259) (world_after script h) l
 
 -- on a link something was pushed, since joining tells the position
 position_told : (v : ℕ) (place : Place) (ls : List PeerAt) (q : ℕ) → is_some (peer_among ls q) ≡ true → 1 ≤ length (on_port q (map (pos_at v place) ls))
@@ -113,9 +113,9 @@ sent_some script h s p peer k low linked =
 pub record IsPeerBy (script : ScriptOf) (h : List Event) (s p : ℕ) (peer : EndId) : Type 0 where
   pub link : LinkOf
   pub is : IsLinkOf script link
-  pub s_is : link.s ≡ s
-  pub p_is : link.p ≡ p
-  pub up : is_up (world_after script h).fabric link.s link.p ≡ true
+  pub s_is : link.place ≡ s
+  pub p_is : link.port ≡ p
+  pub up : is_up (world_after script h).fabric link.place link.port ≡ true
   pub peer_is : peer ≡ end_there (world_after script h) link
   pub differ : ((end_there (world_after script h) link).life.uid == (end_here (world_after script h) link).life.uid) ≡ false
 
@@ -140,7 +140,7 @@ peer_by script h s p peer kept true up None behind is = absurd (none_some is)
 peer_by script h s p peer kept true up (Some (far.HostAt n)) behind is = absurd (none_some is)
 peer_by script h s p peer kept true up (Some (far.Switch t q)) behind is =
     let w = world_after script h in
-    let l : LinkOf = record { s = s; p = p; t = t; q = q } in
+    let l : LinkOf = record { place = s; port = p; far_place = t; far_port = q } in
     let known = known_peer (end_here w l) (end_there w l) peer is in
     record { link = l; is = link_of script kept s p t q behind; s_is = refl; p_is = refl; up = up; peer_is = known.0; differ = known.1 }
 
@@ -154,23 +154,23 @@ known_good_peer : (own other : EndId) → (other.life.uid == own.life.uid) ≡ f
 unfolding good_of known_view
 known_good_peer own other differ = ap (λ b. good_of (record { state = cond b state.Loop state.Good; peer = Some other })) differ
 
-pub back_peer : (script : ScriptOf) (h : List Event) (l : LinkOf) → IsLate script h → IsLinkOf script l → is_up (world_after script h).fabric l.s l.p ≡ true → ((end_there (world_after script h) l).life.uid == (end_here (world_after script h) l).life.uid) ≡ false → good_peer ((world_after script h).switches l.s) l.p ≡ Some (end_there (world_after script h) l)
+pub back_peer : (script : ScriptOf) (h : List Event) (l : LinkOf) → IsLate script h → IsLinkOf script l → is_up (world_after script h).fabric l.place l.port ≡ true → ((end_there (world_after script h) l).life.uid == (end_here (world_after script h) l).life.uid) ≡ false → good_peer ((world_after script h).switches l.place) l.port ≡ Some (end_there (world_after script h) l)
 unfolding final_view behind_view
 back_peer script h l k is up differ =
     let w = world_after script h in
-    let port = port_of (w.switches l.s) l.p in
+    let port = port_of (w.switches l.place) l.port in
     good_shown port.phase port.far.conn
-    ∙ ap good_of (port_shows script h l.s l.p k is.here.s_below is.here.p_least is.here.p_most)
+    ∙ ap good_of (port_shows script h l.place l.port k is.here.s_below is.here.p_least is.here.p_most)
     ∙ (λ i. good_of (cond (up i) (behind_view (lives_of w) (end_here w l) (is.far i)) dead_view))
     ∙ known_good_peer (end_here w l) (end_there w l) differ
 
-pub session_is : (script : ScriptOf) (h : List Event) (l : LinkOf) → IsLate script h → IsLinkOf script l → is_up (world_after script h).fabric l.s l.p ≡ true → ((end_there (world_after script h) l).life.uid == (end_here (world_after script h) l).life.uid) ≡ false → peer_among ((world_after script h).switches l.s).card.links l.p ≡ Some (end_there (world_after script h) l)
-session_is script h l k is up differ = links_good script h l.s l.p k is.here.s_below is.here.p_least is.here.p_most ∙ back_peer script h l k is up differ
+pub session_is : (script : ScriptOf) (h : List Event) (l : LinkOf) → IsLate script h → IsLinkOf script l → is_up (world_after script h).fabric l.place l.port ≡ true → ((end_there (world_after script h) l).life.uid == (end_here (world_after script h) l).life.uid) ≡ false → peer_among ((world_after script h).switches l.place).card.links l.port ≡ Some (end_there (world_after script h) l)
+session_is script h l k is up differ = links_good script h l.place l.port k is.here.s_below is.here.p_least is.here.p_most ∙ back_peer script h l k is up differ
 
 -- the way at the end of a tick
 still_way : (script : ScriptOf) (h : List Event) (l : LinkOf) → IsScript script → IsAtTick script h → IsLinkOf script l → IsStill (way (world_after script h) l)
 still_way script h l kept at is = record {
-  late = ap (λ b. cond b 3 4) (all_clocked script kept h l.s at is.here.s_below);
+  late = ap (λ b. cond b 3 4) (all_clocked script kept h l.place at is.here.s_below);
   no_carry = λ n found. false≢true (sym (none_under _ script h l at is) ∙ found);
   no_ack = λ n found. false≢true (sym (none_under _ script h (turned l) at (link_turned script l is)) ∙ found);
 }
@@ -178,21 +178,21 @@ still_way script h l kept at is = record {
 differ_turned : (a b : ℕ) → (a == b) ≡ false → (b == a) ≡ false
 differ_turned a b other = Rattle.std.proofs.Common.ne_eqb b a (λ e. true≢false (sym (Rattle.std.proofs.Common.eq-eqb a b (sym e)) ∙ other))
 
-link_through : (script : ScriptOf) (h : List Event) (l : LinkOf) → AreRuns script → IsLate script h → IsAtTick script h → IsLinkOf script l → is_up (world_after script h).fabric l.s l.p ≡ true
-    → ((end_there (world_after script h) l).life.uid == (end_here (world_after script h) l).life.uid) ≡ false → last script h + 262 ≤ (world_after script h).fabric.tick → is_unacked (((world_after script h).switches l.s).sendings l.p) ≡ false
+link_through : (script : ScriptOf) (h : List Event) (l : LinkOf) → AreRuns script → IsLate script h → IsAtTick script h → IsLinkOf script l → is_up (world_after script h).fabric l.place l.port ≡ true
+    → ((end_there (world_after script h) l).life.uid == (end_here (world_after script h) l).life.uid) ≡ false → last script h + 262 ≤ (world_after script h).fabric.tick → is_unacked (((world_after script h).switches l.place).sendings l.port) ≡ false
 link_through script h l runs k at is up differ late =
     let w = world_after script h in
     let back = link_turned script l is in
     let up_back = up_turned script k.kept h l is up in
     let here_peer = session_is script h l k is up differ in
-    let apart : l.s ≡ l.t → ⊥ = λ e. true≢false (sym (Rattle.std.proofs.Common.eq-eqb _ _ (ap (λ n. (lives_of w n).uid) (sym e))) ∙ differ) in
+    let apart : l.place ≡ l.far_place → ⊥ = λ e. true≢false (sym (Rattle.std.proofs.Common.eq-eqb _ _ (ap (λ n. (lives_of w n).uid) (sym e))) ∙ differ) in
     let there_peer = session_is script h (turned l) k back up_back (differ_turned _ _ differ) in
     let all = run_acknowledged (last script h + 259) w l (runs h k.works l is apart) (runs h k.works (turned l) back (λ e. apart (sym e)))
     (ap (λ o. is_end o (end_there w l)) here_peer ∙ same_end (end_there w l)) (ap (λ o. is_end o (end_here w l)) there_peer ∙ same_end (end_here w l))
-    (sent_some script h l.s l.p (end_there w l) k is.here.s_below here_peer) (sent_some script h l.t l.q (end_here w l) k back.here.s_below there_peer)
+    (sent_some script h l.place l.port (end_there w l) k is.here.s_below here_peer) (sent_some script h l.far_place l.far_port (end_here w l) k back.here.s_below there_peer)
     (still_way script h l k.kept at is) (still_way script h (turned l) k.kept at back) (omega (arith, late))
     in
-    none_unacked ((w.switches l.s).sendings l.p) (all_filled script h l.s l.p) all.1
+    none_unacked ((w.switches l.place).sendings l.port) (all_filled script h l.place l.port) all.1
 
 -- each port
 port_through : (script : ScriptOf) (h : List Event) (s p : ℕ) → AreRuns script → IsLate script h → IsAtTick script h → s < places script → 1 ≤ p → p ≤ 12 → last script h + 262 ≤ (world_after script h).fabric.tick → is_unacked (((world_after script h).switches s).sendings p) ≡ false

@@ -30,10 +30,10 @@ use Rattle.fabric_settling.proofs.Viewed.{IsMoment, view_goes}
 use Rattle.fabric_settling.proofs.Times.{step_of, IsStepOf}
 
 -- before a tick nothing is under way
-under_none : (script : ScriptOf) (h : List Event) (l : LinkOf) → IsAtTick script h → IsLinkOf script l → under_way_to (world_after script h).fabric l.t l.q ≡ []
+under_none : (script : ScriptOf) (h : List Event) (l : LinkOf) → IsAtTick script h → IsLinkOf script l → under_way_to (world_after script h).fabric l.far_place l.far_port ≡ []
 under_none script h l at is =
     let f = (world_after script h).fabric in
-    (λ i. at.wires l is i ++ cond (came_by l.q (at.hands l.t i)) (hand_of f.wires l.t) [])
+    (λ i. at.wires l is i ++ cond (came_by l.far_port (at.hands l.far_place i)) (hand_of f.wires l.far_place) [])
 
 pub none_under : (test : Frame → Bool) (script : ScriptOf) (h : List Event) (l : LinkOf) → IsAtTick script h → IsLinkOf script l → is_some_under_way test (world_after script h) l ≡ false
 none_under test script h l at is = ap (λ xs. list_any (Rattle.fabric_settling.specs.Views.is_such test) xs) (under_none script h l at is)
@@ -51,8 +51,8 @@ all_clocked script kept h s at low = by (clock_due_at f s) refl
 
 tick_ends : (script : ScriptOf) → IsScript script → (h : List Event) (l : LinkOf) → IsAtTick script h → IsLinkOf script l → TickEnds (view (world_after script h) l)
 tick_ends script kept h l at is = record {
-  here = all_clocked script kept h l.s at is.here.s_below;
-  there = all_clocked script kept h l.t at is.there.s_below;
+  here = all_clocked script kept h l.place at is.here.s_below;
+  there = all_clocked script kept h l.far_place at is.there.s_below;
   no_probe = none_under _ script h l at is;
   no_reply = none_under _ script h (turned l) at (link_turned script l is);
 }
@@ -73,8 +73,8 @@ view_begins script kept h l at is =
     λ i. record {
       here = (view w l).here;
       there = (view w l).there;
-      has_clocked = none_clocked script kept h l.s is.here.s_below i;
-      far_has_clocked = none_clocked script kept h l.t is.there.s_below i;
+      has_clocked = none_clocked script kept h l.place is.here.s_below i;
+      far_has_clocked = none_clocked script kept h l.far_place is.there.s_below i;
       probe = none_under (Rattle.fabric_settling.specs.Views.is_probe (end_here w l) (Rattle.fabric_settling.specs.Views.nonce_here w l)) script h l at is i;
       reply = none_under (Rattle.fabric_settling.specs.Views.is_reply (end_there w l) (end_here w l) (Rattle.fabric_settling.specs.Views.nonce_here w l)) script h (turned l) at (link_turned script l is) i;
     }
@@ -84,7 +84,7 @@ run_begins own far v here there is = subst (Run own far (tick_begins here there)
 
 -- the links that are up were cut
 abbrev pub AreCut : ScriptOf → ℕ → WorldOf → Type 0
-AreCut script c w = (l : LinkOf) → IsLinkOf script l → is_up w.fabric l.s l.p ≡ true → IsCut c w l
+AreCut script c w = (l : LinkOf) → IsLinkOf script l → is_up w.fabric l.place l.port ≡ true → IsCut c w l
 
 cut_first : (script : ScriptOf) → IsScript script → script.pace ≡ None → (h : List Event) → is_lawful (world_after script h).fabric Tick ≡ true → (world_after script h).fabric.tick ≡ last script h → AreCut script (last script h) (effect Tick (world_after script h))
 unfolding effect
@@ -99,7 +99,7 @@ cut_first script kept unpaced h lawful now l is up =
       at_here = (view w l).here;
       at_there = (view w l).there;
       time = omega (arith, now);
-      before = begins (view w l).here (view w l).there (never_host script kept h l.s l.p l.t l.q a.s_below a.p_least a.p_most is.far) (never_host script kept h l.t l.q l.s l.p b.s_below b.p_least b.p_most is.back);
+      before = begins (view w l).here (view w l).there (never_host script kept h l.place l.port l.far_place l.far_port a.s_below a.p_least a.p_most is.far) (never_host script kept h l.far_place l.far_port l.place l.port b.s_below b.p_least b.p_most is.back);
       run_here = run_begins (end_here v l) (end_there v l) (view v l) (view w l).here (view w l).there (view_begins script kept h l at is);
       run_there = run_begins (end_there v l) (end_here v l) (view v (turned l)) (view w l).there (view w l).here (view_begins script kept h (turned l) at (link_turned script l is));
     }
@@ -126,11 +126,11 @@ cut_other : (script : ScriptOf) → IsScript script → script.pace ≡ None →
 cut_other script kept unpaced h e calm no_tick tick old l is up =
     let w = world_after script h in
     let v = effect e w in
-    let up_before : is_up w.fabric l.s l.p ≡ true = sym ((calm_links script h e calm).up (place l.s l.p)) ∙ up in
+    let up_before : is_up w.fabric l.place l.port ≡ true = sym ((calm_links script h e calm).up (place l.place l.port)) ∙ up in
     let m : IsMoment script h e l = record { kept = kept; calm = calm; link = is; up = up_before; froms = all_from_ends script kept unpaced h calm.works calm.later; samples = all_sampled script kept unpaced h calm.works calm.later } in
     let cut = old l is up_before in
-    let here_stays : end_here w l ≡ end_here v l = ap (λ life. record { life = life; port = l.p }) (sym (calm_lives script h e calm l.s)) in
-    let there_stays : end_there w l ≡ end_there v l = ap (λ life. record { life = life; port = l.q }) (sym (calm_lives script h e calm l.t)) in
+    let here_stays : end_here w l ≡ end_here v l = ap (λ life. record { life = life; port = l.port }) (sym (calm_lives script h e calm l.place)) in
+    let there_stays : end_there w l ≡ end_there v l = ap (λ life. record { life = life; port = l.far_port }) (sym (calm_lives script h e calm l.far_place)) in
     record {
       ticks = cut.ticks;
       at_here = cut.at_here;

@@ -16,7 +16,7 @@ use Rattle.fabric_settling.specs.Views.{LinkOf, turned, here, there, end_here, e
 
 -- both ends of a link that was cut into ticks know each other
 pub cut_knows : (since : ℕ) (w : WorldOf) (l : LinkOf) → IsCut since w l → since + 259 ≤ w.fabric.tick
-    → Knows (end_here w l) (end_there w l) (port_of (here w l) l.p) × Knows (end_there w l) (end_here w l) (port_of (there w l) l.q)
+    → Knows (end_here w l) (end_there w l) (port_of (here w l) l.port) × Knows (end_there w l) (end_here w l) (port_of (there w l) l.far_port)
 cut_knows since w l cut late =
     let t = cut.time in
     let k = knows_within (end_here w l) (end_there w l) cut.ticks cut.at_here cut.at_there cut.before (omega (arith, t, late)) in
@@ -24,19 +24,19 @@ cut_knows since w l cut late =
 
 -- at the end of a tick there is one more
 pub cut_ends : (since : ℕ) (w : WorldOf) (l : LinkOf) → (cut : IsCut since w l) → TickEnds (view w l) → TickEnds (view w (turned l))
-    → Ticks (end_here w l) (end_there w l) (suc cut.ticks) ((here w l).ports l.p) ((there w l).ports l.q)
+    → Ticks (end_here w l) (end_there w l) (suc cut.ticks) ((here w l).ports l.port) ((there w l).ports l.far_port)
 cut_ends since w l cut ends far_ends =
-    one_more cut.ticks cut.at_here cut.at_there ((here w l).ports l.p) ((there w l).ports l.q) cut.before
+    one_more cut.ticks cut.at_here cut.at_there ((here w l).ports l.port) ((there w l).ports l.far_port) cut.before
     (run_is_tick (end_here w l) (end_there w l) cut.at_here cut.at_there (view w l) cut.run_here ends)
     (run_is_tick (end_there w l) (end_here w l) cut.at_there cut.at_here (view w (turned l)) cut.run_there far_ends)
 
 -- and three ticks after base all bodies of the link are acknowledged
-sending_is : (w : WorldOf) (l : LinkOf) → is_session w l ≡ true → (way w l).sending ≡ (here w l).sendings l.p
-sending_is w l is = ap (λ b. cond b ((here w l).sendings l.p) unused) is
+sending_is : (w : WorldOf) (l : LinkOf) → is_session w l ≡ true → (way w l).sending ≡ (here w l).sendings l.port
+sending_is w l is = ap (λ b. cond b ((here w l).sendings l.port) unused) is
 
-pub run_acknowledged : (base : ℕ) (w : WorldOf) (l : LinkOf) → IsRun base w l → IsRun base w (turned l) → is_session w l ≡ true → is_session w (turned l) ≡ true → 1 ≤ highest ((here w l).sendings l.p) → 1 ≤ highest ((there w l).sendings l.q)
+pub run_acknowledged : (base : ℕ) (w : WorldOf) (l : LinkOf) → IsRun base w l → IsRun base w (turned l) → is_session w l ≡ true → is_session w (turned l) ≡ true → 1 ≤ highest ((here w l).sendings l.port) → 1 ≤ highest ((there w l).sendings l.far_port)
     → IsStill (way w l) → IsStill (way w (turned l)) → base + 3 ≤ w.fabric.tick
-    → ((here w l).epoch ≡ (there w l).epoch) × (((here w l).sendings l.p).acked ≡ highest ((here w l).sendings l.p)) × (((there w l).sendings l.q).acked ≡ highest ((there w l).sendings l.q))
+    → ((here w l).epoch ≡ (there w l).epoch) × (((here w l).sendings l.port).acked ≡ highest ((here w l).sendings l.port)) × (((there w l).sendings l.far_port).acked ≡ highest ((there w l).sendings l.far_port))
 run_acknowledged base w l run back with_it with_back sent sent_back still still_back late =
     let a = sending_is w l with_it in
     let b = sending_is w (turned l) with_back in

@@ -169,7 +169,7 @@ shows_by script h s p k low least most true up (Some (far.HostAt n)) behind =
     host_shows (port_in (world_after script h) s p) (host_phase script h s p n k low least most behind (sample_by script k.kept h s p low most ∙ (λ i. cond (up i) (sample_behind (behind i)) sample.Down)))
 shows_by script h s p k low least most true up (Some (far.Switch t q)) behind =
     let w = world_after script h in
-    let l : LinkOf = record { s = s; p = p; t = t; q = q } in
+    let l : LinkOf = record { place = s; port = p; far_place = t; far_port = q } in
     let is = link_of script k.kept s p t q behind in
     known_shows (end_here w l) (end_there w l) (port_in w s p) (cut_knows (last script h) w l (all_cut script k.kept k.unpaced h k.works (later_of script h k) l is up) k.late).0
 
@@ -194,7 +194,7 @@ sampled_shows_by script h s p n samples k clock low least most true up (Some (fa
     host_shows (port_after own (Sampled sample.Host ∷ ((world_after script h).switches s).ports p)) (stays_host (port_in (world_after script h) s p) (host_phase script h s p m k low least most behind (sample_by script k.kept h s p low most ∙ (λ i. cond (up i) (sample_behind (behind i)) sample.Down))))
 sampled_shows_by script h s p n samples k clock low least most true up (Some (far.Switch t q)) behind =
     let w = world_after script h in
-    let l : LinkOf = record { s = s; p = p; t = t; q = q } in
+    let l : LinkOf = record { place = s; port = p; far_place = t; far_port = q } in
     let is = link_of script k.kept s p t q behind in
     let cut = all_cut script k.kept k.unpaced h k.works (later_of script h k) l is up in
     let own = end_here w l in
@@ -391,7 +391,7 @@ unfolding known_view
 known_loop own peer same = ap (λ b. Rattle.fabric_state.specs.PortStates.is_loop (cond b state.Loop state.Good)) same
 
 -- a link of the script, by its places
-link_here : (script : ScriptOf) → IsScript script → (x : LinkAt) → In x script.wires.links → IsLinkOf script (record { s = x.a; p = x.a_port; t = x.b; q = x.b_port })
+link_here : (script : ScriptOf) → IsScript script → (x : LinkAt) → In x script.wires.links → IsLinkOf script (record { place = x.a; port = x.a_port; far_place = x.b; far_port = x.b_port })
 link_here script kept x i =
     let has = contains_from x script.wires.links i in
     let any : Rattle.std.specs.Prelude.Any (λ (y : LinkAt). Joins y x.a x.a_port x.b x.b_port) script.wires.links = (has.0, x, has.1, has.2, inl refl) in
@@ -414,14 +414,14 @@ link_fine script h x k i = by_up (is_up f x.a x.a_port) refl
     f = w.fabric
 
     l : LinkOf
-    l = record { s = x.a; p = x.a_port; t = x.b; q = x.b_port }
+    l = record { place = x.a; port = x.a_port; far_place = x.b; far_port = x.b_port }
 
     is : IsLinkOf script l
     is = link_here script k.kept x i
 
     up_there : (b : Bool) → is_up f x.a x.a_port ≡ b → is_up f x.b x.b_port ≡ b
     up_there b up =
-        let one = (Rattle.fabric_world.proofs.FabricLemmas.world_fits script k.kept h).wires_sound.agree (place l.s l.p) (Rattle.fabric_settling.proofs.Linked.side_link script k.kept h l is) in
+        let one = (Rattle.fabric_world.proofs.FabricLemmas.world_fits script k.kept h).wires_sound.agree (place l.place l.port) (Rattle.fabric_settling.proofs.Linked.side_link script k.kept h l is) in
         ap (λ at. (side_at f.wires at).is_up) (sym (Rattle.fabric_settling.proofs.Linked.out_is script k.kept h l is)) ∙ one.up ∙ up
 
     here : (b : Bool) → is_up f x.a x.a_port ≡ b → port_shown f x.a x.a_port ≡ cond b (known_view (end_here w l) (end_there w l)) dead_view

@@ -52,17 +52,17 @@ use Rattle.fabric_settling.proofs.Under.{came_port, way_held, way_on, way_parts}
 
 -- it went out by the port of this end
 pub record WentOut (w : WorldOf) (e : Event) (l : LinkOf) (b : List ℕ) : Type 0 where
-  pub event : e ≡ Handle l.s
+  pub event : e ≡ Handle l.place
   pub sent : Sent
-  pub among : In sent (handled l.s w).frames
-  pub port : sent.port ≡ l.p
+  pub among : In sent (handled l.place w).frames
+  pub port : sent.port ≡ l.port
   pub bytes : b ≡ spelling sent.frame
 
 abbrev pub IsNew : WorldOf → Event → LinkOf → List ℕ → Type 0
 IsNew w e l b = (frame_of b ≡ None) ⊎ WentOut w e l b
 
 abbrev WasOn : WorldOf → Event → LinkOf → ℕ → List ℕ → Type 0
-WasOn w e l queue b = queue ≡ place l.t l.q → On (place l.t l.q) b w.fabric.wires ⊎ IsNew w e l b
+WasOn w e l queue b = queue ≡ place l.far_place l.far_port → On (place l.far_place l.far_port) b w.fabric.wires ⊎ IsNew w e l b
 
 was_none : (w : WorldOf) (e : Event) (l : LinkOf) (queue : ℕ) (b : List ℕ) → frame_of b ≡ None → WasOn w e l queue b
 was_none w e l queue b none at = inr (inl none)
@@ -70,8 +70,8 @@ was_none w e l queue b none at = inr (inl none)
 was_all : (w : WorldOf) (e : Event) (l : LinkOf) → InQueues (WasOn w e l) w.fabric.wires
 was_all w e l queue = each_of (WasOn w e l queue) (wire_at w.fabric.wires queue) (λ b i at. inl (subst (λ n. In b (wire_at w.fabric.wires n)) at i))
 
-hand_is_no_wire : (script : ScriptOf) (l : LinkOf) (s : ℕ) → IsLinkOf script l → place s 0 ≡ place l.t l.q → ⊥
-hand_is_no_wire script l s is at = port_is_no_hand s l.t l.q is.there.p_least is.there.p_most at
+hand_is_no_wire : (script : ScriptOf) (l : LinkOf) (s : ℕ) → IsLinkOf script l → place s 0 ≡ place l.far_place l.far_port → ⊥
+hand_is_no_wire script l s is at = port_is_no_hand s l.far_place l.far_port is.there.p_least is.there.p_most at
 
 -- what a switch sends goes on the wire of its port
 goes_out : (script : ScriptOf) → IsScript script → (h : List Event) (s : ℕ) (l : LinkOf) → IsLinkOf script l → (x : Sent) → s < places script → (1 ≤ x.port) × (x.port ≤ 12) → In x (handled s (world_after script h)).frames → GoesTo (WasOn (world_after script h) (Handle s) l) (world_after script h).fabric.wires s (spelled_out x)
@@ -86,10 +86,10 @@ goes_out script kept h s l is x low port i = by (side_at w.fabric.wires (place s
     arrives : (t q : ℕ) → far_at script.wires s x.port ≡ Some (Switch t q) → WasOn w (Handle s) l (place t q) (spelling x.frame)
     arrives t q far at =
         let k = link_of script kept s x.port t q far in
-        let same = same_places t q l.t l.q k.there.p_most is.there.p_most at in
-        let back : ◌≡◌ {A = Option Far} (Some (Switch s x.port)) (Some (Switch l.s l.p)) = sym k.back ∙ (λ j. far_at script.wires (same.0 j) (same.1 j)) ∙ is.back in
-        let pair : ◌≡◌ {A = ℕ × ℕ} (s, x.port) (l.s, l.p) = some_same (s, x.port) (l.s, l.p) (ap (λ (o : Option Far). switch_behind o) back) in
-        let here : s ≡ l.s = ap (λ (z : ℕ × ℕ). z.0) pair in
+        let same = same_places t q l.far_place l.far_port k.there.p_most is.there.p_most at in
+        let back : ◌≡◌ {A = Option Far} (Some (Switch s x.port)) (Some (Switch l.place l.port)) = sym k.back ∙ (λ j. far_at script.wires (same.0 j) (same.1 j)) ∙ is.back in
+        let pair : ◌≡◌ {A = ℕ × ℕ} (s, x.port) (l.place, l.port) = some_same (s, x.port) (l.place, l.port) (ap (λ (o : Option Far). switch_behind o) back) in
+        let here : s ≡ l.place = ap (λ (z : ℕ × ℕ). z.0) pair in
         inr (inr (record { event = ap Handle here; sent = x; among = subst (λ n. In x (handled n w).frames) here i; port = ap (λ (z : ℕ × ℕ). z.1) pair; bytes = refl }))
 
     by : (o : Option Far) → (side_at w.fabric.wires (place s x.port)).far ≡ o → is_link (side_at w.fabric.wires (place s x.port)).far ≡ true → WasOn w (Handle s) l (far_place (side_at w.fabric.wires (place s x.port)).far) (spelling x.frame)
@@ -137,9 +137,9 @@ wires_were script kept h (Restart s) l is lawful = was_all (world_after script h
 
 -- the hands
 HandWas : WorldOf → LinkOf → StationOf → List (List ℕ) → Type 0
-HandWas w l x bytes = (b : List ℕ) → came_by l.q x.hand ≡ true → In b bytes → In b (under_way_to w.fabric l.t l.q) ⊎ (frame_of b ≡ None)
+HandWas w l x bytes = (b : List ℕ) → came_by l.far_port x.hand ≡ true → In b bytes → In b (under_way_to w.fabric l.far_place l.far_port) ⊎ (frame_of b ≡ None)
 
-take_hand_was : (script : ScriptOf) → IsScript script → (h : List Event) (t p : ℕ) (l : LinkOf) → IsLinkOf script l → t ≡ l.t → is_lawful (world_after script h).fabric (Take t p) ≡ true → HandWas (world_after script h) l (station (effect (Take t p) (world_after script h)).fabric l.t) (hand_of (effect (Take t p) (world_after script h)).fabric.wires l.t)
+take_hand_was : (script : ScriptOf) → IsScript script → (h : List Event) (t p : ℕ) (l : LinkOf) → IsLinkOf script l → t ≡ l.far_place → is_lawful (world_after script h).fabric (Take t p) ≡ true → HandWas (world_after script h) l (station (effect (Take t p) (world_after script h)).fabric l.far_place) (hand_of (effect (Take t p) (world_after script h)).fabric.wires l.far_place)
 unfolding effect HandWas
 take_hand_was script kept h t p l is same lawful b came i =
     let w = world_after script h in
@@ -151,8 +151,8 @@ take_hand_was script kept h t p l is same lawful b came i =
     let now : hand_of (take_from (place t p) (place t 0) w.fabric.wires) t ≡ taken_frame (place t p) w.fabric.wires ∷ [] =
     copied_elsewhere (place t p) (place t 0) (taken_frame (place t p) w.fabric.wires) (held_from (place t p) (place t 0) w.fabric.wires) other ∙ held_is (place t p) (place t 0) w.fabric.wires other (omega (arith, size, low)) none
     in
-    let hand_now : (station (effect (Take t p) w).fabric l.t).hand ≡ hand.Frame p = ap (λ n. (slice_index_or (slice_set w.fabric.stations t (record (station w.fabric t) { hand = hand.Frame p })) n vacant).hand) (sym same) ∙ ap (λ (x : StationOf). x.hand) (get_or-set_same w.fabric.stations t (record (station w.fabric t) { hand = hand.Frame p }) vacant (within script kept h t low)) in
-    let port : p ≡ l.q = same_port (sym hand_now ∙ came_port l.q (station (effect (Take t p) w).fabric l.t).hand came) in
+    let hand_now : (station (effect (Take t p) w).fabric l.far_place).hand ≡ hand.Frame p = ap (λ n. (slice_index_or (slice_set w.fabric.stations t (record (station w.fabric t) { hand = hand.Frame p })) n vacant).hand) (sym same) ∙ ap (λ (x : StationOf). x.hand) (get_or-set_same w.fabric.stations t (record (station w.fabric t) { hand = hand.Frame p }) vacant (within script kept h t low)) in
+    let port : p ≡ l.far_port = same_port (sym hand_now ∙ came_port l.far_port (station (effect (Take t p) w).fabric l.far_place).hand came) in
     let taken : b ≡ taken_frame (place t p) w.fabric.wires = only (subst (In b) (ap (λ n. hand_of (take_from (place t p) (place t 0) w.fabric.wires) n) (sym same) ∙ now) i) in
     found (subst (λ c. On (place t p) c w.fabric.wires ⊎ (frame_of c ≡ None)) (sym taken)
     (taken_is (λ c. On (place t p) c w.fabric.wires ⊎ (frame_of c ≡ None)) (place t p) w.fabric.wires (inr empty_none) (each_of (λ c. On (place t p) c w.fabric.wires ⊎ (frame_of c ≡ None)) (wire_at w.fabric.wires (place t p)) (λ c j. inl j)))) port
@@ -162,78 +162,78 @@ take_hand_was script kept h t p l is same lawful b came i =
     port_in (hand.Clock n samples) = 0
     port_in (hand.Frame k) = k
 
-    same_port : hand.Frame p ≡ hand.Frame l.q → p ≡ l.q
+    same_port : hand.Frame p ≡ hand.Frame l.far_port → p ≡ l.far_port
     same_port e = ap port_in e
 
     only : {c : List ℕ} → In b (c ∷ []) → b ≡ c
     only (inl e) = e
     only (inr j) = absurd j
 
-    found : On (place t p) b (world_after script h).fabric.wires ⊎ (frame_of b ≡ None) → p ≡ l.q → In b (under_way_to (world_after script h).fabric l.t l.q) ⊎ (frame_of b ≡ None)
-    found (inl on) port = inl (way_on (world_after script h).fabric l.t l.q b (subst (λ (z : ℕ × ℕ). On (place z.0 z.1) b (world_after script h).fabric.wires) (λ j. (same j, port j)) on))
+    found : On (place t p) b (world_after script h).fabric.wires ⊎ (frame_of b ≡ None) → p ≡ l.far_port → In b (under_way_to (world_after script h).fabric l.far_place l.far_port) ⊎ (frame_of b ≡ None)
+    found (inl on) port = inl (way_on (world_after script h).fabric l.far_place l.far_port b (subst (λ (z : ℕ × ℕ). On (place z.0 z.1) b (world_after script h).fabric.wires) (λ j. (same j, port j)) on))
     found (inr none) port = inr none
 
-came_not : (w : WorldOf) (l : LinkOf) (x : StationOf) (bytes : List (List ℕ)) → came_by l.q x.hand ≡ false → HandWas w l x bytes
+came_not : (w : WorldOf) (l : LinkOf) (x : StationOf) (bytes : List (List ℕ)) → came_by l.far_port x.hand ≡ false → HandWas w l x bytes
 unfolding HandWas
 came_not w l x bytes none b came i = absurd (true≢false (sym came ∙ none))
 
-same_hand_was : (w : WorldOf) (l : LinkOf) (x : StationOf) (bytes : List (List ℕ)) → x.hand ≡ (station w.fabric l.t).hand → bytes ≡ hand_of w.fabric.wires l.t → HandWas w l x bytes
+same_hand_was : (w : WorldOf) (l : LinkOf) (x : StationOf) (bytes : List (List ℕ)) → x.hand ≡ (station w.fabric l.far_place).hand → bytes ≡ hand_of w.fabric.wires l.far_place → HandWas w l x bytes
 unfolding HandWas
-same_hand_was w l x bytes hands held b came i = inl (way_held w.fabric l.t l.q b (sym (ap (came_by l.q) hands) ∙ came) (subst (In b) held i))
+same_hand_was w l x bytes hands held b came i = inl (way_held w.fabric l.far_place l.far_port b (sym (ap (came_by l.far_port) hands) ∙ came) (subst (In b) held i))
 
-loads_hand_was : (o : Option TopoOf) (s : ℕ) (w : WorldOf) (l : LinkOf) → HandWas w l (station (loads_with o s w).fabric l.t) (hand_of (loads_with o s w).fabric.wires l.t)
-loads_hand_was None s w l = same_hand_was w l (station w.fabric l.t) (hand_of w.fabric.wires l.t) refl refl
-loads_hand_was (Some topo) s w l = same_hand_was w l (station (loads_with (Some topo) s w).fabric l.t) (hand_of w.fabric.wires l.t) (set_hand w.fabric.stations s l.t _ refl) refl
+loads_hand_was : (o : Option TopoOf) (s : ℕ) (w : WorldOf) (l : LinkOf) → HandWas w l (station (loads_with o s w).fabric l.far_place) (hand_of (loads_with o s w).fabric.wires l.far_place)
+loads_hand_was None s w l = same_hand_was w l (station w.fabric l.far_place) (hand_of w.fabric.wires l.far_place) refl refl
+loads_hand_was (Some topo) s w l = same_hand_was w l (station (loads_with (Some topo) s w).fabric l.far_place) (hand_of w.fabric.wires l.far_place) (set_hand w.fabric.stations s l.far_place _ refl) refl
 
-own_hand_was : (script : ScriptOf) → IsScript script → (h : List Event) (e : Event) (l : LinkOf) → IsLinkOf script l → owner_of e ≡ l.t + 1 → is_lawful (world_after script h).fabric e ≡ true → HandWas (world_after script h) l (station (effect e (world_after script h)).fabric l.t) (hand_of (effect e (world_after script h)).fabric.wires l.t)
+own_hand_was : (script : ScriptOf) → IsScript script → (h : List Event) (e : Event) (l : LinkOf) → IsLinkOf script l → owner_of e ≡ l.far_place + 1 → is_lawful (world_after script h).fabric e ≡ true → HandWas (world_after script h) l (station (effect e (world_after script h)).fabric l.far_place) (hand_of (effect e (world_after script h)).fabric.wires l.far_place)
 unfolding effect
 own_hand_was script kept h (Clock s) l is own lawful =
     let w = world_after script h in
-    let same : s ≡ l.t = omega (arith, own) in
+    let same : s ≡ l.far_place = omega (arith, own) in
     let x = clock_station w.fabric s in
-    came_not w l (station (effect (Clock s) w).fabric l.t) _ (ap (λ n. came_by l.q (slice_index_or (slice_set w.fabric.stations n x) l.t vacant).hand) same ∙ ap (λ (y : StationOf). came_by l.q y.hand) (get_or-set_same w.fabric.stations l.t x vacant (within script kept h l.t is.there.s_below)))
+    came_not w l (station (effect (Clock s) w).fabric l.far_place) _ (ap (λ n. came_by l.far_port (slice_index_or (slice_set w.fabric.stations n x) l.far_place vacant).hand) same ∙ ap (λ (y : StationOf). came_by l.far_port y.hand) (get_or-set_same w.fabric.stations l.far_place x vacant (within script kept h l.far_place is.there.s_below)))
 own_hand_was script kept h (Take s p) l is own lawful = take_hand_was script kept h s p l is (omega (arith, own)) lawful
 own_hand_was script kept h (Handle s) l is own lawful =
     let w = world_after script h in
-    let same : s ≡ l.t = omega (arith, own) in
+    let same : s ≡ l.far_place = omega (arith, own) in
     let x = handled_station s w in
-    came_not w l (station (effect (Handle s) w).fabric l.t) _ (ap (λ n. came_by l.q (slice_index_or (slice_set w.fabric.stations n x) l.t vacant).hand) same ∙ ap (λ (y : StationOf). came_by l.q y.hand) (get_or-set_same w.fabric.stations l.t x vacant (within script kept h l.t is.there.s_below)))
+    came_not w l (station (effect (Handle s) w).fabric l.far_place) _ (ap (λ n. came_by l.far_port (slice_index_or (slice_set w.fabric.stations n x) l.far_place vacant).hand) same ∙ ap (λ (y : StationOf). came_by l.far_port y.hand) (get_or-set_same w.fabric.stations l.far_place x vacant (within script kept h l.far_place is.there.s_below)))
 own_hand_was script kept h (Load s) l is own lawful = let w = world_after script h in loads_hand_was (finish_of (w.switches s)) s w l
 own_hand_was script kept h (Restart s) l is own lawful =
     let w = world_after script h in
-    same_hand_was w l (station (effect (Restart s) w).fabric l.t) (hand_of w.fabric.wires l.t) (set_hand w.fabric.stations s l.t _ refl) refl
+    same_hand_was w l (station (effect (Restart s) w).fabric l.far_place) (hand_of w.fabric.wires l.far_place) (set_hand w.fabric.stations s l.far_place _ refl) refl
 own_hand_was script kept h e l is own lawful = absurd (omega (arith, own))
 
-hand_was : (script : ScriptOf) → IsScript script → (h : List Event) (e : Event) (l : LinkOf) → IsLinkOf script l → is_lawful (world_after script h).fabric e ≡ true → HandWas (world_after script h) l (station (effect e (world_after script h)).fabric l.t) (hand_of (effect e (world_after script h)).fabric.wires l.t)
-hand_was script kept h e l is lawful = by (cases_eq (owner_of e) (l.t + 1))
+hand_was : (script : ScriptOf) → IsScript script → (h : List Event) (e : Event) (l : LinkOf) → IsLinkOf script l → is_lawful (world_after script h).fabric e ≡ true → HandWas (world_after script h) l (station (effect e (world_after script h)).fabric l.far_place) (hand_of (effect e (world_after script h)).fabric.wires l.far_place)
+hand_was script kept h e l is lawful = by (cases_eq (owner_of e) (l.far_place + 1))
   where
     w : WorldOf
     w = world_after script h
 
-    by : (owner_of e ≡ l.t + 1) ⊎ (owner_of e ≡ l.t + 1 → ⊥) → HandWas w l (station (effect e w).fabric l.t) (hand_of (effect e w).fabric.wires l.t)
+    by : (owner_of e ≡ l.far_place + 1) ⊎ (owner_of e ≡ l.far_place + 1 → ⊥) → HandWas w l (station (effect e w).fabric l.far_place) (hand_of (effect e w).fabric.wires l.far_place)
     by (inl own) = own_hand_was script kept h e l is own lawful
     by (inr other) =
-        same_hand_was w l (station (effect e w).fabric l.t) (hand_of (effect e w).fabric.wires l.t)
-        (ap (λ (v : WorldOf). (station v.fabric l.t).hand) (sym (step-lawful w e lawful)) ∙ ap (λ (x : StationOf). x.hand) (step_elsewhere e l.t w other).place)
-        (hand_elsewhere e l.t w (world_ports script kept h) (lawful_port script kept h e lawful) other)
+        same_hand_was w l (station (effect e w).fabric l.far_place) (hand_of (effect e w).fabric.wires l.far_place)
+        (ap (λ (v : WorldOf). (station v.fabric l.far_place).hand) (sym (step-lawful w e lawful)) ∙ ap (λ (x : StationOf). x.hand) (step_elsewhere e l.far_place w other).place)
+        (hand_elsewhere e l.far_place w (world_ports script kept h) (lawful_port script kept h e lawful) other)
 
 -- So whatever is under way
-pub way_from : (script : ScriptOf) → IsScript script → (h : List Event) (e : Event) (l : LinkOf) (b : List ℕ) → IsLinkOf script l → is_lawful (world_after script h).fabric e ≡ true → In b (under_way_to (effect e (world_after script h)).fabric l.t l.q)
-    → In b (under_way_to (world_after script h).fabric l.t l.q) ⊎ IsNew (world_after script h) e l b
+pub way_from : (script : ScriptOf) → IsScript script → (h : List Event) (e : Event) (l : LinkOf) (b : List ℕ) → IsLinkOf script l → is_lawful (world_after script h).fabric e ≡ true → In b (under_way_to (effect e (world_after script h)).fabric l.far_place l.far_port)
+    → In b (under_way_to (world_after script h).fabric l.far_place l.far_port) ⊎ IsNew (world_after script h) e l b
 unfolding HandWas
-way_from script kept h e l b is lawful i = by (way_parts (effect e w).fabric l.t l.q b i)
+way_from script kept h e l b is lawful i = by (way_parts (effect e w).fabric l.far_place l.far_port b i)
   where
     w : WorldOf
     w = world_after script h
 
-    on_wire : On (place l.t l.q) b w.fabric.wires ⊎ IsNew w e l b → In b (under_way_to w.fabric l.t l.q) ⊎ IsNew w e l b
-    on_wire (inl on) = inl (way_on w.fabric l.t l.q b on)
+    on_wire : On (place l.far_place l.far_port) b w.fabric.wires ⊎ IsNew w e l b → In b (under_way_to w.fabric l.far_place l.far_port) ⊎ IsNew w e l b
+    on_wire (inl on) = inl (way_on w.fabric l.far_place l.far_port b on)
     on_wire (inr new) = inr new
 
-    in_hand : In b (under_way_to w.fabric l.t l.q) ⊎ (frame_of b ≡ None) → In b (under_way_to w.fabric l.t l.q) ⊎ IsNew w e l b
+    in_hand : In b (under_way_to w.fabric l.far_place l.far_port) ⊎ (frame_of b ≡ None) → In b (under_way_to w.fabric l.far_place l.far_port) ⊎ IsNew w e l b
     in_hand (inl old) = inl old
     in_hand (inr none) = inr (inl none)
 
-    by : On (place l.t l.q) b (effect e w).fabric.wires ⊎ ((came_by l.q (station (effect e w).fabric l.t).hand ≡ true) × In b (hand_of (effect e w).fabric.wires l.t)) → In b (under_way_to w.fabric l.t l.q) ⊎ IsNew w e l b
-    by (inl on) = on_wire (each_in (WasOn w e l (place l.t l.q)) (wire_at (effect e w).fabric.wires (place l.t l.q)) b (wires_were script kept h e l is lawful (place l.t l.q)) on refl)
+    by : On (place l.far_place l.far_port) b (effect e w).fabric.wires ⊎ ((came_by l.far_port (station (effect e w).fabric l.far_place).hand ≡ true) × In b (hand_of (effect e w).fabric.wires l.far_place)) → In b (under_way_to w.fabric l.far_place l.far_port) ⊎ IsNew w e l b
+    by (inl on) = on_wire (each_in (WasOn w e l (place l.far_place l.far_port)) (wire_at (effect e w).fabric.wires (place l.far_place l.far_port)) b (wires_were script kept h e l is lawful (place l.far_place l.far_port)) on refl)
     by (inr held) = in_hand (hand_was script kept h e l is lawful b held.0 held.1)

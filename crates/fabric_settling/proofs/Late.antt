@@ -48,9 +48,9 @@ use Rattle.fabric_settling.proofs.Viewed.{handled_switch}
 use Rattle.fabric_settling.proofs.WayParts.{SentSuch, such_from, ticked_under}
 
 -- two switches have two names
-pub differ_of : (script : ScriptOf) → IsScript script → (h : List Event) (l : LinkOf) → IsLinkOf script l → (l.s ≡ l.t → ⊥) → ((end_there (world_after script h) l).life.uid == (end_here (world_after script h) l).life.uid) ≡ false
+pub differ_of : (script : ScriptOf) → IsScript script → (h : List Event) (l : LinkOf) → IsLinkOf script l → (l.place ≡ l.far_place → ⊥) → ((end_there (world_after script h) l).life.uid == (end_here (world_after script h) l).life.uid) ≡ false
 differ_of script kept h l is apart =
-    ne_eqb _ _ (λ e. apart (uid_one script.wires l.s l.t kept.wired is.here.s_below is.there.s_below (sym (uid_here script kept h l.s is.here.s_below) ∙ sym e ∙ uid_here script kept h l.t is.there.s_below)))
+    ne_eqb _ _ (λ e. apart (uid_one script.wires l.place l.far_place kept.wired is.here.s_below is.there.s_below (sym (uid_here script kept h l.place is.here.s_below) ∙ sym e ∙ uid_here script kept h l.far_place is.there.s_below)))
 
 -- an event after which it is so late disturbs nothing
 pub late_step : (script : ScriptOf) (h : List Event) (e : Event) → is_lawful (world_after script h).fabric e ≡ true → (effect e (world_after script h)).fabric.tick ≡ (world_after script h).fabric.tick → IsLate script (h ++ e ∷ []) → IsLateNow script h e
@@ -84,10 +84,10 @@ late_step script h e lawful ticks k = by (disturbs is_either w e) refl
 
 -- Nothing is sent on a link that is down, and nothing is under way on it.
 abbrev NoneAt : (Frame → Bool) → ScriptOf → LinkOf → List Event → Type 0
-NoneAt test script l h = IsLate script h → is_up (world_after script h).fabric l.s l.p ≡ false → is_some_under_way test (world_after script h) l ≡ false
+NoneAt test script l h = IsLate script h → is_up (world_after script h).fabric l.place l.port ≡ false → is_some_under_way test (world_after script h) l ≡ false
 
 abbrev NoneSent : (Frame → Bool) → ScriptOf → LinkOf → Type 0
-NoneSent test script l = (h : List Event) (e : Event) → IsLateNow script h e → is_up (world_after script h).fabric l.s l.p ≡ false → SentSuch test (world_after script h) e l → ⊥
+NoneSent test script l = (h : List Event) (e : Event) → IsLateNow script h e → is_up (world_after script h).fabric l.place l.port ≡ false → SentSuch test (world_after script h) e l → ⊥
 
 first_none : (test : Frame → Bool) (script : ScriptOf) (l : LinkOf) → NoneAt test script l []
 unfolding world_after
@@ -103,7 +103,7 @@ next_none test script l is none_sent h e old k down = by_law (is_lawful w.fabric
     none_in tick lawful false found = found
     none_in tick lawful true found =
         let now = late_step script h e lawful tick k in
-        let still_down : is_up w.fabric l.s l.p ≡ false = sym ((calm_links script h e now.calm).up (place l.s l.p)) ∙ sym (ap (λ (x : WorldOf). is_up x.fabric l.s l.p) (after_is script h e lawful)) ∙ down in
+        let still_down : is_up w.fabric l.place l.port ≡ false = sym ((calm_links script h e now.calm).up (place l.place l.port)) ∙ sym (ap (λ (x : WorldOf). is_up x.fabric l.place l.port) (after_is script h e lawful)) ∙ down in
         elim (such_from test script h e l k.kept is lawful found) [ inl was ↦ absurd (true≢false (sym was ∙ old now.before still_down)) | inr new ↦ absurd (none_sent h e now still_down new) ]
 
     by_kind : is_lawful w.fabric e ≡ true → (e ≡ Tick) ⊎ IsStepOf e w (effect e w) → is_some_under_way test (effect e w) l ≡ false
@@ -121,33 +121,33 @@ next_none test script l is none_sent h e old k down = by_law (is_lawful w.fabric
         let tick = ap (λ (x : WorldOf). x.fabric.tick) same in
         let when = undisturbed_now script h e quiet in
         let before : IsLate script h = record { kept = k.kept; unpaced = k.unpaced; works = subst (λ (x : WorldOf). is_some_spent x.fabric ≡ false) same k.works; late = omega (arith, late, tick, when) } in
-        ap (λ x. is_some_under_way test x l) same ∙ old before (sym (ap (λ (x : WorldOf). is_up x.fabric l.s l.p) same) ∙ down)
+        ap (λ x. is_some_under_way test x l) same ∙ old before (sym (ap (λ (x : WorldOf). is_up x.fabric l.place l.port) same) ∙ down)
 
 late_none : (test : Frame → Bool) (script : ScriptOf) (l : LinkOf) → IsLinkOf script l → NoneSent test script l → (h : List Event) → NoneAt test script l h
 late_none test script l is none_sent = by_events (NoneAt test script l) (first_none test script l) (next_none test script l is none_sent)
 
 -- the port of such a link has no good peer
-down_peer : (script : ScriptOf) (h : List Event) (l : LinkOf) → IsLate script h → IsLinkOf script l → is_up (world_after script h).fabric l.s l.p ≡ false → good_peer ((world_after script h).switches l.s) l.p ≡ None
+down_peer : (script : ScriptOf) (h : List Event) (l : LinkOf) → IsLate script h → IsLinkOf script l → is_up (world_after script h).fabric l.place l.port ≡ false → good_peer ((world_after script h).switches l.place) l.port ≡ None
 unfolding final_view dead_view good_of
 down_peer script h l k is down =
     let w = world_after script h in
-    let port = port_of (w.switches l.s) l.p in
+    let port = port_of (w.switches l.place) l.port in
     good_shown port.phase port.far.conn
-    ∙ ap good_of (port_shows script h l.s l.p k is.here.s_below is.here.p_least is.here.p_most)
-    ∙ (λ i. good_of (cond (down i) (behind_view (lives_of w) (end_here w l) (far_at script.wires l.s l.p)) dead_view))
+    ∙ ap good_of (port_shows script h l.place l.port k is.here.s_below is.here.p_least is.here.p_most)
+    ∙ (λ i. good_of (cond (down i) (behind_view (lives_of w) (end_here w l) (far_at script.wires l.place l.port)) dead_view))
 
 carry_down : (script : ScriptOf) → IsScript script → (l : LinkOf) → IsLinkOf script l → (epoch n : ℕ) (from to : EndId) → NoneSent (is_carry epoch from to n) script l
 carry_down script kept l is epoch n from to h e late down k =
     let w = world_after script h in
     let g = h ++ e ∷ [] in
     let c = carry_to epoch from to n k.sent.frame k.found in
-    let lawful : is_lawful w.fabric (Handle l.s) ≡ true = subst (λ x. is_lawful w.fabric x ≡ true) k.event late.calm.lawful in
-    let out = carried_out script kept h l.s k.sent c.carry is.here.s_below lawful k.among c.frame_is in
+    let lawful : is_lawful w.fabric (Handle l.place) ≡ true = subst (λ x. is_lawful w.fabric x ≡ true) k.event late.calm.lawful in
+    let out = carried_out script kept h l.place k.sent c.carry is.here.s_below lawful k.among c.frame_is in
     let same : world_after script g ≡ effect e w = after_is script h e late.calm.lawful in
-    let switch : (world_after script g).switches l.s ≡ (handled l.s w).switch = ap (λ (x : WorldOf). x.switches l.s) same ∙ ap (λ x. (effect x w).switches l.s) k.event ∙ handled_switch l.s w in
-    let down_now : is_up (world_after script g).fabric l.s l.p ≡ false = ap (λ (x : WorldOf). is_up x.fabric l.s l.p) same ∙ (calm_links script h e late.calm).up (place l.s l.p) ∙ down in
-    let none = links_good script g l.s l.p late.after is.here.s_below is.here.p_least is.here.p_most ∙ down_peer script g l late.after is down_now in
-    none_some (sym none ∙ ap (λ (u : SwitchOf). peer_among u.card.links l.p) switch ∙ ap (λ p. peer_among (handled l.s w).switch.card.links p) (sym k.port) ∙ out.to)
+    let switch : (world_after script g).switches l.place ≡ (handled l.place w).switch = ap (λ (x : WorldOf). x.switches l.place) same ∙ ap (λ x. (effect x w).switches l.place) k.event ∙ handled_switch l.place w in
+    let down_now : is_up (world_after script g).fabric l.place l.port ≡ false = ap (λ (x : WorldOf). is_up x.fabric l.place l.port) same ∙ (calm_links script h e late.calm).up (place l.place l.port) ∙ down in
+    let none = links_good script g l.place l.port late.after is.here.s_below is.here.p_least is.here.p_most ∙ down_peer script g l late.after is down_now in
+    none_some (sym none ∙ ap (λ (u : SwitchOf). peer_among u.card.links l.port) switch ∙ ap (λ p. peer_among (handled l.place w).switch.card.links p) (sym k.port) ∙ out.to)
 
 -- An acknowledgement that goes out is for a body that was in hand.
 pub record IsAnswer (w : WorldOf) (s : ℕ) (x : Sent) : Type 0 where
@@ -182,33 +182,33 @@ answer_of s w x i ack = by (station w.fabric s).hand refl i
 ack_down : (script : ScriptOf) → IsScript script → (l : LinkOf) → IsLinkOf script l → (epoch n : ℕ) (from to : EndId) → NoneSent (is_ack epoch from to n) script l
 ack_down script kept l is epoch n from to h e late down k =
     let w = world_after script h in
-    let a = answer_of l.s w k.sent k.among (ap is_an_ack (ack_to epoch from to n k.sent.frame k.found)) in
-    let port : a.port ≡ l.p = sym (ap (λ (x : Sent). x.port) a.ack.is) ∙ k.port in
-    none_some (sym (down_peer script h l late.before is down) ∙ ap (good_peer (w.switches l.s)) (sym port) ∙ (counted (w.switches l.s) a.port a.body.from a.body.to a.ack.counted).0)
+    let a = answer_of l.place w k.sent k.among (ap is_an_ack (ack_to epoch from to n k.sent.frame k.found)) in
+    let port : a.port ≡ l.port = sym (ap (λ (x : Sent). x.port) a.ack.is) ∙ k.port in
+    none_some (sym (down_peer script h l late.before is down) ∙ ap (good_peer (w.switches l.place)) (sym port) ∙ (counted (w.switches l.place) a.port a.body.from a.body.to a.ack.counted).0)
 
 -- So on a link that is down no frame of a session is under way
-up_by : (test : Frame → Bool) (script : ScriptOf) (h : List Event) (l : LinkOf) → IsLinkOf script l → NoneSent test script l → IsLate script h → is_some_under_way test (world_after script h) l ≡ true → is_up (world_after script h).fabric l.s l.p ≡ true
-up_by test script h l is none_sent k found = by (is_up (world_after script h).fabric l.s l.p) refl
+up_by : (test : Frame → Bool) (script : ScriptOf) (h : List Event) (l : LinkOf) → IsLinkOf script l → NoneSent test script l → IsLate script h → is_some_under_way test (world_after script h) l ≡ true → is_up (world_after script h).fabric l.place l.port ≡ true
+up_by test script h l is none_sent k found = by (is_up (world_after script h).fabric l.place l.port) refl
   where
-    by : (b : Bool) → is_up (world_after script h).fabric l.s l.p ≡ b → is_up (world_after script h).fabric l.s l.p ≡ true
+    by : (b : Bool) → is_up (world_after script h).fabric l.place l.port ≡ b → is_up (world_after script h).fabric l.place l.port ≡ true
     by true up = up
     by false down = absurd (true≢false (sym found ∙ late_none test script l is none_sent h k down))
 
 -- and a frame between the present ends counts
-counts_up : (script : ScriptOf) (h : List Event) (l : LinkOf) → IsLate script h → IsLinkOf script l → (l.s ≡ l.t → ⊥) → is_up (world_after script h).fabric l.s l.p ≡ true → counts (here (world_after script h) l) l.p (end_there (world_after script h) l) (end_here (world_after script h) l) ≡ true
+counts_up : (script : ScriptOf) (h : List Event) (l : LinkOf) → IsLate script h → IsLinkOf script l → (l.place ≡ l.far_place → ⊥) → is_up (world_after script h).fabric l.place l.port ≡ true → counts (here (world_after script h) l) l.port (end_there (world_after script h) l) (end_here (world_after script h) l) ≡ true
 counts_up script h l k is apart up =
     let w = world_after script h in
-    and_from (is_end (good_peer (here w l) l.p) (end_there w l)) (is_same_end (end_here w l) (end_here w l))
+    and_from (is_end (good_peer (here w l) l.port) (end_there w l)) (is_same_end (end_here w l) (end_here w l))
     (ap (λ o. is_end o (end_there w l)) (back_peer script h l k is up (differ_of script k.kept h l is apart)) ∙ same_end (end_there w l)) (same_end (end_here w l))
 
-pub carry_up : (script : ScriptOf) (h : List Event) (l : LinkOf) (epoch n : ℕ) (from to : EndId) → IsLate script h → IsLinkOf script l → is_some_under_way (is_carry epoch from to n) (world_after script h) l ≡ true → is_up (world_after script h).fabric l.s l.p ≡ true
+pub carry_up : (script : ScriptOf) (h : List Event) (l : LinkOf) (epoch n : ℕ) (from to : EndId) → IsLate script h → IsLinkOf script l → is_some_under_way (is_carry epoch from to n) (world_after script h) l ≡ true → is_up (world_after script h).fabric l.place l.port ≡ true
 carry_up script h l epoch n from to k is found = up_by (is_carry epoch from to n) script h l is (carry_down script k.kept l is epoch n from to) k found
 
-pub carry_counts : (script : ScriptOf) (h : List Event) (l : LinkOf) (epoch n : ℕ) (from to : EndId) → IsLate script h → IsLinkOf script l → (l.s ≡ l.t → ⊥) → is_some_under_way (is_carry epoch from to n) (world_after script h) l ≡ true → counts (there (world_after script h) l) l.q (end_here (world_after script h) l) (end_there (world_after script h) l) ≡ true
+pub carry_counts : (script : ScriptOf) (h : List Event) (l : LinkOf) (epoch n : ℕ) (from to : EndId) → IsLate script h → IsLinkOf script l → (l.place ≡ l.far_place → ⊥) → is_some_under_way (is_carry epoch from to n) (world_after script h) l ≡ true → counts (there (world_after script h) l) l.far_port (end_here (world_after script h) l) (end_there (world_after script h) l) ≡ true
 carry_counts script h l epoch n from to k is apart found =
     counts_up script h (turned l) k (link_turned script l is) (λ e. apart (sym e)) (up_turned script k.kept h l is (carry_up script h l epoch n from to k is found))
 
-pub ack_counts : (script : ScriptOf) (h : List Event) (l : LinkOf) (epoch n : ℕ) (from to : EndId) → IsLate script h → IsLinkOf script l → (l.s ≡ l.t → ⊥) → is_some_under_way (is_ack epoch from to n) (world_after script h) (turned l) ≡ true → counts (here (world_after script h) l) l.p (end_there (world_after script h) l) (end_here (world_after script h) l) ≡ true
+pub ack_counts : (script : ScriptOf) (h : List Event) (l : LinkOf) (epoch n : ℕ) (from to : EndId) → IsLate script h → IsLinkOf script l → (l.place ≡ l.far_place → ⊥) → is_some_under_way (is_ack epoch from to n) (world_after script h) (turned l) ≡ true → counts (here (world_after script h) l) l.port (end_there (world_after script h) l) (end_here (world_after script h) l) ≡ true
 ack_counts script h l epoch n from to k is apart found =
     let back = link_turned script l is in
     counts_up script h l k is apart (up_turned script k.kept h (turned l) back (up_by (is_ack epoch from to n) script h (turned l) back (ack_down script k.kept (turned l) back epoch n from to) k found))

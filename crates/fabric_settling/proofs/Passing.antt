@@ -64,19 +64,19 @@ calm_parts script h e calm =
 
 -- the frame that was in hand
 pub record WasHeld (w : WorldOf) (e : Event) (l : LinkOf) (b : List ℕ) : Type 0 where
-  pub event : e ≡ Handle l.t
-  pub hand_is : (station w.fabric l.t).hand ≡ hand.Frame l.q
-  pub held : b ≡ held_bytes w.fabric l.t
+  pub event : e ≡ Handle l.far_place
+  pub hand_is : (station w.fabric l.far_place).hand ≡ hand.Frame l.far_port
+  pub held : b ≡ held_bytes w.fabric l.far_place
 
 abbrev pub Passes : WorldOf → Event → LinkOf → List ℕ → Type 0
-Passes w e l b = In b (under_way_to (effect e w).fabric l.t l.q) ⊎ WasHeld w e l b
+Passes w e l b = In b (under_way_to (effect e w).fabric l.far_place l.far_port) ⊎ WasHeld w e l b
 
 empty_came : (q : ℕ) (x : Hand) → x ≡ hand.Empty → came_by q x ≡ true → ⊥
 empty_came q x is came = false≢true (sym (ap (came_by q) is) ∙ came)
 
-clock_passes : (script : ScriptOf) (h : List Event) (s : ℕ) (l : LinkOf) (b : List ℕ) → is_lawful (world_after script h).fabric (Clock s) ≡ true → In b (under_way_to (world_after script h).fabric l.t l.q) → In b (under_way_to (effect (Clock s) (world_after script h)).fabric l.t l.q)
+clock_passes : (script : ScriptOf) (h : List Event) (s : ℕ) (l : LinkOf) (b : List ℕ) → is_lawful (world_after script h).fabric (Clock s) ≡ true → In b (under_way_to (world_after script h).fabric l.far_place l.far_port) → In b (under_way_to (effect (Clock s) (world_after script h)).fabric l.far_place l.far_port)
 unfolding effect
-clock_passes script h s l b lawful i = by (way_parts f l.t l.q b i) (cases_eq l.t s)
+clock_passes script h s l b lawful i = by (way_parts f l.far_place l.far_port b i) (cases_eq l.far_place s)
   where
     f : FabricOf
     f = (world_after script h).fabric
@@ -84,14 +84,14 @@ clock_passes script h s l b lawful i = by (way_parts f l.t l.q b i) (cases_eq l.
     g : FabricOf
     g = (effect (Clock s) (world_after script h)).fabric
 
-    by : On (place l.t l.q) b f.wires ⊎ ((came_by l.q (station f l.t).hand ≡ true) × In b (hand_of f.wires l.t)) → (l.t ≡ s) ⊎ (l.t ≡ s → ⊥) → In b (under_way_to g l.t l.q)
-    by (inl on) at = way_on g l.t l.q b on
-    by (inr k) (inl same) = absurd (empty_came l.q (station f l.t).hand (ap (λ n. (station f n).hand) same ∙ empty_at f s (clock_ready f s (lawful_is f (Clock s) lawful).ready).1) k.0)
-    by (inr k) (inr other) = way_held g l.t l.q b (ap (λ (x : StationOf). came_by l.q x.hand) (get_or-set_other f.stations s l.t _ vacant other) ∙ k.0) k.1
+    by : On (place l.far_place l.far_port) b f.wires ⊎ ((came_by l.far_port (station f l.far_place).hand ≡ true) × In b (hand_of f.wires l.far_place)) → (l.far_place ≡ s) ⊎ (l.far_place ≡ s → ⊥) → In b (under_way_to g l.far_place l.far_port)
+    by (inl on) at = way_on g l.far_place l.far_port b on
+    by (inr k) (inl same) = absurd (empty_came l.far_port (station f l.far_place).hand (ap (λ n. (station f n).hand) same ∙ empty_at f s (clock_ready f s (lawful_is f (Clock s) lawful).ready).1) k.0)
+    by (inr k) (inr other) = way_held g l.far_place l.far_port b (ap (λ (x : StationOf). came_by l.far_port x.hand) (get_or-set_other f.stations s l.far_place _ vacant other) ∙ k.0) k.1
 
-take_passes : (script : ScriptOf) → IsScript script → (h : List Event) (s p : ℕ) (l : LinkOf) (b : List ℕ) → IsLinkOf script l → is_lawful (world_after script h).fabric (Take s p) ≡ true → In b (under_way_to (world_after script h).fabric l.t l.q) → In b (under_way_to (effect (Take s p) (world_after script h)).fabric l.t l.q)
+take_passes : (script : ScriptOf) → IsScript script → (h : List Event) (s p : ℕ) (l : LinkOf) (b : List ℕ) → IsLinkOf script l → is_lawful (world_after script h).fabric (Take s p) ≡ true → In b (under_way_to (world_after script h).fabric l.far_place l.far_port) → In b (under_way_to (effect (Take s p) (world_after script h)).fabric l.far_place l.far_port)
 unfolding effect
-take_passes script kept h s p l b is lawful i = by (way_parts f l.t l.q b i) (cases_eq l.t s) (cases_eq l.q p)
+take_passes script kept h s p l b is lawful i = by (way_parts f l.far_place l.far_port b i) (cases_eq l.far_place s) (cases_eq l.far_port p)
   where
     f : FabricOf
     f = (world_after script h).fabric
@@ -105,7 +105,7 @@ take_passes script kept h s p l b is lawful i = by (way_parts f l.t l.q b i) (ca
     empty : (station f s).hand ≡ hand.Empty
     empty = empty_at f s (take_ready f s p (lawful_is f (Take s p) lawful).ready).empty
 
-    apart : (l.t ≡ s) ⊎ (l.t ≡ s → ⊥) → (l.q ≡ p) ⊎ (l.q ≡ p → ⊥) → ((l.t ≡ s → l.q ≡ p → ⊥) ⊎ ((l.t ≡ s) × (l.q ≡ p)))
+    apart : (l.far_place ≡ s) ⊎ (l.far_place ≡ s → ⊥) → (l.far_port ≡ p) ⊎ (l.far_port ≡ p → ⊥) → ((l.far_place ≡ s → l.far_port ≡ p → ⊥) ⊎ ((l.far_place ≡ s) × (l.far_port ≡ p)))
     apart (inl t) (inl q) = inr (t, q)
     apart (inl t) (inr q) = inl (λ _ e. q e)
     apart (inr t) q = inl (λ e _. t e)
@@ -116,8 +116,8 @@ take_passes script kept h s p l b is lawful i = by (way_parts f l.t l.q b i) (ca
     p_least : 1 ≤ p
     p_least = (take_ready f s p (lawful_is f (Take s p) lawful).ready).least
 
-    same_hand : (l.t ≡ s → ⊥) → (station g l.t).hand ≡ (station f l.t).hand
-    same_hand other = ap (λ (x : StationOf). x.hand) (get_or-set_other f.stations s l.t _ vacant other)
+    same_hand : (l.far_place ≡ s → ⊥) → (station g l.far_place).hand ≡ (station f l.far_place).hand
+    same_hand other = ap (λ (x : StationOf). x.hand) (get_or-set_other f.stations s l.far_place _ vacant other)
 
     taken_hand : (station g s).hand ≡ hand.Frame p
     taken_hand = ap (λ (x : StationOf). x.hand) (get_or-set_same f.stations s _ vacant (within script kept h s s_low))
@@ -125,7 +125,7 @@ take_passes script kept h s p l b is lawful i = by (way_parts f l.t l.q b i) (ca
     size : length f.wires.frames.queues ≡ 13 * places script
     size = (world_fits script kept h).wires_sound.frames.queues ∙ ap (λ z. 13 * places z) (world_script script h)
 
-    here : (l.t ≡ s) × (l.q ≡ p) → On (place l.t l.q) b f.wires → In b (under_way_to g l.t l.q)
+    here : (l.far_place ≡ s) × (l.far_port ≡ p) → On (place l.far_place l.far_port) b f.wires → In b (under_way_to g l.far_place l.far_port)
     here at on =
         let q_is = at.1 in
         let none = empty_hand (station f s).hand (hand_of f.wires s) empty (holds_at script kept h s s_low) in
@@ -139,26 +139,26 @@ take_passes script kept h s p l b is lawful i = by (way_parts f l.t l.q b i) (ca
         came (inl o) = way_on g s p b o
         came (inr o) = way_held g s p b (ap (came_by p) taken_hand ∙ eq-eqb p p refl) o
 
-    by : On (place l.t l.q) b f.wires ⊎ ((came_by l.q (station f l.t).hand ≡ true) × In b (hand_of f.wires l.t)) → (l.t ≡ s) ⊎ (l.t ≡ s → ⊥) → (l.q ≡ p) ⊎ (l.q ≡ p → ⊥) → In b (under_way_to g l.t l.q)
+    by : On (place l.far_place l.far_port) b f.wires ⊎ ((came_by l.far_port (station f l.far_place).hand ≡ true) × In b (hand_of f.wires l.far_place)) → (l.far_place ≡ s) ⊎ (l.far_place ≡ s → ⊥) → (l.far_port ≡ p) ⊎ (l.far_port ≡ p → ⊥) → In b (under_way_to g l.far_place l.far_port)
     by (inl on) t q = by_apart (apart t q)
       where
-        q_least : 1 ≤ l.q
+        q_least : 1 ≤ l.far_port
         q_least = is.there.p_least
 
-        by_apart : ((l.t ≡ s → l.q ≡ p → ⊥) ⊎ ((l.t ≡ s) × (l.q ≡ p))) → In b (under_way_to g l.t l.q)
+        by_apart : ((l.far_place ≡ s → l.far_port ≡ p → ⊥) ⊎ ((l.far_place ≡ s) × (l.far_port ≡ p))) → In b (under_way_to g l.far_place l.far_port)
         by_apart (inr at) = here at on
         by_apart (inl not) =
-            way_on g l.t l.q b (subst (In b) (sym (take_elsewhere (place s p) (place s 0) (place l.t l.q) f.wires
-            (λ e. let at = same_places l.t l.q s p is.there.p_most p_most e in not at.0 at.1)
-            (λ e. port_is_no_hand s l.t l.q is.there.p_least is.there.p_most (sym e)))) on)
-    by (inr k) (inl same) q = absurd (empty_came l.q (station f l.t).hand (ap (λ n. (station f n).hand) same ∙ empty) k.0)
+            way_on g l.far_place l.far_port b (subst (In b) (sym (take_elsewhere (place s p) (place s 0) (place l.far_place l.far_port) f.wires
+            (λ e. let at = same_places l.far_place l.far_port s p is.there.p_most p_most e in not at.0 at.1)
+            (λ e. port_is_no_hand s l.far_place l.far_port is.there.p_least is.there.p_most (sym e)))) on)
+    by (inr k) (inl same) q = absurd (empty_came l.far_port (station f l.far_place).hand (ap (λ n. (station f n).hand) same ∙ empty) k.0)
     by (inr k) (inr other) q =
-        way_held g l.t l.q b (ap (came_by l.q) (same_hand other) ∙ k.0)
-        (subst (In b) (sym (take_elsewhere (place s p) (place s 0) (place l.t 0) f.wires (port_is_no_hand l.t s p p_least p_most) (hands_differ l.t s other))) k.1)
+        way_held g l.far_place l.far_port b (ap (came_by l.far_port) (same_hand other) ∙ k.0)
+        (subst (In b) (sym (take_elsewhere (place s p) (place s 0) (place l.far_place 0) f.wires (port_is_no_hand l.far_place s p p_least p_most) (hands_differ l.far_place s other))) k.1)
 
-handle_passes : (script : ScriptOf) → IsScript script → (h : List Event) (s : ℕ) (l : LinkOf) (b : List ℕ) → IsLinkOf script l → is_lawful (world_after script h).fabric (Handle s) ≡ true → In b (under_way_to (world_after script h).fabric l.t l.q) → Passes (world_after script h) (Handle s) l b
+handle_passes : (script : ScriptOf) → IsScript script → (h : List Event) (s : ℕ) (l : LinkOf) (b : List ℕ) → IsLinkOf script l → is_lawful (world_after script h).fabric (Handle s) ≡ true → In b (under_way_to (world_after script h).fabric l.far_place l.far_port) → Passes (world_after script h) (Handle s) l b
 unfolding effect
-handle_passes script kept h s l b is lawful i = by (way_parts w.fabric l.t l.q b i) (cases_eq l.t s)
+handle_passes script kept h s l b is lawful i = by (way_parts w.fabric l.far_place l.far_port b i) (cases_eq l.far_place s)
   where
     w : WorldOf
     w = world_after script h
@@ -169,19 +169,19 @@ handle_passes script kept h s l b is lawful i = by (way_parts w.fabric l.t l.q b
     out : List BytesOut
     out = all_spelled (handled s w).frames
 
-    by : On (place l.t l.q) b w.fabric.wires ⊎ ((came_by l.q (station w.fabric l.t).hand ≡ true) × In b (hand_of w.fabric.wires l.t)) → (l.t ≡ s) ⊎ (l.t ≡ s → ⊥) → Passes w (Handle s) l b
-    by (inl on) at = inl (way_on g l.t l.q b (all_out_keeps s (place l.t l.q) out b (released (station w.fabric s).hand s w.fabric.wires)
-        (released_keeps (station w.fabric s).hand s (place l.t l.q) b w.fabric.wires (λ e. port_is_no_hand s l.t l.q is.there.p_least is.there.p_most (sym e)) on)))
+    by : On (place l.far_place l.far_port) b w.fabric.wires ⊎ ((came_by l.far_port (station w.fabric l.far_place).hand ≡ true) × In b (hand_of w.fabric.wires l.far_place)) → (l.far_place ≡ s) ⊎ (l.far_place ≡ s → ⊥) → Passes w (Handle s) l b
+    by (inl on) at = inl (way_on g l.far_place l.far_port b (all_out_keeps s (place l.far_place l.far_port) out b (released (station w.fabric s).hand s w.fabric.wires)
+        (released_keeps (station w.fabric s).hand s (place l.far_place l.far_port) b w.fabric.wires (λ e. port_is_no_hand s l.far_place l.far_port is.there.p_least is.there.p_most (sym e)) on)))
     by (inr k) (inl same) =
-        let at = came_port l.q (station w.fabric l.t).hand k.0 in
+        let at = came_port l.far_port (station w.fabric l.far_place).hand k.0 in
         inr (record {
           event = ap Handle (sym same);
           hand_is = at;
-          held = held_one (station w.fabric l.t).hand l.q (hand_of w.fabric.wires l.t) b at (holds_at script kept h l.t is.there.s_below) k.1;
+          held = held_one (station w.fabric l.far_place).hand l.far_port (hand_of w.fabric.wires l.far_place) b at (holds_at script kept h l.far_place is.there.s_below) k.1;
         })
-    by (inr k) (inr other) = inl (way_held g l.t l.q b (ap (λ (x : StationOf). came_by l.q x.hand) (get_or-set_other w.fabric.stations s l.t _ vacant other) ∙ k.0)
-        (all_out_keeps s (place l.t 0) out b (released (station w.fabric s).hand s w.fabric.wires)
-        (released_keeps (station w.fabric s).hand s (place l.t 0) b w.fabric.wires (hands_differ l.t s other) k.1)))
+    by (inr k) (inr other) = inl (way_held g l.far_place l.far_port b (ap (λ (x : StationOf). came_by l.far_port x.hand) (get_or-set_other w.fabric.stations s l.far_place _ vacant other) ∙ k.0)
+        (all_out_keeps s (place l.far_place 0) out b (released (station w.fabric s).hand s w.fabric.wires)
+        (released_keeps (station w.fabric s).hand s (place l.far_place 0) b w.fabric.wires (hands_differ l.far_place s other) k.1)))
 
 -- a station changes
 pub set_cases : (stations : List StationOf) (s t : ℕ) (x : StationOf) → ((t ≡ s) × (slice_index_or (slice_set stations s x) t vacant ≡ x)) ⊎ (slice_index_or (slice_set stations s x) t vacant ≡ slice_index_or stations t vacant)
@@ -213,13 +213,13 @@ loads_passes None s w t q b i = i
 loads_passes (Some topo) s w t q b i = way_same w.fabric (loads_with (Some topo) s w).fabric t q b (set_hand w.fabric.stations s t _ refl) refl i
 
 -- So what is under way stays so, but for the frame that is handled.
-pub way_stays : (script : ScriptOf) → IsScript script → (h : List Event) (e : Event) (l : LinkOf) (b : List ℕ) → IsLinkOf script l → is_lawful (world_after script h).fabric e ≡ true → is_of_script e ≡ false → (e ≡ Tick → ⊥) → In b (under_way_to (world_after script h).fabric l.t l.q) → Passes (world_after script h) e l b
+pub way_stays : (script : ScriptOf) → IsScript script → (h : List Event) (e : Event) (l : LinkOf) (b : List ℕ) → IsLinkOf script l → is_lawful (world_after script h).fabric e ≡ true → is_of_script e ≡ false → (e ≡ Tick → ⊥) → In b (under_way_to (world_after script h).fabric l.far_place l.far_port) → Passes (world_after script h) e l b
 unfolding effect
 way_stays script kept h Tick l b is lawful quiet no_tick i = absurd (no_tick refl)
 way_stays script kept h (Clock s) l b is lawful quiet no_tick i = inl (clock_passes script h s l b lawful i)
 way_stays script kept h (Take s p) l b is lawful quiet no_tick i = inl (take_passes script kept h s p l b is lawful i)
 way_stays script kept h (Handle s) l b is lawful quiet no_tick i = handle_passes script kept h s l b is lawful i
-way_stays script kept h (Load s) l b is lawful quiet no_tick i = let w = world_after script h in inl (loads_passes (finish_of (w.switches s)) s w l.t l.q b i)
+way_stays script kept h (Load s) l b is lawful quiet no_tick i = let w = world_after script h in inl (loads_passes (finish_of (w.switches s)) s w l.far_place l.far_port b i)
 way_stays script kept h (Move k) l b is lawful quiet no_tick i = inl i
 way_stays script kept h (Fail s p) l b is lawful quiet no_tick i = absurd (true≢false quiet)
 way_stays script kept h (Repair s p) l b is lawful quiet no_tick i = absurd (true≢false quiet)
@@ -230,7 +230,7 @@ way_stays script kept h (Noise s p n) l b is lawful quiet no_tick i = absurd (tr
 way_stays script kept h (Send x y) l b is lawful quiet no_tick i = absurd (true≢false quiet)
 way_stays script kept h (Restart s) l b is lawful quiet no_tick i = absurd (true≢false quiet)
 
-pub way_passes : (script : ScriptOf) → IsScript script → (h : List Event) (e : Event) (l : LinkOf) (b : List ℕ) → IsLinkOf script l → IsCalm script h e → (e ≡ Tick → ⊥) → In b (under_way_to (world_after script h).fabric l.t l.q) → Passes (world_after script h) e l b
+pub way_passes : (script : ScriptOf) → IsScript script → (h : List Event) (e : Event) (l : LinkOf) (b : List ℕ) → IsLinkOf script l → IsCalm script h e → (e ≡ Tick → ⊥) → In b (under_way_to (world_after script h).fabric l.far_place l.far_port) → Passes (world_after script h) e l b
 way_passes script kept h e l b is calm no_tick i = way_stays script kept h e l b is calm.lawful (calm_parts script h e calm).0 no_tick i
 
 -- the losses are the last lines of a handling
@@ -250,20 +250,20 @@ spelled_in x (y ∷ ys) (inl is) = inl (ap spelled_out is)
 spelled_in x (y ∷ ys) (inr i) = inr (spelled_in x ys i)
 
 -- And what a switch sends on a link that is up comes to be under way.
-pub sent_comes : (script : ScriptOf) → IsScript script → (h : List Event) (l : LinkOf) (x : Sent) → IsLinkOf script l → IsCalm script h (Handle l.s) → is_up (world_after script h).fabric l.s l.p ≡ true
-    → In x (handled l.s (world_after script h)).frames → x.port ≡ l.p → In (spelling x.frame) (under_way_to (effect (Handle l.s) (world_after script h)).fabric l.t l.q)
+pub sent_comes : (script : ScriptOf) → IsScript script → (h : List Event) (l : LinkOf) (x : Sent) → IsLinkOf script l → IsCalm script h (Handle l.place) → is_up (world_after script h).fabric l.place l.port ≡ true
+    → In x (handled l.place (world_after script h)).frames → x.port ≡ l.port → In (spelling x.frame) (under_way_to (effect (Handle l.place) (world_after script h)).fabric l.far_place l.far_port)
 unfolding effect
 sent_comes script kept h l x is calm up i port =
     let w = world_after script h in
-    let v = released (station w.fabric l.s).hand l.s w.fabric.wires in
-    let same = released_links (station w.fabric l.s).hand l.s w.fabric.wires in
-    let lost = handle_lost w l.s (calm_parts script h (Handle l.s) calm).1 in
-    let size = released_size (station w.fabric l.s).hand l.s w.fabric.wires in
-    let at : wire_out v l.s x.port ≡ place l.t l.q = ap (λ n. wire_out v l.s n) port ∙ ap Rattle.wire_set.specs.WireState.far_place (same.far (place l.s l.p)) ∙ out_is script kept h l is in
+    let v = released (station w.fabric l.place).hand l.place w.fabric.wires in
+    let same = released_links (station w.fabric l.place).hand l.place w.fabric.wires in
+    let lost = handle_lost w l.place (calm_parts script h (Handle l.place) calm).1 in
+    let size = released_size (station w.fabric l.place).hand l.place w.fabric.wires in
+    let at : wire_out v l.place x.port ≡ place l.far_place l.far_port = ap (λ n. wire_out v l.place n) port ∙ ap Rattle.wire_set.specs.WireState.far_place (same.far (place l.place l.port)) ∙ out_is script kept h l is in
     let low = wire_low script kept h l is in
-    way_on (effect (Handle l.s) w).fabric l.t l.q (spelling x.frame)
-    (subst (λ n. On n (spelling x.frame) (all_put_out l.s (all_spelled (handled l.s w).frames) v)) at
-    (all_out_comes l.s (all_spelled (handled l.s w).frames) (spelled_out x) v (spelled_in x (handled l.s w).frames i)
-    (ap (λ n. is_link (side_at v (place l.s n)).far) port ∙ ap is_link (same.far (place l.s l.p)) ∙ side_link script kept h l is)
-    (ap (λ n. (side_at v (place l.s n)).is_up) port ∙ same.up (place l.s l.p) ∙ up)
+    way_on (effect (Handle l.place) w).fabric l.far_place l.far_port (spelling x.frame)
+    (subst (λ n. On n (spelling x.frame) (all_put_out l.place (all_spelled (handled l.place w).frames) v)) at
+    (all_out_comes l.place (all_spelled (handled l.place w).frames) (spelled_out x) v (spelled_in x (handled l.place w).frames i)
+    (ap (λ n. is_link (side_at v (place l.place n)).far) port ∙ ap is_link (same.far (place l.place l.port)) ∙ side_link script kept h l is)
+    (ap (λ n. (side_at v (place l.place n)).is_up) port ∙ same.up (place l.place l.port) ∙ up)
     lost (omega (arith, at, low, size))))

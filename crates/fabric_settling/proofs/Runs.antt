@@ -66,15 +66,15 @@ behind : Option Far → ℕ × ℕ
 behind (Some (far.Switch t q)) = (t, q)
 behind o = (0, 0)
 
-peer_boot : (script : ScriptOf) → IsScript script → (h : List Event) (l : LinkOf) (peer : EndId) → IsLinkOf script l → peer_among (here (world_after script h) l).card.links l.p ≡ Some peer → peer.life.boot ≤ (there (world_after script h) l).life.boot
+peer_boot : (script : ScriptOf) → IsScript script → (h : List Event) (l : LinkOf) (peer : EndId) → IsLinkOf script l → peer_among (here (world_after script h) l).card.links l.port ≡ Some peer → peer.life.boot ≤ (there (world_after script h) l).life.boot
 unfolding behind
 peer_boot script kept h l peer is linked =
     let u = here (world_after script h) l in
-    let met = peer_ok (Met script h l.s u.life) u.card.links l.p peer ((all_met script (all_lives script) kept (firm script kept) h).switches l.s is.here.s_below).card linked in
-    let other : met.other ≡ l.t = ap (λ o. (behind o).0) (sym met.wired ∙ is.far) in
-    let up = boots_rise script met.before met.later l.t in
-    let now : (switch_after script (met.before ++ met.later) l.t).life.boot ≡ (there (world_after script h) l).life.boot = ap (λ g. (switch_after script g l.t).life.boot) (sym met.parts) in
-    let then : peer.life.boot ≡ (switch_after script met.before l.t).life.boot = ap (λ (x : LifeId). x.boot) (sym met.there) ∙ ap (λ n. (switch_after script met.before n).life.boot) other in
+    let met = peer_ok (Met script h l.place u.life) u.card.links l.port peer ((all_met script (all_lives script) kept (firm script kept) h).switches l.place is.here.s_below).card linked in
+    let other : met.other ≡ l.far_place = ap (λ o. (behind o).0) (sym met.wired ∙ is.far) in
+    let up = boots_rise script met.before met.later l.far_place in
+    let now : (switch_after script (met.before ++ met.later) l.far_place).life.boot ≡ (there (world_after script h) l).life.boot = ap (λ g. (switch_after script g l.far_place).life.boot) (sym met.parts) in
+    let then : peer.life.boot ≡ (switch_after script met.before l.far_place).life.boot = ap (λ (x : LifeId). x.boot) (sym met.there) ∙ ap (λ n. (switch_after script met.before n).life.boot) other in
     omega (arith, up, now, then)
 
 -- The lives of an end that has joined no epoch: nothing of a session of it is under way
@@ -85,8 +85,8 @@ no_carry_from script kept h l n is unjoined found =
     let x = such_way test w l found in
     let f = frame_such test x.0 x.2 in
     let c = carry_to (here w l).epoch (end_here w l) (end_there w l) n f.0 f.2 in
-    let at = under_wire script h l.t l.q x.0 x.1 in
-    joined_none script kept h l.s c.carry.epoch c.carry.from.life is.here.s_below (ap (λ (z : EndId). z.life) c.from_is) unjoined (carry_joined script kept h at.0 x.0 c.carry at.1 (f.1 ∙ ap Some c.frame_is))
+    let at = under_wire script h l.far_place l.far_port x.0 x.1 in
+    joined_none script kept h l.place c.carry.epoch c.carry.from.life is.here.s_below (ap (λ (z : EndId). z.life) c.from_is) unjoined (carry_joined script kept h at.0 x.0 c.carry at.1 (f.1 ∙ ap Some c.frame_is))
 
 no_ack_to : (script : ScriptOf) → IsScript script → (h : List Event) (l : LinkOf) (n : ℕ) → IsLinkOf script l → (here (world_after script h) l).joined ≡ false → (way (world_after script h) l).ack n ≡ true → ⊥
 no_ack_to script kept h l n is unjoined found =
@@ -94,8 +94,8 @@ no_ack_to script kept h l n is unjoined found =
     let test = is_ack (here w l).epoch (end_there w l) (end_here w l) n in
     let x = such_way test w (turned l) found in
     let f = frame_such test x.0 x.2 in
-    let at = under_wire script h l.s l.p x.0 x.1 in
-    joined_none script kept h l.s (here w l).epoch (here w l).life is.here.s_below refl unjoined
+    let at = under_wire script h l.place l.port x.0 x.1 in
+    joined_none script kept h l.place (here w l).epoch (here w l).life is.here.s_below refl unjoined
     (ack_joined script kept h at.0 x.0 (here w l).epoch n (end_there w l) (end_here w l) at.1 (f.1 ∙ ap Some (ack_to (here w l).epoch (end_there w l) (end_here w l) n f.0 f.2)))
 
 -- a far end that has joined none, and of which the near one has no link
@@ -105,9 +105,9 @@ no_ack_from script kept h l n is unjoined found =
     let test = is_ack (here w l).epoch (end_there w l) (end_here w l) n in
     let x = such_way test w (turned l) found in
     let f = frame_such test x.0 x.2 in
-    let at = under_wire script h l.s l.p x.0 x.1 in
+    let at = under_wire script h l.place l.port x.0 x.1 in
     let told = sent_told script kept h at.0 x.0 (Ack (here w l).epoch (end_there w l) (end_here w l) n) at.1 (f.1 ∙ ap Some (ack_to (here w l).epoch (end_there w l) (end_here w l) n f.0 f.2)) in
-    joined_none script kept h l.t (here w l).epoch (there w l).life is.there.s_below refl unjoined (told.node, told.joined)
+    joined_none script kept h l.far_place (here w l).epoch (there w l).life is.there.s_below refl unjoined (told.node, told.joined)
 
 no_carry_to : (script : ScriptOf) → IsScript script → (h : List Event) (l : LinkOf) (n : ℕ) → IsLinkOf script l → is_session (world_after script h) l ≡ false → (way (world_after script h) l).carry n ≡ true → ⊥
 no_carry_to script kept h l n is none found = by u.joined refl
@@ -125,11 +125,11 @@ no_carry_to script kept h l n is none found = by u.joined refl
         let x = such_way test w l found in
         let f = frame_such test x.0 x.2 in
         let c = carry_to u.epoch (end_here w l) (end_there w l) n f.0 f.2 in
-        let at = under_wire script h l.t l.q x.0 x.1 in
+        let at = under_wire script h l.far_place l.far_port x.0 x.1 in
         let told = sent_told script kept h at.0 x.0 (Carry c.carry) at.1 (f.1 ∙ ap Some c.frame_is) in
-        let node = some_same told.node _ (sym told.joined ∙ (λ i. (game_after script h).nodes (c.from_is i).life (c.epoch_is i)) ∙ (history_agrees script kept h l.s is.here.s_below).joined joined) in
-        let linked : peer_among u.card.links l.p ≡ Some (end_there w l) =
-        same_link u.card.links l.p ∙ (λ i. link_at (sym c.from_is i).port (sym node i).card.links) ∙ told.to ∙ ap Some c.to_is
+        let node = some_same told.node _ (sym told.joined ∙ (λ i. (game_after script h).nodes (c.from_is i).life (c.epoch_is i)) ∙ (history_agrees script kept h l.place is.here.s_below).joined joined) in
+        let linked : peer_among u.card.links l.port ≡ Some (end_there w l) =
+        same_link u.card.links l.port ∙ (λ i. link_at (sym c.from_is i).port (sym node i).card.links) ∙ told.to ∙ ap Some c.to_is
         in
         true≢false (sym (ap (λ o. is_end o (end_there w l)) linked ∙ same_end (end_there w l)) ∙ none)
 
@@ -140,7 +140,7 @@ no_session script kept h l is v same new = by (is_session v l) refl
     by : (b : Bool) → is_session v l ≡ b → is_session v l ≡ false
     by false none = none
     by true session =
-        let old = peer_boot script kept h l (end_there v l) is (ap (λ (u : SwitchOf). peer_among u.card.links l.p) (sym same) ∙ is_end_is (peer_among (here v l).card.links l.p) (end_there v l) session) in
+        let old = peer_boot script kept h l (end_there v l) is (ap (λ (u : SwitchOf). peer_among u.card.links l.port) (sym same) ∙ is_end_is (peer_among (here v l).card.links l.port) (end_there v l) session) in
         absurd (omega (arith, old, new))
 
 -- So where a switch begins, the two directions of each of its links begin.
@@ -149,16 +149,16 @@ pub record IsNewHere (w : WorldOf) (l : LinkOf) : Type 0 where
   pub links : (here w l).card.links ≡ []
 
 new_sending : (w : WorldOf) (l : LinkOf) → is_session w l ≡ false → (way w l).sending ≡ unused
-new_sending w l none = ap (λ b. cond b ((here w l).sendings l.p) unused) none
+new_sending w l none = ap (λ b. cond b ((here w l).sendings l.port) unused) none
 
 new_receiving : (w : WorldOf) (l : LinkOf) → is_session w (turned l) ≡ false → (way w l).receiving ≡ untouched
-new_receiving w l none = ap (λ b. cond (b && not (nat_lt (there w l).epoch (here w l).epoch)) ((there w l).receivings l.q) untouched) none
+new_receiving w l none = ap (λ b. cond (b && not (nat_lt (there w l).epoch (here w l).epoch)) ((there w l).receivings l.far_port) untouched) none
 
 here_begins : (script : ScriptOf) → IsScript script → (h : List Event) (l : LinkOf) → IsLinkOf script l → IsNewHere (world_after script h) l → is_session (world_after script h) (turned l) ≡ false → Starts (way (world_after script h) l)
 here_begins script kept h l is new none =
     let w = world_after script h in
     record {
-      sending = new_sending w l (ap (λ ls. is_end (peer_among ls l.p) (end_there w l)) new.links);
+      sending = new_sending w l (ap (λ ls. is_end (peer_among ls l.port) (end_there w l)) new.links);
       receiving = new_receiving w l none;
       no_carry = λ n found. no_carry_from script kept h l n is new.joined found;
       no_ack = λ n found. no_ack_to script kept h l n is new.joined found;
@@ -169,7 +169,7 @@ there_begins script kept h l is new none =
     let w = world_after script h in
     record {
       sending = new_sending w l none;
-      receiving = new_receiving w l (ap (λ ls. is_end (peer_among ls l.q) (end_here w l)) new.links);
+      receiving = new_receiving w l (ap (λ ls. is_end (peer_among ls l.far_port) (end_here w l)) new.links);
       no_carry = λ n found. no_carry_to script kept h l n is none found;
       no_ack = λ n found. no_ack_from script kept h l n is new.joined found;
     }
@@ -186,7 +186,7 @@ restarted_other : (s t : ℕ) (w : WorldOf) → (t ≡ s → ⊥) → (effect (R
 unfolding effect
 restarted_other s t w other = ap (λ b. cond b (next_life s w) (w.switches t)) (ne_eqb t s other)
 
-is_new : (l : LinkOf) (s : ℕ) (w : WorldOf) → l.s ≡ s → IsNewHere (effect (Restart s) w) l
+is_new : (l : LinkOf) (s : ℕ) (w : WorldOf) → l.place ≡ s → IsNewHere (effect (Restart s) w) l
 is_new l s w same =
     let x : here (effect (Restart s) w) l ≡ next_life s w = ap (λ n. (effect (Restart s) w).switches n) same ∙ restarted_here s w in
     record { joined = ap (λ (u : SwitchOf). u.joined) x; links = ap (λ (u : SwitchOf). u.card.links) x }
@@ -210,10 +210,10 @@ restart_clocked s t w other = ap (λ (x : StationOf). not (Rattle.std.specs.Prel
 
 -- the other events
 command_on : (script : ScriptOf) (h : List Event) (e : Event) (l : LinkOf) → IsEvent script h e l → is_of_script e ≡ true → ((t : ℕ) → e ≡ Handle t → ⊥) → ((t : ℕ) → e ≡ Restart t → ⊥) → (effect e (world_after script h)).fabric.tick ≡ (world_after script h).fabric.tick
-    → has_clocked (effect e (world_after script h)).fabric l.s ≡ has_clocked (world_after script h).fabric l.s → GoesOn script h e l
+    → has_clocked (effect e (world_after script h)).fabric l.place ≡ has_clocked (world_after script h).fabric l.place → GoesOn script h e l
 command_on script h e l k command no_handle no_restart tick clocked =
     let w = world_after script h in
-    command_goes script h e l k command (no_handle l.s) (no_handle l.t) (all_left e w l.s no_handle no_restart) (all_left e w l.t no_handle no_restart) tick clocked
+    command_goes script h e l k command (no_handle l.place) (no_handle l.far_place) (all_left e w l.place no_handle no_restart) (all_left e w l.far_place no_handle no_restart) tick clocked
 
 no_tick : (s : ℕ) → Load s ≡ Tick → ⊥
 no_tick s e = cc
@@ -225,24 +225,24 @@ load_tick s w = by (Rattle.fabric_settling.proofs.Times.step_of (Load s) w)
     by (inl e) = absurd (no_tick s e)
     by (inr step) = step.tick
 
-goes_on : (script : ScriptOf) (h : List Event) (e : Event) (l : LinkOf) → IsEvent script h e l → (e ≡ Restart l.s → ⊥) → (e ≡ Restart l.t → ⊥) → GoesOn script h e l
+goes_on : (script : ScriptOf) (h : List Event) (e : Event) (l : LinkOf) → IsEvent script h e l → (e ≡ Restart l.place → ⊥) → (e ≡ Restart l.far_place → ⊥) → GoesOn script h e l
 unfolding effect
 goes_on script h Tick l k here_not there_not = tick_goes script h l k
 goes_on script h (Clock s) l k here_not there_not = aside_goes script h (Clock s) l k refl (λ e. cc) (λ t e. cc) (λ t e. cc) refl
 goes_on script h (Take s p) l k here_not there_not = aside_goes script h (Take s p) l k refl (λ e. cc) (λ t e. cc) (λ t e. cc) refl
 goes_on script h (Load s) l k here_not there_not = aside_goes script h (Load s) l k refl (λ e. cc) (λ t e. cc) (λ t e. cc) (load_tick s (world_after script h))
 goes_on script h (Move n) l k here_not there_not = aside_goes script h (Move n) l k refl (λ e. cc) (λ t e. cc) (λ t e. cc) refl
-goes_on script h (Handle s) l k here_not there_not = by (cases_eq l.s s) (cases_eq l.t s)
+goes_on script h (Handle s) l k here_not there_not = by (cases_eq l.place s) (cases_eq l.far_place s)
   where
-    by : (l.s ≡ s) ⊎ (l.s ≡ s → ⊥) → (l.t ≡ s) ⊎ (l.t ≡ s → ⊥) → GoesOn script h (Handle s) l
+    by : (l.place ≡ s) ⊎ (l.place ≡ s → ⊥) → (l.far_place ≡ s) ⊎ (l.far_place ≡ s → ⊥) → GoesOn script h (Handle s) l
     by (inl same) other = subst (λ n. IsEvent script h (Handle n) l → GoesOn script h (Handle n) l) same (here_goes script h l) k
     by (inr other) (inl same) = subst (λ n. IsEvent script h (Handle n) l → GoesOn script h (Handle n) l) same (there_goes script h l) k
     by (inr a) (inr b) = elsewhere_goes script h s l k a b refl
 goes_on script h (Restart s) l k here_not there_not =
     let w = world_after script h in
-    let a : l.s ≡ s → ⊥ = λ e. here_not (ap Restart (sym e)) in
-    let b : l.t ≡ s → ⊥ = λ e. there_not (ap Restart (sym e)) in
-    command_goes script h (Restart s) l k refl (λ e. cc) (λ e. cc) (restart_left s l.s w a) (restart_left s l.t w b) (restart_tick s w) (restart_clocked s l.s w a)
+    let a : l.place ≡ s → ⊥ = λ e. here_not (ap Restart (sym e)) in
+    let b : l.far_place ≡ s → ⊥ = λ e. there_not (ap Restart (sym e)) in
+    command_goes script h (Restart s) l k refl (λ e. cc) (λ e. cc) (restart_left s l.place w a) (restart_left s l.far_place w b) (restart_tick s w) (restart_clocked s l.place w a)
 goes_on script h (Fail s p) l k here_not there_not = command_on script h (Fail s p) l k refl (λ t e. cc) (λ t e. cc) refl refl
 goes_on script h (Repair s p) l k here_not there_not = command_on script h (Repair s p) l k refl (λ t e. cc) (λ t e. cc) refl refl
 goes_on script h (Lose s p n) l k here_not there_not = command_on script h (Lose s p n) l k refl (λ t e. cc) (λ t e. cc) refl refl
@@ -253,7 +253,7 @@ goes_on script h (Send x y) l k here_not there_not = command_on script h (Send x
 
 -- Each history
 abbrev RunsAfter : ScriptOf → List Event → Type 0
-RunsAfter script h = is_some_spent (world_after script h).fabric ≡ false → (l : LinkOf) → IsLinkOf script l → (l.s ≡ l.t → ⊥) → IsRun (last script h + 259) (world_after script h) l
+RunsAfter script h = is_some_spent (world_after script h).fabric ≡ false → (l : LinkOf) → IsLinkOf script l → (l.place ≡ l.far_place → ⊥) → IsRun (last script h + 259) (world_after script h) l
 
 first_runs : (script : ScriptOf) → IsScript script → RunsAfter script []
 unfolding world_after
@@ -293,21 +293,21 @@ next_runs script kept unpaced h e old works l is apart = by_law (is_lawful w.fab
     g : List Event
     g = h ++ e ∷ []
 
-    restarts_here : is_lawful w.fabric e ≡ true → e ≡ Restart l.s → IsRun (last script g + 259) (world_after script g) l
+    restarts_here : is_lawful w.fabric e ≡ true → e ≡ Restart l.place → IsRun (last script g + 259) (world_after script g) l
     restarts_here lawful restart =
-        let same : world_after script g ≡ effect (Restart l.s) w = after_is script h e lawful ∙ ap (λ x. effect x w) restart in
+        let same : world_after script g ≡ effect (Restart l.place) w = after_is script h e lawful ∙ ap (λ x. effect x w) restart in
         begins_anew (last script g + 259) (world_after script g) l (here_begins script kept g l is
-        (subst (λ x. IsNewHere x l) (sym same) (is_new l l.s w refl))
-        (subst (λ x. is_session x (turned l) ≡ false) (sym same) (no_session script kept h (turned l) (link_turned script l is) (effect (Restart l.s) w) (restarted_other l.s l.t w (λ n. apart (sym n))) (later_boot l.s l.s w refl))))
+        (subst (λ x. IsNewHere x l) (sym same) (is_new l l.place w refl))
+        (subst (λ x. is_session x (turned l) ≡ false) (sym same) (no_session script kept h (turned l) (link_turned script l is) (effect (Restart l.place) w) (restarted_other l.place l.far_place w (λ n. apart (sym n))) (later_boot l.place l.place w refl))))
 
-    restarts_there : is_lawful w.fabric e ≡ true → e ≡ Restart l.t → IsRun (last script g + 259) (world_after script g) l
+    restarts_there : is_lawful w.fabric e ≡ true → e ≡ Restart l.far_place → IsRun (last script g + 259) (world_after script g) l
     restarts_there lawful restart =
-        let same : world_after script g ≡ effect (Restart l.t) w = after_is script h e lawful ∙ ap (λ x. effect x w) restart in
+        let same : world_after script g ≡ effect (Restart l.far_place) w = after_is script h e lawful ∙ ap (λ x. effect x w) restart in
         begins_anew (last script g + 259) (world_after script g) l (there_begins script kept g l is
-        (subst (λ x. IsNewHere x (turned l)) (sym same) (is_new (turned l) l.t w refl))
-        (subst (λ x. is_session x l ≡ false) (sym same) (no_session script kept h l is (effect (Restart l.t) w) (restarted_other l.t l.s w apart) (later_boot l.t l.t w refl))))
+        (subst (λ x. IsNewHere x (turned l)) (sym same) (is_new (turned l) l.far_place w refl))
+        (subst (λ x. is_session x l ≡ false) (sym same) (no_session script kept h l is (effect (Restart l.far_place) w) (restarted_other l.far_place l.place w apart) (later_boot l.far_place l.far_place w refl))))
 
-    goes : is_lawful w.fabric e ≡ true → (e ≡ Restart l.s → ⊥) → (e ≡ Restart l.t → ⊥) → IsRun (last script g + 259) (world_after script g) l
+    goes : is_lawful w.fabric e ≡ true → (e ≡ Restart l.place → ⊥) → (e ≡ Restart l.far_place → ⊥) → IsRun (last script g + 259) (world_after script g) l
     goes lawful not_here not_there =
         let same = after_is script h e lawful in
         let works_on = subst (λ (x : WorldOf). is_some_spent x.fabric ≡ false) same works in
@@ -318,13 +318,13 @@ next_runs script kept unpaced h e old works l is apart = by_law (is_lawful w.fab
         let now : Run (base_after script h e) run.first (way (effect e w) l) = goes_on script h e l k not_here not_there run.first (later_run (last script h + 259) (base_after script h e) run.first (way w l) (omega (arith, grown)) run.run) in
         subst (λ x. IsRun (last script g + 259) x l) (sym same) (record { first = run.first; starts = run.starts; run = now })
 
-    by_kind : is_lawful w.fabric e ≡ true → (e ≡ Restart l.s) ⊎ (e ≡ Restart l.s → ⊥) → (e ≡ Restart l.t) ⊎ (e ≡ Restart l.t → ⊥) → IsRun (last script g + 259) (world_after script g) l
+    by_kind : is_lawful w.fabric e ≡ true → (e ≡ Restart l.place) ⊎ (e ≡ Restart l.place → ⊥) → (e ≡ Restart l.far_place) ⊎ (e ≡ Restart l.far_place → ⊥) → IsRun (last script g + 259) (world_after script g) l
     by_kind lawful (inl restart) other = restarts_here lawful restart
     by_kind lawful (inr a) (inl restart) = restarts_there lawful restart
     by_kind lawful (inr a) (inr b) = goes lawful a b
 
     by_law : (b : Bool) → is_lawful w.fabric e ≡ b → IsRun (last script g + 259) (world_after script g) l
-    by_law true lawful = by_kind lawful (is_restart e l.s) (is_restart e l.t)
+    by_law true lawful = by_kind lawful (is_restart e l.place) (is_restart e l.far_place)
     by_law false unlawful =
         let same : world_after script g ≡ w = world_after-event script h e ∙ step-unlawful w e unlawful in
         let quiet : disturbs is_either w e ≡ false = ap (λ b. b && (is_of_script e || loses is_either w e)) unlawful in

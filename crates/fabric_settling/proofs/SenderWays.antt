@@ -117,28 +117,28 @@ ack_to epoch from to n (Probe a k) found = absurd (false≢true found)
 ack_to epoch from to n (Reply a b k) found = absurd (false≢true found)
 
 -- The ends after the handling of this end
-pub here_is : (w : WorldOf) (l : LinkOf) → here (effect (Handle l.s) w) l ≡ (handled l.s w).switch
-here_is w l = handled_switch l.s w
+pub here_is : (w : WorldOf) (l : LinkOf) → here (effect (Handle l.place) w) l ≡ (handled l.place w).switch
+here_is w l = handled_switch l.place w
 
-pub there_is : (w : WorldOf) (l : LinkOf) → (l.s ≡ l.t → ⊥) → there (effect (Handle l.s) w) l ≡ there w l
-there_is w l apart = other_switch l.s l.t w (λ e. apart (sym e))
+pub there_is : (w : WorldOf) (l : LinkOf) → (l.place ≡ l.far_place → ⊥) → there (effect (Handle l.place) w) l ≡ there w l
+there_is w l apart = other_switch l.place l.far_place w (λ e. apart (sym e))
 
 -- bodies that went out on the link, and their numbers
-pub number_out : (w : WorldOf) (e : Event) (l : LinkOf) (epoch n : ℕ) (from to : EndId) → SentSuch (is_carry epoch from to n) w e l → IsOneOf n (carried_by l.p (handled l.s w).frames)
+pub number_out : (w : WorldOf) (e : Event) (l : LinkOf) (epoch n : ℕ) (from to : EndId) → SentSuch (is_carry epoch from to n) w e l → IsOneOf n (carried_by l.port (handled l.place w).frames)
 number_out w e l epoch n from to k =
     let c = carry_to epoch from to n k.sent.frame k.found in
-    subst (λ m. IsOneOf m (carried_by l.p (handled l.s w).frames)) c.number (one_of_in l.p (handled l.s w).frames k.sent c.carry k.among k.port c.frame_is)
+    subst (λ m. IsOneOf m (carried_by l.port (handled l.place w).frames)) c.number (one_of_in l.port (handled l.place w).frames k.sent c.carry k.among k.port c.frame_is)
 
 -- one goes out to the far end only in a session with it
-pub session_out : (script : ScriptOf) → IsScript script → (h : List Event) (l : LinkOf) (epoch n : ℕ) (from : EndId) → IsLinkOf script l → is_lawful (world_after script h).fabric (Handle l.s) ≡ true
-    → SentSuch (is_carry epoch from (end_there (effect (Handle l.s) (world_after script h)) l) n) (world_after script h) (Handle l.s) l → is_session (effect (Handle l.s) (world_after script h)) l ≡ true
+pub session_out : (script : ScriptOf) → IsScript script → (h : List Event) (l : LinkOf) (epoch n : ℕ) (from : EndId) → IsLinkOf script l → is_lawful (world_after script h).fabric (Handle l.place) ≡ true
+    → SentSuch (is_carry epoch from (end_there (effect (Handle l.place) (world_after script h)) l) n) (world_after script h) (Handle l.place) l → is_session (effect (Handle l.place) (world_after script h)) l ≡ true
 session_out script kept h l epoch n from is lawful k =
     let w = world_after script h in
-    let v = effect (Handle l.s) w in
+    let v = effect (Handle l.place) w in
     let c = carry_to epoch from (end_there v l) n k.sent.frame k.found in
-    let out = carried_out script kept h l.s k.sent c.carry is.here.s_below lawful k.among c.frame_is in
-    ap (λ (u : SwitchOf). is_end (peer_among u.card.links l.p) (end_there v l)) (here_is w l)
-    ∙ ap (λ n. is_end (peer_among (handled l.s w).switch.card.links n) (end_there v l)) (sym k.port)
+    let out = carried_out script kept h l.place k.sent c.carry is.here.s_below lawful k.among c.frame_is in
+    ap (λ (u : SwitchOf). is_end (peer_among u.card.links l.port) (end_there v l)) (here_is w l)
+    ∙ ap (λ n. is_end (peer_among (handled l.place w).switch.card.links n) (end_there v l)) (sym k.port)
     ∙ ap (λ o. is_end o (end_there v l)) out.to
     ∙ ap (λ z. is_same_end z (end_there v l)) c.to_is ∙ same_end (end_there v l)
 
@@ -172,15 +172,15 @@ pub after_is : (script : ScriptOf) (h : List Event) (e : Event) → is_lawful (w
 after_is script h e lawful = world_after-event script h e ∙ step-lawful (world_after script h) e lawful
 
 -- a session so late is over a link that is up
-pub session_up : (script : ScriptOf) (h : List Event) (e : Event) (l : LinkOf) → IsEvent script h e l → IsLateNow script h e → is_session (effect e (world_after script h)) l ≡ true → is_up (world_after script h).fabric l.s l.p ≡ true
+pub session_up : (script : ScriptOf) (h : List Event) (e : Event) (l : LinkOf) → IsEvent script h e l → IsLateNow script h e → is_session (effect e (world_after script h)) l ≡ true → is_up (world_after script h).fabric l.place l.port ≡ true
 session_up script h e l k late session =
     let w = world_after script h in
     let v = effect e w in
     let g = h ++ e ∷ [] in
     let same = after_is script h e k.lawful in
     let is = k.link.here in
-    let linked : peer_among ((world_after script g).switches l.s).card.links l.p ≡ Some (end_there v l) = ap (λ (x : WorldOf). peer_among (x.switches l.s).card.links l.p) same ∙ is_end_is (peer_among (here v l).card.links l.p) (end_there v l) session in
-    let good = sym (links_good script g l.s l.p late.after is.s_below is.p_least is.p_most) ∙ linked in
-    let found = peer_link script g l.s l.p (end_there v l) late.after is.s_below is.p_least is.p_most good in
-    let up : is_up (world_after script g).fabric l.s l.p ≡ true = sym (λ i. is_up (world_after script g).fabric (found.s_is i) (found.p_is i)) ∙ found.up in
-    sym ((calm_links script h e late.calm).up (place l.s l.p)) ∙ sym (ap (λ (x : WorldOf). is_up x.fabric l.s l.p) same) ∙ up
+    let linked : peer_among ((world_after script g).switches l.place).card.links l.port ≡ Some (end_there v l) = ap (λ (x : WorldOf). peer_among (x.switches l.place).card.links l.port) same ∙ is_end_is (peer_among (here v l).card.links l.port) (end_there v l) session in
+    let good = sym (links_good script g l.place l.port late.after is.s_below is.p_least is.p_most) ∙ linked in
+    let found = peer_link script g l.place l.port (end_there v l) late.after is.s_below is.p_least is.p_most good in
+    let up : is_up (world_after script g).fabric l.place l.port ≡ true = sym (λ i. is_up (world_after script g).fabric (found.s_is i) (found.p_is i)) ∙ found.up in
+    sym ((calm_links script h e late.calm).up (place l.place l.port)) ∙ sym (ap (λ (x : WorldOf). is_up x.fabric l.place l.port) same) ∙ up

@@ -66,7 +66,7 @@ abbrev pub lives_of : WorldOf → ℕ → LifeId
 lives_of w s = (w.switches s).life
 
 abbrev pub IsFromEnd : ScriptOf → (ℕ → LifeId) → ℕ → List ℕ → Type 0
-IsFromEnd script lives queue b = (l : LinkOf) → IsLinkOf script l → queue ≡ place l.t l.q → (f : Frame) → frame_of b ≡ Some f → from_of f ≡ record { life = lives l.s; port = l.p }
+IsFromEnd script lives queue b = (l : LinkOf) → IsLinkOf script l → queue ≡ place l.far_place l.far_port → (f : Frame) → frame_of b ≡ Some f → from_of f ≡ record { life = lives l.place; port = l.port }
 
 pub record AreFromEnds (script : ScriptOf) (lives : ℕ → LifeId) (w : WorldOf) : Type 0 where
   pub wires : InQueues (IsFromEnd script lives) w.fabric.wires
@@ -107,40 +107,40 @@ calm_lives script h (Send x y) calm s = refl
 calm_lives script h (Restart t) calm s = absurd (true≢false (calm_parts script h (Restart t) calm).0)
 
 -- before a tick nothing is under way
-wire_none : (script : ScriptOf) → IsScript script → (h : List Event) → are_wires_empty (world_after script h).fabric ≡ true → (l : LinkOf) → IsLinkOf script l → wire_at (world_after script h).fabric.wires (place l.t l.q) ≡ []
-wire_none script kept h empty l is = by_any (has_frame_for f l.t) refl
+wire_none : (script : ScriptOf) → IsScript script → (h : List Event) → are_wires_empty (world_after script h).fabric ≡ true → (l : LinkOf) → IsLinkOf script l → wire_at (world_after script h).fabric.wires (place l.far_place l.far_port) ≡ []
+wire_none script kept h empty l is = by_any (has_frame_for f l.far_place) refl
   where
     f : FabricOf
     f = (world_after script h).fabric
 
-    low : l.t < count f
+    low : l.far_place < count f
     low = let same = ap places (world_script script h) in let k = is.there.s_below in omega (arith, same, k)
 
-    at : slice_index_or (fabric.places f) l.t 0 ≡ l.t
-    at = get_or-range_with_len 0 (count f) l.t 0 low ∙ omega arith
+    at : slice_index_or (fabric.places f) l.far_place 0 ≡ l.far_place
+    at = get_or-range_with_len 0 (count f) l.far_place 0 low ∙ omega arith
 
     no_wire : (xs : List (List ℕ)) → nat_lt 0 (length xs) ≡ false → xs ≡ []
     no_wire [] e = refl
     no_wire (x ∷ xs) e = absurd (true≢false (sym (lt-ltb 0 (length (x ∷ xs)) (omega arith)) ∙ e))
 
-    by_link : (b : Bool) → b ≡ true → (b && nat_lt 0 (length (wire_at f.wires (place l.t l.q)))) ≡ false → wire_at f.wires (place l.t l.q) ≡ []
-    by_link true e none = no_wire (wire_at f.wires (place l.t l.q)) none
+    by_link : (b : Bool) → b ≡ true → (b && nat_lt 0 (length (wire_at f.wires (place l.far_place l.far_port)))) ≡ false → wire_at f.wires (place l.far_place l.far_port) ≡ []
+    by_link true e none = no_wire (wire_at f.wires (place l.far_place l.far_port)) none
     by_link false e none = absurd (false≢true e)
 
-    by_any : (b : Bool) → has_frame_for f l.t ≡ b → wire_at f.wires (place l.t l.q) ≡ []
+    by_any : (b : Bool) → has_frame_for f l.far_place ≡ b → wire_at f.wires (place l.far_place l.far_port) ≡ []
     by_any true some =
         let size = length-range_with_len 0 (count f) in
-        absurd (true≢false (sym (list_any_at (has_frame_for f) (fabric.places f) l.t 0 (omega (arith, low, size)) (ap (has_frame_for f) at ∙ some)) ∙ not-true (list_any (has_frame_for f) (fabric.places f)) empty))
+        absurd (true≢false (sym (list_any_at (has_frame_for f) (fabric.places f) l.far_place 0 (omega (arith, low, size)) (ap (has_frame_for f) at ∙ some)) ∙ not-true (list_any (has_frame_for f) (fabric.places f)) empty))
     by_any false none =
-        by_link (is_link (side_at f.wires (place l.t l.q)).far) (side_link script kept h (Rattle.fabric_settling.specs.Views.turned l) (Rattle.fabric_settling.proofs.Linked.link_turned script l is))
-        (none_external (has_frame f l.t) none l.q is.there.p_least is.there.p_most)
+        by_link (is_link (side_at f.wires (place l.far_place l.far_port)).far) (side_link script kept h (Rattle.fabric_settling.specs.Views.turned l) (Rattle.fabric_settling.proofs.Linked.link_turned script l is))
+        (none_external (has_frame f l.far_place) none l.far_port is.there.p_least is.there.p_most)
 
 -- what a tick needs
 pub record IsAtTick (script : ScriptOf) (h : List Event) : Type 0 where
   pub hands : (s : ℕ) → (station (world_after script h).fabric s).hand ≡ hand.Empty
   pub none_full : full_hands (world_after script h).fabric ≡ 0
   pub clocks : fabric.is_some_clock_due (world_after script h).fabric ≡ false
-  pub wires : (l : LinkOf) → IsLinkOf script l → wire_at (world_after script h).fabric.wires (place l.t l.q) ≡ []
+  pub wires : (l : LinkOf) → IsLinkOf script l → wire_at (world_after script h).fabric.wires (place l.far_place l.far_port) ≡ []
 
 -- so it is where nothing is left to do
 pub at_still : (script : ScriptOf) → IsScript script → (h : List Event) → is_still (world_after script h).fabric ≡ true → IsAtTick script h
@@ -200,9 +200,9 @@ from_here script kept h s x low out from = by (side_at w.fabric.wires (place s x
     arrives : (t q : ℕ) → far_at script.wires s x.port ≡ Some (Switch t q) → IsFromEnd script (lives_of w) (place t q) (spelling x.frame)
     arrives t q far l is at f read =
         let k = link_of script kept s x.port t q far in
-        let same = same_places t q l.t l.q k.there.p_most is.there.p_most at in
-        let back : ◌≡◌ {A = Option Far} (Some (Switch s x.port)) (Some (Switch l.s l.p)) = sym k.back ∙ ap (λ n. far_at script.wires n q) same.0 ∙ ap (far_at script.wires l.t) same.1 ∙ is.back in
-        let pair : ◌≡◌ {A = ℕ × ℕ} (s, x.port) (l.s, l.p) = some_same (s, x.port) (l.s, l.p) (ap (λ (o : Option Far). Rattle.fabric_state.specs.Fabric.switch_behind o) back) in
+        let same = same_places t q l.far_place l.far_port k.there.p_most is.there.p_most at in
+        let back : ◌≡◌ {A = Option Far} (Some (Switch s x.port)) (Some (Switch l.place l.port)) = sym k.back ∙ ap (λ n. far_at script.wires n q) same.0 ∙ ap (far_at script.wires l.far_place) same.1 ∙ is.back in
+        let pair : ◌≡◌ {A = ℕ × ℕ} (s, x.port) (l.place, l.port) = some_same (s, x.port) (l.place, l.port) (ap (λ (o : Option Far). Rattle.fabric_state.specs.Fabric.switch_behind o) back) in
         let frame : x.frame ≡ f = some_same x.frame f (sym (frame_again x.frame out.frame_is) ∙ read) in
         sym (ap from_of frame) ∙ from ∙ ap (λ (z : ℕ × ℕ). record { life = lives_of w z.0; port = z.1 }) pair
 
@@ -222,7 +222,7 @@ empty_from : (script : ScriptOf) (lives : ℕ → LifeId) (queue : ℕ) → IsFr
 empty_from script lives queue l is at f read = absurd (none_some (sym empty_none ∙ read))
 
 hand_from : (script : ScriptOf) (lives : ℕ → LifeId) (s : ℕ) (b : List ℕ) → IsFromEnd script lives (place s 0) b
-hand_from script lives s b l is at f read = let k = is.there.p_least in let m = is.there.p_most in let e : 13 * s + 0 ≡ 13 * l.t + l.q = at in absurd (omega (arith, e, k, m))
+hand_from script lives s b l is at f read = let k = is.there.p_least in let m = is.there.p_most in let e : 13 * s + 0 ≡ 13 * l.far_place + l.far_port = at in absurd (omega (arith, e, k, m))
 
 -- the wires
 loads_wires : (o : Option TopoOf) (s : ℕ) (w : WorldOf) (P : WiresOf → Type 0) → P w.fabric.wires → P (loads_with o s w).fabric.wires
@@ -337,7 +337,7 @@ hands_next script kept h e calm old t low = by (cases_eq (owner_of e) (t + 1))
 
 -- with other lives that are the same
 from_moved : (script : ScriptOf) (one other : ℕ → LifeId) → ((s : ℕ) → other s ≡ one s) → (queue : ℕ) (b : List ℕ) → IsFromEnd script one queue b → IsFromEnd script other queue b
-from_moved script one other same queue b is l at where_is f read = is l at where_is f read ∙ ap (λ x. record { life = x; port = l.p }) (sym (same l.s))
+from_moved script one other same queue b is l at where_is f read = is l at where_is f read ∙ ap (λ x. record { life = x; port = l.port }) (sym (same l.place))
 
 abbrev pub Froms : ScriptOf → ℕ → WorldOf → Type 0
 Froms script c w = AreFromEnds script (lives_of w) w

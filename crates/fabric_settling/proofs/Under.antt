@@ -70,11 +70,11 @@ pub held_one : (h : Hand) (q : ℕ) (xs : List (List ℕ)) (b : List ℕ) → h 
 held_one h q xs b is holds i = only_one xs b (subst (λ (k : Hand). HoldsFor k xs) is holds) i
 
 -- tests
-pub such_way : (test : Frame → Bool) (w : WorldOf) (l : LinkOf) → is_some_under_way test w l ≡ true → (b : List ℕ) × In b (under_way_to w.fabric l.t l.q) × (is_such test b ≡ true)
-such_way test w l e = any_from (is_such test) (under_way_to w.fabric l.t l.q) e
+pub such_way : (test : Frame → Bool) (w : WorldOf) (l : LinkOf) → is_some_under_way test w l ≡ true → (b : List ℕ) × In b (under_way_to w.fabric l.far_place l.far_port) × (is_such test b ≡ true)
+such_way test w l e = any_from (is_such test) (under_way_to w.fabric l.far_place l.far_port) e
 
-pub way_such : (test : Frame → Bool) (w : WorldOf) (l : LinkOf) (b : List ℕ) → In b (under_way_to w.fabric l.t l.q) → is_such test b ≡ true → is_some_under_way test w l ≡ true
-way_such test w l b i e = any_in (is_such test) (under_way_to w.fabric l.t l.q) b i e
+pub way_such : (test : Frame → Bool) (w : WorldOf) (l : LinkOf) (b : List ℕ) → In b (under_way_to w.fabric l.far_place l.far_port) → is_such test b ≡ true → is_some_under_way test w l ≡ true
+way_such test w l b i e = any_in (is_such test) (under_way_to w.fabric l.far_place l.far_port) b i e
 
 pub such_frame : (test : Frame → Bool) (b : List ℕ) (f : Frame) → frame_of b ≡ Some f → test f ≡ true → is_such test b ≡ true
 such_frame test b f read e = ap (λ o. option_map_or test o false) read ∙ e

@@ -59,7 +59,7 @@ pub record IsMoment (script : ScriptOf) (h : List Event) (e : Event) (l : LinkOf
   pub kept : IsScript script
   pub calm : IsCalm script h e
   pub link : IsLinkOf script l
-  pub up : is_up (world_after script h).fabric l.s l.p ≡ true
+  pub up : is_up (world_after script h).fabric l.place l.port ≡ true
   pub froms : AreFromEnds script (lives_of (world_after script h)) (world_after script h)
   pub samples : AreSampled script 0 (world_after script h)
 
@@ -209,22 +209,22 @@ aside script kept h e calm no_tick no_handle = aside_of script kept h e calm.law
 -- What a test finds under way is found after an event, but for a frame that was handled.
 pub keeps_such : (test : Frame → Bool) (script : ScriptOf) (h : List Event) (e : Event) (l : LinkOf) → IsScript script → IsLinkOf script l → is_lawful (world_after script h).fabric e ≡ true → is_of_script e ≡ false → (e ≡ Tick → ⊥)
     → is_some_under_way test (world_after script h) l ≡ true
-    → (is_some_under_way test (effect e (world_after script h)) l ≡ true) ⊎ ((e ≡ Handle l.t) × ((station (world_after script h).fabric l.t).hand ≡ hand.Frame l.q) × (is_such test (held_bytes (world_after script h).fabric l.t) ≡ true))
+    → (is_some_under_way test (effect e (world_after script h)) l ≡ true) ⊎ ((e ≡ Handle l.far_place) × ((station (world_after script h).fabric l.far_place).hand ≡ hand.Frame l.far_port) × (is_such test (held_bytes (world_after script h).fabric l.far_place) ≡ true))
 keeps_such test script h e l kept link lawful quiet no_tick found = by (way_stays script kept h e l k.0 link lawful quiet no_tick k.1)
   where
     w : WorldOf
     w = world_after script h
 
-    k : (b : List ℕ) × In b (under_way_to w.fabric l.t l.q) × (is_such test b ≡ true)
+    k : (b : List ℕ) × In b (under_way_to w.fabric l.far_place l.far_port) × (is_such test b ≡ true)
     k = such_way test w l found
 
-    by : In k.0 (under_way_to (effect e w).fabric l.t l.q) ⊎ WasHeld w e l k.0 → (is_some_under_way test (effect e w) l ≡ true) ⊎ ((e ≡ Handle l.t) × ((station w.fabric l.t).hand ≡ hand.Frame l.q) × (is_such test (held_bytes w.fabric l.t) ≡ true))
+    by : In k.0 (under_way_to (effect e w).fabric l.far_place l.far_port) ⊎ WasHeld w e l k.0 → (is_some_under_way test (effect e w) l ≡ true) ⊎ ((e ≡ Handle l.far_place) × ((station w.fabric l.far_place).hand ≡ hand.Frame l.far_port) × (is_such test (held_bytes w.fabric l.far_place) ≡ true))
     by (inl i) = inl (way_such test (effect e w) l k.0 i k.2)
     by (inr held) = inr (held.event, held.hand_is, sym (ap (is_such test) held.held) ∙ k.2)
 
 stays_such : (test : Frame → Bool) (script : ScriptOf) (h : List Event) (e : Event) (l : LinkOf) → IsScript script → IsLinkOf script l → IsCalm script h e → (e ≡ Tick → ⊥)
     → is_some_under_way test (world_after script h) l ≡ true
-    → (is_some_under_way test (effect e (world_after script h)) l ≡ true) ⊎ ((e ≡ Handle l.t) × ((station (world_after script h).fabric l.t).hand ≡ hand.Frame l.q) × (is_such test (held_bytes (world_after script h).fabric l.t) ≡ true))
+    → (is_some_under_way test (effect e (world_after script h)) l ≡ true) ⊎ ((e ≡ Handle l.far_place) × ((station (world_after script h).fabric l.far_place).hand ≡ hand.Frame l.far_port) × (is_such test (held_bytes (world_after script h).fabric l.far_place) ≡ true))
 stays_such test script h e l kept link calm no_tick found = keeps_such test script h e l kept link calm.lawful (calm_parts script h e calm).0 no_tick found
 
 -- the ends stay
@@ -247,16 +247,16 @@ probe_same w v l k x = λ i. is_some_under_way (is_probe (k.own i) (k.nonce i)) 
 reply_same : (w v : WorldOf) (l : LinkOf) → IsSameNonce w v l → (x : WorldOf) → is_some_under_way (is_reply (end_there v l) (end_here v l) (nonce_here v l)) x (turned l) ≡ is_some_under_way (is_reply (end_there w l) (end_here w l) (nonce_here w l)) x (turned l)
 reply_same w v l k x = λ i. is_some_under_way (is_reply (k.far i) (k.own i) (k.nonce i)) x (turned l)
 
-same_nonce : (script : ScriptOf) (h : List Event) (e : Event) (l : LinkOf) → IsCalm script h e → nonce_after (end_here (world_after script h) l) (((effect e (world_after script h)).switches l.s).ports l.p) ≡ nonce_here (world_after script h) l → IsSameNonce (world_after script h) (effect e (world_after script h)) l
+same_nonce : (script : ScriptOf) (h : List Event) (e : Event) (l : LinkOf) → IsCalm script h e → nonce_after (end_here (world_after script h) l) (((effect e (world_after script h)).switches l.place).ports l.port) ≡ nonce_here (world_after script h) l → IsSameNonce (world_after script h) (effect e (world_after script h)) l
 same_nonce script h e l calm nonce = record {
-  own = ends_stay script h e calm l.s l.p;
-  far = ends_stay script h e calm l.t l.q;
-  nonce = ap (λ x. nonce_after x (((effect e (world_after script h)).switches l.s).ports l.p)) (ends_stay script h e calm l.s l.p) ∙ nonce;
+  own = ends_stay script h e calm l.place l.port;
+  far = ends_stay script h e calm l.far_place l.far_port;
+  nonce = ap (λ x. nonce_after x (((effect e (world_after script h)).switches l.place).ports l.port)) (ends_stay script h e calm l.place l.port) ∙ nonce;
 }
 
 -- what is found of the probe and the reply after an event
 probe_on : (script : ScriptOf) (h : List Event) (e : Event) (l : LinkOf) → IsMoment script h e l → (e ≡ Tick → ⊥) → IsSameNonce (world_after script h) (effect e (world_after script h)) l → IsTrue (view (world_after script h) l).probe
-    → IsTrue (view (effect e (world_after script h)) l).probe ⊎ ((e ≡ Handle l.t) × ((station (world_after script h).fabric l.t).hand ≡ hand.Frame l.q) × (is_such (is_probe (end_here (world_after script h) l) (nonce_here (world_after script h) l)) (held_bytes (world_after script h).fabric l.t) ≡ true))
+    → IsTrue (view (effect e (world_after script h)) l).probe ⊎ ((e ≡ Handle l.far_place) × ((station (world_after script h).fabric l.far_place).hand ≡ hand.Frame l.far_port) × (is_such (is_probe (end_here (world_after script h) l) (nonce_here (world_after script h) l)) (held_bytes (world_after script h).fabric l.far_place) ≡ true))
 probe_on script h e l m no_tick same found = by (stays_such (is_probe (end_here w l) (nonce_here w l)) script h e l m.kept m.link m.calm no_tick found)
   where
     w : WorldOf
@@ -265,13 +265,13 @@ probe_on script h e l m no_tick same found = by (stays_such (is_probe (end_here 
     test : Frame → Bool
     test = is_probe (end_here w l) (nonce_here w l)
 
-    by : (is_some_under_way test (effect e w) l ≡ true) ⊎ ((e ≡ Handle l.t) × ((station w.fabric l.t).hand ≡ hand.Frame l.q) × (is_such test (held_bytes w.fabric l.t) ≡ true))
-        → IsTrue (view (effect e w) l).probe ⊎ ((e ≡ Handle l.t) × ((station w.fabric l.t).hand ≡ hand.Frame l.q) × (is_such test (held_bytes w.fabric l.t) ≡ true))
+    by : (is_some_under_way test (effect e w) l ≡ true) ⊎ ((e ≡ Handle l.far_place) × ((station w.fabric l.far_place).hand ≡ hand.Frame l.far_port) × (is_such test (held_bytes w.fabric l.far_place) ≡ true))
+        → IsTrue (view (effect e w) l).probe ⊎ ((e ≡ Handle l.far_place) × ((station w.fabric l.far_place).hand ≡ hand.Frame l.far_port) × (is_such test (held_bytes w.fabric l.far_place) ≡ true))
     by (inl stays) = inl (probe_same w (effect e w) l same (effect e w) ∙ stays)
     by (inr held) = inr held
 
 reply_on : (script : ScriptOf) (h : List Event) (e : Event) (l : LinkOf) → IsMoment script h e l → (e ≡ Tick → ⊥) → IsSameNonce (world_after script h) (effect e (world_after script h)) l → IsTrue (view (world_after script h) l).reply
-    → IsTrue (view (effect e (world_after script h)) l).reply ⊎ ((e ≡ Handle l.s) × ((station (world_after script h).fabric l.s).hand ≡ hand.Frame l.p) × (is_such (is_reply (end_there (world_after script h) l) (end_here (world_after script h) l) (nonce_here (world_after script h) l)) (held_bytes (world_after script h).fabric l.s) ≡ true))
+    → IsTrue (view (effect e (world_after script h)) l).reply ⊎ ((e ≡ Handle l.place) × ((station (world_after script h).fabric l.place).hand ≡ hand.Frame l.port) × (is_such (is_reply (end_there (world_after script h) l) (end_here (world_after script h) l) (nonce_here (world_after script h) l)) (held_bytes (world_after script h).fabric l.place) ≡ true))
 reply_on script h e l m no_tick same found = by (stays_such test script h e (turned l) m.kept (link_turned script l m.link) m.calm no_tick found)
   where
     w : WorldOf
@@ -280,8 +280,8 @@ reply_on script h e l m no_tick same found = by (stays_such test script h e (tur
     test : Frame → Bool
     test = is_reply (end_there w l) (end_here w l) (nonce_here w l)
 
-    by : (is_some_under_way test (effect e w) (turned l) ≡ true) ⊎ ((e ≡ Handle l.s) × ((station w.fabric l.s).hand ≡ hand.Frame l.p) × (is_such test (held_bytes w.fabric l.s) ≡ true))
-        → IsTrue (view (effect e w) l).reply ⊎ ((e ≡ Handle l.s) × ((station w.fabric l.s).hand ≡ hand.Frame l.p) × (is_such test (held_bytes w.fabric l.s) ≡ true))
+    by : (is_some_under_way test (effect e w) (turned l) ≡ true) ⊎ ((e ≡ Handle l.place) × ((station w.fabric l.place).hand ≡ hand.Frame l.port) × (is_such test (held_bytes w.fabric l.place) ≡ true))
+        → IsTrue (view (effect e w) l).reply ⊎ ((e ≡ Handle l.place) × ((station w.fabric l.place).hand ≡ hand.Frame l.port) × (is_such test (held_bytes w.fabric l.place) ≡ true))
     by (inl stays) = inl (reply_same w (effect e w) l same (effect e w) ∙ stays)
     by (inr held) = inr held
 
@@ -297,13 +297,13 @@ aside_goes script h e l m no_tick no_handle =
     let w = world_after script h in
     let v = effect e w in
     let k = aside script m.kept h e m.calm no_tick no_handle in
-    let here_is : (view v l).here ≡ (view w l).here = ap (λ (f : ℕ → History). f l.p) (k.ports l.s) in
+    let here_is : (view v l).here ≡ (view w l).here = ap (λ (f : ℕ → History). f l.port) (k.ports l.place) in
     let same = same_nonce script h e l m.calm (ap (nonce_after (end_here w l)) here_is) in
     one_step script h e l (passes (record {
-      is = viewed (view v l) (view w l).here (view w l).there (view w l).has_clocked (view w l).far_has_clocked here_is (ap (λ (f : ℕ → History). f l.q) (k.ports l.t)) (k.clocked l.s) (k.clocked l.t);
+      is = viewed (view v l) (view w l).here (view w l).there (view w l).has_clocked (view w l).far_has_clocked here_is (ap (λ (f : ℕ → History). f l.far_port) (k.ports l.far_place)) (k.clocked l.place) (k.clocked l.far_place);
       stays = record {
-        probe_stays = λ found. elim (probe_on script h e l m no_tick same found) [ inl stays ↦ stays | inr held ↦ absurd (no_handle l.t held.0) ];
-        reply_stays = λ found. elim (reply_on script h e l m no_tick same found) [ inl stays ↦ stays | inr held ↦ absurd (no_handle l.s held.0) ];
+        probe_stays = λ found. elim (probe_on script h e l m no_tick same found) [ inl stays ↦ stays | inr held ↦ absurd (no_handle l.far_place held.0) ];
+        reply_stays = λ found. elim (reply_on script h e l m no_tick same found) [ inl stays ↦ stays | inr held ↦ absurd (no_handle l.place held.0) ];
       };
     }))
 
@@ -329,22 +329,22 @@ unfolding handles
 handled_frame s p w is = ap (λ x. handles x (held_bytes w.fabric s) (w.switches s)) is
 
 -- a link that is up shows that a switch is there
-pub link_sample : (script : ScriptOf) → IsScript script → (h : List Event) (l : LinkOf) → IsLinkOf script l → is_up (world_after script h).fabric l.s l.p ≡ true → sample_of (side_of_port (world_after script h).fabric l.s l.p) ≡ sample.Switch
+pub link_sample : (script : ScriptOf) → IsScript script → (h : List Event) (l : LinkOf) → IsLinkOf script l → is_up (world_after script h).fabric l.place l.port ≡ true → sample_of (side_of_port (world_after script h).fabric l.place l.port) ≡ sample.Switch
 link_sample script kept h l is up =
     ap (λ (z : Bool × Option Far). cond z.0 (sample_behind z.1) sample.Down) (λ i. (up i, side_far script kept h l is i))
 
 -- the port of a switch that handles its clock
-port_sampled : (script : ScriptOf) (h : List Event) (l : LinkOf) (n : ℕ) (samples : List Sample) → IsMoment script h (Handle l.s) l → (station (world_after script h).fabric l.s).hand ≡ hand.Clock n samples
-    → ((effect (Handle l.s) (world_after script h)).switches l.s).ports l.p ≡ Sampled sample.Switch ∷ ((world_after script h).switches l.s).ports l.p
+port_sampled : (script : ScriptOf) (h : List Event) (l : LinkOf) (n : ℕ) (samples : List Sample) → IsMoment script h (Handle l.place) l → (station (world_after script h).fabric l.place).hand ≡ hand.Clock n samples
+    → ((effect (Handle l.place) (world_after script h)).switches l.place).ports l.port ≡ Sampled sample.Switch ∷ ((world_after script h).switches l.place).ports l.port
 port_sampled script h l n samples m is =
     let w = world_after script h in
-    let u = w.switches l.s in
+    let u = w.switches l.place in
     let k = m.link.here in
-    let now : sample_at samples l.p ≡ sample.Switch = ap (λ xs. sample_at xs l.p) (m.samples l.s k.s_below n samples is) ∙ sample_here w.fabric l.s l.p k.p_least k.p_most ∙ link_sample script m.kept h l m.link m.up in
-    ap (λ (x : SwitchOf). x.ports l.p) (handled_switch l.s w)
-    ∙ ap (λ (st : Rattle.switch_core.specs.Steps.Step). st.switch.ports l.p) (handled_clock l.s n samples w is)
-    ∙ (clock_is n samples u).ports l.p
-    ∙ ap (λ x. Sampled x ∷ u.ports l.p) now
+    let now : sample_at samples l.port ≡ sample.Switch = ap (λ xs. sample_at xs l.port) (m.samples l.place k.s_below n samples is) ∙ sample_here w.fabric l.place l.port k.p_least k.p_most ∙ link_sample script m.kept h l m.link m.up in
+    ap (λ (x : SwitchOf). x.ports l.port) (handled_switch l.place w)
+    ∙ ap (λ (st : Rattle.switch_core.specs.Steps.Step). st.switch.ports l.port) (handled_clock l.place n samples w is)
+    ∙ (clock_is n samples u).ports l.port
+    ∙ ap (λ x. Sampled x ∷ u.ports l.port) now
 
 -- no switch is spent after a calm event
 works_after : (script : ScriptOf) (h : List Event) (s : ℕ) → IsScript script → IsCalm script h (Handle s) → s < places script → (handled s (world_after script h)).switch.spent ≡ false
@@ -368,29 +368,29 @@ reply_itself : (e f : EndId) (n : ℕ) → is_reply e f n (Reply e f n) ≡ true
 reply_itself e f n = and_from (is_same_end e e && is_same_end f f) (n == n) (and_from (is_same_end e e) (is_same_end f f) (same_end e) (same_end f)) (number_itself n)
 
 -- what it sends comes to be under way, as a frame
-frame_comes : (script : ScriptOf) (h : List Event) (l : LinkOf) (x : Sent) (test : Frame → Bool) → IsMoment script h (Handle l.s) l → In x (handled l.s (world_after script h)).frames → x.port ≡ l.p → test x.frame ≡ true → is_some_under_way test (effect (Handle l.s) (world_after script h)) l ≡ true
+frame_comes : (script : ScriptOf) (h : List Event) (l : LinkOf) (x : Sent) (test : Frame → Bool) → IsMoment script h (Handle l.place) l → In x (handled l.place (world_after script h)).frames → x.port ≡ l.port → test x.frame ≡ true → is_some_under_way test (effect (Handle l.place) (world_after script h)) l ≡ true
 frame_comes script h l x test m i port found =
     let w = world_after script h in
-    let out = each_in IsOut (handled l.s w).frames x (handled_frames script m.kept h l.s m.link.here.s_below m.calm.lawful) i in
-    way_such test (effect (Handle l.s) w) l (spelling x.frame) (sent_comes script m.kept h l x m.link m.calm m.up i port)
+    let out = each_in IsOut (handled l.place w).frames x (handled_frames script m.kept h l.place m.link.here.s_below m.calm.lawful) i in
+    way_such test (effect (Handle l.place) w) l (spelling x.frame) (sent_comes script m.kept h l x m.link m.calm m.up i port)
     (such_frame test (spelling x.frame) x.frame (frame_again x.frame out.frame_is) found)
 
-probe_comes : (script : ScriptOf) (h : List Event) (l : LinkOf) (n : ℕ) (samples : List Sample) → IsMoment script h (Handle l.s) l → (station (world_after script h).fabric l.s).hand ≡ hand.Clock n samples
-    → Speaks (end_here (world_after script h) l) (view (effect (Handle l.s) (world_after script h)) l).here → IsTrue (view (effect (Handle l.s) (world_after script h)) l).probe
+probe_comes : (script : ScriptOf) (h : List Event) (l : LinkOf) (n : ℕ) (samples : List Sample) → IsMoment script h (Handle l.place) l → (station (world_after script h).fabric l.place).hand ≡ hand.Clock n samples
+    → Speaks (end_here (world_after script h) l) (view (effect (Handle l.place) (world_after script h)) l).here → IsTrue (view (effect (Handle l.place) (world_after script h)) l).probe
 probe_comes script h l n samples m is speaks =
     let w = world_after script h in
-    let v = effect (Handle l.s) w in
-    let u = w.switches l.s in
+    let v = effect (Handle l.place) w in
+    let u = w.switches l.place in
     let x = sampled_by n samples u in
-    let step = handled_clock l.s n samples w is in
+    let step = handled_clock l.place n samples w is in
     let k = m.link.here in
-    let works : (clocked n samples u).switch.spent ≡ false = sym (ap (λ (st : Rattle.switch_core.specs.Steps.Step). st.switch.spent) step) ∙ works_after script h l.s m.kept m.calm k.s_below in
-    let ports : (v.switches l.s).ports l.p ≡ x.ports l.p = ap (λ (y : SwitchOf). y.ports l.p) (handled_switch l.s w) ∙ ap (λ (st : Rattle.switch_core.specs.Steps.Step). st.switch.ports l.p) step ∙ (clock_is n samples u).ports l.p in
-    let asks : (port_of x l.p).phase ≡ Switch = sym (ap (λ g. (port_after (end_here w l) g).phase) ports) ∙ speaks in
-    let sent = in_from (probe_by x l.p) (clocked n samples u).frames (clock_asks n l.p samples u k.p_least k.p_most (not_spent n samples u works) asks) in
-    let own : end_here v l ≡ end_here w l = ends_stay script h (Handle l.s) m.calm l.s l.p in
-    let nonce : nonce_here v l ≡ (port_of x l.p).far.nonce = (λ i. nonce_after (own i) (ports i)) in
-    let found = frame_comes script h l (probe_by x l.p) (is_probe (end_here w l) (port_of x l.p).far.nonce) m (subst (λ (st : Rattle.switch_core.specs.Steps.Step). In (probe_by x l.p) st.frames) (sym step) sent) refl (probe_itself (end_here w l) (port_of x l.p).far.nonce) in
+    let works : (clocked n samples u).switch.spent ≡ false = sym (ap (λ (st : Rattle.switch_core.specs.Steps.Step). st.switch.spent) step) ∙ works_after script h l.place m.kept m.calm k.s_below in
+    let ports : (v.switches l.place).ports l.port ≡ x.ports l.port = ap (λ (y : SwitchOf). y.ports l.port) (handled_switch l.place w) ∙ ap (λ (st : Rattle.switch_core.specs.Steps.Step). st.switch.ports l.port) step ∙ (clock_is n samples u).ports l.port in
+    let asks : (port_of x l.port).phase ≡ Switch = sym (ap (λ g. (port_after (end_here w l) g).phase) ports) ∙ speaks in
+    let sent = in_from (probe_by x l.port) (clocked n samples u).frames (clock_asks n l.port samples u k.p_least k.p_most (not_spent n samples u works) asks) in
+    let own : end_here v l ≡ end_here w l = ends_stay script h (Handle l.place) m.calm l.place l.port in
+    let nonce : nonce_here v l ≡ (port_of x l.port).far.nonce = (λ i. nonce_after (own i) (ports i)) in
+    let found = frame_comes script h l (probe_by x l.port) (is_probe (end_here w l) (port_of x l.port).far.nonce) m (subst (λ (st : Rattle.switch_core.specs.Steps.Step). In (probe_by x l.port) st.frames) (sym step) sent) refl (probe_itself (end_here w l) (port_of x l.port).far.nonce) in
     (λ i. is_some_under_way (is_probe (own i) (nonce i)) v l) ∙ found
 
 -- with a clock in hand no frame is
@@ -403,29 +403,29 @@ clock_no_frame x n p samples is at = none_some (ap port_in (sym is ∙ at))
     port_in (hand.Frame p) = Some p
 
 -- the clock of this end
-clock_here : (script : ScriptOf) (h : List Event) (l : LinkOf) (n : ℕ) (samples : List Sample) → IsMoment script h (Handle l.s) l → (station (world_after script h).fabric l.s).hand ≡ hand.Clock n samples → (l.t ≡ l.s → ⊥) → GoesBy script h (Handle l.s) l
+clock_here : (script : ScriptOf) (h : List Event) (l : LinkOf) (n : ℕ) (samples : List Sample) → IsMoment script h (Handle l.place) l → (station (world_after script h).fabric l.place).hand ≡ hand.Clock n samples → (l.far_place ≡ l.place → ⊥) → GoesBy script h (Handle l.place) l
 clock_here script h l n samples m is other =
     let w = world_after script h in
-    let v = effect (Handle l.s) w in
-    one_step script h (Handle l.s) l (clocks (record {
-      before = clocked_not w.fabric l.s n samples is;
-      is = viewed (view v l) (Sampled sample.Switch ∷ (view w l).here) (view w l).there true (view w l).far_has_clocked (port_sampled script h l n samples m is) (ap (λ (u : SwitchOf). u.ports l.q) (other_switch l.s l.t w other)) (handled_clocked script m.kept h l.s m.calm.lawful) (handled_elsewhere w l.s l.t other);
+    let v = effect (Handle l.place) w in
+    one_step script h (Handle l.place) l (clocks (record {
+      before = clocked_not w.fabric l.place n samples is;
+      is = viewed (view v l) (Sampled sample.Switch ∷ (view w l).here) (view w l).there true (view w l).far_has_clocked (port_sampled script h l n samples m is) (ap (λ (u : SwitchOf). u.ports l.far_port) (other_switch l.place l.far_place w other)) (handled_clocked script m.kept h l.place m.calm.lawful) (handled_elsewhere w l.place l.far_place other);
       probes = probe_comes script h l n samples m is;
     }))
 
 -- the clock of the far end
-clock_there : (script : ScriptOf) (h : List Event) (l : LinkOf) (n : ℕ) (samples : List Sample) → IsMoment script h (Handle l.t) l → (station (world_after script h).fabric l.t).hand ≡ hand.Clock n samples → (l.s ≡ l.t → ⊥) → GoesBy script h (Handle l.t) l
+clock_there : (script : ScriptOf) (h : List Event) (l : LinkOf) (n : ℕ) (samples : List Sample) → IsMoment script h (Handle l.far_place) l → (station (world_after script h).fabric l.far_place).hand ≡ hand.Clock n samples → (l.place ≡ l.far_place → ⊥) → GoesBy script h (Handle l.far_place) l
 clock_there script h l n samples m is other =
     let w = world_after script h in
-    let v = effect (Handle l.t) w in
-    let here_is : (view v l).here ≡ (view w l).here = ap (λ (u : SwitchOf). u.ports l.p) (other_switch l.t l.s w other) in
-    let same = same_nonce script h (Handle l.t) l m.calm (ap (nonce_after (end_here w l)) here_is) in
-    one_step script h (Handle l.t) l (far_clocks (record {
-      before = clocked_not w.fabric l.t n samples is;
-      is = viewed (view v l) (view w l).here (Sampled sample.Switch ∷ (view w l).there) (view w l).has_clocked true here_is (port_sampled script h (turned l) n samples (moment_turned script h (Handle l.t) l m) is) (handled_elsewhere w l.t l.s other) (handled_clocked script m.kept h l.t m.calm.lawful);
+    let v = effect (Handle l.far_place) w in
+    let here_is : (view v l).here ≡ (view w l).here = ap (λ (u : SwitchOf). u.ports l.port) (other_switch l.far_place l.place w other) in
+    let same = same_nonce script h (Handle l.far_place) l m.calm (ap (nonce_after (end_here w l)) here_is) in
+    one_step script h (Handle l.far_place) l (far_clocks (record {
+      before = clocked_not w.fabric l.far_place n samples is;
+      is = viewed (view v l) (view w l).here (Sampled sample.Switch ∷ (view w l).there) (view w l).has_clocked true here_is (port_sampled script h (turned l) n samples (moment_turned script h (Handle l.far_place) l m) is) (handled_elsewhere w l.far_place l.place other) (handled_clocked script m.kept h l.far_place m.calm.lawful);
       stays = record {
-        probe_stays = λ found. elim (probe_on script h (Handle l.t) l m (λ e. cc) same found) [ inl stays ↦ stays | inr held ↦ absurd (clock_no_frame (station w.fabric l.t).hand n l.q samples is held.1) ];
-        reply_stays = λ found. elim (reply_on script h (Handle l.t) l m (λ e. cc) same found) [ inl stays ↦ stays | inr held ↦ absurd (other (sym (same_handle l.t l.s held.0))) ];
+        probe_stays = λ found. elim (probe_on script h (Handle l.far_place) l m (λ e. cc) same found) [ inl stays ↦ stays | inr held ↦ absurd (clock_no_frame (station w.fabric l.far_place).hand n l.far_port samples is held.1) ];
+        reply_stays = λ found. elim (reply_on script h (Handle l.far_place) l m (λ e. cc) same found) [ inl stays ↦ stays | inr held ↦ absurd (other (sym (same_handle l.far_place l.place held.0))) ];
       };
     }))
   where
@@ -437,41 +437,41 @@ clock_there script h l n samples m is other =
     same_handle a b e = ap place_in e
 
 -- the clock of a switch with a link to itself: both ends at once
-clock_both : (script : ScriptOf) (h : List Event) (l : LinkOf) (n : ℕ) (samples : List Sample) → IsMoment script h (Handle l.s) l → (station (world_after script h).fabric l.s).hand ≡ hand.Clock n samples → l.t ≡ l.s → GoesBy script h (Handle l.s) l
+clock_both : (script : ScriptOf) (h : List Event) (l : LinkOf) (n : ℕ) (samples : List Sample) → IsMoment script h (Handle l.place) l → (station (world_after script h).fabric l.place).hand ≡ hand.Clock n samples → l.far_place ≡ l.place → GoesBy script h (Handle l.place) l
 clock_both script h l n samples m is same start run =
     let w = world_after script h in
-    let v = effect (Handle l.s) w in
+    let v = effect (Handle l.place) w in
     let own = end_here w l in
     let far = end_there w l in
     let mid : EndView = record { here = (view w l).here; there = Sampled sample.Switch ∷ (view w l).there; has_clocked = (view w l).has_clocked; far_has_clocked = true; probe = (view w l).probe; reply = (view w l).reply } in
-    let there_m : IsMoment script h (Handle l.t) (turned l) = subst (λ k. IsMoment script h (Handle k) (turned l)) (sym same) (moment_turned script h (Handle l.s) l m) in
+    let there_m : IsMoment script h (Handle l.far_place) (turned l) = subst (λ k. IsMoment script h (Handle k) (turned l)) (sym same) (moment_turned script h (Handle l.place) l m) in
     let there_is : (view v l).there ≡ Sampled sample.Switch ∷ (view w l).there =
-    subst (λ k. ((effect (Handle k) w).switches l.t).ports l.q ≡ Sampled sample.Switch ∷ (w.switches l.t).ports l.q) same (port_sampled script h (turned l) n samples there_m (ap (λ k. (station w.fabric k).hand) same ∙ is))
+    subst (λ k. ((effect (Handle k) w).switches l.far_place).ports l.far_port ≡ Sampled sample.Switch ∷ (w.switches l.far_place).ports l.far_port) same (port_sampled script h (turned l) n samples there_m (ap (λ k. (station w.fabric k).hand) same ∙ is))
     in
     then_step start mid (view v l)
     (then_step start (view w l) mid run (far_clocks (record {
-      before = ap (has_clocked w.fabric) same ∙ clocked_not w.fabric l.s n samples is;
+      before = ap (has_clocked w.fabric) same ∙ clocked_not w.fabric l.place n samples is;
       is = refl;
       stays = record { probe_stays = λ found. found; reply_stays = λ found. found };
     })))
     (clocks (record {
-      before = clocked_not w.fabric l.s n samples is;
-      is = viewed (view v l) (Sampled sample.Switch ∷ (view w l).here) (Sampled sample.Switch ∷ (view w l).there) true true (port_sampled script h l n samples m is) there_is (handled_clocked script m.kept h l.s m.calm.lawful) (ap (has_clocked v.fabric) same ∙ handled_clocked script m.kept h l.s m.calm.lawful);
+      before = clocked_not w.fabric l.place n samples is;
+      is = viewed (view v l) (Sampled sample.Switch ∷ (view w l).here) (Sampled sample.Switch ∷ (view w l).there) true true (port_sampled script h l n samples m is) there_is (handled_clocked script m.kept h l.place m.calm.lawful) (ap (has_clocked v.fabric) same ∙ handled_clocked script m.kept h l.place m.calm.lawful);
       probes = probe_comes script h l n samples m is;
     }))
 
 -- the clock of a switch that is at neither end
-clock_elsewhere : (script : ScriptOf) (h : List Event) (s : ℕ) (l : LinkOf) (n : ℕ) (samples : List Sample) → IsMoment script h (Handle s) l → (station (world_after script h).fabric s).hand ≡ hand.Clock n samples → (l.s ≡ s → ⊥) → (l.t ≡ s → ⊥) → GoesBy script h (Handle s) l
+clock_elsewhere : (script : ScriptOf) (h : List Event) (s : ℕ) (l : LinkOf) (n : ℕ) (samples : List Sample) → IsMoment script h (Handle s) l → (station (world_after script h).fabric s).hand ≡ hand.Clock n samples → (l.place ≡ s → ⊥) → (l.far_place ≡ s → ⊥) → GoesBy script h (Handle s) l
 clock_elsewhere script h s l n samples m is not_here not_there =
     let w = world_after script h in
     let v = effect (Handle s) w in
-    let here_is : (view v l).here ≡ (view w l).here = ap (λ (u : SwitchOf). u.ports l.p) (other_switch s l.s w not_here) in
+    let here_is : (view v l).here ≡ (view w l).here = ap (λ (u : SwitchOf). u.ports l.port) (other_switch s l.place w not_here) in
     let same = same_nonce script h (Handle s) l m.calm (ap (nonce_after (end_here w l)) here_is) in
     one_step script h (Handle s) l (passes (record {
-      is = viewed (view v l) (view w l).here (view w l).there (view w l).has_clocked (view w l).far_has_clocked here_is (ap (λ (u : SwitchOf). u.ports l.q) (other_switch s l.t w not_there)) (handled_elsewhere w s l.s not_here) (handled_elsewhere w s l.t not_there);
+      is = viewed (view v l) (view w l).here (view w l).there (view w l).has_clocked (view w l).far_has_clocked here_is (ap (λ (u : SwitchOf). u.ports l.far_port) (other_switch s l.far_place w not_there)) (handled_elsewhere w s l.place not_here) (handled_elsewhere w s l.far_place not_there);
       stays = record {
-        probe_stays = λ found. elim (probe_on script h (Handle s) l m (λ e. cc) same found) [ inl stays ↦ stays | inr held ↦ absurd (not_there (sym (same_handle s l.t held.0))) ];
-        reply_stays = λ found. elim (reply_on script h (Handle s) l m (λ e. cc) same found) [ inl stays ↦ stays | inr held ↦ absurd (not_here (sym (same_handle s l.s held.0))) ];
+        probe_stays = λ found. elim (probe_on script h (Handle s) l m (λ e. cc) same found) [ inl stays ↦ stays | inr held ↦ absurd (not_there (sym (same_handle s l.far_place held.0))) ];
+        reply_stays = λ found. elim (reply_on script h (Handle s) l m (λ e. cc) same found) [ inl stays ↦ stays | inr held ↦ absurd (not_here (sym (same_handle s l.place held.0))) ];
       };
     }))
   where
@@ -483,12 +483,12 @@ clock_elsewhere script h s l n samples m is not_here not_there =
     same_handle a b e = ap place_in e
 
 clock_goes : (script : ScriptOf) (h : List Event) (s : ℕ) (l : LinkOf) (n : ℕ) (samples : List Sample) → IsMoment script h (Handle s) l → (station (world_after script h).fabric s).hand ≡ hand.Clock n samples → GoesBy script h (Handle s) l
-clock_goes script h s l n samples m is = by (cases_eq l.s s) (cases_eq l.t s)
+clock_goes script h s l n samples m is = by (cases_eq l.place s) (cases_eq l.far_place s)
   where
     At : ℕ → Type 0
     At k = IsMoment script h (Handle k) l → (station (world_after script h).fabric k).hand ≡ hand.Clock n samples → GoesBy script h (Handle k) l
 
-    by : (l.s ≡ s) ⊎ (l.s ≡ s → ⊥) → (l.t ≡ s) ⊎ (l.t ≡ s → ⊥) → GoesBy script h (Handle s) l
+    by : (l.place ≡ s) ⊎ (l.place ≡ s → ⊥) → (l.far_place ≡ s) ⊎ (l.far_place ≡ s → ⊥) → GoesBy script h (Handle s) l
     by (inl a) (inl b) = subst At a (λ m is. clock_both script h l n samples m is (b ∙ sym a)) m is
     by (inl a) (inr b) = subst At a (λ m is. clock_here script h l n samples m is (λ e. b (e ∙ a))) m is
     by (inr a) (inl b) = subst At b (λ m is. clock_there script h l n samples m is (λ e. a (e ∙ b))) m is
@@ -528,25 +528,25 @@ such_is test b f read found = sym (ap (λ o. Rattle.std.specs.Option.option_map_
 -- it is no frame of such a kind: then what is found stays
 frame_passes : (script : ScriptOf) (h : List Event) (s p : ℕ) (l : LinkOf) → IsMoment script h (Handle s) l → (station (world_after script h).fabric s).hand ≡ hand.Frame p
     → (view (effect (Handle s) (world_after script h)) l).here ≡ (view (world_after script h) l).here → (view (effect (Handle s) (world_after script h)) l).there ≡ (view (world_after script h) l).there
-    → (s ≡ l.t → p ≡ l.q → is_such (is_probe (end_here (world_after script h) l) (nonce_here (world_after script h) l)) (held_bytes (world_after script h).fabric s) ≡ true → ⊥)
-    → (s ≡ l.s → p ≡ l.p → is_such (is_reply (end_there (world_after script h) l) (end_here (world_after script h) l) (nonce_here (world_after script h) l)) (held_bytes (world_after script h).fabric s) ≡ true → ⊥)
+    → (s ≡ l.far_place → p ≡ l.far_port → is_such (is_probe (end_here (world_after script h) l) (nonce_here (world_after script h) l)) (held_bytes (world_after script h).fabric s) ≡ true → ⊥)
+    → (s ≡ l.place → p ≡ l.port → is_such (is_reply (end_there (world_after script h) l) (end_here (world_after script h) l) (nonce_here (world_after script h) l)) (held_bytes (world_after script h).fabric s) ≡ true → ⊥)
     → GoesBy script h (Handle s) l
 frame_passes script h s p l m is here_is there_is no_probe no_reply =
     let w = world_after script h in
     let v = effect (Handle s) w in
     let same = same_nonce script h (Handle s) l m.calm (ap (nonce_after (end_here w l)) here_is) in
     one_step script h (Handle s) l (passes (record {
-      is = viewed (view v l) (view w l).here (view w l).there (view w l).has_clocked (view w l).far_has_clocked here_is there_is (frame_clocked script m.kept h s p l.s m.calm.lawful is) (frame_clocked script m.kept h s p l.t m.calm.lawful is);
+      is = viewed (view v l) (view w l).here (view w l).there (view w l).has_clocked (view w l).far_has_clocked here_is there_is (frame_clocked script m.kept h s p l.place m.calm.lawful is) (frame_clocked script m.kept h s p l.far_place m.calm.lawful is);
       stays = record {
         probe_stays = λ found. elim (probe_on script h (Handle s) l m (λ e. cc) same found) [
           | inl stays ↦ stays
-          | inr held ↦ let at = same_handle s l.t held.0 in
-              absurd (no_probe at (same_port (station w.fabric s).hand p l.q is (ap (λ k. (station w.fabric k).hand) at ∙ held.1)) (ap (λ k. is_such (is_probe (end_here w l) (nonce_here w l)) (held_bytes w.fabric k)) at ∙ held.2))
+          | inr held ↦ let at = same_handle s l.far_place held.0 in
+              absurd (no_probe at (same_port (station w.fabric s).hand p l.far_port is (ap (λ k. (station w.fabric k).hand) at ∙ held.1)) (ap (λ k. is_such (is_probe (end_here w l) (nonce_here w l)) (held_bytes w.fabric k)) at ∙ held.2))
         ];
         reply_stays = λ found. elim (reply_on script h (Handle s) l m (λ e. cc) same found) [
           | inl stays ↦ stays
-          | inr held ↦ let at = same_handle s l.s held.0 in
-              absurd (no_reply at (same_port (station w.fabric s).hand p l.p is (ap (λ k. (station w.fabric k).hand) at ∙ held.1)) (ap (λ k. is_such (is_reply (end_there w l) (end_here w l) (nonce_here w l)) (held_bytes w.fabric k)) at ∙ held.2))
+          | inr held ↦ let at = same_handle s l.place held.0 in
+              absurd (no_reply at (same_port (station w.fabric s).hand p l.port is (ap (λ k. (station w.fabric k).hand) at ∙ held.1)) (ap (λ k. is_such (is_reply (end_there w l) (end_here w l) (nonce_here w l)) (held_bytes w.fabric k)) at ∙ held.2))
         ];
       };
     }))
@@ -560,42 +560,42 @@ ports_kept s w same t q = by (cases_eq t s)
     by (inr other) = ap (λ (u : SwitchOf). u.ports q) (other_switch s t w other)
 
 -- the far end's probe is answered
-answer_comes : (script : ScriptOf) (h : List Event) (l : LinkOf) (from : EndId) (nonce : ℕ) → IsMoment script h (Handle l.t) l → (station (world_after script h).fabric l.t).hand ≡ hand.Frame l.q → frame_of (held_bytes (world_after script h).fabric l.t) ≡ Some (Probe from nonce)
+answer_comes : (script : ScriptOf) (h : List Event) (l : LinkOf) (from : EndId) (nonce : ℕ) → IsMoment script h (Handle l.far_place) l → (station (world_after script h).fabric l.far_place).hand ≡ hand.Frame l.far_port → frame_of (held_bytes (world_after script h).fabric l.far_place) ≡ Some (Probe from nonce)
     → from ≡ end_here (world_after script h) l → nonce ≡ nonce_here (world_after script h) l → Speaks (end_there (world_after script h) l) (view (world_after script h) l).there
-    → is_some_under_way (is_reply (end_there (world_after script h) l) (end_here (world_after script h) l) (nonce_here (world_after script h) l)) (effect (Handle l.t) (world_after script h)) (turned l) ≡ true
+    → is_some_under_way (is_reply (end_there (world_after script h) l) (end_here (world_after script h) l) (nonce_here (world_after script h) l)) (effect (Handle l.far_place) (world_after script h)) (turned l) ≡ true
 answer_comes script h l from nonce m is read from_is nonce_is speaks =
     let w = world_after script h in
-    let u = w.switches l.t in
-    let step = handled_frame l.t l.q w is ∙ ap (λ o. handles_bytes l.q o u) read in
-    let x : Sent = record { port = l.q; frame = Reply (end_there w l) from nonce } in
-    let sent = in_from x (framed l.q (Probe from nonce) u).frames (probe_answered l.q nonce from u speaks) in
-    frame_comes script h (turned l) x (is_reply (end_there w l) (end_here w l) (nonce_here w l)) (moment_turned script h (Handle l.t) l m) (subst (λ (st : Rattle.switch_core.specs.Steps.Step). In x st.frames) (sym step) sent) refl
+    let u = w.switches l.far_place in
+    let step = handled_frame l.far_place l.far_port w is ∙ ap (λ o. handles_bytes l.far_port o u) read in
+    let x : Sent = record { port = l.far_port; frame = Reply (end_there w l) from nonce } in
+    let sent = in_from x (framed l.far_port (Probe from nonce) u).frames (probe_answered l.far_port nonce from u speaks) in
+    frame_comes script h (turned l) x (is_reply (end_there w l) (end_here w l) (nonce_here w l)) (moment_turned script h (Handle l.far_place) l m) (subst (λ (st : Rattle.switch_core.specs.Steps.Step). In x st.frames) (sym step) sent) refl
     ((λ i. is_reply (end_there w l) (end_here w l) (nonce_here w l) (Reply (end_there w l) (from_is i) (nonce_is i))) ∙ reply_itself (end_there w l) (end_here w l) (nonce_here w l))
 
-probe_answers : (script : ScriptOf) (h : List Event) (l : LinkOf) (from : EndId) (nonce : ℕ) → IsMoment script h (Handle l.t) l → (station (world_after script h).fabric l.t).hand ≡ hand.Frame l.q → frame_of (held_bytes (world_after script h).fabric l.t) ≡ Some (Probe from nonce)
-    → is_probe (end_here (world_after script h) l) (nonce_here (world_after script h) l) (Probe from nonce) ≡ true → GoesBy script h (Handle l.t) l
+probe_answers : (script : ScriptOf) (h : List Event) (l : LinkOf) (from : EndId) (nonce : ℕ) → IsMoment script h (Handle l.far_place) l → (station (world_after script h).fabric l.far_place).hand ≡ hand.Frame l.far_port → frame_of (held_bytes (world_after script h).fabric l.far_place) ≡ Some (Probe from nonce)
+    → is_probe (end_here (world_after script h) l) (nonce_here (world_after script h) l) (Probe from nonce) ≡ true → GoesBy script h (Handle l.far_place) l
 probe_answers script h l from nonce m is read found =
     let w = world_after script h in
-    let v = effect (Handle l.t) w in
-    let u = w.switches l.t in
-    let kept : (handled l.t w).switch.ports ≡ u.ports = ap (λ (st : Rattle.switch_core.specs.Steps.Step). st.switch.ports) (handled_frame l.t l.q w is ∙ ap (λ o. handles_bytes l.q o u) read) in
+    let v = effect (Handle l.far_place) w in
+    let u = w.switches l.far_place in
+    let kept : (handled l.far_place w).switch.ports ≡ u.ports = ap (λ (st : Rattle.switch_core.specs.Steps.Step). st.switch.ports) (handled_frame l.far_place l.far_port w is ∙ ap (λ o. handles_bytes l.far_port o u) read) in
     let parts = and_parts (is_same_end from (end_here w l)) (nonce == nonce_here w l) found in
     let from_is = same_end_is from (end_here w l) parts.0 in
     let nonce_is = eqb-true nonce (nonce_here w l) parts.1 in
-    let here_is = ports_kept l.t w kept l.s l.p in
-    let same = same_nonce script h (Handle l.t) l m.calm (ap (nonce_after (end_here w l)) here_is) in
-    one_step script h (Handle l.t) l (answers (record {
-      fresh = clocked_full script m.kept h l.t l.q m.link.there.s_below is;
-      is = viewed (view v l) (view w l).here (view w l).there (view w l).has_clocked (view w l).far_has_clocked here_is (ports_kept l.t w kept l.t l.q) (frame_clocked script m.kept h l.t l.q l.s m.calm.lawful is) (frame_clocked script m.kept h l.t l.q l.t m.calm.lawful is);
+    let here_is = ports_kept l.far_place w kept l.place l.port in
+    let same = same_nonce script h (Handle l.far_place) l m.calm (ap (nonce_after (end_here w l)) here_is) in
+    one_step script h (Handle l.far_place) l (answers (record {
+      fresh = clocked_full script m.kept h l.far_place l.far_port m.link.there.s_below is;
+      is = viewed (view v l) (view w l).here (view w l).there (view w l).has_clocked (view w l).far_has_clocked here_is (ports_kept l.far_place w kept l.far_place l.far_port) (frame_clocked script m.kept h l.far_place l.far_port l.place m.calm.lawful is) (frame_clocked script m.kept h l.far_place l.far_port l.far_place m.calm.lawful is);
       replies = λ speaks. reply_same w v l same v ∙ answer_comes script h l from nonce m is read from_is nonce_is speaks;
-      reply_stays = λ there. elim (reply_on script h (Handle l.t) l m (λ e. cc) same there) [
+      reply_stays = λ there. elim (reply_on script h (Handle l.far_place) l m (λ e. cc) same there) [
         | inl stays ↦ stays
-        | inr held ↦ absurd (false≢true (such_is (is_reply (end_there w l) (end_here w l) (nonce_here w l)) (held_bytes w.fabric l.t) (Probe from nonce) read (ap (λ k. is_such (is_reply (end_there w l) (end_here w l) (nonce_here w l)) (held_bytes w.fabric k)) (same_handle l.t l.s held.0) ∙ held.2)))
+        | inr held ↦ absurd (false≢true (such_is (is_reply (end_there w l) (end_here w l) (nonce_here w l)) (held_bytes w.fabric l.far_place) (Probe from nonce) read (ap (λ k. is_such (is_reply (end_there w l) (end_here w l) (nonce_here w l)) (held_bytes w.fabric k)) (same_handle l.far_place l.place held.0) ∙ held.2)))
       ];
     }))
 
 probe_goes : (script : ScriptOf) (h : List Event) (s p : ℕ) (l : LinkOf) (from : EndId) (nonce : ℕ) → IsMoment script h (Handle s) l → (station (world_after script h).fabric s).hand ≡ hand.Frame p → frame_of (held_bytes (world_after script h).fabric s) ≡ Some (Probe from nonce) → GoesBy script h (Handle s) l
-probe_goes script h s p l from nonce m is read = by (cases_eq s l.t) (cases_eq p l.q) (Rattle.std.proofs.lemmas.Bool.cases_Bool (test (Probe from nonce)))
+probe_goes script h s p l from nonce m is read = by (cases_eq s l.far_place) (cases_eq p l.far_port) (Rattle.std.proofs.lemmas.Bool.cases_Bool (test (Probe from nonce)))
   where
     w : WorldOf
     w = world_after script h
@@ -609,16 +609,16 @@ probe_goes script h s p l from nonce m is read = by (cases_eq s l.t) (cases_eq p
     kept : (handled s w).switch.ports ≡ u.ports
     kept = ap (λ (st : Rattle.switch_core.specs.Steps.Step). st.switch.ports) (handled_frame s p w is ∙ ap (λ o. handles_bytes p o u) read)
 
-    no_reply : s ≡ l.s → p ≡ l.p → is_such (is_reply (end_there w l) (end_here w l) (nonce_here w l)) (held_bytes w.fabric s) ≡ true → ⊥
+    no_reply : s ≡ l.place → p ≡ l.port → is_such (is_reply (end_there w l) (end_here w l) (nonce_here w l)) (held_bytes w.fabric s) ≡ true → ⊥
     no_reply at port found = false≢true (such_is (is_reply (end_there w l) (end_here w l) (nonce_here w l)) (held_bytes w.fabric s) (Probe from nonce) read found)
 
-    aside_by : (s ≡ l.t → p ≡ l.q → is_such test (held_bytes w.fabric s) ≡ true → ⊥) → GoesBy script h (Handle s) l
-    aside_by no_probe = frame_passes script h s p l m is (ports_kept s w kept l.s l.p) (ports_kept s w kept l.t l.q) no_probe no_reply
+    aside_by : (s ≡ l.far_place → p ≡ l.far_port → is_such test (held_bytes w.fabric s) ≡ true → ⊥) → GoesBy script h (Handle s) l
+    aside_by no_probe = frame_passes script h s p l m is (ports_kept s w kept l.place l.port) (ports_kept s w kept l.far_place l.far_port) no_probe no_reply
 
     At : ℕ → ℕ → Type 0
     At k n = IsMoment script h (Handle k) l → (station w.fabric k).hand ≡ hand.Frame n → frame_of (held_bytes w.fabric k) ≡ Some (Probe from nonce) → GoesBy script h (Handle k) l
 
-    by : (s ≡ l.t) ⊎ (s ≡ l.t → ⊥) → (p ≡ l.q) ⊎ (p ≡ l.q → ⊥) → (test (Probe from nonce) ≡ true) ⊎ (test (Probe from nonce) ≡ false) → GoesBy script h (Handle s) l
+    by : (s ≡ l.far_place) ⊎ (s ≡ l.far_place → ⊥) → (p ≡ l.far_port) ⊎ (p ≡ l.far_port → ⊥) → (test (Probe from nonce) ≡ true) ⊎ (test (Probe from nonce) ≡ false) → GoesBy script h (Handle s) l
     by (inl a) (inl b) (inl asks) = subst (λ (z : ℕ × ℕ). At z.0 z.1) (λ i. (sym a i, sym b i)) (λ m is read. probe_answers script h l from nonce m is read asks) m is read
     by (inl a) (inl b) (inr no_test) = aside_by (λ _ _ found. true≢false (sym (such_is test (held_bytes w.fabric s) (Probe from nonce) read found) ∙ no_test))
     by (inl a) (inr b) t = aside_by (λ _ port _. b port)
@@ -644,61 +644,61 @@ heard_elsewhere s p t q w from nonce ports other = by (cases_eq t s)
     by (inr differs) = ap (λ (u : SwitchOf). u.ports q) (other_switch s t w differs)
 
 -- who replied is the far end
-replied_by : (script : ScriptOf) (h : List Event) (e : Event) (l : LinkOf) (from to : EndId) (nonce : ℕ) → IsMoment script h e l → (station (world_after script h).fabric l.t).hand ≡ hand.Frame l.q → frame_of (held_bytes (world_after script h).fabric l.t) ≡ Some (Reply from to nonce) → from ≡ end_here (world_after script h) l
+replied_by : (script : ScriptOf) (h : List Event) (e : Event) (l : LinkOf) (from to : EndId) (nonce : ℕ) → IsMoment script h e l → (station (world_after script h).fabric l.far_place).hand ≡ hand.Frame l.far_port → frame_of (held_bytes (world_after script h).fabric l.far_place) ≡ Some (Reply from to nonce) → from ≡ end_here (world_after script h) l
 replied_by script h e l from to nonce m is read =
     let w = world_after script h in
-    let none : IsFromEnd script (lives_of w) (place l.t l.q) [] = λ k at where_is f r. absurd (none_some (sym Rattle.fabric_game.proofs.KnownLemmas.empty_none ∙ r)) in
-    each_index (IsFromEnd script (lives_of w) (place l.t l.q)) (hand_of w.fabric.wires l.t) 0 [] none (m.froms.hands l.t l.q m.link.there.s_below is) l m.link refl (Reply from to nonce) read
+    let none : IsFromEnd script (lives_of w) (place l.far_place l.far_port) [] = λ k at where_is f r. absurd (none_some (sym Rattle.fabric_game.proofs.KnownLemmas.empty_none ∙ r)) in
+    each_index (IsFromEnd script (lives_of w) (place l.far_place l.far_port)) (hand_of w.fabric.wires l.far_place) 0 [] none (m.froms.hands l.far_place l.far_port m.link.there.s_below is) l m.link refl (Reply from to nonce) read
 
 reply_nonce : (own from : EndId) (nonce : ℕ) (history : History) → nonce_after own (Replied from nonce ∷ history) ≡ nonce_after own history
 reply_nonce own from nonce history = ap (λ (p : Port). p.far.nonce) (replied_as from nonce (port_after own history)).1
 
-hears_here : (script : ScriptOf) (h : List Event) (l : LinkOf) (from to : EndId) (nonce : ℕ) → IsMoment script h (Handle l.s) l → (station (world_after script h).fabric l.s).hand ≡ hand.Frame l.p → frame_of (held_bytes (world_after script h).fabric l.s) ≡ Some (Reply from to nonce)
-    → is_same_end to (end_at ((world_after script h).switches l.s) l.p) ≡ true → GoesBy script h (Handle l.s) l
+hears_here : (script : ScriptOf) (h : List Event) (l : LinkOf) (from to : EndId) (nonce : ℕ) → IsMoment script h (Handle l.place) l → (station (world_after script h).fabric l.place).hand ≡ hand.Frame l.port → frame_of (held_bytes (world_after script h).fabric l.place) ≡ Some (Reply from to nonce)
+    → is_same_end to (end_at ((world_after script h).switches l.place) l.port) ≡ true → GoesBy script h (Handle l.place) l
 hears_here script h l from to nonce m is read meant =
     let w = world_after script h in
-    let v = effect (Handle l.s) w in
-    let ports = reply_step l.s l.p w from to nonce is read meant in
-    let far : from ≡ end_there w l = replied_by script h (Handle l.s) (turned l) from to nonce (moment_turned script h (Handle l.s) l m) is read in
-    let here_is : (view v l).here ≡ Replied (end_there w l) nonce ∷ (view w l).here = heard_at l.s l.p w from nonce ports ∙ ap (λ x. Replied x nonce ∷ (view w l).here) far in
-    let there_is = heard_elsewhere l.s l.p l.t l.q w from nonce ports (ends_apart script m.kept l m.link) in
-    let same = same_nonce script h (Handle l.s) l m.calm (ap (nonce_after (end_here w l)) here_is ∙ reply_nonce (end_here w l) (end_there w l) nonce (view w l).here) in
-    one_step script h (Handle l.s) l (hears (record {
-      fresh = clocked_full script m.kept h l.s l.p m.link.here.s_below is;
+    let v = effect (Handle l.place) w in
+    let ports = reply_step l.place l.port w from to nonce is read meant in
+    let far : from ≡ end_there w l = replied_by script h (Handle l.place) (turned l) from to nonce (moment_turned script h (Handle l.place) l m) is read in
+    let here_is : (view v l).here ≡ Replied (end_there w l) nonce ∷ (view w l).here = heard_at l.place l.port w from nonce ports ∙ ap (λ x. Replied x nonce ∷ (view w l).here) far in
+    let there_is = heard_elsewhere l.place l.port l.far_place l.far_port w from nonce ports (ends_apart script m.kept l m.link) in
+    let same = same_nonce script h (Handle l.place) l m.calm (ap (nonce_after (end_here w l)) here_is ∙ reply_nonce (end_here w l) (end_there w l) nonce (view w l).here) in
+    one_step script h (Handle l.place) l (hears (record {
+      fresh = clocked_full script m.kept h l.place l.port m.link.here.s_below is;
       nonce = nonce;
-      is = viewed (view v l) (Replied (end_there w l) nonce ∷ (view w l).here) (view w l).there (view w l).has_clocked (view w l).far_has_clocked here_is there_is (frame_clocked script m.kept h l.s l.p l.s m.calm.lawful is) (frame_clocked script m.kept h l.s l.p l.t m.calm.lawful is);
-      probe_stays = λ found. elim (probe_on script h (Handle l.s) l m (λ e. cc) same found) [
+      is = viewed (view v l) (Replied (end_there w l) nonce ∷ (view w l).here) (view w l).there (view w l).has_clocked (view w l).far_has_clocked here_is there_is (frame_clocked script m.kept h l.place l.port l.place m.calm.lawful is) (frame_clocked script m.kept h l.place l.port l.far_place m.calm.lawful is);
+      probe_stays = λ found. elim (probe_on script h (Handle l.place) l m (λ e. cc) same found) [
         | inl stays ↦ stays
-        | inr held ↦ absurd (false≢true (such_is (is_probe (end_here w l) (nonce_here w l)) (held_bytes w.fabric l.s) (Reply from to nonce) read (ap (λ k. is_such (is_probe (end_here w l) (nonce_here w l)) (held_bytes w.fabric k)) (same_handle l.s l.t held.0) ∙ held.2)))
+        | inr held ↦ absurd (false≢true (such_is (is_probe (end_here w l) (nonce_here w l)) (held_bytes w.fabric l.place) (Reply from to nonce) read (ap (λ k. is_such (is_probe (end_here w l) (nonce_here w l)) (held_bytes w.fabric k)) (same_handle l.place l.far_place held.0) ∙ held.2)))
       ];
-      reply_stays = λ found. elim (reply_on script h (Handle l.s) l m (λ e. cc) same found) [
+      reply_stays = λ found. elim (reply_on script h (Handle l.place) l m (λ e. cc) same found) [
         | inl stays ↦ inr stays
-        | inr held ↦ inl (eqb-true nonce (nonce_here w l) (and_parts (is_same_end from (end_there w l) && is_same_end to (end_here w l)) (nonce == nonce_here w l) (such_is (is_reply (end_there w l) (end_here w l) (nonce_here w l)) (held_bytes w.fabric l.s) (Reply from to nonce) read held.2)).1)
+        | inr held ↦ inl (eqb-true nonce (nonce_here w l) (and_parts (is_same_end from (end_there w l) && is_same_end to (end_here w l)) (nonce == nonce_here w l) (such_is (is_reply (end_there w l) (end_here w l) (nonce_here w l)) (held_bytes w.fabric l.place) (Reply from to nonce) read held.2)).1)
       ];
     }))
 
-hears_there : (script : ScriptOf) (h : List Event) (l : LinkOf) (from to : EndId) (nonce : ℕ) → IsMoment script h (Handle l.t) l → (station (world_after script h).fabric l.t).hand ≡ hand.Frame l.q → frame_of (held_bytes (world_after script h).fabric l.t) ≡ Some (Reply from to nonce)
-    → is_same_end to (end_at ((world_after script h).switches l.t) l.q) ≡ true → GoesBy script h (Handle l.t) l
+hears_there : (script : ScriptOf) (h : List Event) (l : LinkOf) (from to : EndId) (nonce : ℕ) → IsMoment script h (Handle l.far_place) l → (station (world_after script h).fabric l.far_place).hand ≡ hand.Frame l.far_port → frame_of (held_bytes (world_after script h).fabric l.far_place) ≡ Some (Reply from to nonce)
+    → is_same_end to (end_at ((world_after script h).switches l.far_place) l.far_port) ≡ true → GoesBy script h (Handle l.far_place) l
 hears_there script h l from to nonce m is read meant =
     let w = world_after script h in
-    let v = effect (Handle l.t) w in
-    let ports = reply_step l.t l.q w from to nonce is read meant in
-    let own : from ≡ end_here w l = replied_by script h (Handle l.t) l from to nonce m is read in
-    let there_is : (view v l).there ≡ Replied (end_here w l) nonce ∷ (view w l).there = heard_at l.t l.q w from nonce ports ∙ ap (λ x. Replied x nonce ∷ (view w l).there) own in
-    let here_is = heard_elsewhere l.t l.q l.s l.p w from nonce ports (λ same port. ends_apart script m.kept l m.link (sym same) (sym port)) in
-    let same = same_nonce script h (Handle l.t) l m.calm (ap (nonce_after (end_here w l)) here_is) in
-    one_step script h (Handle l.t) l (far_hears (record {
-      fresh = clocked_full script m.kept h l.t l.q m.link.there.s_below is;
+    let v = effect (Handle l.far_place) w in
+    let ports = reply_step l.far_place l.far_port w from to nonce is read meant in
+    let own : from ≡ end_here w l = replied_by script h (Handle l.far_place) l from to nonce m is read in
+    let there_is : (view v l).there ≡ Replied (end_here w l) nonce ∷ (view w l).there = heard_at l.far_place l.far_port w from nonce ports ∙ ap (λ x. Replied x nonce ∷ (view w l).there) own in
+    let here_is = heard_elsewhere l.far_place l.far_port l.place l.port w from nonce ports (λ same port. ends_apart script m.kept l m.link (sym same) (sym port)) in
+    let same = same_nonce script h (Handle l.far_place) l m.calm (ap (nonce_after (end_here w l)) here_is) in
+    one_step script h (Handle l.far_place) l (far_hears (record {
+      fresh = clocked_full script m.kept h l.far_place l.far_port m.link.there.s_below is;
       nonce = nonce;
-      is = viewed (view v l) (view w l).here (Replied (end_here w l) nonce ∷ (view w l).there) (view w l).has_clocked (view w l).far_has_clocked here_is there_is (frame_clocked script m.kept h l.t l.q l.s m.calm.lawful is) (frame_clocked script m.kept h l.t l.q l.t m.calm.lawful is);
+      is = viewed (view v l) (view w l).here (Replied (end_here w l) nonce ∷ (view w l).there) (view w l).has_clocked (view w l).far_has_clocked here_is there_is (frame_clocked script m.kept h l.far_place l.far_port l.place m.calm.lawful is) (frame_clocked script m.kept h l.far_place l.far_port l.far_place m.calm.lawful is);
       stays = record {
-        probe_stays = λ found. elim (probe_on script h (Handle l.t) l m (λ e. cc) same found) [
+        probe_stays = λ found. elim (probe_on script h (Handle l.far_place) l m (λ e. cc) same found) [
           | inl stays ↦ stays
-          | inr held ↦ absurd (false≢true (such_is (is_probe (end_here w l) (nonce_here w l)) (held_bytes w.fabric l.t) (Reply from to nonce) read held.2))
+          | inr held ↦ absurd (false≢true (such_is (is_probe (end_here w l) (nonce_here w l)) (held_bytes w.fabric l.far_place) (Reply from to nonce) read held.2))
         ];
-        reply_stays = λ found. elim (reply_on script h (Handle l.t) l m (λ e. cc) same found) [
+        reply_stays = λ found. elim (reply_on script h (Handle l.far_place) l m (λ e. cc) same found) [
           | inl stays ↦ stays
-          | inr held ↦ let at = same_handle l.t l.s held.0 in absurd (ends_apart script m.kept l m.link at (same_port (station w.fabric l.t).hand l.q l.p is (ap (λ k. (station w.fabric k).hand) at ∙ held.1)))
+          | inr held ↦ let at = same_handle l.far_place l.place held.0 in absurd (ends_apart script m.kept l m.link at (same_port (station w.fabric l.far_place).hand l.far_port l.port is (ap (λ k. (station w.fabric k).hand) at ∙ held.1)))
         ];
       };
     }))
@@ -712,18 +712,18 @@ reply_goes script h s p l from to nonce m is read = by_meant (is_same_end to (en
     u : SwitchOf
     u = w.switches s
 
-    no_probe : s ≡ l.t → p ≡ l.q → is_such (is_probe (end_here w l) (nonce_here w l)) (held_bytes w.fabric s) ≡ true → ⊥
+    no_probe : s ≡ l.far_place → p ≡ l.far_port → is_such (is_probe (end_here w l) (nonce_here w l)) (held_bytes w.fabric s) ≡ true → ⊥
     no_probe at port found = false≢true (such_is (is_probe (end_here w l) (nonce_here w l)) (held_bytes w.fabric s) (Reply from to nonce) read found)
 
     At : ℕ → ℕ → Type 0
     At k n = IsMoment script h (Handle k) l → (station w.fabric k).hand ≡ hand.Frame n → frame_of (held_bytes w.fabric k) ≡ Some (Reply from to nonce) → is_same_end to (end_at (w.switches k) n) ≡ true → GoesBy script h (Handle k) l
 
-    meant_for : is_same_end to (end_at u p) ≡ true → (s ≡ l.s) × (p ≡ l.p) ⊎ ((s ≡ l.s → p ≡ l.p → ⊥)) → (s ≡ l.t) × (p ≡ l.q) ⊎ ((s ≡ l.t → p ≡ l.q → ⊥)) → GoesBy script h (Handle s) l
+    meant_for : is_same_end to (end_at u p) ≡ true → (s ≡ l.place) × (p ≡ l.port) ⊎ ((s ≡ l.place → p ≡ l.port → ⊥)) → (s ≡ l.far_place) × (p ≡ l.far_port) ⊎ ((s ≡ l.far_place → p ≡ l.far_port → ⊥)) → GoesBy script h (Handle s) l
     meant_for meant (inl a) b = subst (λ (z : ℕ × ℕ). At z.0 z.1) (λ i. (sym a.0 i, sym a.1 i)) (λ m is read meant. hears_here script h l from to nonce m is read meant) m is read meant
     meant_for meant (inr a) (inl b) = subst (λ (z : ℕ × ℕ). At z.0 z.1) (λ i. (sym b.0 i, sym b.1 i)) (λ m is read meant. hears_there script h l from to nonce m is read meant) m is read meant
     meant_for meant (inr a) (inr b) =
         let ports = reply_step s p w from to nonce is read meant in
-        frame_passes script h s p l m is (heard_elsewhere s p l.s l.p w from nonce ports (λ x y. a (sym x) (sym y))) (heard_elsewhere s p l.t l.q w from nonce ports (λ x y. b (sym x) (sym y))) no_probe (λ x y _. a x y)
+        frame_passes script h s p l m is (heard_elsewhere s p l.place l.port w from nonce ports (λ x y. a (sym x) (sym y))) (heard_elsewhere s p l.far_place l.far_port w from nonce ports (λ x y. b (sym x) (sym y))) no_probe (λ x y _. a x y)
 
     both : (a b c d : ℕ) → (a ≡ c) × (b ≡ d) ⊎ (a ≡ c → b ≡ d → ⊥)
     both a b c d = by (cases_eq a c) (cases_eq b d)
@@ -733,23 +733,23 @@ reply_goes script h s p l from to nonce m is read = by_meant (is_same_end to (en
         by (inl x) (inr y) = inr (λ _ e. y e)
         by (inr x) y = inr (λ e _. x e)
 
-    not_meant : is_same_end to (end_at u p) ≡ false → s ≡ l.s → p ≡ l.p → is_such (is_reply (end_there w l) (end_here w l) (nonce_here w l)) (held_bytes w.fabric s) ≡ true → ⊥
+    not_meant : is_same_end to (end_at u p) ≡ false → s ≡ l.place → p ≡ l.port → is_such (is_reply (end_there w l) (end_here w l) (nonce_here w l)) (held_bytes w.fabric s) ≡ true → ⊥
     not_meant no_end at port found =
         let parts = and_parts (is_same_end from (end_there w l) && is_same_end to (end_here w l)) (nonce == nonce_here w l) (such_is (is_reply (end_there w l) (end_here w l) (nonce_here w l)) (held_bytes w.fabric s) (Reply from to nonce) read found) in
         true≢false (sym (and_parts (is_same_end from (end_there w l)) (is_same_end to (end_here w l)) parts.0).1 ∙ (λ i. is_same_end to (end_at (w.switches (sym at i)) (sym port i))) ∙ no_end)
 
     by_meant : (b : Bool) → is_same_end to (end_at u p) ≡ b → GoesBy script h (Handle s) l
-    by_meant true meant = meant_for meant (both s p l.s l.p) (both s p l.t l.q)
+    by_meant true meant = meant_for meant (both s p l.place l.port) (both s p l.far_place l.far_port)
     by_meant false no_end =
         let kept : (handled s w).switch.ports ≡ u.ports = ap (λ (st : Rattle.switch_core.specs.Steps.Step). st.switch.ports) (handled_frame s p w is ∙ ap (λ o. handles_bytes p o u) read) ∙ (Rattle.session_settling.proofs.Keeps.keeps_other_reply p nonce from to u no_end).ports_are in
-        frame_passes script h s p l m is (ports_kept s w kept l.s l.p) (ports_kept s w kept l.t l.q) no_probe (not_meant no_end)
+        frame_passes script h s p l m is (ports_kept s w kept l.place l.port) (ports_kept s w kept l.far_place l.far_port) no_probe (not_meant no_end)
 
 -- a frame of a session, and what is no frame
 other_goes : (script : ScriptOf) (h : List Event) (s p : ℕ) (l : LinkOf) → IsMoment script h (Handle s) l → (station (world_after script h).fabric s).hand ≡ hand.Frame p → (handled s (world_after script h)).switch.ports ≡ ((world_after script h).switches s).ports
     → ((e : EndId) (n : ℕ) → is_such (is_probe e n) (held_bytes (world_after script h).fabric s) ≡ false) → ((e f : EndId) (n : ℕ) → is_such (is_reply e f n) (held_bytes (world_after script h).fabric s) ≡ false) → GoesBy script h (Handle s) l
 other_goes script h s p l m is kept no_probe no_reply =
     let w = world_after script h in
-    frame_passes script h s p l m is (ports_kept s w kept l.s l.p) (ports_kept s w kept l.t l.q) (λ _ _ found. true≢false (sym found ∙ no_probe (end_here w l) (nonce_here w l))) (λ _ _ found. true≢false (sym found ∙ no_reply (end_there w l) (end_here w l) (nonce_here w l)))
+    frame_passes script h s p l m is (ports_kept s w kept l.place l.port) (ports_kept s w kept l.far_place l.far_port) (λ _ _ found. true≢false (sym found ∙ no_probe (end_here w l) (nonce_here w l))) (λ _ _ found. true≢false (sym found ∙ no_reply (end_there w l) (end_here w l) (nonce_here w l)))
 
 frame_goes : (script : ScriptOf) (h : List Event) (s p : ℕ) (l : LinkOf) → IsMoment script h (Handle s) l → (station (world_after script h).fabric s).hand ≡ hand.Frame p → GoesBy script h (Handle s) l
 frame_goes script h s p l m is = by (frame_of (held_bytes w.fabric s)) refl

@@ -44,7 +44,7 @@ pub record IsEvent (script : ScriptOf) (h : List Event) (e : Event) (l : LinkOf)
   pub works : is_some_spent (world_after script h).fabric ≡ false
   pub works_on : is_some_spent (effect e (world_after script h)).fabric ≡ false
   pub link : IsLinkOf script l
-  pub apart : l.s ≡ l.t → ⊥
+  pub apart : l.place ≡ l.far_place → ⊥
 
 -- the run after an event is from its base on
 abbrev pub base_after : ScriptOf → List Event → Event → ℕ
@@ -63,10 +63,10 @@ directed d now late epoch far t r en el ee ef et er = λ i. record { now = en i;
 
 -- Frames of a kind: what is under way was so, or went out; and stays so, but for the one that is handled.
 pub record SentSuch (test : Frame → Bool) (w : WorldOf) (e : Event) (l : LinkOf) : Type 0 where
-  pub event : e ≡ Handle l.s
+  pub event : e ≡ Handle l.place
   pub sent : Sent
-  pub among : In sent (handled l.s w).frames
-  pub port : sent.port ≡ l.p
+  pub among : In sent (handled l.place w).frames
+  pub port : sent.port ≡ l.port
   pub found : test sent.frame ≡ true
 
 pub such_from : (test : Frame → Bool) (script : ScriptOf) (h : List Event) (e : Event) (l : LinkOf) → IsScript script → IsLinkOf script l → is_lawful (world_after script h).fabric e ≡ true
@@ -76,27 +76,27 @@ such_from test script h e l kept is lawful found = by (way_from script kept h e 
     w : WorldOf
     w = world_after script h
 
-    k : (b : List ℕ) × In b (under_way_to (effect e w).fabric l.t l.q) × (is_such test b ≡ true)
+    k : (b : List ℕ) × In b (under_way_to (effect e w).fabric l.far_place l.far_port) × (is_such test b ≡ true)
     k = such_way test (effect e w) l found
 
     new : IsNew w e l k.0 → SentSuch test w e l
     new (inl none) = let f = frame_such test k.0 k.2 in absurd (none_some (sym none ∙ f.1))
     new (inr out) =
         let f = frame_such test k.0 k.2 in
-        let lawful_here : is_lawful w.fabric (Handle l.s) ≡ true = subst (λ x. is_lawful w.fabric x ≡ true) out.event lawful in
-        let is_out = each_in IsOut (handled l.s w).frames out.sent (handled_frames script kept h l.s is.here.s_below lawful_here) out.among in
+        let lawful_here : is_lawful w.fabric (Handle l.place) ≡ true = subst (λ x. is_lawful w.fabric x ≡ true) out.event lawful in
+        let is_out = each_in IsOut (handled l.place w).frames out.sent (handled_frames script kept h l.place is.here.s_below lawful_here) out.among in
         let same : out.sent.frame ≡ f.0 = some_same out.sent.frame f.0 (sym (frame_again out.sent.frame is_out.frame_is) ∙ ap frame_of (sym out.bytes) ∙ f.1) in
         record { event = out.event; sent = out.sent; among = out.among; port = out.port; found = ap test same ∙ f.2 }
 
-    by : In k.0 (under_way_to w.fabric l.t l.q) ⊎ IsNew w e l k.0 → (is_some_under_way test w l ≡ true) ⊎ SentSuch test w e l
+    by : In k.0 (under_way_to w.fabric l.far_place l.far_port) ⊎ IsNew w e l k.0 → (is_some_under_way test w l ≡ true) ⊎ SentSuch test w e l
     by (inl i) = inl (way_such test w l k.0 i k.2)
     by (inr n) = inr (new n)
 
-pub only_from : (test : Frame → Bool) (script : ScriptOf) (h : List Event) (e : Event) (l : LinkOf) → IsScript script → IsLinkOf script l → is_lawful (world_after script h).fabric e ≡ true → (e ≡ Handle l.s → ⊥)
+pub only_from : (test : Frame → Bool) (script : ScriptOf) (h : List Event) (e : Event) (l : LinkOf) → IsScript script → IsLinkOf script l → is_lawful (world_after script h).fabric e ≡ true → (e ≡ Handle l.place → ⊥)
     → is_some_under_way test (effect e (world_after script h)) l ≡ true → is_some_under_way test (world_after script h) l ≡ true
 only_from test script h e l kept is lawful other found = elim (such_from test script h e l kept is lawful found) [ inl old ↦ old | inr new ↦ absurd (other new.event) ]
 
-pub on_still : (test : Frame → Bool) (script : ScriptOf) (h : List Event) (e : Event) (l : LinkOf) → IsScript script → IsLinkOf script l → is_lawful (world_after script h).fabric e ≡ true → is_of_script e ≡ false → (e ≡ Tick → ⊥) → (e ≡ Handle l.t → ⊥)
+pub on_still : (test : Frame → Bool) (script : ScriptOf) (h : List Event) (e : Event) (l : LinkOf) → IsScript script → IsLinkOf script l → is_lawful (world_after script h).fabric e ≡ true → is_of_script e ≡ false → (e ≡ Tick → ⊥) → (e ≡ Handle l.far_place → ⊥)
     → is_some_under_way test (world_after script h) l ≡ true → is_some_under_way test (effect e (world_after script h)) l ≡ true
 on_still test script h e l kept is lawful quiet no_tick other found = elim (keeps_such test script h e l kept is lawful quiet no_tick found) [ inl stays ↦ stays | inr held ↦ absurd (other held.0) ]
 
@@ -131,15 +131,15 @@ way_same : (w v : WorldOf) (l : LinkOf) (now late : ℕ) → IsLeft (here w l) (
     → way v l ≡ record { now = now; late = late; epoch = (way w l).epoch; far_epoch = (way w l).far_epoch; sending = (way w l).sending; receiving = (way w l).receiving; carry = (way v l).carry; ack = (way v l).ack }
 way_same w v l now late a b en el =
     directed (way v l) now late (way w l).epoch (way w l).far_epoch (way w l).sending (way w l).receiving en el a.epoch b.epoch
-    (λ i. cond (is_end (peer_among (a.card i).links l.p) (record { life = b.life i; port = l.q })) (a.sendings i l.p) unused)
-    (λ i. cond (is_end (peer_among (b.card i).links l.q) (record { life = a.life i; port = l.p }) && not (nat_lt (b.epoch i) (a.epoch i))) (b.receivings i l.q) untouched)
+    (λ i. cond (is_end (peer_among (a.card i).links l.port) (record { life = b.life i; port = l.far_port })) (a.sendings i l.port) unused)
+    (λ i. cond (is_end (peer_among (b.card i).links l.far_port) (record { life = a.life i; port = l.port }) && not (nat_lt (b.epoch i) (a.epoch i))) (b.receivings i l.far_port) untouched)
 
 -- and the tests for its frames
 carry_same : (w v : WorldOf) (l : LinkOf) (k : ℕ) → IsLeft (here w l) (here v l) → IsLeft (there w l) (there v l) → (x : WorldOf) → is_some_under_way (is_carry (here v l).epoch (end_here v l) (end_there v l) k) x l ≡ is_some_under_way (is_carry (here w l).epoch (end_here w l) (end_there w l) k) x l
-carry_same w v l k a b x = λ i. is_some_under_way (is_carry (a.epoch i) (record { life = a.life i; port = l.p }) (record { life = b.life i; port = l.q }) k) x l
+carry_same w v l k a b x = λ i. is_some_under_way (is_carry (a.epoch i) (record { life = a.life i; port = l.port }) (record { life = b.life i; port = l.far_port }) k) x l
 
 ack_same : (w v : WorldOf) (l : LinkOf) (n : ℕ) → IsLeft (here w l) (here v l) → IsLeft (there w l) (there v l) → (x : WorldOf) → is_some_under_way (is_ack (here v l).epoch (end_there v l) (end_here v l) n) x (turned l) ≡ is_some_under_way (is_ack (here w l).epoch (end_there w l) (end_here w l) n) x (turned l)
-ack_same w v l n a b x = λ i. is_some_under_way (is_ack (a.epoch i) (record { life = b.life i; port = l.q }) (record { life = a.life i; port = l.p }) n) x (turned l)
+ack_same w v l n a b x = λ i. is_some_under_way (is_ack (a.epoch i) (record { life = b.life i; port = l.far_port }) (record { life = a.life i; port = l.port }) n) x (turned l)
 
 -- A tick: nothing was under way, and nothing is
 pub ticked_under : (test : Frame → Bool) (w : WorldOf) (l : LinkOf) → is_some_under_way test (effect Tick w) l ≡ is_some_under_way test w l
@@ -152,12 +152,12 @@ tick_goes script h l k =
     let v = effect Tick w in
     let at = at_tick script k.kept k.unpaced h k.lawful in
     let back = link_turned script l k.link in
-    let a = all_left Tick w l.s (λ t e. cc) (λ t e. cc) in
-    let b = all_left Tick w l.t (λ t e. cc) (λ t e. cc) in
+    let a = all_left Tick w l.place (λ t e. cc) (λ t e. cc) in
+    let b = all_left Tick w l.far_place (λ t e. cc) (λ t e. cc) in
     let now : v.fabric.tick ≡ suc w.fabric.tick = let t = (ticked w).0 in omega (arith, t) in
     one_step script h Tick l (ticks (record {
-      before = ap (λ b. cond b 3 4) (all_clocked script k.kept h l.s at k.link.here.s_below);
-      is = way_same w v l (suc w.fabric.tick) 4 a b now (ap (λ b. cond b 3 4) (none_clocked script k.kept h l.s k.link.here.s_below));
+      before = ap (λ b. cond b 3 4) (all_clocked script k.kept h l.place at k.link.here.s_below);
+      is = way_same w v l (suc w.fabric.tick) 4 a b now (ap (λ b. cond b 3 4) (none_clocked script k.kept h l.place k.link.here.s_below));
       carries = record {
         no_others = λ n found. absurd (false≢true (sym (ticked_under (is_carry (here v l).epoch (end_here v l) (end_there v l) n) w l ∙ none_under (is_carry (here v l).epoch (end_here v l) (end_there v l) n) script h l at k.link) ∙ found));
         stay = λ n found. absurd (false≢true (sym (none_under (is_carry (here w l).epoch (end_here w l) (end_there w l) n) script h l at k.link) ∙ found));
@@ -171,8 +171,8 @@ tick_goes script h l k =
     }))
 
 -- an event after which both switches are left so, of neither end's handling, and no command
-left_goes : (script : ScriptOf) (h : List Event) (e : Event) (l : LinkOf) → IsEvent script h e l → is_of_script e ≡ false → (e ≡ Tick → ⊥) → (e ≡ Handle l.s → ⊥) → (e ≡ Handle l.t → ⊥) → IsLeft (here (world_after script h) l) (here (effect e (world_after script h)) l) → IsLeft (there (world_after script h) l) (there (effect e (world_after script h)) l)
-    → (effect e (world_after script h)).fabric.tick ≡ (world_after script h).fabric.tick → has_clocked (effect e (world_after script h)).fabric l.s ≡ has_clocked (world_after script h).fabric l.s → GoesOn script h e l
+left_goes : (script : ScriptOf) (h : List Event) (e : Event) (l : LinkOf) → IsEvent script h e l → is_of_script e ≡ false → (e ≡ Tick → ⊥) → (e ≡ Handle l.place → ⊥) → (e ≡ Handle l.far_place → ⊥) → IsLeft (here (world_after script h) l) (here (effect e (world_after script h)) l) → IsLeft (there (world_after script h) l) (there (effect e (world_after script h)) l)
+    → (effect e (world_after script h)).fabric.tick ≡ (world_after script h).fabric.tick → has_clocked (effect e (world_after script h)).fabric l.place ≡ has_clocked (world_after script h).fabric l.place → GoesOn script h e l
 left_goes script h e l k quiet no_tick not_here not_there a b tick clocked =
     let w = world_after script h in
     let v = effect e w in
@@ -193,16 +193,16 @@ left_goes script h e l k quiet no_tick not_here not_there a b tick clocked =
 pub aside_goes : (script : ScriptOf) (h : List Event) (e : Event) (l : LinkOf) → IsEvent script h e l → is_of_script e ≡ false → (e ≡ Tick → ⊥) → ((s : ℕ) → e ≡ Handle s → ⊥) → ((s : ℕ) → e ≡ Restart s → ⊥) → (effect e (world_after script h)).fabric.tick ≡ (world_after script h).fabric.tick → GoesOn script h e l
 aside_goes script h e l k quiet no_tick no_handle no_restart tick =
     let w = world_after script h in
-    left_goes script h e l k quiet no_tick (no_handle l.s) (no_handle l.t) (all_left e w l.s no_handle no_restart) (all_left e w l.t no_handle no_restart) tick ((aside_of script k.kept h e k.lawful quiet no_tick no_handle).clocked l.s)
+    left_goes script h e l k quiet no_tick (no_handle l.place) (no_handle l.far_place) (all_left e w l.place no_handle no_restart) (all_left e w l.far_place no_handle no_restart) tick ((aside_of script k.kept h e k.lawful quiet no_tick no_handle).clocked l.place)
 
 -- a switch at neither end handles what it has in hand
 handled_left : (s t : ℕ) (w : WorldOf) → (t ≡ s → ⊥) → IsLeft (w.switches t) ((effect (Handle s) w).switches t)
 handled_left s t w other = subst (IsLeft (w.switches t)) (sym (other_switch s t w other)) (left (w.switches t))
 
-pub elsewhere_goes : (script : ScriptOf) (h : List Event) (s : ℕ) (l : LinkOf) → IsEvent script h (Handle s) l → (l.s ≡ s → ⊥) → (l.t ≡ s → ⊥) → (effect (Handle s) (world_after script h)).fabric.tick ≡ (world_after script h).fabric.tick → GoesOn script h (Handle s) l
+pub elsewhere_goes : (script : ScriptOf) (h : List Event) (s : ℕ) (l : LinkOf) → IsEvent script h (Handle s) l → (l.place ≡ s → ⊥) → (l.far_place ≡ s → ⊥) → (effect (Handle s) (world_after script h)).fabric.tick ≡ (world_after script h).fabric.tick → GoesOn script h (Handle s) l
 elsewhere_goes script h s l k not_here not_there tick =
     let w = world_after script h in
-    left_goes script h (Handle s) l k refl (λ e. cc) (λ e. not_here (sym (same_handle s l.s e))) (λ e. not_there (sym (same_handle s l.t e))) (handled_left s l.s w not_here) (handled_left s l.t w not_there) tick (handled_elsewhere w s l.s not_here)
+    left_goes script h (Handle s) l k refl (λ e. cc) (λ e. not_here (sym (same_handle s l.place e))) (λ e. not_there (sym (same_handle s l.far_place e))) (handled_left s l.place w not_here) (handled_left s l.far_place w not_there) tick (handled_elsewhere w s l.place not_here)
 
 -- A command but a restart: frames may be dropped.
 command_now : (script : ScriptOf) (h : List Event) (e : Event) → is_lawful (world_after script h).fabric e ≡ true → is_of_script e ≡ true → last script (h ++ e ∷ []) ≡ (world_after script h).fabric.tick
@@ -210,8 +210,8 @@ command_now script h e lawful command =
     let w = world_after script h in
     disturbed_now script h e (ap (λ b. b && (is_of_script e || loses is_either w e)) lawful ∙ ap (λ b. b || loses is_either w e) command)
 
-pub command_goes : (script : ScriptOf) (h : List Event) (e : Event) (l : LinkOf) → IsEvent script h e l → is_of_script e ≡ true → (e ≡ Handle l.s → ⊥) → (e ≡ Handle l.t → ⊥) → IsLeft (here (world_after script h) l) (here (effect e (world_after script h)) l) → IsLeft (there (world_after script h) l) (there (effect e (world_after script h)) l)
-    → (effect e (world_after script h)).fabric.tick ≡ (world_after script h).fabric.tick → has_clocked (effect e (world_after script h)).fabric l.s ≡ has_clocked (world_after script h).fabric l.s → GoesOn script h e l
+pub command_goes : (script : ScriptOf) (h : List Event) (e : Event) (l : LinkOf) → IsEvent script h e l → is_of_script e ≡ true → (e ≡ Handle l.place → ⊥) → (e ≡ Handle l.far_place → ⊥) → IsLeft (here (world_after script h) l) (here (effect e (world_after script h)) l) → IsLeft (there (world_after script h) l) (there (effect e (world_after script h)) l)
+    → (effect e (world_after script h)).fabric.tick ≡ (world_after script h).fabric.tick → has_clocked (effect e (world_after script h)).fabric l.place ≡ has_clocked (world_after script h).fabric l.place → GoesOn script h e l
 command_goes script h e l k command not_here not_there a b tick clocked =
     let w = world_after script h in
     let v = effect e w in

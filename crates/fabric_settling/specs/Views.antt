@@ -24,28 +24,29 @@ use Rattle.fabric_state.specs.declared.hand.Hand.TheVariants as hand
 use Rattle.fabric_state.specs.Fabric.{FabricOf, station, clock_due_at}
 use Rattle.fabric_world.specs.World.{WorldOf}
 
--- two ports at the ends of a link: p of the switch at place s, and q of the switch at place t
+-- two ports at the ends of a link, each of the switch at a place: the near end, and the far one
 pub record LinkOf : Type 0 where
-  pub s : ℕ
-  pub p : ℕ
-  pub t : ℕ
-  pub q : ℕ
+  pub place : ℕ
+  pub port : ℕ
+  pub far_place : ℕ
+  pub far_port : ℕ
 
 -- the same link from its other end
 abbrev pub turned : LinkOf → LinkOf
-turned link = record { s = link.t; p = link.q; t = link.s; q = link.p }
+turned link =
+    record { place = link.far_place; port = link.far_port; far_place = link.place; far_port = link.port }
 
 abbrev pub here : WorldOf → LinkOf → SwitchOf
-here world link = world.switches link.s
+here world link = world.switches link.place
 
 abbrev pub there : WorldOf → LinkOf → SwitchOf
-there world link = world.switches link.t
+there world link = world.switches link.far_place
 
 abbrev pub end_here : WorldOf → LinkOf → EndId
-end_here world link = end_at (here world link) link.p
+end_here world link = end_at (here world link) link.port
 
 abbrev pub end_there : WorldOf → LinkOf → EndId
-end_there world link = end_at (there world link) link.q
+end_there world link = end_at (there world link) link.far_port
 
 -- what is in hand is a frame that came by this port
 abbrev pub came_by : ℕ → Hand → Bool
@@ -55,16 +56,17 @@ came_by port (hand.Frame other) = other == port
 
 -- the bytes under way to a port: those on the wire into it, and those in hand that came by it
 abbrev pub under_way_to : FabricOf → ℕ → ℕ → List (List ℕ)
-under_way_to fabric t q =
-    wire_at fabric.wires (place t q)
-    ++ (if came_by q (station fabric t).hand then hand_of fabric.wires t else [])
+under_way_to fabric at port =
+    wire_at fabric.wires (place at port)
+    ++ (if came_by port (station fabric at).hand then hand_of fabric.wires at else [])
 
 -- some bytes of these are a frame of such a kind
 abbrev pub is_such : (Frame → Bool) → List ℕ → Bool
 is_such test bytes = option_map_or test (frame_of bytes) false
 
 abbrev pub is_some_under_way : (Frame → Bool) → WorldOf → LinkOf → Bool
-is_some_under_way test world link = list_any (is_such test) (under_way_to world.fabric link.t link.q)
+is_some_under_way test world link =
+    list_any (is_such test) (under_way_to world.fabric link.far_place link.far_port)
 
 abbrev pub is_probe : EndId → ℕ → Frame → Bool
 is_probe from nonce (Probe sender number) = is_same_end sender from && (number == nonce)
@@ -76,14 +78,15 @@ is_reply from to nonce (Reply sender asked number) =
 is_reply from to nonce other = false
 
 abbrev pub is_carry : ℕ → EndId → EndId → ℕ → Frame → Bool
-is_carry epoch from to k (Carry carry) =
-    (carry.epoch == epoch) && is_same_end carry.from from && is_same_end carry.to to && (carry.k == k)
-is_carry epoch from to k other = false
+is_carry epoch from to number (Carry carry) =
+    (carry.epoch == epoch) && is_same_end carry.from from && is_same_end carry.to to
+    && (carry.k == number)
+is_carry epoch from to number other = false
 
 abbrev pub is_ack : ℕ → EndId → EndId → ℕ → Frame → Bool
-is_ack epoch from to k (Ack of sender asked number) =
-    (of == epoch) && is_same_end sender from && is_same_end asked to && (number == k)
-is_ack epoch from to k other = false
+is_ack epoch from to number (Ack of sender asked acked) =
+    (of == epoch) && is_same_end sender from && is_same_end asked to && (acked == number)
+is_ack epoch from to number other = false
 
 -- a switch has handled its clock of this tick: it is not due, nor in hand
 abbrev pub is_clock : Hand → Bool
@@ -96,15 +99,15 @@ has_clocked fabric place = not (clock_due_at fabric place) && not (is_clock (sta
 
 -- the number of the last probe of this end
 abbrev pub nonce_here : WorldOf → LinkOf → ℕ
-nonce_here world link = (port_of (here world link) link.p).far.nonce
+nonce_here world link = (port_of (here world link) link.port).far.nonce
 
 -- what this end sees of the tick
 abbrev pub view : WorldOf → LinkOf → EndView
 view world link = record {
-  here = (here world link).ports link.p;
-  there = (there world link).ports link.q;
-  has_clocked = has_clocked world.fabric link.s;
-  far_has_clocked = has_clocked world.fabric link.t;
+  here = (here world link).ports link.port;
+  there = (there world link).ports link.far_port;
+  has_clocked = has_clocked world.fabric link.place;
+  far_has_clocked = has_clocked world.fabric link.far_place;
   probe = is_some_under_way (is_probe (end_here world link) (nonce_here world link)) world link;
   reply =
       is_some_under_way (is_reply (end_there world link) (end_here world link) (nonce_here world link)) world
@@ -113,7 +116,7 @@ view world link = record {
 
 -- this end has a session with the far end, as it is now
 abbrev pub is_session : WorldOf → LinkOf → Bool
-is_session world link = is_end (peer_among (here world link).card.links link.p) (end_there world link)
+is_session world link = is_end (peer_among (here world link).card.links link.port) (end_there world link)
 
 -- what the far end received counts in its session with this end, where it is not in a lower epoch
 abbrev pub is_received_here : WorldOf → LinkOf → Bool
@@ -124,17 +127,18 @@ is_received_here world link =
 abbrev pub way : WorldOf → LinkOf → Direction
 way world link = record {
   now = world.fabric.tick;
-  late = if has_clocked world.fabric link.s then 3 else 4;
+  late = if has_clocked world.fabric link.place then 3 else 4;
   epoch = (here world link).epoch;
   far_epoch = (there world link).epoch;
-  sending = if is_session world link then (here world link).sendings link.p else unused;
-  receiving = if is_received_here world link then (there world link).receivings link.q else untouched;
-  carry = λ k.
+  sending = if is_session world link then (here world link).sendings link.port else unused;
+  receiving = if is_received_here world link then (there world link).receivings link.far_port else untouched;
+  carry = λ number.
       is_some_under_way
-      (is_carry (here world link).epoch (end_here world link) (end_there world link) k)
+      (is_carry (here world link).epoch (end_here world link) (end_there world link) number)
       world link;
-  ack = λ k.
-      is_some_under_way (is_ack (here world link).epoch (end_there world link) (end_here world link) k) world
+  ack = λ number.
+      is_some_under_way
+      (is_ack (here world link).epoch (end_there world link) (end_here world link) number) world
       (turned link);
 }
 

@@ -37,19 +37,21 @@ pub fn a_link_settles()
     ensures ends { (last : ℕ) (world : WorldOf) (link : LinkOf) → (cut : IsCut last world link)
         → TickEnds (view world link) → TickEnds (view world (turned link))
         → Ticks (end_here world link) (end_there world link) (suc cut.ticks)
-        ((here world link).ports link.p) ((there world link).ports link.q) }
+        ((here world link).ports link.port) ((there world link).ports link.far_port) }
     ensures knows { (last : ℕ) (world : WorldOf) (link : LinkOf) → IsCut last world link
         → last + 259 ≤ world.fabric.tick
-        → Knows (end_here world link) (end_there world link) (port_of (here world link) link.p)
-        × Knows (end_there world link) (end_here world link) (port_of (there world link) link.q) }
+        → Knows (end_here world link) (end_there world link) (port_of (here world link) link.port)
+        × Knows (end_there world link) (end_here world link) (port_of (there world link) link.far_port) }
     ensures acknowledged { (base : ℕ) (world : WorldOf) (link : LinkOf) → IsRun base world link
         → IsRun base world (turned link)
         → is_session world link ≡ true → is_session world (turned link) ≡ true
-        → 1 ≤ highest ((here world link).sendings link.p) → 1 ≤ highest ((there world link).sendings link.q)
+        → 1 ≤ highest ((here world link).sendings link.port)
+        → 1 ≤ highest ((there world link).sendings link.far_port)
         → IsStill (way world link) → IsStill (way world (turned link)) → base + 3 ≤ world.fabric.tick
         → ((here world link).epoch ≡ (there world link).epoch)
-        × (((here world link).sendings link.p).acked ≡ highest ((here world link).sendings link.p))
-        × (((there world link).sendings link.q).acked ≡ highest ((there world link).sendings link.q)) }
+        × (((here world link).sendings link.port).acked ≡ highest ((here world link).sendings link.port))
+        × (((there world link).sendings link.far_port).acked
+        ≡ highest ((there world link).sendings link.far_port)) }
 {}
 
 /// Without a pace, while no switch is spent, each link that is up was cut into ticks since the last
@@ -58,13 +60,15 @@ pub fn a_link_settles()
 pub fn each_link_is_cut()
     ensures cut { (script : ScriptOf) → IsScript script → script.pace ≡ None → (history : List Event)
         → is_some_spent (world_after script history).fabric ≡ false
-        → last_disturbance is_either script history < (world_after script history).fabric.tick → (link : LinkOf)
-        → far_at script.wires link.s link.p ≡ Some (Switch link.t link.q)
-        → is_up (world_after script history).fabric link.s link.p ≡ true
+        → last_disturbance is_either script history < (world_after script history).fabric.tick
+        → (link : LinkOf)
+        → far_at script.wires link.place link.port ≡ Some (Switch link.far_place link.far_port)
+        → is_up (world_after script history).fabric link.place link.port ≡ true
         → IsCut (last_disturbance is_either script history) (world_after script history) link }
     ensures run { (script : ScriptOf) → IsScript script → script.pace ≡ None → (history : List Event)
         → is_some_spent (world_after script history).fabric ≡ false → (link : LinkOf)
-        → far_at script.wires link.s link.p ≡ Some (Switch link.t link.q) → link.s ≢ link.t
+        → far_at script.wires link.place link.port ≡ Some (Switch link.far_place link.far_port)
+        → link.place ≢ link.far_place
         → IsRun (last_disturbance is_either script history + 259) (world_after script history) link }
 {}
 

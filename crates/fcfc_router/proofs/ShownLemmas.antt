@@ -5,6 +5,7 @@ use Rattle.std.proofs.lemmas.Bool.{cases_Bool, cases_eq, cases_lt}
 use Rattle.std.proofs.lemmas.Bool.Decides.{nat_tests}
 use Rattle.std.proofs.lemmas.List.{drop_more, get_or_append_left, get_or_default, get_or_past, get_or_push, get_or-set_other, get_or-set_same, get_or-take, length-set, length-take-le, length_push, map-append, set_split, take-append-drop}
 use Rattle.std.proofs.lemmas.List.Elements.{All-cons, filter-append}
+use Rattle.std.proofs.lemmas.List.Sums.{count_by-le-length, length-filter}
 use Rattle.fcfc_router.specs.declared.router.Slot.{Slot}
 use Rattle.fcfc_router.specs.Router.{CanGo, Grants, IsLowest, NoneCanGo, RequestOf}
 use Rattle.fcfc_router.specs.Shown.{HasSets, IsIndex, is_taken, request_of, set_at, shown}
@@ -24,6 +25,14 @@ filter_again (x ∷ xs) = elim (cases_Bool (is_taken x)) [
 
 pub shown_again : (xs ys : List Slot) → ys ≡ filter is_taken xs → shown ys ≡ shown xs
 shown_again xs ys e = ap shown e ∙ ap (map request_of) (filter_again xs)
+
+-- no more places are taken than there are
+pub few_taken : (xs : List Slot) → length (filter is_taken xs) ≤ length xs
+few_taken xs = let n = length-filter is_taken xs in let m = count_by-le-length is_taken xs in omega arith
+
+-- past the last place there is no set
+pub none_past : (slots : List Slot) (place : ℕ) → length slots ≤ place → set_at slots place ≡ 0
+none_past slots place past = ap (λ (s : Slot). s.ports) (get_or_past slots place (record { packet = 0; ports = 0 }) past)
 
 taken_is : (slot : Slot) → slot.ports ≢ 0 → is_taken slot ≡ true
 taken_is slot some = let test : (slot.ports == 0) ≡ false = (grind (arith, nat_tests)) in rw test refl

@@ -1,6 +1,6 @@
 -- Unions of sets of ports, and the nodes above a place.
 use Rattle.std.proofs.Common.{◌≡◌, ◌≢◌, ◌∙◌, sym, ap, subst, refl, ℕ, zero, suc, ◌+◌, ◌-◌, ◌*◌, ◌/◌, ◌^◌, ◌<◌, ◌≤◌, List, ◌++◌, append_assoc, arith, length, get_or, set, drop, take, inl, inr}
-use Rattle.std.specs.Prelude.{◌⊎◌, All, bit_and, replicate}
+use Rattle.std.specs.Prelude.{All, bit_and, replicate}
 use Rattle.std.specs.List.{slice_range}
 use Rattle.std.specs.Int.{bit_at, IsPowerOfTwo}
 use Rattle.std.specs.Int.RustNames.{bit_or}
@@ -285,8 +285,8 @@ all_count kept places capacity unions grown =
     let d = grown.below in
     omega arith
 
--- they are empty, and so nothing changes where an empty set is written
-empty_behind : (kept places capacity place : ℕ) (unions : List ℕ) → IsGrown kept places capacity unions → kept ≤ place → get_or (all_sets kept places unions) place 0 ≡ 0
+-- those that are not kept are empty, and so nothing changes where an empty set is written
+pub empty_behind : (kept places capacity place : ℕ) (unions : List ℕ) → IsGrown kept places capacity unions → kept ≤ place → get_or (all_sets kept places unions) place 0 ≡ 0
 empty_behind kept places capacity place unions grown past =
     get_or-append_right (drop kept unions) (replicate (places - kept) 0) kept place 0 (count_is kept unions grown.tree) past ∙ all_zero (places - kept) (place - kept)
   where

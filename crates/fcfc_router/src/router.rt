@@ -1,8 +1,9 @@
-ghost use Rattle.std.specs.Prelude.{◌≡◌, ◌≢◌, ◌<◌, ◌≤◌, [], ◌∷◌, ◌++◌, length, vec_capacity, IfOk};
+ghost use Rattle.std.specs.Prelude.{◌≡◌, ◌≢◌, ◌<◌, ◌≤◌, ◌/◌, ◌↔◌, [], ◌∷◌, ◌++◌, count_by, length};
+ghost use Rattle.std.specs.Prelude.{vec_capacity, IfOk, IsTrue};
 ghost use Rattle.an_base.specs.Rows.{ArePorts, ExitsRise};
 ghost use Rattle.fcfc_router.specs.Router.{IsGranted, IsLowest};
 ghost use Rattle.fcfc_router.specs.Calls.{MayAsk};
-ghost use Rattle.fcfc_router.specs.Shown.{HasSets, ports_of, set_at, shown};
+ghost use Rattle.fcfc_router.specs.Shown.{HasSets, is_taken, ports_of, set_at, shown};
 
 use crate::tree::PortTree;
 use an_base::memory::OutOfMemory;
@@ -77,21 +78,39 @@ fn set_at(slots: &[Slot], place: usize) -> u16
     }
 }
 
+// At how many places somebody waits.
+fn count_taken(slots: &[Slot]) -> usize
+    ensures { result ≡ count_by is_taken slots.now }
+{
+    slots.iter().filter(|slot| slot.ports != 0).count()
+}
+
+// Whether nobody waits at half of the places that are used, or at more.
+fn is_sparse(slots: &[Slot]) -> bool
+    ensures { IsTrue result ↔ count_by is_taken slots.now ≤ length slots.now / 2 }
+{
+    count_taken(slots) <= slots.len() / 2
+}
+
 // Moves those that wait to the first places, in their order.
 fn close_gaps(slots: &mut Vec<Slot>, tree: &mut PortTree)
+    requires sets { HasSets slots.old.items tree.old }
+    requires used { length slots.old.items ≤ length tree.old }
     ensures sets { HasSets slots.new.items tree.new }
     ensures shown { shown slots.new.items ≡ shown slots.old.items }
     ensures count { length slots.new.items ≡ length (shown slots.old.items) }
     ensures places { length tree.new ≡ length tree.old }
     ensures capacity { vec_capacity slots.new ≡ vec_capacity slots.old }
 {
+    let used = slots.len();
     slots.retain(|slot| slot.ports != 0);
-    'places: for place in 0..tree.places() {
+    'places: for place in 0..used {
         tree.put(place, set_at(slots, place));
     }
 }
 
-// Sees to it that a place is left for one more request: the first one where nobody waits.
+// Sees to it that a place is left for one more request: the first one where nobody waits. Gaps are closed
+// before the tree keeps more places, where there are enough of them, and at the latest when all are used.
 fn make_room(slots: &mut Vec<Slot>, tree: &mut PortTree)
     requires sets { HasSets slots.old.items tree.old }
     requires used { length slots.old.items ≤ length tree.old }
@@ -106,7 +125,8 @@ fn make_room(slots: &mut Vec<Slot>, tree: &mut PortTree)
         slots.clear();
         return;
     }
-    if slots.len() == tree.places() {
+    let used = slots.len();
+    if used == tree.places() || (used == tree.kept() && is_sparse(slots)) {
         close_gaps(slots, tree);
     }
 }

@@ -1,5 +1,5 @@
-ghost use Rattle.std.specs.Prelude.{◌≡◌, ◌<◌, ◌≤◌, ◌+◌, ◌*◌, ◌++◌, ◌^◌, drop, length, replicate};
-ghost use Rattle.std.specs.Prelude.{slice_set, vec_capacity, All, IfOk, IsTrue, MatchOption};
+ghost use Rattle.std.specs.Prelude.{◌≡◌, ◌<◌, ◌≤◌, ◌+◌, ◌*◌, ◌++◌, ◌^◌, ℕ, drop, length, replicate};
+ghost use Rattle.std.specs.Prelude.{slice_index, slice_set, vec_capacity, All, IfOk, IsTrue, MatchOption};
 ghost use Rattle.std.specs.Int.{IsPowerOfTwo};
 ghost use Rattle.fcfc_router.specs.Tree.{HasNone, IsFirst, IsHalf, IsTree};
 
@@ -121,6 +121,14 @@ impl PortTree {
         ensures most { result ≤ 2 ^ 15 }
     {
         self.places
+    }
+
+    /// How many places are kept: behind them none has a port.
+    pub fn kept(&self) -> usize
+        ensures within { result ≤ length self.now }
+        ensures behind { (place : ℕ) → result ≤ place → slice_index self.now place ≡ 0 }
+    {
+        self.kept
     }
 
     /// Whether no place has a port.

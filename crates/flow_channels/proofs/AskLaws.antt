@@ -12,7 +12,7 @@ use Rattle.dep_check.proofs.SpotLemmas.{option_cases}
 use Rattle.flow_channels.specs.Layout.{LayoutOf, spot, exits_of, IsWired}
 use Rattle.flow_channels.specs.Flows.{FlowOf, PacketOf, WaitOf, asks, waiting_at}
 use Rattle.flow_channels.specs.Sound.{IsSound, IsIn, IsInOne, WaitApart, WaitsThere}
-use Rattle.flow_channels.proofs.ExitLemmas.{exit_has, has_way_on, no_gap}
+use Rattle.flow_channels.proofs.ExitLemmas.{Exit, exit_has, has_way_on, no_gap}
 use Rattle.flow_channels.proofs.FewLaws.{few_waiting}
 use Rattle.flow_channels.proofs.SoundLaws.{brought, near, not_start, starts_there}
 use Rattle.flow_channels.proofs.StateLemmas.{waiting_here, waiting_there}
@@ -72,10 +72,12 @@ module _ (layout : LayoutOf) (wired : IsWired layout) (joined : AllAreJoined lay
     it_is_one : IsInOne known sound.place at w
     it_is_one = subst (λ (v : WaitOf). IsInOne known sound.place at v) last_is (sound.starts at (length (waiting_at flow at)) w last_low)
 
+    pub way_on : Exit layout (spot at w.entry) w.packet.to
+    way_on = has_way_on layout wired joined w.packet.to (spot at w.entry) it_waits.1 it_waits.0
+
     pub has_exits : 1 ≤ length (exits_of layout (spot at w.entry) w.packet.to)
     has_exits =
-        let way = has_way_on layout wired joined w.packet.to (spot at w.entry) it_waits.1 it_waits.0 in
-        let low' = way.named.1 in
+        let low' = way_on.named.1 in
         omega arith
 
     pub exits_are_ports : ArePorts (exits_of layout (spot at w.entry) w.packet.to)

@@ -1,15 +1,15 @@
 -- Reads and writes of a board, and what is kept by them.
-use Rattle.std.proofs.Common.{◌≡◌, ◌≢◌, ◌∙◌, sym, ap, subst, refl, ℕ, zero, suc, ◌<◌, ◌≤◌, List, [], ◌∷◌, ◌++◌, Option, Some, None, Vec, Global, arith, length, get_or, set, inl, inr, true, false, ◌==◌}
+use Rattle.std.proofs.Common.{◌≡◌, ◌≢◌, ◌∙◌, sym, ap, subst, refl, ℕ, zero, suc, ◌+◌, ◌<◌, ◌≤◌, List, [], ◌∷◌, ◌++◌, Option, Some, None, Vec, Global, arith, length, get_or, set, inl, inr, true, false, ◌==◌}
 use Rattle.std.specs.Prelude.{All, map, min, slice_get, slice_index, vec_capacity, drop, replicate}
 use Rattle.std.specs.Option.{option_map}
 use Rattle.std.specs.Vec.{with_item}
 use Rattle.std.proofs.lemmas.Bool.{cases_eq}
 use Rattle.std.proofs.lemmas.Bool.Decides.{nat_tests}
-use Rattle.std.proofs.lemmas.List.{get_or-map, get_or-set_other, get_or-set_same, get_or_default, length-map, length-set, map-append, map-set, drop-map, same_lists, get_or-replicate, get_or_append_left, length-replicate, length_push}
-use Rattle.std.proofs.lemmas.List.Elements.{All-push, All-replicate, All-set}
+use Rattle.std.proofs.lemmas.List.{get_or-map, get_or-set_other, get_or-set_same, get_or_default, length-map, length-set, map-append, map-set, drop-map, same_lists, get_or_append_left, get_or_push, length_push}
+use Rattle.std.proofs.lemmas.List.Elements.{All-push, All-set}
 use Rattle.dep_check.specs.declared.channel.Channel.{Channel}
-use Rattle.dep_check.specs.Tables.{IsSpot, place_of, WiresAreWithin}
-use Rattle.dep_check.proofs.SpotLemmas.{place_low}
+use Rattle.dep_check.specs.Tables.{IsSpot, place_of, wire_at, WiresAreWithin}
+use Rattle.dep_check.proofs.SpotLemmas.{one_spot, place_low}
 use Rattle.fcfc_router.specs.Router.{RequestOf}
 use Rattle.fcfc_router.specs.Shown.{ports_of, RouterOf}
 use Rattle.an_base.specs.Rows.{ArePorts, ExitsRise}
@@ -18,12 +18,12 @@ use Rattle.fcfc_router.specs.Calls.{MayAsk}
 use Rattle.flow_channels.specs.declared.board.Board.{Board}
 use Rattle.flow_channels.specs.declared.board.Packet.{Packet}
 use Rattle.flow_channels.specs.declared.tables.Tables.{Tables}
-use Rattle.flow_channels.specs.Board.{exit_set, flow_of, IsAsked, IsKept, IsSoundOver, packet_at, packet_of, packets_in, wait_at, waits_at}
+use Rattle.flow_channels.specs.Board.{AreEmptyQueues, AreIdleRouters, exit_set, flow_of, HasLink, HaveMost, IsAsked, IsKept, IsSoundOver, packet_at, packet_of, packets_in, wait_at, waits_at}
 use Rattle.flow_channels.specs.Flows.{FlowOf, PacketOf, WaitOf, asks, asks_at, empty_flow, first_asks, first_of, queue_at, waiting_at, with_queue}
 use Rattle.std.specs.List.{list_any}
 use Rattle.flow_channels.specs.Layout.{LayoutOf, exits_of, has_exit, spot}
 use Rattle.flow_channels.specs.Queue.{QueueOf}
-use Rattle.flow_channels.proofs.AskLaws.{exits_are_ports, has_exits, room_left, waits_nowhere}
+use Rattle.flow_channels.proofs.AskLaws.{exits_are_ports, has_exits, room_left, waits_nowhere, way_on}
 
 abbrev pub made : Vec Packet Global → Vec ℕ Global → Vec QueueOf Global → Vec RouterOf Global → Board
 made p e q r = record { packets = p; entries = e; queues = q; routers = r }
@@ -88,8 +88,8 @@ asks_not layout channel end packet flow far first here =
     ap (λ (o : Option Channel). asks_at o (first_of flow channel) flow) far ∙ ap (λ (o : Option PacketOf). asks_at (Some end) o flow) first ∙ rw test refl
 
 -- a queue that is written keeps all
-pub kept_queue : (tables : Tables) (p : Vec Packet Global) (e : Vec ℕ Global) (q : Vec QueueOf Global) (r : Vec RouterOf Global) (place : ℕ) (queue : QueueOf) → IsKept tables (made p e q r) → All (λ slot. slot < length p.items) queue.slots → queue.places ≡ min tables.room tables.limit → IsKept tables (made p e (with_item q place queue) r)
-kept_queue tables p e q r place queue kept slots places = record {
+pub kept_queue : (tables : Tables) (p : Vec Packet Global) (e : Vec ℕ Global) (q : Vec QueueOf Global) (r : Vec RouterOf Global) (place : ℕ) (queue : QueueOf) → IsKept tables (made p e q r) → All (λ slot. slot < length p.items) queue.slots → ((none : QueueOf) → queue.places ≡ (get_or q.items place none).places) → IsKept tables (made p e (with_item q place queue) r)
+kept_queue tables p e q r place queue kept slots same = record {
   within = kept.within;
   queues = length-set q.items place queue ∙ kept.queues;
   routers = kept.routers;
@@ -98,16 +98,43 @@ kept_queue tables p e q r place queue kept slots places = record {
   few = kept.few;
   targets = kept.targets;
   queued = All-set (λ (x : QueueOf). All (λ slot. slot < length p.items) x.slots) q.items place queue slots kept.queued;
-  places = All-set (λ (x : QueueOf). x.places ≡ min tables.room tables.limit) q.items place queue places kept.places;
+  places = λ channel far none is low link. elim (cases_eq (place_of channel) place) [
+    | inl here ↦ (
+        let size = kept.queues in
+        let written = get_or-set_same q.items place queue none (omega arith) in
+        ap (λ (k : ℕ). (get_or (set q.items place queue) k none).places) here
+        ∙ ap (λ (x : QueueOf). x.places) written
+        ∙ same none
+        ∙ ap (λ (k : ℕ). (get_or q.items k none).places) (sym here)
+        ∙ kept.places channel far none is low link)
+    | inr other ↦ (ap (λ (x : QueueOf). x.places) (get_or-set_other q.items place (place_of channel) queue none other) ∙ kept.places channel far none is low link)
+  ];
   asked = λ at none low k d below. let here = kept.asked at none low k d below in record { slot = here.slot; ports = here.ports };
   most = kept.most;
 }
 
 -- what the queue of a channel is
-pub queue_facts : (tables : Tables) (board : Board) (place : ℕ) (queue : QueueOf) → IsKept tables board → place < 1651 → queue ≡ get_or board.queues.items place queue → All (λ slot. slot < length board.packets.items) queue.slots × (queue.places ≡ min tables.room tables.limit)
+pub queue_facts : (tables : Tables) (board : Board) (place : ℕ) (queue : QueueOf) → IsKept tables board → place < 1651 → queue ≡ get_or board.queues.items place queue → All (λ slot. slot < length board.packets.items) queue.slots
 queue_facts tables board place queue kept low is =
     let size = kept.queues in
-    subst (λ (x : QueueOf). All (λ slot. slot < length board.packets.items) x.slots × (x.places ≡ min tables.room tables.limit)) (sym is) (kept.queued place queue (omega arith), kept.places place queue (omega arith))
+    subst (λ (x : QueueOf). All (λ slot. slot < length board.packets.items) x.slots) (sym is) (kept.queued place queue (omega arith))
+
+-- it is the same read with another default
+pub same_places : (queues : List QueueOf) (place : ℕ) (queue none : QueueOf) → place < length queues → queue ≡ get_or queues place queue → queue.places ≡ (get_or queues place none).places
+same_places queues place queue none low is = ap (λ (x : QueueOf). x.places) (is ∙ get_or_default queues place queue none low)
+
+-- a router that is written holds as many as the one before it
+pub most_kept : (wires : List (Option Channel)) (most place : ℕ) (routers : List RouterOf) (old new : RouterOf) → length routers ≡ 127 → HaveMost wires most 127 routers → place < 127 → old ≡ get_or routers place old → new.most ≡ old.most → HaveMost wires most 127 (set routers place new)
+most_kept wires most place routers old new size have low old_is same at none below link = elim (cases_eq at place) [
+  | inl here ↦ (
+      ap (λ (k : ℕ). (get_or (set routers place new) k none).most) here
+      ∙ ap (λ (x : RouterOf). x.most) (get_or-set_same routers place new none (omega arith))
+      ∙ same
+      ∙ ap (λ (x : RouterOf). x.most) (old_is ∙ get_or_default routers place old none (omega arith))
+      ∙ ap (λ (k : ℕ). (get_or routers k none).most) (sym here)
+      ∙ have at none below link)
+  | inr other ↦ (ap (λ (x : RouterOf). x.most) (get_or-set_other routers place at new none other) ∙ have at none below link)
+]
 
 -- what a read gives
 pub read_packet : (packets : List Packet) (slot : ℕ) (packet : Packet) → slot < length packets → packet ≡ get_or packets slot packet → packet ≡ get_or packets slot (record { packet = 0; to = 0 })
@@ -172,6 +199,12 @@ module _ (tables : Tables) (p : Vec Packet Global) (e : Vec ℕ Global) (q : Vec
           ∙ sound.tables_are.exits (spot at entry) packet.to (record { at = at_low; port = entry_low }) low
           ∙ ap (λ (x : PacketOf). exits_of sound.layout (spot at entry) x.to) packet_here
 
+      -- it has an exit, and so there is a link
+      link : HasLink tables.wires.items at
+      link =
+          let way = way_on sound.layout sound.wired sound.joined sound.known (flow_of (made p e q r)) at wait at_low sound.sound in
+          (way.exit, way.far, sound.tables_are.far (spot at way.exit) ∙ way.link)
+
       pub may_ask : MayAsk old.most old.waiting (record { packet = slot; ports = ports_of exits })
       may_ask =
           let f = flow_of (made p e q r) in
@@ -179,7 +212,7 @@ module _ (tables : Tables) (p : Vec Packet Global) (e : Vec ℕ Global) (q : Vec
           let few = sound.few in
           let n = ap (λ (ws : List WaitOf). length ws) old_waits ∙ length-map old.waiting (λ (request : RequestOf). wait_at p.items e.items request.packet) in
           let size = kept.routers in
-          let most : old.most ≡ tables.limit = ap (λ (x : RouterOf). x.most) router_here ∙ kept.most at old (omega arith) in
+          let most : old.most ≡ tables.limit = ap (λ (x : RouterOf). x.most) router_here ∙ kept.most at old at_low link in
           record {
             room = omega arith;
             new = subst (λ (x : RouterOf). All (λ request. request.packet ≢ slot) x.waiting) (sym router_here) (nowhere at old at_low);
@@ -233,9 +266,7 @@ module _ (tables : Tables) (p : Vec Packet Global) (e : Vec ℕ Global) (q : Vec
                 subst (λ (x : RouterOf). All (IsAsked tables.exits (made p (with_item e slot entry) q (with_item r place new)) at) x.waiting) (sym (get_or-set_same r.items at new none (omega arith))) own)
             | inr other ↦ subst (λ (x : RouterOf). All (IsAsked tables.exits (made p (with_item e slot entry) q (with_item r place new)) b) x.waiting) (sym (get_or-set_other r.items at b new none other)) (before b none low)
           ]);
-          most = All-set (λ (x : RouterOf). x.most ≡ tables.limit) r.items place new (
-              let size = kept.routers in
-              ap (λ (x : RouterOf). x.most) (new_is) ∙ ap (λ (x : RouterOf). x.most) router_here ∙ kept.most at old (omega arith)) kept.most;
+          most = most_kept tables.wires.items tables.limit place r.items old new kept.routers kept.most (let low = at_low in omega arith) old_is (ap (λ (x : RouterOf). x.most) new_is);
         }
           where
             one : (b : ℕ) (request : RequestOf) → IsAsked tables.exits (made p e q r) b request → request.packet ≢ slot → IsAsked tables.exits (made p (with_item e slot entry) q (with_item r place new)) b request
@@ -266,37 +297,68 @@ pub one_read : (queues : List QueueOf) (i j : ℕ) (a b : QueueOf) → i ≡ j �
 one_read queues i j a b same size low first second = first ∙ get_or_default queues i a b (omega arith) ∙ ap (λ (k : ℕ). get_or queues k b) same ∙ sym second
 
 -- nothing is on the way
-abbrev pub empty_queue : ℕ → QueueOf
-empty_queue places = record { places = places; slots = [] }
+no_packets : (p : List Packet) (n : ℕ) (queues : List QueueOf) → length queues ≡ n → All (λ queue. queue.slots ≡ []) queues → map (packets_in p) queues ≡ replicate n []
+no_packets p zero [] count empty = refl
+no_packets p (suc n) [] count empty = absurd (omega arith)
+no_packets p zero (queue ∷ queues) count empty = absurd (omega arith)
+no_packets p (suc n) (queue ∷ queues) count empty =
+    let rest = no_packets p n queues (omega arith) (λ k d low. empty (suc k) d (omega arith)) in
+    let first : packets_in p queue ≡ [] = ap (map (packet_at p)) (empty 0 queue (omega arith)) in
+    ap (λ (ps : List PacketOf). ps ∷ map (packets_in p) queues) first ∙ ap (λ (qs : List (List PacketOf)). [] ∷ qs) rest
 
-abbrev pub idle_router : ℕ → RouterOf
-idle_router most = record { most = most; waiting = [] }
+nobody_waits : (p : List Packet) (e : List ℕ) (n : ℕ) (routers : List RouterOf) → length routers ≡ n → All (λ router. router.waiting ≡ []) routers → map (waits_at p e) routers ≡ replicate n []
+nobody_waits p e zero [] count idle = refl
+nobody_waits p e (suc n) [] count idle = absurd (omega arith)
+nobody_waits p e zero (router ∷ routers) count idle = absurd (omega arith)
+nobody_waits p e (suc n) (router ∷ routers) count idle =
+    let rest = nobody_waits p e n routers (omega arith) (λ k d low. idle (suc k) d (omega arith)) in
+    let first : waits_at p e router ≡ [] = ap (map (λ request. wait_at p e request.packet)) (idle 0 router (omega arith)) in
+    ap (λ (ws : List WaitOf). ws ∷ map (waits_at p e) routers) first ∙ ap (λ (wss : List (List WaitOf)). [] ∷ wss) rest
 
-same_replicate : {A B : Type 0} (f : A → B) (n : ℕ) (x : A) → map f (replicate n x) ≡ replicate n (f x)
-same_replicate f zero x = refl
-same_replicate {B = B} f (suc n) x = ap (λ (ys : List B). f x ∷ ys) (same_replicate f n x)
+pub empty_is : (p : Vec Packet Global) (e : Vec ℕ Global) (q : Vec QueueOf Global) (r : Vec RouterOf Global) → length q.items ≡ 1651 → All (λ queue. queue.slots ≡ []) q.items → length r.items ≡ 127 → All (λ router. router.waiting ≡ []) r.items → flow_of (made p e q r) ≡ empty_flow
+empty_is p e q r spots queues numbers routers =
+    ap (λ (qs : List (List PacketOf)). state qs (map (waits_at p.items e.items) r.items)) (no_packets p.items 1651 q.items spots queues)
+    ∙ ap (λ (ws : List (List WaitOf)). state (replicate 1651 []) ws) (nobody_waits p.items e.items 127 r.items numbers routers)
 
-pub empty_is : (p : Vec Packet Global) (e : Vec ℕ Global) (q : Vec QueueOf Global) (r : Vec RouterOf Global) (places most : ℕ) → q.items ≡ replicate 1651 (empty_queue places) → r.items ≡ replicate 127 (idle_router most) → flow_of (made p e q r) ≡ empty_flow
-empty_is p e q r places most queues routers =
-    ap (λ (qs : List QueueOf). state (map (packets_in p.items) qs) (map (waits_at p.items e.items) r.items)) queues
-    ∙ ap (λ (rs : List RouterOf). state (map (packets_in p.items) (replicate 1651 (empty_queue places))) (map (waits_at p.items e.items) rs)) routers
-    ∙ ap (λ (qs : List (List PacketOf)). state qs (map (waits_at p.items e.items) (replicate 127 (idle_router most)))) (same_replicate (packets_in p.items) 1651 (empty_queue places))
-    ∙ ap (λ (ws : List (List WaitOf)). state (replicate 1651 []) ws) (same_replicate (waits_at p.items e.items) 127 (idle_router most))
-
-pub kept_empty : (tables : Tables) (p : Vec Packet Global) (e : Vec ℕ Global) (q : Vec QueueOf Global) (r : Vec RouterOf Global) → WiresAreWithin tables.wires.items → p.items ≡ [] → e.items ≡ [] → tables.limit ≤ vec_capacity p → tables.limit ≤ vec_capacity e → q.items ≡ replicate 1651 (empty_queue (min tables.room tables.limit)) → r.items ≡ replicate 127 (idle_router tables.limit) → IsKept tables (made p e q r)
+pub kept_empty : (tables : Tables) (p : Vec Packet Global) (e : Vec ℕ Global) (q : Vec QueueOf Global) (r : Vec RouterOf Global) → WiresAreWithin tables.wires.items → p.items ≡ [] → e.items ≡ [] → tables.limit ≤ vec_capacity p → tables.limit ≤ vec_capacity e → AreEmptyQueues tables.wires.items (min tables.room tables.limit) 1651 q.items → AreIdleRouters tables.wires.items tables.limit 127 r.items → IsKept tables (made p e q r)
 kept_empty tables p e q r within packets entries pc ec queues routers = record {
   within = within;
-  queues = ap (λ (qs : List QueueOf). length qs) queues ∙ length-replicate 1651 (empty_queue (min tables.room tables.limit));
-  routers = ap (λ (rs : List RouterOf). length rs) routers ∙ length-replicate 127 (idle_router tables.limit);
+  queues = queues.count;
+  routers = routers.count;
   count = ap (λ (xs : List ℕ). length xs) entries ∙ ap (λ (xs : List Packet). length xs) (sym packets);
   capacity = (pc, ec);
   few = let n = ap (λ (xs : List Packet). length xs) packets in omega arith;
   targets = subst (λ (xs : List Packet). All (λ packet. packet.to < 127) xs) (sym packets) (λ k d low. absurd (omega arith));
-  queued = subst (λ (qs : List QueueOf). All (λ queue. All (λ slot. slot < length p.items) queue.slots) qs) (sym queues) (All-replicate (λ (queue : QueueOf). All (λ slot. slot < length p.items) queue.slots) 1651 (empty_queue (min tables.room tables.limit)) (λ k d low. absurd (omega arith)));
-  places = subst (λ (qs : List QueueOf). All (λ queue. queue.places ≡ min tables.room tables.limit) qs) (sym queues) (All-replicate (λ (queue : QueueOf). queue.places ≡ min tables.room tables.limit) 1651 (empty_queue (min tables.room tables.limit)) refl);
-  asked = λ at none low. subst (λ (rs : List RouterOf). All (IsAsked tables.exits (made p e q r) at) (get_or rs at none).waiting) (sym routers) (
-      subst (λ (x : RouterOf). All (IsAsked tables.exits (made p e q r) at) x.waiting) (sym (get_or-replicate 127 at (idle_router tables.limit) none low)) (λ k d inside. absurd (omega arith)));
-  most = subst (λ (rs : List RouterOf). All (λ router. router.most ≡ tables.limit) rs) (sym routers) (All-replicate (λ (router : RouterOf). router.most ≡ tables.limit) 127 (idle_router tables.limit) refl);
+  queued = λ k d low. subst (λ (xs : List ℕ). All (λ slot. slot < length p.items) xs) (sym (queues.empty k d low)) (λ j f below. absurd (omega arith));
+  places = queues.places_are;
+  asked = λ at none low. let size = routers.count in subst (λ (ws : List RequestOf). All (IsAsked tables.exits (made p e q r) at) ws) (sym (routers.idle at none (omega arith))) (λ k d inside. absurd (omega arith));
+  most = routers.most_is;
+}
+
+-- one more router
+pub one_more_router : (wires : List (Option Channel)) (most at : ℕ) (routers : List RouterOf) (router : RouterOf) → AreIdleRouters wires most at routers → router.waiting ≡ [] → (HasLink wires at → router.most ≡ most) → AreIdleRouters wires most (at + 1) (routers ++ (router ∷ []))
+one_more_router wires most at routers router old idle room = record {
+  count = let n = length_push routers router in let m = old.count in omega arith;
+  idle = All-push (λ (x : RouterOf). x.waiting ≡ []) routers router old.idle idle;
+  most_is = λ other none low link. let m = old.count in elim (cases_eq other at) [
+    | inl here ↦ (
+        ap (λ (x : RouterOf). x.most) (get_or_push routers router none other (m ∙ sym here))
+        ∙ room (subst (λ (k : ℕ). HasLink wires k) here link))
+    | inr before ↦ (ap (λ (x : RouterOf). x.most) (get_or_append_left routers (router ∷ []) none other (omega arith)) ∙ old.most_is other none (omega arith) link)
+  ];
+}
+
+-- one more queue
+pub one_more_queue : (wires : List (Option Channel)) (places place : ℕ) (spot : Channel) (queues : List QueueOf) (queue : QueueOf) → AreEmptyQueues wires places place queues → IsSpot spot → place_of spot ≡ place → queue.slots ≡ [] → ((far : Channel) → wire_at wires spot ≡ Some far → queue.places ≡ places) → AreEmptyQueues wires places (place + 1) (queues ++ (queue ∷ []))
+one_more_queue wires places place spot queues queue old is at empty room = record {
+  count = let n = length_push queues queue in let m = old.count in omega arith;
+  empty = All-push (λ (x : QueueOf). x.slots ≡ []) queues queue old.empty empty;
+  places_are = λ channel far none other low link. let m = old.count in elim (cases_eq (place_of channel) place) [
+    | inl here ↦ (
+        ap (λ (x : QueueOf). x.places) (get_or_push queues queue none (place_of channel) (m ∙ sym here))
+        ∙ room far (ap (λ (s : Channel). wire_at wires s) (one_spot spot channel is other (at ∙ sym here)) ∙ link))
+    | inr before ↦ (ap (λ (x : QueueOf). x.places) (get_or_append_left queues (queue ∷ []) none (place_of channel) (omega arith)) ∙ old.places_are channel far none other (omega arith) link)
+  ];
 }
 
 -- two functions that agree on a list

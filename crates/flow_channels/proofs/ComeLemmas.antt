@@ -16,7 +16,7 @@ use Rattle.flow_channels.specs.Board.{flow_of, IsKept, IsSoundOver, packet_at, p
 use Rattle.flow_channels.specs.Flows.{FlowOf, PacketOf, asks_at, comes_into, first_asks, first_of, queue_at, with_queue}
 use Rattle.flow_channels.specs.Layout.{LayoutOf}
 use Rattle.flow_channels.specs.Queue.{QueueOf}
-use Rattle.flow_channels.proofs.BoardLemmas.{kept_queue, made, queue_facts, queue_is, queue_written}
+use Rattle.flow_channels.proofs.BoardLemmas.{kept_queue, made, queue_facts, queue_is, queue_written, same_places}
 use Rattle.flow_channels.proofs.FewLaws.{few_queued}
 use Rattle.flow_channels.proofs.StateLemmas.{queue_here}
 
@@ -65,6 +65,14 @@ module _ (tables : Tables) (p : Vec Packet Global) (e : Vec ℕ Global) (q : Vec
   size : length (flow_of (made p e q r)).queues ≡ 1651
   size = length-map q.items (packets_in p.items) ∙ kept.queues
 
+  -- the channel has a far side
+  has_far : (far : Channel) × ((ways tables).far channel ≡ Some far)
+  has_far =
+      let after = came_queue (ways tables) channel (packet_at p.items slot) (flow_of (made p e q r)) size is in
+      let n = ap (λ (ps : List PacketOf). length ps) after ∙ length_push (queue_at (flow_of (made p e q r)) channel) (packet_at p.items slot) in
+      let comes = sound.sound.moving channel is 0 (packet_at p.items slot) (omega arith) in
+      (comes.0, sound.tables_are.far channel ∙ comes.1)
+
   pub has_place : length old.slots < old.places
   has_place =
       let after = came_queue (ways tables) channel (packet_at p.items slot) (flow_of (made p e q r)) size is in
@@ -75,7 +83,10 @@ module _ (tables : Tables) (p : Vec Packet Global) (e : Vec ℕ Global) (q : Vec
       let room_is = sound.tables_are.room_is in
       let count = count_is in
       let low = place_low channel is in
-      let places = (queue_facts tables (made p e q r) (place_of channel) old kept low here).1 in
+      let link = has_far in
+      let size = kept.queues in
+      let same = same_places q.items (place_of channel) old old (omega arith) here in
+      let places = kept.places channel link.0 old is low link.1 in
       omega arith
 
   module _ (new : QueueOf) (new_is : new ≡ record old { slots = old.slots ++ (slot ∷ []) }) where
@@ -92,9 +103,10 @@ module _ (tables : Tables) (p : Vec Packet Global) (e : Vec ℕ Global) (q : Vec
     kept_pushed =
         let low = place_low channel is in
         let facts = queue_facts tables (made p e q r) (place_of channel) old kept low here in
+        let size = kept.queues in
         kept_queue tables p e q r place new kept
-        (subst (λ (x : QueueOf). All (λ s. s < length p.items) x.slots) (sym new_is) (All-push (λ (s : ℕ). s < length p.items) old.slots slot facts.0 slot_low))
-        (ap (λ (x : QueueOf). x.places) new_is ∙ facts.1)
+        (subst (λ (x : QueueOf). All (λ s. s < length p.items) x.slots) (sym new_is) (All-push (λ (s : ℕ). s < length p.items) old.slots slot facts slot_low))
+        (λ none. ap (λ (x : QueueOf). x.places) new_is ∙ same_places q.items place old none (omega arith) old_is)
 
     pub first_of_all : length old.slots ≡ 0 → comes_into (ways tables) channel (packet_at p.items slot) (flow_of (made p e q r)) ≡ first_asks (ways tables) channel (flow_of (made p e (with_item q place new) r))
     first_of_all empty = came_first (ways tables) channel (packet_at p.items slot) (flow_of (made p e q r)) (count_is ∙ empty) ∙ ap (λ (f : FlowOf). first_asks (ways tables) channel f) (sym pushed)

@@ -4,7 +4,7 @@ use Rattle.std.specs.Prelude.{All}
 use Rattle.std.specs.Vec.{with_item}
 use Rattle.std.proofs.lemmas.Bool.{cases_eq}
 use Rattle.std.proofs.lemmas.List.{get_or-append-add, get_or-set_other, get_or-set_same, get_or_append_left, get_or_default, length-append, length-set, set-get_or}
-use Rattle.std.proofs.lemmas.List.Elements.{All-append, All-set}
+use Rattle.std.proofs.lemmas.List.Elements.{All-append}
 use Rattle.fcfc_router.specs.declared.router.Grant.{Grant}
 use Rattle.fcfc_router.specs.Router.{Grants, NoneCanGo, RequestOf}
 use Rattle.fcfc_router.specs.Shown.{RouterOf}
@@ -15,7 +15,7 @@ use Rattle.flow_channels.specs.Board.{flow_of, IsAsked, IsKept}
 use Rattle.flow_channels.specs.Flows.{FlowOf}
 use Rattle.flow_channels.specs.Queue.{QueueOf}
 use Rattle.flow_channels.specs.Turns.{AreFree, HasDeparted, IsSame, NoneGoes, router_at}
-use Rattle.flow_channels.proofs.BoardLemmas.{made}
+use Rattle.flow_channels.proofs.BoardLemmas.{made, most_kept}
 use Rattle.flow_channels.proofs.TurnLemmas.{free_at}
 
 module _ {X : Type 0} (P : X → Type 0) (older younger : List X) (x : X) (all : All P (older ++ (x ∷ younger))) where
@@ -32,8 +32,8 @@ pub same_flow : (old new : Board) → IsSame old new → flow_of new ≡ flow_of
 same_flow old new same = let a = same.packets in let b = same.entries in let c = same.queues in let d = same.routers in cc
 
 -- a router is written
-pub kept_router : (tables : Tables) (p : Vec Packet Global) (e : Vec ℕ Global) (q : Vec QueueOf Global) (r : Vec RouterOf Global) (at place : ℕ) (new : RouterOf) → IsKept tables (made p e q r) → at < 127 → place ≡ at → new.most ≡ tables.limit → All (IsAsked tables.exits (made p e q r) at) new.waiting → IsKept tables (made p e q (with_item r place new))
-kept_router tables p e q r at place new kept low place_is most all = record {
+pub kept_router : (tables : Tables) (p : Vec Packet Global) (e : Vec ℕ Global) (q : Vec QueueOf Global) (r : Vec RouterOf Global) (at place : ℕ) (old new : RouterOf) → IsKept tables (made p e q r) → at < 127 → place ≡ at → old ≡ get_or r.items place old → new.most ≡ old.most → All (IsAsked tables.exits (made p e q r) at) new.waiting → IsKept tables (made p e q (with_item r place new))
+kept_router tables p e q r at place old new kept low place_is old_is most all = record {
   within = kept.within;
   queues = kept.queues;
   routers = length-set r.items place new ∙ kept.routers;
@@ -49,7 +49,7 @@ kept_router tables p e q r at place new kept low place_is most all = record {
         subst (λ (x : RouterOf). All (IsAsked tables.exits (made p e q (with_item r place new)) at) x.waiting) (sym (get_or-set_same r.items at new none (omega arith))) (λ k d inside. one at (get_or new.waiting k d) (all k d inside)))
     | inr other ↦ subst (λ (x : RouterOf). All (IsAsked tables.exits (made p e q (with_item r place new)) b) x.waiting) (sym (get_or-set_other r.items at b new none other)) (λ k d inside. one b (get_or (get_or r.items b none).waiting k d) (kept.asked b none below k d inside))
   ]);
-  most = All-set (λ (x : RouterOf). x.most ≡ tables.limit) r.items place new most kept.most;
+  most = most_kept tables.wires.items tables.limit place r.items old new kept.routers kept.most (omega arith) old_is most;
 }
   where
     one : (b : ℕ) (request : RequestOf) → IsAsked tables.exits (made p e q r) b request → IsAsked tables.exits (made p e q (with_item r place new)) b request
@@ -65,19 +65,16 @@ module _ (tables : Tables) (p : Vec Packet Global) (e : Vec ℕ Global) (q : Vec
   pub router_is : router_at (made p e q r) at ≡ old
   router_is = let size = kept.routers in sym (here ∙ get_or_default r.items at old (record { most = 0; waiting = [] }) (omega arith))
 
-  old_most : old.most ≡ tables.limit
-  old_most = let size = kept.routers in ap (λ (x : RouterOf). x.most) here ∙ kept.most at old (omega arith)
-
   old_asked : All (IsAsked tables.exits (made p e q r) at) old.waiting
   old_asked = subst (λ (x : RouterOf). All (IsAsked tables.exits (made p e q r) at) x.waiting) (sym here) (kept.asked at old low)
 
   pub kept_granted : (free : ℕ) (grant : Grant) → Grants free old.waiting new.waiting grant → IsKept tables (made p e q (with_item r place new))
-  kept_granted free grant grants = kept_router tables p e q r at place new kept low place_is (most ∙ old_most) (
+  kept_granted free grant grants = kept_router tables p e q r at place old new kept low place_is old_is most (
       subst (λ (ws : List RequestOf). All (IsAsked tables.exits (made p e q r) at) ws) (sym grants.new_is) (
       all_without (IsAsked tables.exits (made p e q r) at) grants.older grants.younger grants.request (subst (λ (ws : List RequestOf). All (IsAsked tables.exits (made p e q r) at) ws) grants.old_is old_asked)))
 
   pub kept_none : new.waiting ≡ old.waiting → IsKept tables (made p e q (with_item r place new))
-  kept_none same = kept_router tables p e q r at place new kept low place_is (most ∙ old_most) (subst (λ (ws : List RequestOf). All (IsAsked tables.exits (made p e q r) at) ws) (sym same) old_asked)
+  kept_none same = kept_router tables p e q r at place old new kept low place_is old_is most (subst (λ (ws : List RequestOf). All (IsAsked tables.exits (made p e q r) at) ws) (sym same) old_asked)
 
   pub same_routers : new.waiting ≡ old.waiting → set r.items place new ≡ r.items
   same_routers same =

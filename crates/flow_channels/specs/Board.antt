@@ -1,5 +1,5 @@
 -- Where packets are and may go, as the program keeps it.
-use Rattle.std.specs.Prelude.{◌≡◌, ◌+◌, ◌*◌, ◌<◌, ◌≤◌, ℕ, List, [], Option, All, length, map, min}
+use Rattle.std.specs.Prelude.{◌≡◌, ◌+◌, ◌*◌, ◌<◌, ◌≤◌, ℕ, List, [], Option, Some, All, length, map, min}
 use Rattle.std.specs.Prelude.{slice_index, slice_index_or, vec_capacity}
 use Rattle.dep_check.specs.declared.channel.Channel.{Channel}
 use Rattle.dep_check.specs.Tables.{IsSpot, place_of, wire_at, WiresAreWithin}
@@ -89,8 +89,36 @@ pub record IsAsked (sets : List ℕ) (board : Board) (at : ℕ) (request : Reque
       ≡ ports_of (exit_set sets (spot at (slice_index board.entries.items request.packet))
       (packet_at board.packets.items request.packet).to)
 
+-- the queues of the first spots that have a far side have so many places
+abbrev pub HavePlaces : List (Option Channel) → ℕ → ℕ → List QueueOf → Type 0
+HavePlaces wires places end queues =
+    (channel far : Channel) (none : QueueOf) → IsSpot channel → place_of channel < end
+    → wire_at wires channel ≡ Some far → (slice_index_or queues (place_of channel) none).places ≡ places
+
+-- and they are empty
+pub record AreEmptyQueues (wires : List (Option Channel)) (places end : ℕ) (queues : List QueueOf) : Type 0 where
+  pub count : length queues ≡ end
+  pub empty : All (λ queue. queue.slots ≡ []) queues
+  pub places_are : HavePlaces wires places end queues
+
+-- a port of a number has a far side
+abbrev pub HasLink : List (Option Channel) → ℕ → Type 0
+HasLink wires at = (port : ℕ) × (far : Channel) × (wire_at wires (spot at port) ≡ Some far)
+
+-- the routers of the first numbers that have a link hold so many requests
+abbrev pub HaveMost : List (Option Channel) → ℕ → ℕ → List RouterOf → Type 0
+HaveMost wires most end routers =
+    (at : ℕ) (none : RouterOf) → at < end → HasLink wires at → (slice_index_or routers at none).most ≡ most
+
+-- and nobody waits there
+pub record AreIdleRouters (wires : List (Option Channel)) (most end : ℕ) (routers : List RouterOf) : Type 0 where
+  pub count : length routers ≡ end
+  pub idle : All (λ router. router.waiting ≡ []) routers
+  pub most_is : HaveMost wires most end routers
+
 -- there is a queue for each spot, a router for each number, and an entry for each packet; what is in
--- them entered; and each has room
+-- them entered; and each has room, a queue where its spot has a far side and a router where its number has
+-- a link
 pub record IsKept (tables : Tables) (board : Board) : Type 0 where
   pub within : WiresAreWithin tables.wires.items
   pub queues : length board.queues.items ≡ 1651
@@ -100,10 +128,10 @@ pub record IsKept (tables : Tables) (board : Board) : Type 0 where
   pub few : length board.packets.items ≤ tables.limit
   pub targets : All (λ packet. packet.to < 127) board.packets.items
   pub queued : All (λ queue. All (λ slot. slot < length board.packets.items) queue.slots) board.queues.items
-  pub places : All (λ queue. queue.places ≡ min tables.room tables.limit) board.queues.items
+  pub places : HavePlaces tables.wires.items (min tables.room tables.limit) 1651 board.queues.items
   pub asked : (at : ℕ) (none : RouterOf) → at < 127
       → All (IsAsked tables.exits board at) (slice_index_or board.routers.items at none).waiting
-  pub most : All (λ router. router.most ≡ tables.limit) board.routers.items
+  pub most : HaveMost tables.wires.items tables.limit 127 board.routers.items
 
 -- a flow over these tables is sound
 pub record IsSoundOver (tables : Tables) (flow : FlowOf) : Type 0 where

@@ -50,10 +50,10 @@ abbrev pub IsInOne : List ℕ → (ℕ → Channel) → ℕ → WaitOf → Type 
 IsInOne known place at wait = wait.entry ≡ 0 → IsIn known place (spot at 0) wait.packet
 
 abbrev pub AreApart : List PacketOf → Type 0
-AreApart packets = AllPairs (λ a b. a.packet ≢ b.packet) packets
+AreApart packets = AllPairs (λ one other. one.packet ≢ other.packet) packets
 
 abbrev pub WaitApart : List WaitOf → Type 0
-WaitApart waits = AllPairs (λ a b. a.packet.packet ≢ b.packet.packet) waits
+WaitApart waits = AllPairs (λ one other. one.packet.packet ≢ other.packet.packet) waits
 
 -- the same of a flow with the packets that entered
 pub record IsSound (layout : LayoutOf) (known : List ℕ) (flow : FlowOf) : Type 0 where

@@ -1,7 +1,8 @@
-ghost use Rattle.std.specs.Prelude.{◌≡◌, ◌<◌, ◌≤◌, ◌++◌, ◌∷◌, [], length, replicate, slice_get};
+ghost use Rattle.std.specs.Prelude.{◌≡◌, ◌<◌, ◌≤◌, ◌++◌, ◌∷◌, [], length, slice_get};
 ghost use Rattle.std.specs.Prelude.{slice_index_or, IfOk, IsTrue, MatchOption, Some, ◌↔◌};
-ghost use Rattle.dep_check.specs.Tables.{IsSpot, place_of, WiresAreWithin};
-ghost use Rattle.flow_channels.specs.Board.{asked_by, come_by, flow_of, IsKept, IsSoundOver, ways};
+ghost use Rattle.dep_check.specs.Tables.{IsSpot, place_of, wire_at, WiresAreWithin};
+ghost use Rattle.flow_channels.specs.Board.{AreEmptyQueues, AreIdleRouters, asked_by, come_by, flow_of, HasLink};
+ghost use Rattle.flow_channels.specs.Board.{IsKept, IsSoundOver, ways};
 ghost use Rattle.flow_channels.specs.Ahead.{ahead_of, asks_of};
 ghost use Rattle.flow_channels.specs.Flows.{empty_flow, enters, first_asks, first_of, leaves};
 ghost use Rattle.flow_channels.specs.Moves.{CanArrive, HasRoom};
@@ -13,7 +14,7 @@ use crate::queue::Queue;
 use crate::tables::Tables;
 use an_base::memory::OutOfMemory;
 use dep_check::channel::Channel;
-use dep_check::spot::{SPOTS, place_of};
+use dep_check::spot::{SPOTS, place_of, spot_at};
 use fcfc_router::router::Router;
 use std::alloc::Global;
 
@@ -254,26 +255,72 @@ impl Board {
     }
 }
 
+// An empty queue for a spot, with room where a link is.
+fn empty_queue(
+    alloc: Global,
+    tables: &Tables,
+    spot: Channel,
+    places: usize,
+) -> Result<Queue, OutOfMemory>
+    requires { IsSpot spot }
+    ensures empty { IfOk result (λ queue. queue.slots ≡ []) }
+    ensures places { IfOk result (λ queue.
+        (end : Channel) → wire_at tables.now.wires.items spot ≡ Some end → queue.places ≡ places) }
+{
+    match tables.far(spot) {
+        Some(_) => Queue::new(alloc, places),
+        None => Queue::new(alloc, 0),
+    }
+}
+
 // An empty queue for each spot.
-fn empty_queues(alloc: Global, places: usize) -> Result<Vec<Queue>, OutOfMemory>
-    ensures { IfOk result (λ queues. queues.items ≡ replicate 1651 (record { places = places; slots = [] })) }
+fn empty_queues(alloc: Global, tables: &Tables, places: usize) -> Result<Vec<Queue>, OutOfMemory>
+    ensures { IfOk result (λ queues. AreEmptyQueues tables.now.wires.items places 1651 queues.items) }
 {
     let mut queues = Vec::with_capacity(alloc, usize::from(SPOTS))?;
-    'spots: for _ in 0..SPOTS {
-        queues.push(Queue::new(alloc, places)?)?;
+    'spots: for place in 0..SPOTS {
+        queues.push(empty_queue(alloc, tables, spot_at(place), places)?)?;
     }
     Ok(queues)
 }
 
-// A router for each number.
-fn empty_routers(alloc: Global, most: u32) -> Result<Vec<Router>, OutOfMemory>
+// Whether a port of a number has a link.
+fn has_link(tables: &Tables, at: u8) -> bool
+    requires { at < 127 }
+    ensures { IsTrue result ↔ HasLink tables.now.wires.items at }
+{
+    'ports: for port in 0..13u8 {
+        if tables.far(Channel { at, port }).is_some() {
+            return true;
+        }
+    }
+    false
+}
+
+// A router for a number, at which nobody waits. Without a link nobody asks there, and it needs no more room
+// than the least.
+fn idle_router(alloc: Global, tables: &Tables, at: u8, most: u32) -> Result<Router, OutOfMemory>
+    requires at { at < 127 }
     requires least { 1 ≤ most }
     requires limit { most ≤ 10012 }
-    ensures { IfOk result (λ routers. routers.items ≡ replicate 127 (record { most = most; waiting = [] })) }
+    ensures idle { IfOk result (λ router. router.waiting ≡ []) }
+    ensures most { IfOk result (λ router. HasLink tables.now.wires.items at → router.most ≡ most) }
+{
+    if has_link(tables, at) {
+        return Router::new(alloc, most);
+    }
+    Router::new(alloc, 1)
+}
+
+// A router for each number.
+fn idle_routers(alloc: Global, tables: &Tables, most: u32) -> Result<Vec<Router>, OutOfMemory>
+    requires least { 1 ≤ most }
+    requires limit { most ≤ 10012 }
+    ensures { IfOk result (λ routers. AreIdleRouters tables.now.wires.items most 127 routers.items) }
 {
     let mut routers = Vec::with_capacity(alloc, usize::from(NUMBERS))?;
-    'numbers: for _ in 0..NUMBERS {
-        routers.push(Router::new(alloc, most)?)?;
+    'numbers: for at in 0..NUMBERS {
+        routers.push(idle_router(alloc, tables, at, most)?)?;
     }
     Ok(routers)
 }
@@ -293,8 +340,8 @@ impl Board {
         Ok(Board {
             packets: Vec::with_capacity(alloc, most as usize)?,
             entries: Vec::with_capacity(alloc, most as usize)?,
-            queues: empty_queues(alloc, places)?,
-            routers: empty_routers(alloc, most)?,
+            queues: empty_queues(alloc, tables, places)?,
+            routers: idle_routers(alloc, tables, most)?,
         })
     }
 }

@@ -5,3 +5,4 @@ pub mod JournalLemmas
 pub mod FaultLemmas
 pub mod EitherLemmas
 pub mod ReadingLemmas
+pub mod ReadyLemmas

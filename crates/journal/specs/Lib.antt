@@ -3,6 +3,7 @@ pub mod Causes
 pub mod Words
 pub mod Lines
 pub mod Events
+pub mod Ready
 pub mod Rules
 pub mod Texts
 pub mod Steps

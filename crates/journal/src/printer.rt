@@ -1,17 +1,34 @@
 //! The printer of journals.
 
-ghost use Rattle.std.specs.Prelude.{◌≡◌, ◌<◌, ◌++◌, [], ◌∷◌, codes, length, All, OnOk, IfOk, slice_index_or};
+ghost use Rattle.std.specs.Prelude.{◌≡◌, ◌≤◌, ◌++◌, ℕ, [], ◌∷◌, codes, All, IfOk, IfSome, OnOk};
 ghost use Rattle.std.specs.Fmt.{decimal};
+ghost use Rattle.an_base.specs.declared.event.Event.TheVariants.{Take};
 ghost use Rattle.text_lines.specs.Lines.{line_text};
-ghost use Rattle.journal.specs.Events.{CanSpell, event_words, events_text, journal_text};
+ghost use Rattle.net_script.specs.Scripts.{ScriptOf};
+ghost use Rattle.journal.specs.Events.{CanSpell, IsSwitch, event_words, events_text, journal_text};
+ghost use Rattle.journal.specs.Ready.{AreLinesOf, AreReady, AreTakesOf};
 
 use an_base::event::{Event, Journal};
+use an_base::limits::LAST_PORT;
 use an_base::memory::OutOfMemory;
 use itoa::Buffer;
 use net_script::script::Script;
 use script_text::printer::{push_at, push_send};
 use std::alloc::Global;
 use text_lines::spelling::push_line;
+
+// The lines of the events of a switch that come most often.
+#[derive(Drop)]
+struct ReadyLines {
+    clock: Vec<u8>,
+    handle: Vec<u8>,
+    load: Vec<u8>,
+    // By port, from 1.
+    takes: Vec<Vec<u8>>,
+}
+
+// The making of a switch's lines pays where there are about so many events for each switch.
+const WORTH_LINES: usize = 128;
 
 /// The text of a journal: the first line, a line for each event, and the last line.
 pub fn print(alloc: Global, script: &Script, journal: &Journal) -> Result<Vec<u8>, OutOfMemory>
@@ -20,19 +37,119 @@ pub fn print(alloc: Global, script: &Script, journal: &Journal) -> Result<Vec<u8
 {
     let mut text = Vec::new(alloc);
     push_line(&mut text, &[b"journal", b"1"])?;
-    push_events(&mut text, script, journal.as_slice())?;
+    let events = journal.as_slice();
+    let ready = ready_lines(alloc, script, events.len() / WORTH_LINES)?;
+    push_events(&mut text, script, &ready, events)?;
     push_line(&mut text, &[b"end"])?;
     Ok(text)
 }
 
-fn push_events(text: &mut Vec<u8>, script: &Script, events: &[Event]) -> Result<(), OutOfMemory>
+// The lines of the first switches, of at most so many.
+fn ready_lines(alloc: Global, script: &Script, most: usize) -> Result<Vec<ReadyLines>, OutOfMemory>
+    ensures { IfOk result (λ ready. AreReady script.now ready.items) }
+{
+    let count = script.wiring().switches().len().min(most);
+    let mut ready = Vec::new(alloc);
+    'switches: for s in 0..count as u8 {
+        let lines = lines_of(alloc, script, s)?;
+        ready.push(lines)?;
+    }
+    Ok(ready)
+}
+
+// The lines of the most frequent events of a switch.
+fn lines_of(alloc: Global, script: &Script, s: u8) -> Result<ReadyLines, OutOfMemory>
+    requires { IsSwitch script.now s }
+    ensures { IfOk result (AreLinesOf script.now s) }
+{
+    Ok(ReadyLines {
+        clock: line_of(alloc, script, Event::Clock { s })?,
+        handle: line_of(alloc, script, Event::Handle { s })?,
+        load: line_of(alloc, script, Event::Load { s })?,
+        takes: lines_of_takes(alloc, script, s)?,
+    })
+}
+
+// The lines of its takes, by port.
+fn lines_of_takes(alloc: Global, script: &Script, s: u8) -> Result<Vec<Vec<u8>>, OutOfMemory>
+    requires { IsSwitch script.now s }
+    ensures { IfOk result (λ takes. AreTakesOf script.now s takes.items) }
+{
+    let mut takes = Vec::new(alloc);
+    'ports: for port in 1..LAST_PORT + 1 {
+        let line = line_of(alloc, script, Event::Take { s, port })?;
+        takes.push(line)?;
+    }
+    Ok(takes)
+}
+
+// The line of an event.
+fn line_of(alloc: Global, script: &Script, event: Event) -> Result<Vec<u8>, OutOfMemory>
+    requires spelled { CanSpell script.now event }
+    ensures { IfOk result (λ line. line.items ≡ line_text (event_words script.now event)) }
+{
+    let mut line = Vec::new(alloc);
+    push_event(&mut line, script, event)?;
+    Ok(line)
+}
+
+// Appends the lines of events.
+fn push_events(
+    text: &mut Vec<u8>,
+    script: &Script,
+    ready: &[ReadyLines],
+    events: &[Event],
+) -> Result<(), OutOfMemory>
     requires spelled { All (CanSpell script.now) events.now }
+    requires ready { AreReady script.now ready.now }
     ensures { OnOk result (text.new.items ≡ text.old.items ++ events_text script.now events.now) }
 {
     'events: for event in events {
-        push_event(text, script, *event)?;
+        push_ready(text, script, ready, *event)?;
     }
     Ok(())
+}
+
+// Appends the line of an event: the ready one, if there is one.
+fn push_ready(
+    text: &mut Vec<u8>,
+    script: &Script,
+    ready: &[ReadyLines],
+    event: Event,
+) -> Result<(), OutOfMemory>
+    requires spelled { CanSpell script.now event }
+    requires ready { AreReady script.now ready.now }
+    ensures { OnOk result
+        (text.new.items ≡ text.old.items ++ line_text (event_words script.now event)) }
+{
+    match ready_line(ready, event) {
+        Some(line) => text.extend_from_slice(line)?,
+        None => push_event(text, script, event)?,
+    }
+    Ok(())
+}
+
+// The line of an event, if it is ready.
+fn ready_line(ready: &[ReadyLines], event: Event) -> Option<&[u8]>
+    ensures { (script : ScriptOf) → AreReady script ready.now → CanSpell script event
+        → IfSome result (λ line. line.now ≡ line_text (event_words script event)) }
+{
+    match event {
+        Event::Clock { s } => Some(ready.get(usize::from(s))?.clock.as_slice()),
+        Event::Take { s, port } => ready_take(ready.get(usize::from(s))?, port),
+        Event::Handle { s } => Some(ready.get(usize::from(s))?.handle.as_slice()),
+        Event::Load { s } => Some(ready.get(usize::from(s))?.load.as_slice()),
+        _ => None,
+    }
+}
+
+// The line of a take from a port, if it is ready.
+fn ready_take(lines: &ReadyLines, port: u8) -> Option<&[u8]>
+    ensures { (script : ScriptOf) (node : ℕ) → AreLinesOf script node lines.now → 1 ≤ port
+        → IfSome result (λ line. line.now ≡ line_text (event_words script (Take node port))) }
+{
+    let line = lines.takes.get(usize::from(port.saturating_sub(1)))?;
+    Some(line.as_slice())
 }
 
 // Appends the line of an event.

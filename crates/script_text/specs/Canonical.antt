@@ -104,7 +104,8 @@ command_forms script = map (command_form script) script.commands
 unfoldable pub forms_of : ScriptOf → List Form
 forms_of script =
     setting_forms script
-    ++ (switch_forms script ++ (link_forms script ++ (host_forms script ++ (command_forms script ++ End ∷ []))))
+    ++ (switch_forms script
+    ++ (link_forms script ++ (host_forms script ++ (command_forms script ++ End ∷ []))))
 
 -- the canonical text of a script
 unfoldable pub canonical_text : ScriptOf → List ℕ

@@ -31,68 +31,80 @@ pub record Network : Type 0 where
 
 -- all lives as they are powered on, and nothing was sent
 abbrev pub dark : PowerOn → Network
-dark on = record { switches = λ x. started x (on.epoch x) (on.had x) (on.any x); sent = [] }
+dark on = record { switches = λ life. started life (on.epoch life) (on.had life) (on.any life); sent = [] }
 
 -- a life is another switch, and the others are as they were
 abbrev pub with_switch : (LifeId → SwitchOf) → LifeId → SwitchOf → LifeId → SwitchOf
-with_switch switches x s y = if is_eq (life_cmp x y) then s else switches y
+with_switch switches life switch other = if is_eq (life_cmp life other) then switch else switches other
 
 abbrev pub frames_of : List Sent → List Frame
-frames_of sent = map (λ (x : Sent). x.frame) sent
+frames_of sent = map (λ (out : Sent). out.frame) sent
 
 -- a life takes a step, and what goes out by it is sent for good
 abbrev pub stepped : Network → LifeId → Step → Network
-stepped w x step =
-    record { switches = with_switch w.switches x step.switch; sent = frames_of step.frames ++ w.sent }
+stepped network life step =
+    record {
+      switches = with_switch network.switches life step.switch;
+      sent = frames_of step.frames ++ network.sent;
+    }
 
--- Bodies are accepted on a port by x, which has this card and has accepted this so far
+-- Bodies are accepted on a port by a life, which has this card and has accepted this so far
 abbrev pub all_accepted : LifeId → ℕ → List Body → CardOf → Log → Game → Game
-all_accepted x port [] card log g = g
-all_accepted x port (body ∷ bodies) card log g =
-    all_accepted x port bodies card (record { port = port; body = body } ∷ log)
-    (after_accept g x (record { card = card; log = log }) port body)
+all_accepted life port [] card log game = game
+all_accepted life port (body ∷ bodies) card log game =
+    all_accepted life port bodies card (record { port = port; body = body } ∷ log)
+    (after_accept game life (record { card = card; log = log }) port body)
 
--- The moves of the game that a step of x is. By a clock it joins the next epoch, or does nothing
+-- The moves of the game that a step of a life is. By a clock it joins the next epoch, or does nothing
 abbrev pub clock_moves : LifeId → SwitchOf → SwitchOf → Game → Game
-clock_moves x before s g = if before.epoch == s.epoch then g else after_join g x s.epoch s.card
+clock_moves life before switch game =
+    if before.epoch == switch.epoch then game else after_join game life switch.epoch switch.card
 
 -- the bodies that are accepted by one that comes, in their order
 abbrev pub body_moves : LifeId → ℕ → ℕ → Body → SwitchOf → Game → Game
-body_moves x port k body s g = all_accepted x port (accepted_by k body (s.receivings port)) s.card s.log g
+body_moves life port number body switch game =
+    all_accepted life port (accepted_by number body (switch.receivings port)) switch.card switch.log game
 
 -- By a body that counts it joins a greater epoch, and accepts each body in turn; one of a lower epoch is
 -- nothing
 abbrev pub carry_moves : LifeId → ℕ → CarryOf → SwitchOf → Game → Game
-carry_moves x port f s g =
-    if nat_lt s.epoch f.epoch
-    then body_moves x port f.k f.body (joins f.epoch s).switch
-    (after_join g x f.epoch (joins f.epoch s).switch.card)
-    else if f.epoch == s.epoch then body_moves x port f.k f.body s g
-    else g
+carry_moves life port carry switch game =
+    if nat_lt switch.epoch carry.epoch
+    then body_moves life port carry.k carry.body (joins carry.epoch switch).switch
+    (after_join game life carry.epoch (joins carry.epoch switch).switch.card)
+    else if carry.epoch == switch.epoch then body_moves life port carry.k carry.body switch game
+    else game
 
 -- no other frame is a move
 abbrev pub frame_moves : LifeId → ℕ → Frame → SwitchOf → Game → Game
-frame_moves x port (Carry f) s g = if counts s port f.from f.to then carry_moves x port f s g else g
-frame_moves x port (Ack epoch from to n) s g = g
-frame_moves x port (Probe from nonce) s g = g
-frame_moves x port (Reply from to nonce) s g = g
+frame_moves life port (Carry carry) switch game =
+    if counts switch port carry.from carry.to then carry_moves life port carry switch game else game
+frame_moves life port (Ack epoch from to number) switch game = game
+frame_moves life port (Probe from nonce) switch game = game
+frame_moves life port (Reply from to nonce) switch game = game
 
 -- What may happen, whatever the wires do, with the game that it plays: a clock comes to one of the lives,
 -- with any tick and samples; any frame that any life ever sent is handed to one of them, at any of its ports,
 -- any number of times or never; and one that is to load a table loads one, of any number. Clocks and frames
 -- come only while its epochs are not spent; a switch whose epochs are spent may still load.
-pub data Happens (lives : List LifeId) (v : Network) (h : Game) : Network → Game → Type 0 where
-  none : Happens lives v h v h
-  clocks : (w : Network) (g : Game) (x : LifeId) (now : ℕ) (samples : List Sample) → Happens lives v h w g
-      → Contains lives x
-      → (w.switches x).spent ≡ false
-      → Happens lives v h (stepped w x (clocked now samples (w.switches x)))
-      (clock_moves x (w.switches x) (clocked now samples (w.switches x)).switch g)
-  hands : (w : Network) (g : Game) (x : LifeId) (port : ℕ) (frame : Frame) → Happens lives v h w g
-      → Contains lives x
-      → (w.switches x).spent ≡ false → 1 ≤ port → port ≤ 12 → Contains w.sent frame
-      → Happens lives v h (stepped w x (framed port frame (w.switches x)))
-      (frame_moves x port frame (w.switches x) g)
-  loads : (w : Network) (g : Game) (x : LifeId) (number : ℕ) → Happens lives v h w g → Contains lives x
-      → (w.switches x).load_due ≡ true
-      → Happens lives v h (stepped w x (still (loaded number (w.switches x)))) (after_load g x)
+pub data Happens (lives : List LifeId) (earlier : Network) (earlier_game : Game)
+    : Network → Game → Type 0 where
+  none : Happens lives earlier earlier_game earlier earlier_game
+  clocks : (network : Network) (game : Game) (life : LifeId) (now : ℕ) (samples : List Sample)
+      → Happens lives earlier earlier_game network game
+      → Contains lives life
+      → (network.switches life).spent ≡ false
+      → Happens lives earlier earlier_game
+      (stepped network life (clocked now samples (network.switches life)))
+      (clock_moves life (network.switches life) (clocked now samples (network.switches life)).switch game)
+  hands : (network : Network) (game : Game) (life : LifeId) (port : ℕ) (frame : Frame)
+      → Happens lives earlier earlier_game network game
+      → Contains lives life
+      → (network.switches life).spent ≡ false → 1 ≤ port → port ≤ 12 → Contains network.sent frame
+      → Happens lives earlier earlier_game (stepped network life (framed port frame (network.switches life)))
+      (frame_moves life port frame (network.switches life) game)
+  loads : (network : Network) (game : Game) (life : LifeId) (number : ℕ)
+      → Happens lives earlier earlier_game network game → Contains lives life
+      → (network.switches life).load_due ≡ true
+      → Happens lives earlier earlier_game
+      (stepped network life (still (loaded number (network.switches life)))) (after_load game life)

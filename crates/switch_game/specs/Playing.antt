@@ -10,52 +10,56 @@ use Rattle.switch_core.specs.Switch.{SwitchOf, finish_of, good_peer, is_unacked}
 
 -- the card and the list of a switch that has joined its epoch
 abbrev pub node_of : SwitchOf → Node
-node_of s = record { card = s.card; log = s.log }
+node_of switch = record { card = switch.card; log = switch.log }
 
--- What the game has of x is what its switch has: its epoch, its node there once it has joined, and whether it
--- has loaded since, which is whether it has finished and is to load no more: that is all of when it may load
-pub record Agrees (x : LifeId) (s : SwitchOf) (g : Game) : Type 0 where
-  pub present : g.present x ≡ s.epoch
-  pub joined : s.joined ≡ true → g.nodes x s.epoch ≡ Some (node_of s)
-  pub unjoined : (e : ℕ) → s.joined ≡ false → g.nodes x e ≡ None
-  pub load_due : s.load_due ≡ (is_some (finish_of s) && not (g.loaded x s.epoch))
+-- What the game has of a life is what its switch has: its epoch, its node there once it has joined, and
+-- whether it has loaded since, which is whether it has finished and is to load no more: that is all of when it
+-- may load
+pub record Agrees (life : LifeId) (switch : SwitchOf) (game : Game) : Type 0 where
+  pub present : game.present life ≡ switch.epoch
+  pub joined : switch.joined ≡ true → game.nodes life switch.epoch ≡ Some (node_of switch)
+  pub unjoined : (epoch : ℕ) → switch.joined ≡ false → game.nodes life epoch ≡ None
+  pub load_due : switch.load_due ≡ (is_some (finish_of switch) && not (game.loaded life switch.epoch))
 
--- The far end of a link of z has joined the epoch, and names the link. It may have left the epoch since
-pub record FarHasJoined (g : Game) (z : LifeId) (q : ℕ) (s : SwitchOf) (far : EndId) : Type 0 where
+-- The far end of a link of the life has joined the epoch, and names the link. It may have left the epoch
+-- since
+pub record FarHasJoined (game : Game) (life : LifeId) (port : ℕ) (switch : SwitchOf) (far : EndId)
+    : Type 0 where
   pub node : Node
-  pub joined : g.nodes far.life s.epoch ≡ Some node
-  pub not_behind : s.epoch ≤ g.present far.life
-  pub named : Names s.card q far.life far.port
-  pub back : Names node.card far.port z q
+  pub joined : game.nodes far.life switch.epoch ≡ Some node
+  pub not_behind : switch.epoch ≤ game.present far.life
+  pub named : Names switch.card port far.life far.port
+  pub back : Names node.card far.port life port
 
--- it has, and has accepted all that z sent on the link
-pub record FarHasAll (g : Game) (z : LifeId) (q : ℕ) (s : SwitchOf) (far : EndId) : Type 0 where
-  pub end : FarHasJoined g z q s far
-  pub accepted : on_port far.port end.node.log ≡ sent s.card q s.log
+-- it has, and has accepted all that the life sent on the link
+pub record FarHasAll (game : Game) (life : LifeId) (port : ℕ) (switch : SwitchOf) (far : EndId) : Type 0 where
+  pub end : FarHasJoined game life port switch far
+  pub accepted : on_port far.port end.node.log ≡ sent switch.card port switch.log
 
 -- and so many of them, where not all are acknowledged
-pub record FarHasSome (g : Game) (z : LifeId) (q : ℕ) (s : SwitchOf) (far : EndId) : Type 0 where
-  pub end : FarHasJoined g z q s far
-  pub accepted : (s.sendings q).acked ≤ length (on_port far.port end.node.log)
+pub record FarHasSome (game : Game) (life : LifeId) (port : ℕ) (switch : SwitchOf) (far : EndId)
+    : Type 0 where
+  pub end : FarHasJoined game life port switch far
+  pub accepted : (switch.sendings port).acked ≤ length (on_port far.port end.node.log)
 
 -- Each of two ends is the good peer of the other, and has nothing waiting or unacknowledged there
-pub record IsQuietLink (s t : SwitchOf) (q p : ℕ) : Type 0 where
-  pub there : good_peer s q ≡ Some (record { life = t.life; port = p })
-  pub back : good_peer t p ≡ Some (record { life = s.life; port = q })
-  pub acknowledged : is_unacked (s.sendings q) ≡ false
-  pub acknowledged_back : is_unacked (t.sendings p) ≡ false
+pub record IsQuietLink (switch other : SwitchOf) (port other_port : ℕ) : Type 0 where
+  pub there : good_peer switch port ≡ Some (record { life = other.life; port = other_port })
+  pub back : good_peer other other_port ≡ Some (record { life = switch.life; port = port })
+  pub acknowledged : is_unacked (switch.sendings port) ≡ false
+  pub acknowledged_back : is_unacked (other.sendings other_port) ≡ false
 
 -- Both are in one epoch, have joined it with this link, and each has accepted what the other sent on it
-pub record IsSettledLink (s t : SwitchOf) (q p : ℕ) : Type 0 where
-  pub joined : s.joined ≡ true
-  pub joined_back : t.joined ≡ true
-  pub epoch : s.epoch ≡ t.epoch
-  pub named : Names s.card q t.life p
-  pub named_back : Names t.card p s.life q
-  pub accepted : on_port p t.log ≡ sent s.card q s.log
-  pub accepted_back : on_port q s.log ≡ sent t.card p t.log
+pub record IsSettledLink (switch other : SwitchOf) (port other_port : ℕ) : Type 0 where
+  pub joined : switch.joined ≡ true
+  pub joined_back : other.joined ≡ true
+  pub epoch : switch.epoch ≡ other.epoch
+  pub named : Names switch.card port other.life other_port
+  pub named_back : Names other.card other_port switch.life port
+  pub accepted : on_port other_port other.log ≡ sent switch.card port switch.log
+  pub accepted_back : on_port port switch.log ≡ sent other.card other_port other.log
 
 -- What a life did in an epoch that it has left stays
-pub record HasStayed (x : LifeId) (e : ℕ) (g h : Game) : Type 0 where
-  pub node : h.nodes x e ≡ g.nodes x e
-  pub loaded : h.loaded x e ≡ g.loaded x e
+pub record HasStayed (life : LifeId) (epoch : ℕ) (game later : Game) : Type 0 where
+  pub node : later.nodes life epoch ≡ game.nodes life epoch
+  pub loaded : later.loaded life epoch ≡ game.loaded life epoch

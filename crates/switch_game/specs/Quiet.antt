@@ -9,50 +9,55 @@ use Rattle.epoch_game.specs.Game.{Game, slice}
 use Rattle.switch_core.specs.Switch.{finish_of, good_links, good_peer, is_unacked}
 use Rattle.switch_game.specs.Network.{Network}
 
--- x, and the lives that are reached from it over good ports
-pub data Connected (w : Network) (x : LifeId) : LifeId → Type 0 where
-  start : Connected w x x
-  next : (y z : LifeId) (p q : ℕ) → Connected w x y → 1 ≤ p → p ≤ 12
-      → good_peer (w.switches y) p ≡ Some (record { life = z; port = q })
-      → Connected w x z
+-- a life, and those that are reached from it over good ports
+pub data Connected (network : Network) (from : LifeId) : LifeId → Type 0 where
+  start : Connected network from from
+  next : (life other : LifeId) (port other_port : ℕ) → Connected network from life → 1 ≤ port → port ≤ 12
+      → good_peer (network.switches life) port ≡ Some (record { life = other; port = other_port })
+      → Connected network from other
 
 -- The port of this end is good, and its peer is the other end
-pub record IsGoodEnd (w : Network) (far end : EndId) : Type 0 where
+pub record IsGoodEnd (network : Network) (far end : EndId) : Type 0 where
   pub least : 1 ≤ far.port
   pub most : far.port ≤ 12
-  pub good : good_peer (w.switches far.life) far.port ≡ Some end
+  pub good : good_peer (network.switches far.life) far.port ≡ Some end
 
--- The switch of y works and has joined an epoch; the far end of each good port is good too, and leads back;
--- and nothing that it sent waits or is unacknowledged
-pub record IsQuietLife (w : Network) (y : LifeId) : Type 0 where
-  pub joined : (w.switches y).joined ≡ true
-  pub working : (w.switches y).spent ≡ false
-  pub linked : (p : ℕ) (far : EndId) → 1 ≤ p → p ≤ 12 → good_peer (w.switches y) p ≡ Some far
-      → IsGoodEnd w far (record { life = y; port = p })
-  pub acknowledged : (p : ℕ) → 1 ≤ p → p ≤ 12 → is_unacked ((w.switches y).sendings p) ≡ false
+-- The switch of the life works and has joined an epoch; the far end of each good port is good too, and leads
+-- back; and nothing that it sent waits or is unacknowledged
+pub record IsQuietLife (network : Network) (life : LifeId) : Type 0 where
+  pub joined : (network.switches life).joined ≡ true
+  pub working : (network.switches life).spent ≡ false
+  pub linked : (port : ℕ) (far : EndId) → 1 ≤ port → port ≤ 12
+      → good_peer (network.switches life) port ≡ Some far
+      → IsGoodEnd network far (record { life = life; port = port })
+  pub acknowledged : (port : ℕ) → 1 ≤ port → port ≤ 12
+      → is_unacked ((network.switches life).sendings port) ≡ false
 
--- and so of each life that is reached from x
+-- and so of each life that is reached from this one
 abbrev pub IsQuiet : Network → LifeId → Type 0
-IsQuiet w x = (y : LifeId) → Connected w x y → IsQuietLife w y
+IsQuiet network life = (other : LifeId) → Connected network life other → IsQuietLife network other
 
--- the entry is that of a life that is reached from x, with its good links
-pub record IsEntryIn (w : Network) (x : LifeId) (e : EntryOf) : Type 0 where
+-- the entry is that of a life that is reached from this one, with its good links
+pub record IsEntryIn (network : Network) (from : LifeId) (entry : EntryOf) : Type 0 where
   pub life : LifeId
-  pub connected : Connected w x life
-  pub is : e ≡ own_entry (w.switches life).card (w.switches life).log
-  pub links : e.links ≡ good_links (w.switches life)
+  pub connected : Connected network from life
+  pub is : entry ≡ own_entry (network.switches life).card (network.switches life).log
+  pub links : entry.links ≡ good_links (network.switches life)
 
--- What holds of x and the lives that are reached from it, in the epoch of x:
-pub record HasSettled (lives : List LifeId) (w : Network) (g : Game) (x : LifeId) : Type 0 where
-  -- these lives are those that the game reaches from x there
-  pub reached : (y : LifeId) → (Reached (slice (w.switches x).epoch g) x y) ↔ (Connected w x y)
+-- What holds of a life and those that are reached from it, in its epoch:
+pub record HasSettled (lives : List LifeId) (network : Network) (game : Game) (life : LifeId) : Type 0 where
+  -- these lives are those that the game reaches from it there
+  pub reached : (other : LifeId)
+      → (Reached (slice (network.switches life).epoch game) life other) ↔ (Connected network life other)
   -- all are in that epoch
-  pub epoch : (y : LifeId) → Connected w x y → (w.switches y).epoch ≡ (w.switches x).epoch
+  pub epoch : (other : LifeId) → Connected network life other
+      → (network.switches other).epoch ≡ (network.switches life).epoch
   -- in it one of them is stable with itself as root, so each has its place in the tree
-  pub ended : HasEnded lives (slice (w.switches x).epoch g) x
+  pub ended : HasEnded lives (slice (network.switches life).epoch game) life
   -- each has finished with one topology, of exactly their entries
-  pub finished : (y : LifeId) → Connected w x y → finish_of (w.switches y) ≡ Some ended.topology
-  pub entries : (e : EntryOf) → (Contains ended.topology.entries e) ↔ (IsEntryIn w x e)
+  pub finished : (other : LifeId) → Connected network life other
+      → finish_of (network.switches other) ≡ Some ended.topology
+  pub entries : (entry : EntryOf) → (Contains ended.topology.entries entry) ↔ (IsEntryIn network life entry)
   -- each that is to load no table has loaded one
-  pub loaded : (y : LifeId) → Connected w x y → (w.switches y).load_due ≡ false
-      → g.loaded y (w.switches x).epoch ≡ true
+  pub loaded : (other : LifeId) → Connected network life other → (network.switches other).load_due ≡ false
+      → game.loaded other (network.switches life).epoch ≡ true

@@ -1,6 +1,9 @@
--- What a worker and the driver have may go to another thread, and their turnstile may be shared: each part may.
+-- What a worker has may go to another thread, and the turnstile may be shared: each part may.
 
-use denote.Param.Send.{IsSend, IsSync, sendable}
+use base.Fml.{Lft}
+use mir.Syntax.{Lifetime}
+use denote.Param.Send.{IsSend, IsSync, mut_slice_send, sendable}
+use denote.Slice.{MutSlice}
 use Rattle.std.proofs.Crossing.{crosses}
 use Rattle.an_base.proofs.event.Event.TheSendSync as event
 use Rattle.an_base.specs.contracts.event.Event as Event
@@ -11,7 +14,6 @@ use Rattle.net_script.proofs.command.Command.TheSendSync as command
 use Rattle.net_script.specs.contracts.script.Script as Script
 use Rattle.wire_set.proofs.wires.WireSet.TheSendSync as wires
 use Rattle.host_traffic.proofs.traffic.Traffic.TheSendSync as traffic
-use Rattle.fabric_state.proofs.ending.Ending.TheSendSync as ending
 use Rattle.fabric_state.proofs.stations.Stations.TheSendSync as stations
 use Rattle.fabric_state.specs.contracts.fabric.Fabric as Fabric
 use Rattle.fabric_state.specs.contracts.plan.Plan as Plan
@@ -25,7 +27,7 @@ use Rattle.fabric_book.specs.contracts.book.Book as Book
 use Rattle.fabric_book.specs.contracts.book.BookStaged.TheImpl.{ghosts}
 use Rattle.switch_threads.proofs.desk.Desk.TheSendSync as desk
 use Rattle.switch_threads.proofs.desk.Next.TheSendSync as next
-use Rattle.switch_threads.specs.contracts.driver.Driver as Driver
+use Rattle.switch_threads.proofs.desk.Papers.TheSendSync as papers
 use Rattle.switch_threads.specs.contracts.worker.Worker as Worker
 
 plan_send : IsSend Plan.the_row
@@ -44,7 +46,8 @@ pub turnstile_sync : IsSync (Turnstile.the_row Book.the_row BookAsk.the_row Book
 turnstile_sync = turnstile.the_sync Book.the_row BookAsk.the_row BookReply.the_row Event.the_row Script.the_row ghosts book_send
 
 pub worker_send : IsSend Worker.the_row
-worker_send = search (sendable, crosses, seat_send, desk.the_send, next.the_send) depth 30 fits 3000
+worker_send = search (sendable, crosses, seat_send, desk.the_send, desk.the_field_send, papers.the_send, next.the_send, next.the_field_send) depth 30 fits 3000
 
-pub driver_send : IsSend Driver.the_row
-driver_send = search (sendable, crosses, seat_send, ending.the_send) depth 60 fits 3000
+-- and the workers of a part of a list
+pub workers_send : (ℓ : Lifetime) (κ : Lft) → IsSend (MutSlice ℓ κ Worker.the_row)
+workers_send ℓ κ = mut_slice_send ℓ κ Worker.the_row worker_send

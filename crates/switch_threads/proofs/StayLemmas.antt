@@ -26,11 +26,11 @@ use Rattle.fabric_world.proofs.InductionLemmas.{kept_by}
 use Rattle.fabric_book.specs.Nets.{PowerOf}
 use Rattle.fabric_book.specs.Told.{hand_lines}
 use Rattle.switch_threads.specs.declared.desk.Desk.{Desk}
-use Rattle.switch_threads.specs.declared.desk.Next.TheVariants as next
+use Rattle.switch_threads.specs.declared.desk.Papers.{Papers}
 use Rattle.switch_threads.specs.declared.desk.Pending.{Pending}
 use Rattle.switch_threads.specs.declared.desk.Pending.TheVariants as pending
 use Rattle.switch_threads.specs.declared.desk.Tale.{Tale}
-use Rattle.switch_threads.specs.Workers.{IsInStep, IsPending, IsPrepared, KeepsUp, done_with, lines_at_hand}
+use Rattle.switch_threads.specs.Workers.{IsAsking, IsPending, IsPrepared, KeepsUp, done_with, lines_at_hand}
 
 -- there are never fewer events
 grow_one : (script : ScriptOf) → IsScript script → (h : List Event) (e : Event) → (world_after script h).fabric.events ≤ (world_after script (h ++ e ∷ [])).fabric.events
@@ -126,5 +126,5 @@ pub record IsAtPlace (view : View Event ScriptOf) (place : ℕ) (power : PowerOf
   pub number : view.number ≡ place + 1
   pub keeps_up : KeepsUp script (world_after script view.seen) place power switch pending
 
-abbrev pub at_place : (view : View Event ScriptOf) (desk : Desk) (pending : Pending) → IsInStep view desk (next.Ask pending) → IsAtPlace view desk.s desk.power_on desk.switch.value pending
-at_place view desk pending step = record { script = step.script; begun = step.begun; number = step.number; keeps_up = step.fits.keeps_up }
+abbrev pub at_place : (view : View Event ScriptOf) (desk : Desk) (papers : Papers) (next : Pending) → IsAsking view desk papers next → IsAtPlace view desk.s desk.power_on desk.switch.value next
+at_place view desk papers next step = record { script = step.script; begun = step.begun; number = step.number; keeps_up = step.fits.keeps_up }

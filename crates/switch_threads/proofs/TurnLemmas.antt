@@ -1,7 +1,7 @@
 -- A worker and the driver, before and after a call of the turnstile.
 
 use Rattle.std.specs.Prelude.{◌≡◌, ◌+◌, ◌<◌, ◌≤◌, ℕ, List, [], ◌++◌, length, not, option_to_list, Bool, Option, Some, IfSome, true, false, refl}
-use Rattle.std.specs.Global.{Box, Vec}
+use Rattle.std.specs.Global.{Vec}
 use Rattle.std.proofs.Common.{sym, ◌∙◌, ap, subst, arith, append_assoc}
 use Rattle.std.proofs.lemmas.List.{append-nil}
 use Rattle.std.proofs.lemmas.List.FromFn.{get_or-map-range_with_len}
@@ -57,11 +57,12 @@ use Rattle.fabric_book.proofs.HandLemmas.{done_is, stands_is, step_is}
 use Rattle.switch_threads.specs.declared.desk.Desk.{Desk}
 use Rattle.switch_threads.specs.declared.desk.Next.{Next}
 use Rattle.switch_threads.specs.declared.desk.Next.TheVariants as next
+use Rattle.switch_threads.specs.declared.desk.Papers.{Papers}
 use Rattle.switch_threads.specs.declared.desk.Pending.{Pending}
 use Rattle.switch_threads.specs.declared.desk.Pending.TheVariants as pending
 use Rattle.switch_threads.specs.declared.desk.Tale.{Tale}
 use Rattle.switch_threads.specs.Runs.{IsToldAt, SeatOf}
-use Rattle.switch_threads.specs.Workers.{HasInHand, HasTold, IsDriving, IsInStep, IsNext, IsPrepared, IsToDo, IsUpTo, KeepsUp, lines_at_hand}
+use Rattle.switch_threads.specs.Workers.{HasInHand, HasTold, IsAsking, IsDriving, IsInStep, IsNext, IsPrepared, IsToDo, IsUpTo, KeepsUp, lines_at_hand}
 use Rattle.switch_threads.proofs.EndLemmas.{end_told, told_extends}
 use Rattle.switch_threads.proofs.OwnLemmas.{clock_switch, clock_taken, frame_taken, handled_here, life_begun, load_own, loaded_here, put_own, take_switch, taken_comes, taken_of}
 use Rattle.switch_threads.proofs.StayLemmas.{IsAtPlace, at_place, others_came, prepared_stays}
@@ -316,14 +317,14 @@ module _ (view after : View Event ScriptOf) (place : ℕ) (power : PowerOf) (swi
       by true barred does = subst Next (sym does.0) (ap (account_of step.script (place + 1)) does.1)
 
 -- work was taken
-module _ (script : ScriptOf) (h seen : List Event) (desk : Desk) (buffer : List ℕ) (tale : Box Tale) (told : Option PlacedLine) (now : IsUpTo script h desk pending.Work) where
-  pub to_do : (job : Work) → TakesWork script h desk.s job buffer told seen → IsToDo script seen (record desk { buffer = buffer; tale = tale }) job
+module _ (script : ScriptOf) (h seen : List Event) (desk : Desk) (papers : Papers) (buffer : List ℕ) (tale : Tale) (told : Option PlacedLine) (now : IsUpTo script h desk papers pending.Work) (asks : desk.pending ≡ pending.Work) where
+  pub to_do : (job : Work) → TakesWork script h desk.s job buffer told seen → IsToDo script seen (record desk { tale = tale }) (record papers { buffer = buffer }) job
   to_do (work.Nothing reason) takes =
       let same : h ≡ seen = sym (takes.event ∙ append-nil h) in
-      record {
+      subst (IsUpTo script seen (record desk { tale = tale }) (record papers { buffer = buffer })) (sym asks) (record {
         keeps_up = subst (λ (xs : List Event). KeepsUp script (world_after script xs) desk.s desk.power_on desk.switch.value pending.Work) same now.keeps_up;
         prepared = now.prepared ∙ ap (λ (xs : List Event). note_of ((world_after script xs).switches desk.s)) same;
-      }
+      })
   to_do (work.Clock tick samples) takes =
       let at = now.keeps_up in
       let lawful = taken_comes script h desk.s (work.Clock tick samples) (Clock desk.s) buffer told seen at.powered.within at.fits.0 takes refl in
@@ -348,32 +349,55 @@ module _ (script : ScriptOf) (h seen : List Event) (desk : Desk) (buffer : List 
       (life_begun script h desk.s desk.power_on desk.switch.value at life (taken_of script h desk.s (work.Restart life) buffer told seen takes)
       (taken_comes script h desk.s (work.Restart life) (Restart desk.s) buffer told seen at.powered.within at.fits.0 takes refl) new started)
 
-pub take_step : (view after : View Event ScriptOf) (desk : Desk) (out buffer : List ℕ) (job : Work) (told : Option PlacedLine) (tale : Box Tale) → IsInStep view desk (next.Ask pending.Work)
-    → Called owner_of AnswersBook view (ask.Take desk.s out) (reply.Take job buffer told) after
-    → ((was : AccountOf) → IsAccount was desk.tale.value.account → IsAccount (with_lines (option_to_list told) was) tale.value.account) → IsInStep after (record desk { buffer = buffer; tale = tale }) (next.Do job)
-take_step view after desk out buffer job told tale step called adds =
-    let asked = ask.Take desk.s out in
+pub take_step : (view after : View Event ScriptOf) (desk : Desk) (papers : Papers) (buffer : List ℕ) (job : Work) (told : Option PlacedLine) (tale : Tale) → desk.pending ≡ pending.Work → IsAsking view desk papers pending.Work
+    → Called owner_of AnswersBook view (ask.Take desk.s papers.buffer) (reply.Take job buffer told) after
+    → ((was : AccountOf) → IsAccount was desk.tale.account → IsAccount (with_lines (option_to_list told) was) tale.account) → IsInStep after (record desk { tale = tale }) (record papers { buffer = buffer }) (next.Do job)
+take_step view after desk papers buffer job told tale asks step called adds =
+    let asked = ask.Take desk.s papers.buffer in
     let answer = reply.Take job buffer told in
-    let at = at_place view desk pending.Work step in
+    let at = at_place view desk papers pending.Work step in
     let h = view.seen ++ called.between in
     let does = answered view after asked answer called step.script step.begun in
-    let now : IsUpTo step.script h desk pending.Work = record {
+    let now : IsUpTo step.script h desk papers pending.Work = record {
       keeps_up = moment view after asked answer called desk.s desk.power_on desk.switch.value pending.Work at;
-      prepared = prepared_then view after asked answer called desk.s desk.power_on desk.switch.value pending.Work at desk.done.value.note desk.tale.value step.fits.prepared;
+      prepared = prepared_then view after asked answer called desk.s desk.power_on desk.switch.value pending.Work at papers.done.value.note desk.tale step.fits.prepared;
     } in
     record {
       script = step.script;
       begun = start_stays view after asked answer called step.script step.begun;
       number = number_stays view after asked answer called (desk.s + 1) step.number;
-      fits = to_do step.script h after.seen desk buffer tale told now job does;
-      told = tells_there view after asked answer called desk.s desk.power_on desk.switch.value pending.Work at desk.tale.value.account tale.value.account (with_lines (option_to_list told)) adds
+      fits = to_do step.script h after.seen desk papers buffer tale told now asks job does;
+      told = tells_there view after asked answer called desk.s desk.power_on desk.switch.value pending.Work at desk.tale.account tale.account (with_lines (option_to_list told)) adds
           (ap (account_of step.script (desk.s + 1)) does.event ∙ work_told step.script h desk.s job ∙ ap (λ (lines : List PlacedLine). with_lines lines (account_of step.script (desk.s + 1) h)) (sym does.told_is)) step.told;
     }
 
+-- what is to be asked for is taken in hand
+pub in_hand : (view : View Event ScriptOf) (desk : Desk) (papers : Papers) (asked left : Pending) → desk.pending ≡ asked → IsInStep view desk papers next.Ask → IsAsking view (record desk { pending = left }) papers asked
+in_hand view desk papers asked left is step = record {
+  script = step.script;
+  begun = step.begun;
+  number = step.number;
+  fits = record {
+    keeps_up = subst (KeepsUp step.script (world_after step.script view.seen) desk.s desk.power_on desk.switch.value) is step.fits.keeps_up;
+    prepared = subst (IsPrepared (world_after step.script view.seen) desk.s papers.done.value.note desk.tale) is step.fits.prepared;
+  };
+  told = step.told;
+}
+
+-- or left to be asked for
+pub left_to_ask : (view : View Event ScriptOf) (desk : Desk) (papers : Papers) (asked : Pending) → desk.pending ≡ asked → IsAsking view desk papers asked → IsInStep view desk papers next.Ask
+left_to_ask view desk papers asked is step = record {
+  script = step.script;
+  begun = step.begun;
+  number = step.number;
+  fits = subst (IsUpTo step.script view.seen desk papers) (sym is) step.fits;
+  told = step.told;
+}
+
 -- what is to be done before a turn was done
-pub ready_step : (view : View Event ScriptOf) (desk new : Desk) (before then : Next) (step : IsInStep view desk before) → new.s ≡ desk.s → new.tale.value.account ≡ desk.tale.value.account
-    → IsNext step.script view.seen new then → IsInStep view new then
-ready_step view desk new before then step place account fits = record {
+pub ready_step : (view : View Event ScriptOf) (desk new : Desk) (papers filled : Papers) (before then : Next) (step : IsInStep view desk papers before) → new.s ≡ desk.s → new.tale.account ≡ desk.tale.account
+    → IsNext step.script view.seen new filled then → IsInStep view new filled then
+ready_step view desk new papers filled before then step place account fits = record {
   script = step.script;
   begun = step.begun;
   number = step.number ∙ ap (λ (n : ℕ). n + 1) (sym place);
@@ -381,9 +405,9 @@ ready_step view desk new before then step place account fits = record {
   told = subst (HasTold step.script view) (sym account) step.told;
 }
 
--- what a worker has is in step
-pub taken_desk : (view : View Event ScriptOf) (has : Option (Desk × Next)) (desk : Desk) (then : Next) → has ≡ Some (desk, then) → IfSome has (λ d. IsInStep view d.0 d.1) → IsInStep view desk then
-taken_desk view has desk then is step = subst (λ (o : Option (Desk × Next)). IfSome o (λ d. IsInStep view d.0 d.1)) is step
+-- a worker that has papers is in step
+pub with_papers : (view : View Event ScriptOf) (has : Option Papers) (desk : Desk) (papers : Papers) (then : Next) → has ≡ Some papers → IfSome has (λ papers. IsInStep view desk papers then) → IsInStep view desk papers then
+with_papers view has desk papers then is step = subst (λ (o : Option Papers). IfSome o (λ papers. IsInStep view desk papers then)) is step
 
 -- of nothing nothing is told
 pub first_told : (view : View Event ScriptOf) (script : ScriptOf) (account : Account) → view.seen ≡ [] → view.mine ≡ [] → IsAccount (record { lines = []; rows = [] }) account → HasTold script view account
@@ -400,19 +424,19 @@ told_at seat script account begun told whole = (
 )
 
 -- a worker that begins
-pub begun_step : (view : View Event ScriptOf) (script : ScriptOf) (s : ℕ) (desk : Desk) → view.start ≡ Some script → view.number ≡ s + 1 → (view.seen ≡ []) × (view.mine ≡ []) → desk.s ≡ s
-    → IsUpTo script [] desk pending.Work → IsAccount (record { lines = []; rows = [] }) desk.tale.value.account → IsInStep view desk (next.Ask pending.Work)
-begun_step view script s desk begun number first place up none = record {
+pub begun_step : (view : View Event ScriptOf) (script : ScriptOf) (s : ℕ) (desk : Desk) (papers : Papers) → view.start ≡ Some script → view.number ≡ s + 1 → (view.seen ≡ []) × (view.mine ≡ []) → desk.s ≡ s
+    → IsUpTo script [] desk papers desk.pending → IsAccount (record { lines = []; rows = [] }) desk.tale.account → IsInStep view desk papers next.Ask
+begun_step view script s desk papers begun number first place up none = record {
   script = script;
   begun = begun;
   number = number ∙ ap (λ (n : ℕ). n + 1) (sym place);
-  fits = subst (λ (h : List Event). IsUpTo script h desk pending.Work) (sym first.0) up;
-  told = first_told view script desk.tale.value.account first.0 first.1 none;
+  fits = subst (λ (h : List Event). IsUpTo script h desk papers desk.pending) (sym first.0) up;
+  told = first_told view script desk.tale.account first.0 first.1 none;
 }
 
 -- the number of a worker's place
-pub place_few : (script : ScriptOf) (history : List Event) (desk : Desk) (pending : Pending) → IsUpTo script history desk pending → desk.s + 1 ≤ 126
-place_few script history desk pending up =
+pub place_few : (script : ScriptOf) (history : List Event) (desk : Desk) (papers : Papers) (next : Pending) → IsUpTo script history desk papers next → desk.s + 1 ≤ 126
+place_few script history desk papers next up =
     let at = up.keeps_up.powered in
     let within = at.within in
     let lives : length script.wires.switches + restarts_of script.commands ≤ 126 = at.kept.lives in

@@ -82,8 +82,8 @@ abbrev pub HasEntries : View Event ScriptOf → ℕ → List Event → Type 0
 HasEntries view number mine = ((number ≡ view.number) × (mine ≡ view.mine))
     ⊎ ((k : ℕ) × (get_elem? view.ended k ≡ some (ended_caller number mine)))
 
--- The account is of all events that a caller has added, as a seat knows in which the caller was ended: what the
--- caller had seen, the seat has seen too.
+-- The account is of all events of a caller, as a seat knows: the entries that it has of the caller are all in
+-- what the caller had seen, from which what the seat has seen goes on.
 pub record IsToldBy (script : ScriptOf) (view : View Event ScriptOf) (number : ℕ) (account : Account)
     : Type 0 where
   pub mine : List Event
@@ -93,7 +93,7 @@ pub record IsToldBy (script : ScriptOf) (view : View Event ScriptOf) (number : �
   pub own : own_entries owner_of seen number ≡ mine
   pub account_is : HasAccount (account_of script number seen) account
 
--- the accounts of callers: from the last worker down, and of all from the driver on
+-- the accounts of callers: of the workers, the last one first, and of all in the order of their numbers
 abbrev pub AreToldDown : ScriptOf → View Event ScriptOf → List Account → Type 0
 AreToldDown script view accounts = (k : ℕ) (account : Account) → k < length accounts
     → IsToldBy script view (length script.wires.switches - k) (slice_index_or accounts k account)

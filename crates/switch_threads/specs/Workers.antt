@@ -30,6 +30,7 @@ use Rattle.fabric_turn.specs.declared.view.View.{View}
 use Rattle.switch_threads.specs.declared.desk.Desk.{Desk}
 use Rattle.switch_threads.specs.declared.desk.Next.{Next}
 use Rattle.switch_threads.specs.declared.desk.Next.TheVariants as next
+use Rattle.switch_threads.specs.declared.desk.Papers.{Papers}
 use Rattle.switch_threads.specs.declared.desk.Pending.{Pending}
 use Rattle.switch_threads.specs.declared.desk.Pending.TheVariants as pending
 use Rattle.switch_threads.specs.declared.desk.Tale.{Tale}
@@ -57,8 +58,8 @@ lines_at_hand world place =
     hand_lines place (station world.fabric place).hand (held_bytes world.fabric place) (world.switches place)
     (handled place world).switch
 
--- What a worker shows and has to tell is of what it has to ask for: the note is what its switch shows then. Of
--- what was handled it has the lines, and room for what becomes of each frame; of a table the rows.
+-- What a worker is to show and to tell fits what it has to ask for: its note is what its switch shows then.
+-- Of what was handled it has the lines, and room for what becomes of each frame; of a table it has the rows.
 abbrev pub IsPrepared : WorldOf → ℕ → NoteOf → Tale → Pending → Type 0
 IsPrepared world place note tale pending.Work = note ≡ note_of (world.switches place)
 IsPrepared world place note tale (pending.Put out) =
@@ -91,49 +92,62 @@ pub record HasInHand (script : ScriptOf) (world : WorldOf) (place : ℕ) (power 
   pub kept : IsSwitchKept world place switch buffer
   pub more : switch.works < world.fabric.events
 
--- The desk of a worker, after a history, fits what it has to ask for
-pub record IsUpTo (script : ScriptOf) (history : List Event) (desk : Desk) (next : Pending) : Type 0 where
+-- Of the desk and the papers of a worker, after a history: all that lies there fits what it has to ask for,
+pub record IsUpTo (script : ScriptOf) (history : List Event) (desk : Desk) (papers : Papers) (next : Pending)
+    : Type 0 where
   pub keeps_up : KeepsUp script (world_after script history) desk.s desk.power_on desk.switch.value next
-  pub prepared : IsPrepared (world_after script history) desk.s desk.done.value.note desk.tale.value next
+  pub prepared : IsPrepared (world_after script history) desk.s papers.done.value.note desk.tale next
 
--- and what is to be handled
-pub record IsToHandle (script : ScriptOf) (history : List Event) (desk : Desk) (hand : Hand) : Type 0 where
-  pub has : HasInHand script (world_after script history) desk.s desk.power_on desk.switch.value desk.buffer hand
-  pub note_is : desk.done.value.note ≡ note_of ((world_after script history).switches desk.s)
+-- or what its switch is to handle, before which it shows what is noted.
+pub record IsToHandle (script : ScriptOf) (history : List Event) (desk : Desk) (papers : Papers) (hand : Hand)
+    : Type 0 where
+  pub has : HasInHand script (world_after script history) desk.s desk.power_on desk.switch.value papers.buffer
+      hand
+  pub note_is : papers.done.value.note ≡ note_of ((world_after script history).switches desk.s)
 
--- What is to be done with the work that a worker took: nothing; to handle what is in hand then; or to begin
--- the next life, with whichever switch is started in it.
-abbrev pub IsToDo : ScriptOf → List Event → Desk → Work → Type 0
-IsToDo script history desk (work.Nothing reason) = IsUpTo script history desk pending.Work
-IsToDo script history desk (work.Clock now samples) = IsToHandle script history desk (hand.Clock now samples)
-IsToDo script history desk (work.Frame port) = IsToHandle script history desk (hand.Frame port)
-IsToDo script history desk (work.Restart life) = (switch : KeptOf)
+-- What is to be done with the work that a worker took: nothing, but to ask for what it has to ask for; to handle
+-- what is in hand then; or to begin the next life, with whichever switch is started in it.
+abbrev pub IsToDo : ScriptOf → List Event → Desk → Papers → Work → Type 0
+IsToDo script history desk papers (work.Nothing reason) = IsUpTo script history desk papers desk.pending
+IsToDo script history desk papers (work.Clock now samples) =
+    IsToHandle script history desk papers (hand.Clock now samples)
+IsToDo script history desk papers (work.Frame port) = IsToHandle script history desk papers (hand.Frame port)
+IsToDo script history desk papers (work.Restart life) = (switch : KeptOf)
     → IsStarted (start_with desk.power_on life) switch
     → KeepsUp script (world_after script history) desk.s desk.power_on switch pending.Work
 
 -- What a worker is to do next fits: to ask for something now or later, or to do the work that it took.
-abbrev pub IsNext : ScriptOf → List Event → Desk → Next → Type 0
-IsNext script history desk (next.Ask pending) = IsUpTo script history desk pending
-IsNext script history desk (next.Later pending) = IsUpTo script history desk pending
-IsNext script history desk (next.Do job) = IsToDo script history desk job
+abbrev pub IsNext : ScriptOf → List Event → Desk → Papers → Next → Type 0
+IsNext script history desk papers next.Ask = IsUpTo script history desk papers desk.pending
+IsNext script history desk papers next.Later = IsUpTo script history desk papers desk.pending
+IsNext script history desk papers (next.Do job) = IsToDo script history desk papers job
 
--- A caller has told of its events: its seat has all of them that are in what it has seen, and the account is of
--- these.
+-- A caller has told of its events: its seat has all of them that are in what it has seen, and the account is
+-- of these.
 pub record HasTold (script : ScriptOf) (view : View Event ScriptOf) (account : Account) : Type 0 where
   pub own : own_entries owner_of view.seen view.number ≡ view.mine
   pub account_is : IsAccount (account_of script view.number view.seen) account
 
--- The worker of a seat is in step: the seat's number is that of its place, what it is to do next fits the world
--- after what the seat has seen, and it has told of its events.
-pub record IsInStep (view : View Event ScriptOf) (desk : Desk) (then : Next) : Type 0 where
+-- The worker of a seat: the seat's number is that of its place, what it is about fits the history that the seat
+-- has seen, and it has told of its events.
+pub record IsWorker (view : View Event ScriptOf) (desk : Desk) (Fits : ScriptOf → List Event → Type 0)
+    : Type 0 where
   pub script : ScriptOf
   pub begun : view.start ≡ Some script
   pub number : view.number ≡ desk.s + 1
-  pub fits : IsNext script view.seen desk then
-  pub told : HasTold script view desk.tale.value.account
+  pub fits : Fits script view.seen
+  pub told : HasTold script view desk.tale.account
 
--- The driver has the number 0, and has told of its events. Where it was told an end, that is the end of what its
--- seat has seen.
+-- It asks for something that fits.
+abbrev pub IsAsking : View Event ScriptOf → Desk → Papers → Pending → Type 0
+IsAsking view desk papers next = IsWorker view desk (λ script history. IsUpTo script history desk papers next)
+
+-- It is in step: what it is to do next fits.
+abbrev pub IsInStep : View Event ScriptOf → Desk → Papers → Next → Type 0
+IsInStep view desk papers then = IsWorker view desk (λ script history. IsNext script history desk papers then)
+
+-- The driver has the number 0, and has told of its events. Where it was told an end, that is the end of what
+-- its seat has seen.
 pub record IsDriving (view : View Event ScriptOf) (end : Option Ending) (account : Account) : Type 0 where
   pub script : ScriptOf
   pub kept : IsScript script

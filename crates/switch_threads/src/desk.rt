@@ -1,6 +1,6 @@
 //! What a worker works with.
 
-ghost use Rattle.std.specs.Prelude.{◌≡◌, ◌++◌, ◌<◌, List, [], length, false, IfOk};
+ghost use Rattle.std.specs.Prelude.{◌≡◌, ◌++◌, ◌<◌, List, [], length, false, IfOk, OnOk};
 ghost use Rattle.an_base.specs.declared.event.Event.{Event};
 ghost use Rattle.net_script.specs.Scripts.{ScriptOf};
 ghost use Rattle.switch_core.specs.Kept.{StandsFor};
@@ -13,9 +13,10 @@ ghost use Rattle.fabric_book.specs.Accounts.{IsAccount, with_lines, with_load};
 ghost use Rattle.fabric_book.specs.Told.{losses};
 ghost use Rattle.switch_threads.specs.declared.desk.Desk.{Desk as DeskOf};
 ghost use Rattle.switch_threads.specs.declared.desk.Next.TheVariants as next;
+ghost use Rattle.switch_threads.specs.declared.desk.Papers.{Papers as PapersOf};
 ghost use Rattle.switch_threads.specs.declared.desk.Pending.TheVariants as pending;
 ghost use Rattle.switch_threads.specs.Runs.{HasCalled};
-ghost use Rattle.switch_threads.specs.Workers.{IsInStep, IsNext, IsToDo, IsToHandle, IsUpTo, done_with};
+ghost use Rattle.switch_threads.specs.Workers.{IsAsking, IsInStep, IsNext, IsToDo, IsToHandle, IsUpTo, done_with};
 
 use an_base::life::Life;
 use an_base::memory::OutOfMemory;
@@ -55,12 +56,12 @@ pub(crate) enum Pending {
 }
 
 /// What a worker is to do next.
-#[derive(Drop)]
+#[derive(Clone, Copy)]
 pub(crate) enum Next {
-    /// To ask for this.
-    Ask(Pending),
-    /// To ask for this in the next round.
-    Later(Pending),
+    /// To ask for what is to be asked for.
+    Ask,
+    /// To ask for it in the next round.
+    Later,
     /// To do the work that it took.
     Do(Work),
 }
@@ -68,23 +69,23 @@ pub(crate) enum Next {
 impl Next {
     /// What there is to do at this turn of a round, which may be its first.
     pub fn in_round(self, is_first: bool) -> Next
-        ensures { (script : ScriptOf) (history : List Event) (desk : DeskOf)
-            → IsNext script history desk self → IsNext script history desk result }
+        ensures { (script : ScriptOf) (history : List Event) (desk : DeskOf) (papers : PapersOf)
+            → IsNext script history desk papers self → IsNext script history desk papers result }
     {
         match self {
-            Next::Later(pending) if is_first => Next::Ask(pending),
+            Next::Later if is_first => Next::Ask,
             next => next,
         }
     }
 
     /// Whether there is something to do at this turn of a round, which may be its first.
     pub fn is_in_round(&self, is_first: bool) -> bool {
-        is_first || !matches!(self, Next::Later(_))
+        is_first || !matches!(self, Next::Later)
     }
 
     /// Whether there is something to ask for.
     pub fn is_ask(&self) -> bool {
-        matches!(self, Next::Ask(_))
+        matches!(self, Next::Ask)
     }
 }
 
@@ -138,7 +139,39 @@ impl Tale {
     }
 }
 
-/// What a worker works with.
+/// What a worker hands over when it asks, and gets back.
+#[derive(Drop)]
+pub(crate) struct Papers {
+    /// Where the bytes of a frame go.
+    pub buffer: FrameBuf,
+    /// Where what it puts lies while it is put. Its note is what the switch shows.
+    pub done: Box<Done>,
+    /// Room for another note, as while a table is loaded.
+    pub note: Box<Note>,
+}
+
+impl Papers {
+    // With what this switch shows.
+    fn new(alloc: Global, switch: &Switch) -> Result<Papers, OutOfMemory>
+        ensures { (x : SwitchOf) → StandsFor switch.now x
+            → IfOk result (λ papers. papers.done.value.note ≡ note_of x) }
+    {
+        let note = Box::new(alloc, switch.note())?;
+        let done = Done {
+            frames: Frames::new(alloc),
+            noframe: false,
+            note: note.copy(),
+            spent: false,
+        };
+        Ok(Papers {
+            buffer: FrameBuf::new(alloc)?,
+            done: Box::new(alloc, done)?,
+            note,
+        })
+    }
+}
+
+/// What a worker works with, but for its papers.
 #[derive(Drop)]
 pub(crate) struct Desk {
     /// The allocator of what the worker makes.
@@ -149,30 +182,12 @@ pub(crate) struct Desk {
     pub power_on: PowerOn,
     /// The switch, which stays where it is when the desk is moved.
     pub switch: Box<Switch>,
-    /// Where the bytes of a frame go.
-    pub buffer: FrameBuf,
     /// Where the frames go that the switch sends.
     pub out: Out,
-    /// Where what it puts lies while it is put. Its note is what the switch shows.
-    pub done: Box<Done>,
-    /// Room for another note, as while a table is loaded.
-    pub note: Box<Note>,
+    /// What is to be asked for next.
+    pub pending: Pending,
     /// What the worker tells.
-    pub tale: Box<Tale>,
-}
-
-// The boxes for what came of what a switch had in hand, with what this switch shows, and for another note.
-fn boxes(alloc: Global, switch: &Switch) -> Result<(Box<Done>, Box<Note>), OutOfMemory>
-    ensures { (x : SwitchOf) → StandsFor switch.now x → IfOk result (λ made. made.0.value.note ≡ note_of x) }
-{
-    let note = Box::new(alloc, switch.note())?;
-    let done = Done {
-        frames: Frames::new(alloc),
-        noframe: false,
-        note: note.copy(),
-        spent: false,
-    };
-    Ok((Box::new(alloc, done)?, note))
+    pub tale: Tale,
 }
 
 // The box with what came of what a switch had in hand, and with what the switch shows then.
@@ -216,141 +231,145 @@ fn load_line(s: u8, table: &TableFor) -> Line
 
 // What there is to do after work was taken. Where there is none it is to be asked for in the next round.
 fn after_take(work: Work) -> Next
-    ensures { (script : ScriptOf) (history : List Event) (desk : DeskOf)
-        → IsToDo script history desk work → IsNext script history desk result }
+    ensures { (script : ScriptOf) (history : List Event) (desk : DeskOf) (papers : PapersOf)
+        → IsToDo script history desk papers work → IsNext script history desk papers result }
 {
     match work {
-        Work::Nothing { why: _ } => Next::Later(Pending::Work),
+        Work::Nothing { why: _ } => Next::Later,
         work => Next::Do(work),
     }
 }
 
 impl Desk {
-    /// The desk of a switch that begins its first life.
-    pub fn new(alloc: Global, script: &Script, s: u8) -> Result<Desk, OutOfMemory>
+    /// The desk and the papers of a switch that begins its first life.
+    pub fn new(alloc: Global, script: &Script, s: u8) -> Result<(Desk, Papers), OutOfMemory>
         requires { s < length script.now.wires.switches }
-        ensures place { IfOk result (λ desk. desk.s ≡ s) }
-        ensures up { IfOk result (λ desk. IsUpTo script.now [] desk pending.Work) }
-        ensures told { IfOk result (λ desk.
-            IsAccount (record { lines = []; rows = [] }) desk.tale.value.account) }
+        ensures place { IfOk result (λ r. r.0.s ≡ s) }
+        ensures up { IfOk result (λ r. IsUpTo script.now [] r.0 r.1 r.0.pending) }
+        ensures told { IfOk result (λ r. IsAccount (record { lines = []; rows = [] }) r.0.tale.account) }
     {
         let power_on = PowerOn::of(script, s);
         let life = script.wiring().life(s);
-        let buffer = FrameBuf::new(alloc)?;
         let started = power_on.start(alloc, life)?;
-        let (done, note) = boxes(alloc, &started)?;
+        let papers = Papers::new(alloc, &started)?;
         let switch = Box::new(alloc, started)?;
-        let tale = Box::new(alloc, Tale::new(alloc))?;
-        Ok(Desk {
+        let desk = Desk {
             alloc,
             s,
             power_on,
             switch,
-            buffer,
             out: Out::new(alloc),
-            done,
-            note,
-            tale,
-        })
+            pending: Pending::Work,
+            tale: Tale::new(alloc),
+        };
+        Ok((desk, papers))
     }
 
-    // What there is to ask for: that a table be loaded, where one is due and nothing else is to be asked for.
-    fn due(&mut self, pending: Pending) -> Result<Pending, OutOfMemory>
+    // A table is to be loaded next, where one is due and nothing else is to be asked for.
+    fn due(&mut self, papers: &mut Papers) -> Result<(), OutOfMemory>
         ensures place { self.new.s ≡ self.old.s }
-        ensures told { self.new.tale.value.account ≡ self.old.tale.value.account }
-        ensures up { (script : ScriptOf) (history : List Event) → IsUpTo script history self.old pending
-            → IfOk result (IsUpTo script history self.new) }
+        ensures told { self.new.tale.account ≡ self.old.tale.account }
+        ensures up { (script : ScriptOf) (history : List Event)
+            → IsUpTo script history self.old papers.old self.old.pending
+            → OnOk result (IsUpTo script history self.new papers.new self.new.pending) }
     {
-        match pending {
+        match self.pending {
             Pending::Work if self.switch.load_due() => {
                 let table = self.switch.load()?;
                 self.tale.rows = copied(self.alloc, table.table.as_slice())?;
-                self.switch.show(&mut self.done.note);
-                Ok(Pending::Load(table))
+                self.switch.show(&mut papers.done.note);
+                self.pending = Pending::Load(table);
+                Ok(())
             }
-            pending => Ok(pending),
+            _ => Ok(()),
         }
     }
 
     /// Does what is to be done before there is something to ask for: the work that was taken, and a table
-    /// that is due. Answers what is to be asked for then, and when.
-    pub fn ready(&mut self, next: Next) -> Result<Next, OutOfMemory>
-        requires { (script : ScriptOf) × (history : List Event) × IsNext script history self.old next }
+    /// that is due. Answers what there is to do then.
+    pub fn ready(&mut self, papers: &mut Papers, next: Next) -> Result<Next, OutOfMemory>
+        requires { (script : ScriptOf) × (history : List Event) × IsNext script history self.old papers.old next }
         ensures place { self.new.s ≡ self.old.s }
-        ensures told { self.new.tale.value.account ≡ self.old.tale.value.account }
-        ensures up { (script : ScriptOf) (history : List Event) → IsNext script history self.old next
-            → IfOk result (IsNext script history self.new) }
+        ensures told { self.new.tale.account ≡ self.old.tale.account }
+        ensures up { (script : ScriptOf) (history : List Event) → IsNext script history self.old papers.old next
+            → IfOk result (IsNext script history self.new papers.new) }
     {
         match next {
-            Next::Ask(pending) => Ok(Next::Ask(self.due(pending)?)),
-            Next::Later(pending) => Ok(Next::Later(pending)),
+            Next::Ask => {
+                self.due(papers)?;
+                Ok(Next::Ask)
+            }
+            Next::Later => Ok(Next::Later),
             Next::Do(work) => {
-                let pending = self.work(&work)?;
-                Ok(Next::Ask(self.due(pending)?))
+                self.work(papers, &work)?;
+                self.due(papers)?;
+                Ok(Next::Ask)
             }
         }
     }
 
-    /// Asks for what is to be asked for. Answers what there is to do next.
+    /// Asks for what is to be asked for. Answers its papers, and what there is to do next.
     pub fn ask<R: Wait>(
-        self,
+        &mut self,
         rt: &R,
         turnstile: &Turnstile<Book>,
         seat: &mut Seat<Book>,
-        pending: Pending,
-    ) -> (Desk, Next)
+        papers: Papers,
+    ) -> (Papers, Next)
         requires turnstile { seat.old.0 ≡ turnstile_id turnstile.now }
-        requires step { IsInStep seat.old.1 self (next.Ask pending) }
+        requires step { IsInStep seat.old.1 self.old papers next.Ask }
         ensures called { HasCalled seat.old seat.new }
-        ensures step { IsInStep seat.new.1 result.0 result.1 }
+        ensures step { IsInStep seat.new.1 self.new result.0 result.1 }
     {
-        match pending {
-            Pending::Work => self.take(rt, turnstile, seat),
-            Pending::Put(out) => self.put_and_take(rt, turnstile, seat, out),
-            Pending::Load(table) => self.load(rt, turnstile, seat, table),
+        match replace(&mut self.pending, Pending::Work) {
+            Pending::Work => self.take(rt, turnstile, seat, papers),
+            Pending::Put(out) => self.put_and_take(rt, turnstile, seat, papers, out),
+            Pending::Load(table) => self.load(rt, turnstile, seat, papers, table),
         }
     }
 
     // Asks for work.
     fn take<R: Wait>(
-        self,
+        &mut self,
         rt: &R,
         turnstile: &Turnstile<Book>,
         seat: &mut Seat<Book>,
-    ) -> (Desk, Next)
+        papers: Papers,
+    ) -> (Papers, Next)
         requires turnstile { seat.old.0 ≡ turnstile_id turnstile.now }
-        requires step { IsInStep seat.old.1 self (next.Ask pending.Work) }
+        requires pending { self.old.pending ≡ pending.Work }
+        requires step { IsAsking seat.old.1 self.old papers pending.Work }
         ensures called { HasCalled seat.old seat.new }
-        ensures step { IsInStep seat.new.1 result.0 result.1 }
+        ensures step { IsInStep seat.new.1 self.new result.0 result.1 }
     {
         let ask = BookAsk::Take {
             s: self.s,
-            out: self.buffer,
+            out: papers.buffer,
         };
         let BookReply::Take { work, out, told } = turnstile.call(rt, seat, ask) else {
             unreachable!()
         };
-        let mut desk = Desk {
+        self.tale.account.tell(told);
+        let papers = Papers {
             buffer: out,
-            ..self
+            ..papers
         };
-        desk.tale.account.tell(told);
-        (desk, after_take(work))
+        (papers, after_take(work))
     }
 
     // Does the work that it took.
-    fn work(&mut self, job: &Work) -> Result<Pending, OutOfMemory>
-        requires { (script : ScriptOf) × (history : List Event) × IsToDo script history self.old job.now }
+    fn work(&mut self, papers: &mut Papers, job: &Work) -> Result<(), OutOfMemory>
+        requires { (script : ScriptOf) × (history : List Event) × IsToDo script history self.old papers.old job.now }
         ensures place { self.new.s ≡ self.old.s }
-        ensures told { self.new.tale.value.account ≡ self.old.tale.value.account }
-        ensures done { (script : ScriptOf) (history : List Event) → IsToDo script history self.old job.now
-            → IfOk result (IsUpTo script history self.new) }
+        ensures told { self.new.tale.account ≡ self.old.tale.account }
+        ensures done { (script : ScriptOf) (history : List Event) → IsToDo script history self.old papers.old job.now
+            → OnOk result (IsUpTo script history self.new papers.new self.new.pending) }
     {
         match *job {
-            Work::Restart { life } => self.restart(life),
-            Work::Clock { now, samples } => self.handle(Hand::Clock { now, samples }),
-            Work::Frame { port } => self.handle(Hand::Frame { port }),
-            Work::Nothing { why: _ } => Ok(Pending::Work),
+            Work::Restart { life } => self.restart(papers, life),
+            Work::Clock { now, samples } => self.handle(papers, Hand::Clock { now, samples }),
+            Work::Frame { port } => self.handle(papers, Hand::Frame { port }),
+            Work::Nothing { why: _ } => Ok(()),
         }
     }
 
@@ -358,82 +377,88 @@ impl Desk {
     // each call, though a restart is rare.
     #[cold]
     #[inline(never)]
-    fn restart(&mut self, life: Life) -> Result<Pending, OutOfMemory>
-        requires { (script : ScriptOf) × (history : List Event) × IsToDo script history self.old (Restart life) }
+    fn restart(&mut self, papers: &mut Papers, life: Life) -> Result<(), OutOfMemory>
+        requires { (script : ScriptOf) × (history : List Event)
+            × IsToDo script history self.old papers.old (Restart life) }
         ensures place { self.new.s ≡ self.old.s }
-        ensures told { self.new.tale.value.account ≡ self.old.tale.value.account }
+        ensures told { self.new.tale.account ≡ self.old.tale.account }
         ensures done { (script : ScriptOf) (history : List Event)
-            → IsToDo script history self.old (Restart life) → IfOk result (IsUpTo script history self.new) }
+            → IsToDo script history self.old papers.old (Restart life)
+            → OnOk result (IsUpTo script history self.new papers.new self.new.pending) }
     {
         *self.switch = self.power_on.start(self.alloc, life)?;
-        self.switch.show(&mut self.done.note);
-        Ok(Pending::Work)
+        self.switch.show(&mut papers.done.note);
+        self.pending = Pending::Work;
+        Ok(())
     }
 
     // The switch handles what it has in hand, and what came of it is to be put then.
-    fn handle(&mut self, hand: Hand) -> Result<Pending, OutOfMemory>
-        requires { (script : ScriptOf) × (history : List Event) × IsToHandle script history self.old hand }
+    fn handle(&mut self, papers: &mut Papers, hand: Hand) -> Result<(), OutOfMemory>
+        requires { (script : ScriptOf) × (history : List Event) × IsToHandle script history self.old papers.old hand }
         ensures place { self.new.s ≡ self.old.s }
-        ensures told { self.new.tale.value.account ≡ self.old.tale.value.account }
-        ensures done { (script : ScriptOf) (history : List Event) → IsToHandle script history self.old hand
-            → IfOk result (IsUpTo script history self.new) }
+        ensures told { self.new.tale.account ≡ self.old.tale.account }
+        ensures done { (script : ScriptOf) (history : List Event) → IsToHandle script history self.old papers.old hand
+            → OnOk result (IsUpTo script history self.new papers.new self.new.pending) }
     {
         self.tale.lines.clear();
         handle(
             &mut self.switch,
             self.s,
             hand,
-            self.buffer.bytes(),
+            papers.buffer.bytes(),
             &mut self.out,
-            &mut self.done.note,
-            &mut self.note,
+            &mut papers.done.note,
+            &mut papers.note,
             &mut self.tale.lines,
         )?;
         let out = replace(&mut self.out, Out::new(self.alloc));
         self.tale.puts.resize(out.frames.as_slice().len(), None)?;
-        Ok(Pending::Put(out))
+        self.pending = Pending::Put(out);
+        Ok(())
     }
 
     // Puts what came of what it had in hand, and asks at once for work, where no table is due: what the book has of
     // its switch is near then.
     fn put_and_take<R: Wait>(
-        self,
+        &mut self,
         rt: &R,
         turnstile: &Turnstile<Book>,
         seat: &mut Seat<Book>,
+        papers: Papers,
         out: Out,
-    ) -> (Desk, Next)
+    ) -> (Papers, Next)
         requires turnstile { seat.old.0 ≡ turnstile_id turnstile.now }
-        requires step { IsInStep seat.old.1 self (next.Ask (pending.Put out)) }
+        requires pending { self.old.pending ≡ pending.Work }
+        requires step { IsAsking seat.old.1 self.old papers (pending.Put out) }
         ensures called { HasCalled seat.old seat.new }
-        ensures step { IsInStep seat.new.1 result.0 result.1 }
+        ensures step { IsInStep seat.new.1 self.new result.0 result.1 }
     {
-        let desk = self.put(rt, turnstile, seat, out);
-        if desk.switch.load_due() {
-            return (desk, Next::Ask(Pending::Work));
+        let papers = self.put(rt, turnstile, seat, papers, out);
+        if self.switch.load_due() {
+            return (papers, Next::Ask);
         }
-        desk.take(rt, turnstile, seat)
+        self.take(rt, turnstile, seat, papers)
     }
 
     // Puts what came of what it had in hand. The memory of the frames is kept for those that come.
     fn put<R: Wait>(
-        self,
+        &mut self,
         rt: &R,
         turnstile: &Turnstile<Book>,
         seat: &mut Seat<Book>,
+        papers: Papers,
         out: Out,
-    ) -> Desk
+    ) -> Papers
         requires turnstile { seat.old.0 ≡ turnstile_id turnstile.now }
-        requires step { IsInStep seat.old.1 self (next.Ask (pending.Put out)) }
+        requires step { IsAsking seat.old.1 self.old papers (pending.Put out) }
         ensures called { HasCalled seat.old seat.new }
-        ensures step { IsInStep seat.new.1 result (next.Ask pending.Work) }
+        ensures pending { self.new.pending ≡ self.old.pending }
+        ensures step { IsAsking seat.new.1 self.new result pending.Work }
     {
-        let mut tale = self.tale;
-        let room = self.done;
         let ask = BookAsk::Put {
             s: self.s,
-            done: filled(&self.switch, out, room),
-            puts: replace(&mut tale.puts, Vec::new(self.alloc)),
+            done: filled(&self.switch, out, papers.done),
+            puts: replace(&mut self.tale.puts, Vec::new(self.alloc)),
         };
         let BookReply::Put {
             mut done,
@@ -443,35 +468,33 @@ impl Desk {
         else {
             unreachable!()
         };
-        tale.tell_handled(self.s, done.frames.as_slice(), puts, event);
-        let out = Out {
+        self.tale
+            .tell_handled(self.s, done.frames.as_slice(), puts, event);
+        self.out = Out {
             frames: replace(&mut done.frames, Frames::new(self.alloc)),
             noframe: false,
         };
-        Desk {
-            out,
-            done,
-            tale,
-            ..self
-        }
+        Papers { done, ..papers }
     }
 
     // Asks for a table to be used.
     fn load<R: Wait>(
-        self,
+        &mut self,
         rt: &R,
         turnstile: &Turnstile<Book>,
         seat: &mut Seat<Book>,
+        papers: Papers,
         table: TableFor,
-    ) -> (Desk, Next)
+    ) -> (Papers, Next)
         requires turnstile { seat.old.0 ≡ turnstile_id turnstile.now }
-        requires step { IsInStep seat.old.1 self (next.Ask (pending.Load table)) }
+        requires pending { self.old.pending ≡ pending.Work }
+        requires step { IsAsking seat.old.1 self.old papers (pending.Load table) }
         ensures called { HasCalled seat.old seat.new }
-        ensures step { IsInStep seat.new.1 result.0 result.1 }
+        ensures step { IsInStep seat.new.1 self.new result.0 result.1 }
     {
         let line = load_line(self.s, &table);
-        let mut note = self.note;
-        write_note(&mut note, &self.done.note);
+        let mut note = papers.note;
+        write_note(&mut note, &papers.done.note);
         let ask = BookAsk::Load {
             s: self.s,
             table,
@@ -480,21 +503,25 @@ impl Desk {
         let BookReply::Load { reply, note } = turnstile.call(rt, seat, ask) else {
             unreachable!()
         };
-        let mut desk = Desk { note, ..self };
+        let papers = Papers { note, ..papers };
         match reply {
             LoadReply::Loaded { event } => {
-                desk.tale.tell_load(desk.alloc, event, line);
-                (desk, Next::Ask(Pending::Work))
+                self.tale.tell_load(self.alloc, event, line);
+                (papers, Next::Ask)
             }
-            LoadReply::NotNow(table) => (desk, Next::Later(Pending::Load(table))),
+            LoadReply::NotNow(back) => {
+                self.pending = Pending::Load(back);
+                (papers, Next::Later)
+            }
         }
     }
 
     /// What is told of the events of its worker, unless memory was wanting.
     pub fn into_account(self) -> Result<Account, OutOfMemory>
-        ensures { IfOk result (λ account. (account ≡ self.tale.value.account) × (account.failed ≡ false)) }
+        ensures { IfOk result (λ account. (account ≡ self.tale.account) × (account.failed ≡ false)) }
     {
-        let Tale { account, .. } = Box::into_inner(self.tale);
+        let Desk { tale, .. } = self;
+        let Tale { account, .. } = tale;
         if account.failed {
             return Err(OutOfMemory);
         }

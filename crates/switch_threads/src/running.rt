@@ -34,12 +34,12 @@ pub struct Told {
     pub accounts: Vec<Account>,
 }
 
-// The most threads that the workers have.
-const THREADS: usize = 4;
+// The most workers that have a thread of their own.
+const FEW: usize = 4;
 
-// The fewest workers of a thread, where there are more than threads: with fewer in each, threads wait for one another
-// longer than they work.
-const FEWEST: usize = 16;
+// How many threads have the workers between them where there are more. The calls of the book follow one another, and
+// with fewer workers in each, threads wait for one another longer than they work.
+const THREADS: usize = 2;
 
 // The most turns of a worker in one round.
 const TURNS: u32 = 64;
@@ -195,16 +195,35 @@ fn work_all<R: Threads + Wait + Sync, G: Gate>(
     );
 }
 
-// The driver makes the rounds of a shift. That in which it is told an end is the last one.
+// The driver makes its steps of a round.
 fn drive<R: Wait>(rt: &R, turnstile: &Turnstile<Book>, shift: &Shift, driver: &mut Driver)
     requires { driver.old.seat.0 ≡ turnstile_id turnstile.now }
     ensures { HasCalled driver.old.seat driver.new.seat }
 {
+    let behind_the_door = shift.enter(rt);
+    driver.steps(rt, turnstile);
+    drop(behind_the_door);
+}
+
+// The driver and the workers of its thread make the rounds of a shift, the driver first. That in which it is told an
+// end, or memory was wanting to one of them, is the last one.
+fn lead<R: Threads + Wait + Sync, G: Gate>(
+    rt: &R,
+    turnstile: &Turnstile<Book>,
+    gate: &G,
+    shift: &Shift,
+    driver: &mut Driver,
+    workers: &mut [Worker],
+)
+    requires driver { driver.old.seat.0 ≡ turnstile_id turnstile.now }
+    requires workers { All (λ worker. worker.0 ≡ turnstile_id turnstile.now) workers.old }
+    ensures driver { HasCalled driver.old.seat driver.new.seat }
+    ensures workers { HaveCalled workers.old workers.new }
+{
     'rounds: for round in 0..shift.begin() {
-        let behind_the_door = shift.enter(rt);
-        driver.steps(rt, turnstile);
-        drop(behind_the_door);
-        if driver.end().is_some() || driver.failed() {
+        drive(rt, turnstile, shift, driver);
+        work(rt, turnstile, gate, shift, workers);
+        if driver.end().is_some() || driver.failed() || have_failed(workers) {
             shift.end_with(round);
         }
         if !shift.end_round(rt, round) {
@@ -213,17 +232,52 @@ fn drive<R: Wait>(rt: &R, turnstile: &Turnstile<Book>, shift: &Shift, driver: &m
     }
 }
 
-// How many of so many workers a thread has. Of few each has a thread of its own.
+// How many of so many workers a thread has.
 fn workers_each(workers: usize) -> usize
     ensures { 0 < result }
 {
-    if workers <= THREADS {
+    if workers <= FEW {
         return 1;
     }
-    workers.div_ceil(THREADS).max(FEWEST)
+    workers.div_ceil(THREADS)
 }
 
-// A shift: in each of its rounds all workers and the driver, beside each other.
+// A shift of the driver with the first workers and, beside them, the other ones, so many in each thread.
+fn make_beside<R: Threads + Wait + Sync, G: Gate>(
+    rt: &R,
+    turnstile: &Turnstile<Book>,
+    gate: &G,
+    each: usize,
+    driver: &mut Driver,
+    first: &mut [Worker],
+    others: &mut [Worker],
+)
+    requires each { 0 < each }
+    requires driver { driver.old.seat.0 ≡ turnstile_id turnstile.now }
+    requires first { All (λ worker. worker.0 ≡ turnstile_id turnstile.now) first.old }
+    requires others { All (λ worker. worker.0 ≡ turnstile_id turnstile.now) others.old }
+    ensures driver { HasCalled driver.old.seat driver.new.seat }
+    ensures first { HaveCalled first.old first.new }
+    ensures others { HaveCalled others.old others.new }
+{
+    let shift = Shift::new(ROUNDS, others.len().div_ceil(each).saturating_add(1));
+    let shift = &shift;
+    join_mut(
+        rt,
+        &mut ||
+            requires { (0 < each) × All (λ worker. worker.0 ≡ turnstile_id turnstile.now) others.now }
+            ensures { HaveCalled others.entry.now others.exit.now }
+        { work_all(rt, turnstile, gate, shift, each, others) },
+        &mut ||
+            requires driver { driver.now.seat.0 ≡ turnstile_id turnstile.now }
+            requires workers { All (λ worker. worker.0 ≡ turnstile_id turnstile.now) first.now }
+            ensures driver { HasCalled driver.entry.now.seat driver.exit.now.seat }
+            ensures workers { HaveCalled first.entry.now first.exit.now }
+        { lead(rt, turnstile, gate, shift, driver, first) },
+    );
+}
+
+// A shift: in each of its rounds the driver and all workers.
 fn make<R: Threads + Wait + Sync, G: Gate>(
     rt: &R,
     turnstile: &Turnstile<Book>,
@@ -237,19 +291,8 @@ fn make<R: Threads + Wait + Sync, G: Gate>(
     ensures workers { HaveCalled workers.old workers.new }
 {
     let each = workers_each(workers.len());
-    let shift = Shift::new(ROUNDS, workers.len().div_ceil(each).saturating_add(1));
-    let shift = &shift;
-    join_mut(
-        rt,
-        &mut ||
-            requires { driver.now.seat.0 ≡ turnstile_id turnstile.now }
-            ensures { HasCalled driver.entry.now.seat driver.exit.now.seat }
-        { drive(rt, turnstile, shift, driver) },
-        &mut ||
-            requires { (0 < each) × All (λ worker. worker.0 ≡ turnstile_id turnstile.now) workers.now }
-            ensures { HaveCalled workers.entry.now workers.exit.now }
-        { work_all(rt, turnstile, gate, shift, each, workers) },
-    );
+    let (first, others) = workers.split_at_mut(each.min(workers.len()));
+    make_beside(rt, turnstile, gate, each, driver, first, others);
 }
 
 // Shifts, until the driver is told an end.

@@ -4,7 +4,7 @@ ghost use Rattle.std.specs.Prelude.{◌≡◌, ◌+◌, ◌<◌, [], length, IfO
 ghost use Rattle.fabric_turn.specs.Names.{turnstile_id};
 ghost use Rattle.switch_threads.specs.Runs.{HasCalled, IsToldAt};
 
-use crate::desk::{Desk, Next, Pending};
+use crate::desk::{Desk, Next, Papers};
 use crate::gate::Gate;
 use an_base::memory::OutOfMemory;
 use fabric_book::account::Account;
@@ -15,16 +15,18 @@ use std::alloc::Global;
 use std::marker::Model;
 use std::sync::Wait;
 
-/// The worker of a switch: its number, its seat, how many turns it made, whether it makes one, and what it works
-/// with, with what it is to do next. Contracts see its seat. While it asks it has nothing to work with, and
-/// after want of memory it has nothing any more: its switch and the book have parted then.
+/// The worker of a switch: its number, its seat, how many turns it made, whether it makes one, what it works with,
+/// and what it is to do next. Contracts see its seat. While it asks it has no papers, and after want of memory it
+/// has none any more: its switch and the book have parted then.
 #[derive(Drop)]
 pub(crate) struct Worker {
     number: u8,
     seat: Seat<Book>,
     turns: u64,
     is_asking: bool,
-    desk: Option<(Desk, Next)>,
+    desk: Desk,
+    papers: Option<Papers>,
+    next: Next,
 }
 
 impl Model for Worker {
@@ -37,7 +39,7 @@ impl Model for Worker {
 
     ghost view = { λ w. w.seat };
 
-    ghost invariant = { λ w. IfSome w.desk (λ d. IsInStep w.seat.1 d.0 d.1) };
+    ghost invariant = { λ w. IfSome w.papers (λ papers. IsInStep w.seat.1 w.desk papers w.next) };
 }
 
 impl Worker {
@@ -54,22 +56,21 @@ impl Worker {
         requires first { (seat.1.seen ≡ []) × (seat.1.mine ≡ []) }
         ensures { IfOk result (λ worker. worker ≡ seat) }
     {
-        let desk = Desk::new(alloc, script, s)?;
+        let (desk, papers) = Desk::new(alloc, script, s)?;
         Ok(Worker {
             number: desk.s + 1,
             seat,
             turns: 0,
             is_asking: false,
-            desk: Some((desk, Next::Ask(Pending::Work))),
+            desk,
+            papers: Some(papers),
+            next: Next::Ask,
         })
     }
 
     /// Whether memory was wanting.
     pub fn failed(&self) -> bool {
-        match &self.desk {
-            Some((desk, _)) => desk.tale.account.failed,
-            None => true,
-        }
+        self.papers.is_none() || self.desk.tale.account.failed
     }
 
     /// Its seat, and what is told of its events, unless memory was wanting.
@@ -77,8 +78,13 @@ impl Worker {
         ensures seat { IfOk result (λ parts. parts.0 ≡ self) }
         ensures told { IfOk result (λ parts. IsToldAt self parts.1) }
     {
-        let Worker { seat, desk, .. } = self;
-        let Some((desk, _next)) = desk else {
+        let Worker {
+            seat,
+            desk,
+            papers,
+            ..
+        } = self;
+        let Some(_papers) = papers else {
             return Err(OutOfMemory);
         };
         Ok((seat, desk.into_account()?))
@@ -89,29 +95,22 @@ impl Worker {
         self.is_asking
     }
 
-    // Whether it has nothing to do at this turn of a round, which may be its first.
-    fn rests(&self, is_first: bool) -> bool {
-        match &self.desk {
-            Some((_, next)) => !next.is_in_round(is_first),
-            None => true,
-        }
-    }
-
     /// Gets ready for a turn, if there is to be one in this round. Whether it is the first of the round.
     pub fn prepare<R: Wait, G: Gate>(&mut self, rt: &R, gate: &G, is_first: bool)
         ensures { HasCalled self.old self.new }
     {
-        if self.rests(is_first) {
+        if !self.next.is_in_round(is_first) {
             return;
         }
-        let Some((mut desk, next)) = self.desk.take() else {
+        let Some(mut papers) = self.papers.take() else {
             return;
         };
-        let Ok(next) = desk.ready(next.in_round(is_first)) else {
+        let Ok(next) = self.desk.ready(&mut papers, self.next.in_round(is_first)) else {
             return;
         };
-        self.is_asking = next.is_ask();
-        self.desk = Some((desk, next));
+        self.next = next;
+        self.is_asking = self.next.is_ask();
+        self.papers = Some(papers);
         self.begin(rt, gate);
     }
 
@@ -133,11 +132,13 @@ impl Worker {
         if !self.is_asking {
             return;
         }
-        if let Some((desk, next)) = self.desk.take() {
-            self.desk = Some(match next {
-                Next::Ask(pending) => desk.ask(rt, turnstile, &mut self.seat, pending),
-                next => (desk, next),
-            });
+        let Next::Ask = self.next else {
+            return;
+        };
+        if let Some(papers) = self.papers.take() {
+            let (papers, next) = self.desk.ask(rt, turnstile, &mut self.seat, papers);
+            self.papers = Some(papers);
+            self.next = next;
         }
     }
 

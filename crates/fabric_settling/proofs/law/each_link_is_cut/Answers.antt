@@ -4,7 +4,7 @@ use Rattle.fabric_settling.proofs.Runs.{all_runs}
 use Rattle.fabric_settling.proofs.law.each_link_is_cut.Goals as goal
 
 pub returns-clause-cut : goal.returns-clause-cut
-returns-clause-cut c = λ script kept unpaced history works late link far up. all_cut script kept unpaced history works late link (link_of script kept link.s link.p link.t link.q far) up
+returns-clause-cut c = λ script kept unpaced history works late link far up. all_cut script kept unpaced history works late link (link_of script kept link.place link.port link.far_place link.far_port far) up
 
 pub returns-clause-run : goal.returns-clause-run
-returns-clause-run c = λ script kept unpaced history works link far apart. all_runs script kept unpaced history works link (link_of script kept link.s link.p link.t link.q far) apart
+returns-clause-run c = λ script kept unpaced history works link far apart. all_runs script kept unpaced history works link (link_of script kept link.place link.port link.far_place link.far_port far) apart

@@ -1,4 +1,4 @@
-use Rattle.std.proofs.Common.{◌∙◌, arith}
+use Rattle.std.proofs.Common.{◌∙◌}
 use Rattle.fcfc_router.proofs.TreeLemmas.{doubled_items}
 use Rattle.fcfc_router.proofs.tree.double.Goals as goal
 

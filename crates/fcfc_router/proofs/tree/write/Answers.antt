@@ -1,7 +1,7 @@
 use Rattle.std.proofs.Common.{◌≡◌, ◌∙◌, refl, subst, arith, ℕ, ◌+◌, ◌*◌, get_or}
 use Rattle.std.specs.Int.RustNames.{bit_or}
 use Rattle.fcfc_router.specs.Tree.{IsTreeBut}
-use Rattle.fcfc_router.proofs.TreeLemmas.{all_mended, mended, put_is, right_already, same_place, written}
+use Rattle.fcfc_router.proofs.TreeLemmas.{all_mended, mended, put_is, same_place, written}
 use Rattle.fcfc_router.proofs.tree.write.Goals as goal
 
 pub nodes-init : goal.nodes-init

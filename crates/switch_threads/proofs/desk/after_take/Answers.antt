@@ -5,4 +5,4 @@ use Rattle.switch_threads.specs.Workers.{IsToDo}
 use Rattle.switch_threads.proofs.desk.after_take.Goals as goal
 
 pub returns-in-Nothing : goal.returns-in-Nothing
-returns-in-Nothing c script history desk is = subst (IsToDo script history desk) c.in-Nothing.is is
+returns-in-Nothing c script history desk papers is = subst (IsToDo script history desk papers) c.in-Nothing.is is

@@ -12,7 +12,7 @@ pub returns-in_ok-self-in-Work-clause-up : goal.returns-in_ok-self-in-Work-claus
 returns-in_ok-self-in-Work-clause-up c script history is =
     let desk = c.args.self.now in
     let x = (world_after script history).switches desk.s in
-    let now = subst (IsUpTo script history desk) c.in-Work.is is in
+    let now = subst (IsUpTo script history desk c.args.papers.now) c.in-Work.is is in
     let same = c.deref_mut.ensures.value in
     let due = sym (c.load_due.ensures.stands x (subst (λ (k : KeptOf). StandsFor k x) (sym c.deref.ensures) now.keeps_up.fits.1)) ∙ c.if-load_due.true in
     let stood = subst (λ (k : KeptOf). StandsFor k x) (sym same) now.keeps_up.fits.1 in

@@ -14,7 +14,6 @@ use Rattle.fabric_world.specs.declared.line.Line.{Line}
 use Rattle.fabric_book.specs.Nets.{IsHandled}
 use Rattle.fabric_book.specs.Told.{hand_lines}
 use Rattle.fabric_book.proofs.HandLemmas.{hand_filled, hand_port, hand_working, hand_works, step_is}
-use Rattle.switch_threads.specs.declared.desk.Tale.{Tale}
 use Rattle.switch_threads.proofs.TurnLemmas.{handled_fits, handled_lines}
 use Rattle.switch_threads.proofs.desk.Desk.handle.Goals as goal
 
@@ -37,43 +36,46 @@ handle-requires-clause-port c =
 pub handle-requires-clause-works : goal.handle-requires-clause-works
 handle-requires-clause-works c =
     let desk = c.args.self.now in
+    let papers = c.args.papers.now in
     let script = c.requires.0 in
     let history = c.requires.1 in
     let is = c.requires.2.has in
-    let works = hand_works script is.powered.kept history desk.s (handle_is_lawful script history desk.s is.powered.within is.full) desk.switch.value desk.buffer is.kept in
-    subst (λ (k : KeptOf). k.works < 2 ^ 28) (sym c.deref_mut-2.ensures.value) works
+    let works = hand_works script is.powered.kept history desk.s (handle_is_lawful script history desk.s is.powered.within is.full) desk.switch.value papers.buffer is.kept in
+    subst (λ (k : KeptOf). k.works < 2 ^ 28) (sym c.deref_mut.ensures.value) works
 
 pub handle-requires-clause-working : goal.handle-requires-clause-working
 handle-requires-clause-working c =
     let desk = c.args.self.now in
+    let papers = c.args.papers.now in
     let script = c.requires.0 in
     let history = c.requires.1 in
     let is = c.requires.2.has in
-    let working = hand_working script is.powered.kept history desk.s (handle_is_lawful script history desk.s is.powered.within is.full) desk.switch.value desk.buffer is.kept in
-    subst IsWorking (sym c.deref_mut-2.ensures.value) working
+    let working = hand_working script is.powered.kept history desk.s (handle_is_lawful script history desk.s is.powered.within is.full) desk.switch.value papers.buffer is.kept in
+    subst IsWorking (sym c.deref_mut.ensures.value) working
 
 pub returns-clause-done : goal.returns-clause-done
 returns-clause-done c script history is =
     let desk = c.args.self.now in
+    let papers = c.args.papers.now in
     let w = world_after script history in
     let x = w.switches desk.s in
     let hand = c.args.hand in
-    let same = c.deref_mut-2.ensures.value in
+    let same = c.deref_mut.ensures.value in
     let stood = subst (λ (k : KeptOf). StandsFor k x) (sym same) is.has.kept.stands in
-    let noted = ap (λ (d : Done). d.note) c.deref_mut-3.ensures.value ∙ is.note_is in
+    let noted = ap (λ (d : Done). d.note) c.deref_mut-2.ensures.value ∙ is.note_is in
     let does = subst (λ (xs : List ℕ). IsHandled x hand xs c.handle.new.switch c.handle.new.out) c.bytes.ensures.all (c.in_ok-handle.ensures.handled x stood) in
     let shown = subst (λ (xs : List ℕ). c.handle.new.note ≡ note_of (handles hand xs x).switch) c.bytes.ensures.all (c.in_ok-handle.ensures.note x stood noted) in
-    let none = ap (λ (t : Tale). t.lines) c.deref_mut-5.ensures.value ∙ c.clear.ensures in
+    let none = c.clear.ensures in
     let told = subst (λ (xs : List ℕ). c.handle.new.lines ≡ hand_lines desk.s hand xs x (handles hand xs x).switch) c.bytes.ensures.all
     (c.in_ok-handle.ensures.told x stood noted ∙ ap (λ (ls : List Line). ls ++ hand_lines desk.s hand c.bytes.result.now x (handles hand c.bytes.result.now x).switch) none) in
     let frames = c.as_slice.ensures.all ∙ ap (λ (o : OutOf). o.frames) c.out.view_is in
     record {
-      keeps_up = handled_fits script history desk.s desk.power_on desk.switch.value c.handle.new.switch desk.buffer hand c.replace-out.result is.has
+      keeps_up = handled_fits script history desk.s desk.power_on desk.switch.value c.handle.new.switch papers.buffer hand c.replace-out.result is.has
           (c.handle.ensures.start ∙ ap (λ (k : KeptOf). k.start) same) (c.handle.ensures.works ∙ ap (λ (k : KeptOf). k.works + 1) same)
-          (subst (IsHandled x hand desk.buffer c.handle.new.switch) (sym c.replace-out.ensures.value) does);
+          (subst (IsHandled x hand papers.buffer c.handle.new.switch) (sym c.replace-out.ensures.value) does);
       prepared = (
-        shown ∙ ap (λ (t : Step). note_of t.switch) (step_is w desk.s hand desk.buffer is.has.hand_is is.has.kept.frame),
-        ap (λ (t : Tale). t.lines) c.deref_mut-6.ensures.value ∙ told ∙ handled_lines w desk.s hand desk.buffer is.has.hand_is is.has.kept.frame,
+        shown ∙ ap (λ (t : Step). note_of t.switch) (step_is w desk.s hand papers.buffer is.has.hand_is is.has.kept.frame),
+        told ∙ handled_lines w desk.s hand papers.buffer is.has.hand_is is.has.kept.frame,
         sym c.resize.new.self.ok.0 ∙ c.in_ok-resize.ensures.len ∙ ap (length {A = BytesOut}) frames,
       );
     }

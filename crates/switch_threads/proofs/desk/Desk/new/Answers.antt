@@ -17,4 +17,4 @@ returns-clause-up c =
     let begun = begun_fits script c.args.s c.of-power_on.result c.in_ok-switch.switch.value c.wiring.ensures.kept c.requires c.of-power_on.ensures
     (subst (IsStarted (start_with c.of-power_on.result ((network script.wires).life c.args.s))) (sym c.in_ok-switch.ensures.ok) started) in
     let x = (world_after script []).switches c.args.s in
-    record { keeps_up = begun; prepared = c.in_ok-done.ensures x (subst (λ (k : KeptOf). StandsFor k x) c.in_ok-switch.ensures.ok begun.fits.1) }
+    record { keeps_up = begun; prepared = c.in_ok-papers.ensures x (subst (λ (k : KeptOf). StandsFor k x) c.in_ok-switch.ensures.ok begun.fits.1) }

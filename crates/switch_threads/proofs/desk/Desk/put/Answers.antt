@@ -9,7 +9,6 @@ use Rattle.fabric_world.specs.World.{handled, world_after}
 use Rattle.fabric_world.specs.declared.ask.Ask.TheVariants as ask
 use Rattle.fabric_world.specs.declared.ask.Done.{Done}
 use Rattle.fabric_world.specs.declared.ask.Reply.TheVariants as reply
-use Rattle.fabric_world.specs.declared.line.Line.{Line}
 use Rattle.fabric_book.specs.Accounts.{IsAccount, with_lines}
 use Rattle.fabric_book.specs.Asking.{reply_of}
 use Rattle.fabric_book.specs.Told.{losses}
@@ -17,7 +16,6 @@ use Rattle.fabric_book.specs.declared.asking.BookAsk.TheVariants as book_ask
 use Rattle.fabric_book.specs.declared.asking.BookReply.TheVariants as book_reply
 use Rattle.fabric_book.proofs.TellLemmas.{all_become}
 use Rattle.switch_threads.specs.declared.desk.Pending.TheVariants as pending
-use Rattle.switch_threads.specs.declared.desk.Tale.{Tale}
 use Rattle.switch_threads.proofs.AskLemmas.{put_fit, replies_put}
 use Rattle.switch_threads.proofs.StayLemmas.{at_place}
 use Rattle.switch_threads.proofs.TurnLemmas.{answered, as_asked, calls_differ, number_stays, put_does, put_keeps, put_note, put_tells, start_stays}
@@ -25,18 +23,18 @@ use Rattle.switch_threads.proofs.desk.Desk.put.Goals as goal
 
 pub call-requires-clause-fit : goal.call-requires-clause-fit
 call-requires-clause-fit g c =
-    let desk = c.args.self in
+    let desk = c.args.self.now in
     let step = c.requires.step in
     let view = c.args.seat.now.1 in
     let x = (handled desk.s (world_after step.script view.seen)).switch in
     let stands = subst (λ (k : KeptOf). StandsFor k x) (sym c.deref.ensures) step.fits.keeps_up.fits.1 in
-    put_fit view desk.s desk.power_on desk.switch.value c.args.out c.filled.result.value c.replace.result (at_place view desk (pending.Put c.args.out) step)
+    put_fit view desk.s desk.power_on desk.switch.value c.args.out c.filled.result.value c.replace.result (at_place view desk c.args.papers (pending.Put c.args.out) step)
     (c.filled.ensures x stands step.fits.prepared.0)
-    (ap (λ (xs : List _). length xs) (ap (λ v. v.items) c.replace.ensures.value ∙ ap (λ (t : Tale). t.puts.items) c.deref_mut.ensures.value) ∙ step.fits.prepared.2)
+    (ap (λ v. length v.items) c.replace.ensures.value ∙ step.fits.prepared.2)
 
 pub unreachable-requires : goal.unreachable-requires
 unreachable-requires g c =
-    let desk = c.args.self in
+    let desk = c.args.self.now in
     let step = c.requires.step in
     let view = c.args.seat.now.1 in
     let after = c.call.new.seat.1 in
@@ -46,19 +44,19 @@ unreachable-requires g c =
 
 pub tell_handled-requires : goal.tell_handled-requires
 tell_handled-requires g c =
-    let desk = c.args.self in
+    let desk = c.args.self.now in
     let step = c.requires.step in
     let view = c.args.seat.now.1 in
     let after = c.call.new.seat.1 in
     let done = c.filled.result in
     let called = as_asked view after (book_ask.Put desk.s done c.replace.result) (book_reply.Put c.in-Put.done c.in-Put.puts c.in-Put.event) c.in-Put.ensures.called in
-    let does = put_does view after desk.s desk.power_on desk.switch.value c.args.out done.value c.in-Put.done.value c.replace.result c.in-Put.puts c.in-Put.event (at_place view desk (pending.Put c.args.out) step) called in
+    let does = put_does view after desk.s desk.power_on desk.switch.value c.args.out done.value c.in-Put.done.value c.replace.result c.in-Put.puts c.in-Put.event (at_place view desk c.args.papers (pending.Put c.args.out) step) called in
     let given : done.value.frames ≡ c.as_slice.result.now = sym (c.as_slice.ensures.all ∙ ap (λ (d : Done). d.frames) (c.deref-2.ensures ∙ does.same)) in
     ap (length {A = _}) does.puts_are ∙ all_become desk.s done.value.frames (wires_at_hand (world_after step.script (view.seen ++ called.between)).fabric desk.s) ∙ ap (length {A = BytesOut}) given
 
 pub returns-clause-called : goal.returns-clause-called
 returns-clause-called g c =
-    let desk = c.args.self in
+    let desk = c.args.self.now in
     let view = c.args.seat.now.1 in
     let after = c.call.new.seat.1 in
     let done = c.filled.result in
@@ -66,24 +64,21 @@ returns-clause-called g c =
 
 pub returns-clause-step : goal.returns-clause-step
 returns-clause-step g c =
-    let desk = c.args.self in
+    let desk = c.args.self.now in
     let step = c.requires.step in
     let view = c.args.seat.now.1 in
     let after = c.call.new.seat.1 in
     let done = c.filled.result in
     let back = c.in-Put.done.value in
     let new = c.tell_handled.new.self.account in
-    let place = at_place view desk (pending.Put c.args.out) step in
+    let place = at_place view desk c.args.papers (pending.Put c.args.out) step in
     let x = (handled desk.s (world_after step.script view.seen)).switch in
     let is = c.filled.ensures x (subst (λ (k : KeptOf). StandsFor k x) (sym c.deref.ensures) step.fits.keeps_up.fits.1) step.fits.prepared.0 in
     let called = as_asked view after (book_ask.Put desk.s done c.replace.result) (book_reply.Put c.in-Put.done c.in-Put.puts c.in-Put.event) c.in-Put.ensures.called in
     let asked = ask.Put desk.s done.value c.replace.result in
     let answer = reply.Put back c.in-Put.puts c.in-Put.event in
     let does = put_does view after desk.s desk.power_on desk.switch.value c.args.out done.value back c.replace.result c.in-Put.puts c.in-Put.event place called in
-    let shown = ap (λ (d : Done). d.note) (c.deref_mut-3.ensures.value ∙ does.same ∙ is) ∙ sym step.fits.prepared.0 in
-    let was = c.deref_mut-2.result.now in
-    let account = ap (λ (t : Tale). t.account) c.deref_mut-2.ensures.value ∙ ap (λ (t : Tale). t.account) c.deref_mut.ensures.value in
-    let lines = ap (λ (t : Tale). t.lines) c.deref_mut-2.ensures.value ∙ ap (λ (t : Tale). t.lines) c.deref_mut.ensures.value in
+    let shown = ap (λ (d : Done). d.note) (c.deref_mut.ensures.value ∙ does.same ∙ is) ∙ sym step.fits.prepared.0 in
     let frames = c.as_slice.ensures.all ∙ ap (λ (d : Done). d.frames) c.deref-2.ensures in
     record {
       script = step.script;
@@ -91,12 +86,10 @@ returns-clause-step g c =
       number = number_stays view after asked answer called (desk.s + 1) step.number;
       fits = record {
         keeps_up = put_keeps view after desk.s desk.power_on desk.switch.value c.args.out done.value back c.replace.result c.in-Put.puts c.in-Put.event place called;
-        prepared = shown ∙ put_note view after desk.s desk.power_on desk.switch.value c.args.out done.value back c.replace.result c.in-Put.puts c.in-Put.event place called desk.done.value.note desk.tale.value step.fits.prepared;
+        prepared = shown ∙ put_note view after desk.s desk.power_on desk.switch.value c.args.out done.value back c.replace.result c.in-Put.puts c.in-Put.event place called c.args.papers.done.value.note desk.tale step.fits.prepared;
       };
-      told = put_tells view after desk.s desk.power_on desk.switch.value c.args.out done.value back c.replace.result c.in-Put.puts c.in-Put.event place called desk.done.value.note desk.tale.value step.fits.prepared desk.tale.value.account new
+      told = put_tells view after desk.s desk.power_on desk.switch.value c.args.out done.value back c.replace.result c.in-Put.puts c.in-Put.event place called c.args.papers.done.value.note desk.tale step.fits.prepared desk.tale.account new
           (ap (λ (d : Done). d.frames) is)
-          (λ told before. subst (λ (xs : List Line). IsAccount (with_lines (placed c.in-Put.event (xs ++ losses desk.s back.frames c.in-Put.puts.items)) told) new) lines
-          (subst (λ (xs : List BytesOut). IsAccount (with_lines (placed c.in-Put.event (was.lines ++ losses desk.s xs c.in-Put.puts.items)) told) new) frames
-          (c.tell_handled.ensures told (subst (IsAccount told) (sym account) before))))
+          (λ told before. subst (λ (xs : List BytesOut). IsAccount (with_lines (placed c.in-Put.event (desk.tale.lines ++ losses desk.s xs c.in-Put.puts.items)) told) new) frames (c.tell_handled.ensures told before))
           step.told;
     }

@@ -7,4 +7,4 @@ use Rattle.switch_threads.proofs.desk.Desk.ready.Goals as goal
 pub work-requires : goal.work-requires
 work-requires c =
     let is = c.requires in
-    (is.0, is.1, subst (IsNext is.0 is.1 c.args.self.now) c.in-Do.is is.2)
+    (is.0, is.1, subst (IsNext is.0 is.1 c.args.self.now c.args.papers.now) c.in-Do.is is.2)

@@ -1,0 +1,27 @@
+-- The lines that are made once, for the events that come most often. Only private functions cite this.
+
+use Rattle.std.specs.Prelude.{◌≡◌, ℕ, ◌+◌, List, Some, Vec, slice_get}
+use Rattle.std.specs.declared.alloc.Global.{Global}
+use Rattle.an_base.specs.declared.event.Event.TheVariants.{Clock, Take, Handle, Load}
+use Rattle.net_script.specs.Scripts.{ScriptOf}
+use Rattle.text_lines.specs.Lines.{line_text}
+use Rattle.journal.specs.declared.printer.ReadyLines.{ReadyLines}
+use Rattle.journal.specs.Events.{event_words}
+
+-- lines of takes from the ports of a switch, the first of which is port 1
+abbrev pub AreTakesOf : ScriptOf → ℕ → List (Vec ℕ Global) → Type 0
+AreTakesOf script node takes =
+    (place : ℕ) (line : Vec ℕ Global) → slice_get takes place ≡ Some line
+    → line.items ≡ line_text (event_words script (Take node (place + 1)))
+
+-- lines of the events of a switch
+pub record AreLinesOf (script : ScriptOf) (node : ℕ) (lines : ReadyLines) : Type 0 where
+  pub clock : lines.clock.items ≡ line_text (event_words script (Clock node))
+  pub handle : lines.handle.items ≡ line_text (event_words script (Handle node))
+  pub load : lines.load.items ≡ line_text (event_words script (Load node))
+  pub takes : AreTakesOf script node lines.takes.items
+
+-- lines of switches, each at its switch's place
+abbrev pub AreReady : ScriptOf → List ReadyLines → Type 0
+AreReady script ready =
+    (node : ℕ) (lines : ReadyLines) → slice_get ready node ≡ Some lines → AreLinesOf script node lines
