@@ -8,5 +8,5 @@ pub record CarryOf : Type 0 where
   pub epoch : ℕ
   pub from : EndId
   pub to : EndId
-  pub k : ℕ
+  pub number : ℕ
   pub body : Body

@@ -18,11 +18,11 @@ ports_of set = filter (λ port. bit_at set port == 1) (range_with_len 1 12)
 
 -- it has no other bits
 abbrev pub HasPortsAlone : ℕ → Type 0
-HasPortsAlone set = (p : ℕ) → bit_at set p ≡ 1 → (1 ≤ p) × (p ≤ LAST_PORT)
+HasPortsAlone set = (port : ℕ) → bit_at set port ≡ 1 → (1 ≤ port) × (port ≤ LAST_PORT)
 
 -- a set has what another one has but one port
 abbrev pub IsWithout : ℕ → ℕ → ℕ → Type 0
-IsWithout set port new = (p : ℕ) → ((bit_at new p ≡ 1) ↔ ((bit_at set p ≡ 1) × (p ≢ port)))
+IsWithout set port new = (other : ℕ) → ((bit_at new other ≡ 1) ↔ ((bit_at set other ≡ 1) × (other ≢ port)))
 
 -- a row of a routing table: at a switch, for what came in at an entry and goes to a number, the exits
 pub record RowOf : Type 0 where

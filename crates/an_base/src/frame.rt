@@ -25,7 +25,7 @@ impl Model for CarryFrame {
 
     ghost Value = { CarryOf };
 
-    ghost view = { λ f. record { epoch = f.epoch; from = f.from; to = f.to; k = f.k; body = f.body } };
+    ghost view = { λ f. record { epoch = f.epoch; from = f.from; to = f.to; number = f.k; body = f.body } };
 
     ghost invariant = { λ f. IsCounted f.k };
 }
@@ -34,7 +34,7 @@ impl CarryFrame {
     /// The frame of these five parts.
     pub fn new(epoch: u64, from: End, to: End, k: u32, body: Body) -> Self
         requires { 1 ≤ k }
-        ensures { result ≡ record { epoch = epoch; from = from; to = to; k = k; body = body } }
+        ensures { result ≡ record { epoch = epoch; from = from; to = to; number = k; body = body } }
     {
         CarryFrame {
             epoch,

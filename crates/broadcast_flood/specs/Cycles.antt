@@ -38,7 +38,7 @@ LeadsByBroadcast entries channel next =
 abbrev pub Leads : List EntryOf → Bool → (ℕ × ℕ) → (ℕ × ℕ) → Type 0
 Leads entries any channel next = LeadsOn entries any channel next ⊎ LeadsByBroadcast entries channel next
 
--- a walk of n steps of any kind
+-- a walk of so many steps of any kind
 abbrev pub Walk : ((ℕ × ℕ) → (ℕ × ℕ) → Type 0) → ℕ → (ℕ × ℕ) → (ℕ × ℕ) → Type 0
 Walk Step zero from to = from ≡ to
-Walk Step (suc n) from to = (next : ℕ × ℕ) × Step from next × Walk Step n next to
+Walk Step (suc steps) from to = (next : ℕ × ℕ) × Step from next × Walk Step steps next to

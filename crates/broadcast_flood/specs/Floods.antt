@@ -39,18 +39,18 @@ pub record IsFlood (entries : List EntryOf) (from : ℕ) (ups downs : List HopOf
   pub up : GoesUp entries from ups top
   pub down : GoesDown entries downs
 
--- the k-th hop down
+-- the hop down at this index of them
 abbrev pub down_hop : List HopOf → ℕ → HopOf
-down_hop downs k = slice_index_or downs k (record { place = 0; port = 0 })
+down_hop downs index = slice_index_or downs index (record { place = 0; port = 0 })
 
--- who sends the k-th hop down has its copy by then: the root, since the walk up ended there, and any other
--- member from an earlier hop
+-- who sends the hop down at an index has its copy by then: the root, since the walk up ended there, and any
+-- other member from an earlier hop
 abbrev pub HasItsCopy : List EntryOf → List HopOf → ℕ → Type 0
-HasItsCopy entries downs k =
-    let sender = (down_hop downs k).place in
+HasItsCopy entries downs index =
+    let sender = (down_hop downs index).place in
     (parent_of entries sender ≡ None)
-    ⊎ ((j far_port : ℕ) × (j < k)
-    × (far_of entries (down_hop downs j).place (down_hop downs j).port ≡ Some (sender, far_port)))
+    ⊎ ((earlier far_port : ℕ) × (earlier < index)
+    × (far_of entries (down_hop downs earlier).place (down_hop downs earlier).port ≡ Some (sender, far_port)))
 
 -- how many of the hops down arrive at a member
 abbrev pub is_at : ℕ → Option (ℕ × ℕ) → ℕ

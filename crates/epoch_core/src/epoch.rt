@@ -140,8 +140,14 @@ impl Core {
     {
         match body {
             Body::Pos(told) => self.accept_position(port, told, sends),
-            Body::Answer(answer) => self.accept_answer(port, answer, sends),
-            Body::Stable { entries } => self.accept_report(port, entries, sends),
+            Body::Answer(answer) => {
+                self.ports.note_answer(port, answer);
+                self.settle(sends)
+            }
+            Body::Stable { entries } => {
+                self.ports.note_report(port, entries);
+                self.settle(sends)
+            }
             Body::Topo(topo) => self.accept_topo(topo, sends),
         }
     }
@@ -202,34 +208,6 @@ impl Core {
         let answer = AnswerBody::new(told.version, to_parent);
         let body = Body::Answer(answer);
         sends.push(Outgoing { port, body })?;
-        self.settle(sends)
-    }
-
-    /// Notes an answer.
-    fn accept_answer(
-        &mut self,
-        port: u8,
-        answer: AnswerBody,
-        sends: &mut Sends,
-    ) -> Result<(), OutOfMemory>
-        requires { port ≤ LAST_PORT }
-        ensures { OnOk result (Accepts self.old self.new (record { port = port; body = Answer answer }) sends.old sends.new) }
-    {
-        self.ports.note_answer(port, answer);
-        self.settle(sends)
-    }
-
-    /// Notes a report.
-    fn accept_report(
-        &mut self,
-        port: u8,
-        entries: Entries,
-        sends: &mut Sends,
-    ) -> Result<(), OutOfMemory>
-        requires { port ≤ LAST_PORT }
-        ensures { OnOk result (Accepts self.old self.new (record { port = port; body = Stable entries }) sends.old sends.new) }
-    {
-        self.ports.note_report(port, entries);
         self.settle(sends)
     }
 

@@ -20,6 +20,8 @@ use Rattle.switch_core.specs.Steps.{loaded}
 use Rattle.switch_core.specs.Switch.{finish_of, note_of}
 use Rattle.switch_core.specs.declared.switch.TableFor.{TableFor}
 use Rattle.fabric_state.specs.Fabric.{FabricOf, clock_due_at, count, full_hands, has_frame, is_external, is_full_at, is_switch, places, side_of_port, station, switch_behind}
+use Rattle.fabric_state.specs.declared.hand.Hand.{Hand}
+use Rattle.fabric_state.specs.declared.hand.Hand.TheVariants as hand
 use Rattle.fabric_state.specs.declared.work.Work.{Work}
 use Rattle.fabric_state.specs.declared.work.Work.TheVariants as work
 use Rattle.fabric_state.specs.declared.told.Told.{Told}
@@ -27,9 +29,9 @@ use Rattle.wire_set.specs.declared.side.Put.{Put}
 use Rattle.fabric_state.specs.Choices.{event_of_work, next_work}
 use Rattle.fabric_state.specs.Lawful.{is_lawful, is_command}
 use Rattle.fabric_state.specs.Effects.{after_clock, after_command, after_handle, after_load, after_move, after_restart, after_take, after_tick}
-use Rattle.fabric_state.specs.Effects.{all_put_out, copy_becomes, emptied, shows, told_of}
+use Rattle.fabric_state.specs.Effects.{ShowsOnly, all_put_out, copy_becomes, emptied, shows, told_of}
 use Rattle.fabric_state.specs.Starts.{begun_fabric, life_of, next_note_at, started_note}
-use Rattle.fabric_state.specs.Fits.{Fits}
+use Rattle.fabric_state.specs.Fits.{Fits, IsHandPort}
 use Rattle.fabric_world.specs.World.{WorldOf, effect, handled, loads_with, next_life, step, table_for, world_after}
 use Rattle.fabric_world.specs.Histories.{HistoryOf, IsLawful, fabric_of, last_port, last_taken, with_event, world_of}
 use Rattle.fabric_world.specs.Sound.{AllMayCome}
@@ -44,8 +46,9 @@ use Rattle.fabric_world.specs.Accounts.{placed, placed_lines}
 use Rattle.fabric_world.specs.Lines.{all_lines, copy_line, lines_of}
 use Rattle.fabric_book.specs.Kept.{IsKept, with_events}
 use Rattle.fabric_book.specs.Told.{command_lines}
+use Rattle.fabric_book.proofs.HandLemmas.{hand_port, shows_only}
 use Rattle.fabric_book.proofs.TellLemmas.{command_told, take_told}
-use Rattle.fabric_book.proofs.WorldFacts.{event_more, step_makes, begun_is, fits_after, work_may_come, world_script, place_sound, boot_most, command_fits, emptied_room, handle_may_come, lawful_more, ready_is, room_is, handled_parts}
+use Rattle.fabric_book.proofs.WorldFacts.{event_more, step_makes, begun_is, fits_after, work_may_come, world_script, place_sound, boot_most, command_fits, emptied_note, emptied_room, handle_may_come, lawful_more, ready_is, room_is, handled_parts}
 
 -- the fabric is as fabrics are
 pub fabric_fits : (f : FabricOf) (h : List Event) (taken : List ℕ) (room : ℕ) → IsKept f h taken room → Fits f
@@ -310,6 +313,22 @@ module _ (f : FabricOf) (es : List Event) (taken : List ℕ) (room : ℕ) (kept 
 
   pub handled_room : f.events + full_hands (emptied s f) < f.script.limits.events
   handled_room = emptied_room f s (fabric_fits f es taken room kept) handled_below handled_full
+
+  handled_good : IsScript h.script
+  handled_good = subst IsScript (script_at f es taken room kept h view_is) kept.script
+
+  pub handled_port : (x : Hand) → x ≡ (station f s).hand → IsHandPort x
+  handled_port x is =
+      subst IsHandPort (sym (is ∙ ap (λ (g : FabricOf). (station g s).hand) (fabric_at f es taken room kept h view_is)))
+      (hand_port h.script handled_good h.events s handled_lawful)
+
+  pub handled_only : (x : Hand) (port : ℕ) → x ≡ (station f s).hand → x ≡ hand.Frame port → ShowsOnly port (station (emptied s f) s).note note
+  handled_only x port is frame =
+      let at = fabric_at f es taken room kept h view_is in
+      let shown = emptied_note f s (fabric_fits f es taken room kept) handled_below ∙ ap (λ (g : FabricOf). (station g s).note) at in
+      subst (λ (n : NoteOf). ShowsOnly port n note) (sym shown)
+      (shows_only (world_of h) s port note (subst IsHandPort frame (handled_port x is)) (sym (is ∙ ap (λ (g : FabricOf). (station g s).hand) at) ∙ frame)
+      (place_sound h.script handled_good h.events s below).note done.note_is)
 
   pub handled_kept : IsKept (shows s note spent (record (emptied s f) { wires = all_put_out s frames (emptied s f).wires })) (es ++ Handle s ∷ []) taken room
   handled_kept = parts_kept f es s frames note spent taken room kept handled_below (lawful_at f es taken room kept h view_is (Handle s) handled_lawful) handled_here

@@ -1,6 +1,6 @@
 -- What a switch does with what it has in hand, and with a table that is due.
 
-use Rattle.std.specs.Prelude.{◌≡◌, ◌++◌, ◌∷◌, ◌==◌, ◌<◌, ◌^◌, ◌&&◌, ℕ, not, List, [], length, cond, Option, Some, None, is_some, option_copied, Bool, true, false, refl}
+use Rattle.std.specs.Prelude.{◌≡◌, ◌++◌, ◌∷◌, ◌==◌, ◌<◌, ◌≤◌, ◌^◌, ◌&&◌, ℕ, not, List, [], length, cond, Option, Some, None, is_some, option_copied, Bool, true, false, refl}
 use Rattle.std.specs.List.{flat_map}
 use Rattle.std.proofs.Common.{Bor, sym, ◌∙◌, ap, subst, arith, true≢false}
 use Rattle.std.proofs.lemmas.Bool.{and_parts, ltb-true}
@@ -28,7 +28,7 @@ use Rattle.switch_core.specs.Switch.{CameBy, SwitchOf, finish_of, note_of}
 use Rattle.switch_core.specs.declared.switch.TableFor.{TableFor}
 use Rattle.fabric_state.specs.declared.hand.Hand.TheVariants as hand
 use Rattle.fabric_state.specs.declared.hand.Hand.{Hand}
-use Rattle.fabric_state.specs.Effects.{all_put_becomes, wires_at_hand}
+use Rattle.fabric_state.specs.Effects.{ShowsOnly, all_put_becomes, wires_at_hand}
 use Rattle.fabric_state.specs.Fabric.{count, held_bytes, is_empty, is_full_at, is_switch, load_due_at, station}
 use Rattle.fabric_state.specs.Fits.{IsHandPort}
 use Rattle.fabric_state.specs.Lawful.{is_lawful}
@@ -39,7 +39,7 @@ use Rattle.fabric_world.specs.declared.line.Line.TheVariants as line
 use Rattle.fabric_world.specs.declared.line.Line.{Line}
 use Rattle.fabric_book.specs.Nets.{HasFrame, IsHandled, IsSwitchKept}
 use Rattle.fabric_book.specs.Told.{hand_lines, line_if, losses}
-use Rattle.fabric_book.proofs.TellLemmas.{handled_lines, losses_are}
+use Rattle.fabric_book.proofs.TellLemmas.{handled_lines, losses_are, same_shown}
 use Rattle.fabric_book.proofs.WorldFacts.{fits_after, full_unspent, place_sound, ready_is, world_script}
 
 -- what is lent is there where it is
@@ -86,6 +86,19 @@ pub hand_came : (port : ℕ) (bytes : List ℕ) (x : SwitchOf) → CameBy port x
 unfolding handles
 hand_came port bytes x = came_by port (frame_of bytes) x
 
+-- and so can show this one alone as another than before
+came_shows : (port : ℕ) (before after : SwitchOf) → 1 ≤ port → port ≤ 12 → CameBy port before after → ShowsOnly port (note_of before) (note_of after)
+came_shows port before after least most came = record { life = came.life; others = λ q low other. same_shown port q before after least most came low other }
+
+pub shows_only : (w : WorldOf) (s port : ℕ) (note : NoteOf) → IsHandPort (hand.Frame port) → (station w.fabric s).hand ≡ hand.Frame port → (station w.fabric s).note ≡ note_of (w.switches s) → note ≡ note_of (handled s w).switch
+    → ShowsOnly port (station w.fabric s).note note
+shows_only w s port note range is shown now =
+    let x = w.switches s in
+    let bytes = held_bytes w.fabric s in
+    let does : handled s w ≡ handles (hand.Frame port) bytes x = ap (λ (k : Hand). handles k bytes x) is in
+    subst (λ (n : NoteOf). ShowsOnly port n note) (sym shown)
+    (subst (ShowsOnly port (note_of x)) (sym (now ∙ ap (λ (t : Step). note_of t.switch) does)) (came_shows port x (handles (hand.Frame port) bytes x).switch range.0 range.1 (hand_came port bytes x)))
+
 -- The bytes of a buffer do for those that the wires hold
 pub same_hand : (h : Hand) (held bytes : List ℕ) (x : SwitchOf) → HasFrame h held bytes → handles h bytes x ≡ handles h held x
 unfolding handles
@@ -129,7 +142,7 @@ module _ (w : WorldOf) (s : ℕ) (h : Hand) (bytes : List ℕ) (is : h ≡ (stat
   pub stands_is : (new : KeptOf) → StandsFor new (handles h bytes (w.switches s)).switch → StandsFor new (handled s w).switch
   stands_is new stands = subst (λ (t : Step). StandsFor new t.switch) step_is stands
 
-  lines_at : hand_lines s h bytes (w.switches s) (handles h bytes (w.switches s)).switch ≡ hand_lines s (station w.fabric s).hand (held_bytes w.fabric s) (w.switches s) (handled s w).switch
+  pub lines_at : hand_lines s h bytes (w.switches s) (handles h bytes (w.switches s)).switch ≡ hand_lines s (station w.fabric s).hand (held_bytes w.fabric s) (w.switches s) (handled s w).switch
   lines_at =
       let x = w.switches s in
       let y = (handled s w).switch in

@@ -199,7 +199,7 @@ only_one f port from (suc n) others least low high = by (from == port) refl (λ 
       ap (λ (xs : List Line). xs ++ rest) (others from least other) ∙ next other
 
 -- another port than that by which it came is shown as before
-same_shown : (port q : ℕ) (x y : SwitchOf) → 1 ≤ port → port ≤ 12 → CameBy port x y → 1 ≤ q → q ≢ port → shown_in (note_of y) q ≡ shown_in (note_of x) q
+pub same_shown : (port q : ℕ) (x y : SwitchOf) → 1 ≤ port → port ≤ 12 → CameBy port x y → 1 ≤ q → q ≢ port → shown_in (note_of y) q ≡ shown_in (note_of x) q
 same_shown port q x y least most came low other =
     let views = map view_of (ports_of x) in
     let view = view_of (port_of y port) in

@@ -3,6 +3,7 @@
 use Rattle.std.specs.Prelude.{◌≡◌, ◌≢◌, ◌+◌, ◌<◌, ◌≤◌, ℕ, List, [], ◌∷◌, ◌++◌, All, length, Option, is_some, Bool, Some, None, true, false, refl}
 use Rattle.std.specs.Option.{option_map_or}
 use Rattle.std.proofs.Common.{sym, ◌∙◌, ap, arith, true≢false}
+use Rattle.std.proofs.lemmas.List.{get_or-set_same}
 use Rattle.an_base.specs.Ports.{NoteOf}
 use Rattle.an_base.specs.declared.event.Event.{Event}
 use Rattle.an_base.specs.declared.event.Event.TheVariants.{Handle, Load}
@@ -11,7 +12,7 @@ use Rattle.net_script.specs.Scripts.{ScriptOf, IsScript, restarts_of}
 use Rattle.wire_set.specs.WireState.{hand_of}
 use Rattle.switch_core.specs.Bytes.{BytesOut}
 use Rattle.fabric_state.specs.declared.hand.Hand.TheVariants as hand
-use Rattle.fabric_state.specs.Fabric.{FabricOf, count, due_command, full_hands, held_bytes, is_full_at, load_due_at, station}
+use Rattle.fabric_state.specs.Fabric.{FabricOf, StationOf, count, due_command, full_hands, held_bytes, is_full_at, load_due_at, station, vacant}
 use Rattle.fabric_state.specs.Lawful.{is_barred, is_command, is_handle, is_lawful, is_ready, is_same_event}
 use Rattle.fabric_state.specs.Agree.{ending_of}
 use Rattle.fabric_state.specs.Effects.{after_handle, all_put_out, emptied, shows}
@@ -151,3 +152,7 @@ emptied_room f s fits at full =
     let one = full_is (station f s).hand full in
     let room = fits.room in
     omega (arith, now, one, room)
+
+-- where a switch gives up what it has in hand it shows what it did before
+pub emptied_note : (f : FabricOf) (s : ℕ) → Fits f → s < count f → (station (emptied s f) s).note ≡ (station f s).note
+emptied_note f s fits at = ap (λ (x : StationOf). x.note) (get_or-set_same f.stations s (record (station f s) { hand = hand.Empty }) vacant (station_below f s fits at))

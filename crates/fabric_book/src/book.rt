@@ -1,15 +1,17 @@
 //! The book of a network.
 
-ghost use Rattle.std.specs.Prelude.{◌≡◌, ◌+◌, ◌++◌, ◌<◌, ◌≤◌, ◌&&◌, ◌==◌, ◌∷◌, [], length, option_to_list, true, false, All, IfOk};
+ghost use Rattle.std.specs.Prelude.{◌≡◌, ◌+◌, ◌++◌, ◌<◌, ◌≤◌, ◌&&◌, ◌==◌, ◌∷◌, ℕ, [], length, option_to_list, true, false, All, IfOk};
 ghost use Rattle.an_base.specs.declared.event.Event.TheVariants as events;
 ghost use Rattle.net_script.specs.Commands.{is_restart};
 ghost use Rattle.switch_core.specs.Bytes.{IsFrameOut};
 ghost use Rattle.fabric_state.specs.declared.ending.Ending.TheVariants as ending;
+ghost use Rattle.fabric_state.specs.declared.hand.Hand.TheVariants as in_hand;
 ghost use Rattle.fabric_state.specs.declared.work.Drive.TheVariants as drive;
 ghost use Rattle.fabric_state.specs.Choices.{event_of_work};
-ghost use Rattle.fabric_state.specs.Fabric.{count, full_hands, held_bytes, is_full_at};
+ghost use Rattle.fabric_state.specs.Fabric.{count, full_hands, held_bytes, is_full_at, station};
 ghost use Rattle.fabric_state.specs.Agree.{is_settled};
-ghost use Rattle.fabric_state.specs.Effects.{all_put_becomes, all_put_out};
+ghost use Rattle.fabric_state.specs.Effects.{ShowsOnly, all_put_becomes, all_put_out, shows};
+ghost use Rattle.fabric_state.specs.Fits.{IsHandPort};
 ghost use Rattle.fabric_state.specs.Lawful.{is_barred, is_command, is_lawful};
 ghost use Rattle.fabric_state.specs.Starts.{next_life_at};
 ghost use Rattle.fabric_world.specs.Histories.{IsLawful, fabric_of, owner_of, with_event, world_of};
@@ -29,6 +31,7 @@ use an_base::life::Life;
 use an_base::memory::OutOfMemory;
 use an_base::port::Note;
 use fabric_state::fabric::Fabric;
+use fabric_state::hand::Hand;
 use fabric_state::work::{Drive, Work};
 use fabric_turn::Staged;
 use fabric_world::ask::{Done, LoadReply};
@@ -73,6 +76,21 @@ fn put_all(fabric: &mut Fabric, s: u8, frames: &[FrameOut], puts: &mut [Option<P
 {
     'frames: for place in 0..frames.len() {
         puts[place] = fabric.put(s, &frames[place]);
+    }
+}
+
+// A switch shows this after it has handled what it had in hand. After a frame the port alone by which it came can
+// be shown as another than before.
+fn show(fabric: &mut Fabric, s: u8, hand: Hand, note: &Note, spent: bool)
+    requires within { s < count fabric.old }
+    requires room { fabric.old.events + full_hands fabric.old < fabric.old.script.limits.events }
+    requires port { IsHandPort hand }
+    requires only { (port : ℕ) → hand ≡ in_hand.Frame port → ShowsOnly port (station fabric.old s).note note.now }
+    ensures { fabric.new ≡ shows s note.now spent fabric.old }
+{
+    match hand {
+        Hand::Frame { port } => fabric.show_port(s, port, note, spent),
+        Hand::Empty | Hand::Clock { now: _, samples: _ } => fabric.show(s, note, spent),
     }
 }
 
@@ -281,9 +299,10 @@ impl Book {
         ensures handled { self.new ≡ with_event (events.Handle s) self.old }
         ensures puts { puts.new ≡ puts_at (fabric_of self.old) s frames.now }
     {
+        let hand = self.fabric.station(s).hand();
         self.fabric.release(s);
         put_all(&mut self.fabric, s, frames, puts);
-        self.fabric.show(s, note, spent);
+        show(&mut self.fabric, s, hand, note, spent);
         self.entries.push_reserved(Event::Handle { s });
     }
 

@@ -67,9 +67,9 @@ carry_rests : (x y : LifeId) → (x ≡ y → ⊥) → (port : ℕ) (f : CarryOf
 carry_rests x y ne port f s g =
     let j = (joins f.epoch s).switch in
     let joined = after_join g x f.epoch j.card in
-    cond_both (nat_lt s.epoch f.epoch) (body_moves x port f.k f.body j joined) (cond (f.epoch == s.epoch) (body_moves x port f.k f.body s g) g) (HasRested y g)
-    (λ _. rested_then y g joined (body_moves x port f.k f.body j joined) (join_rests x y ne g f.epoch j.card) (body_rests x y ne port f.k f.body j joined))
-    (λ _. cond_both (f.epoch == s.epoch) (body_moves x port f.k f.body s g) g (HasRested y g) (λ _. body_rests x y ne port f.k f.body s g) (λ _. rested y g))
+    cond_both (nat_lt s.epoch f.epoch) (body_moves x port f.number f.body j joined) (cond (f.epoch == s.epoch) (body_moves x port f.number f.body s g) g) (HasRested y g)
+    (λ _. rested_then y g joined (body_moves x port f.number f.body j joined) (join_rests x y ne g f.epoch j.card) (body_rests x y ne port f.number f.body j joined))
+    (λ _. cond_both (f.epoch == s.epoch) (body_moves x port f.number f.body s g) g (HasRested y g) (λ _. body_rests x y ne port f.number f.body s g) (λ _. rested y g))
 
 frame_rests : (x y : LifeId) → (x ≡ y → ⊥) → (port : ℕ) (f : Frame) (s : SwitchOf) (g : Game) → HasRested y g (frame_moves x port f s g)
 frame_rests x y ne port (Carry f) s g = cond_both (counts s port f.from f.to) (carry_moves x port f s g) g (HasRested y g) (λ _. carry_rests x y ne port f s g) (λ _. rested y g)

@@ -50,17 +50,17 @@ kept_body port k peer body u v kept =
 
 kept_carry : (port : ℕ) (f : CarryOf) (u : SwitchOf) → IsKept u (on_carry port f u).switch
 kept_carry port f u =
-    cond_both (nat_lt u.epoch f.epoch) (after (joins f.epoch u) (answers_body port f.from f.k f.body (joins f.epoch u).switch)) (cond (f.epoch == u.epoch) (answers_body port f.from f.k f.body u) (still u)) (λ (st : Step). IsKept u st.switch)
-    (λ _. kept_body port f.k f.from f.body u (joins f.epoch u).switch (kept_joins f.epoch u))
-    (λ _. cond_both (f.epoch == u.epoch) (answers_body port f.from f.k f.body u) (still u) (λ (st : Step). IsKept u st.switch) (λ _. kept_body port f.k f.from f.body u u (kept_itself u)) (λ _. kept_itself u))
+    cond_both (nat_lt u.epoch f.epoch) (after (joins f.epoch u) (answers_body port f.from f.number f.body (joins f.epoch u).switch)) (cond (f.epoch == u.epoch) (answers_body port f.from f.number f.body u) (still u)) (λ (st : Step). IsKept u st.switch)
+    (λ _. kept_body port f.number f.from f.body u (joins f.epoch u).switch (kept_joins f.epoch u))
+    (λ _. cond_both (f.epoch == u.epoch) (answers_body port f.from f.number f.body u) (still u) (λ (st : Step). IsKept u st.switch) (λ _. kept_body port f.number f.from f.body u u (kept_itself u)) (λ _. kept_itself u))
 
 carry_session : (port : ℕ) (f : CarryOf) (u : SwitchOf) → AreSession (on_carry port f u).frames
 carry_session port f u =
     let j = joins f.epoch u in
-    let b = answers_body port f.from f.k f.body j.switch in
-    cond_both (nat_lt u.epoch f.epoch) (after j b) (cond (f.epoch == u.epoch) (answers_body port f.from f.k f.body u) (still u)) (λ (st : Step). AreSession st.frames)
-    (λ _. session_append j.frames b.frames (all_pushed_session (adds (begun f.epoch u).card []) (begun f.epoch u)) (body_session port f.k f.from f.body j.switch))
-    (λ _. cond_both (f.epoch == u.epoch) (answers_body port f.from f.k f.body u) (still u) (λ (st : Step). AreSession st.frames) (λ _. body_session port f.k f.from f.body u) (λ _. tt))
+    let b = answers_body port f.from f.number f.body j.switch in
+    cond_both (nat_lt u.epoch f.epoch) (after j b) (cond (f.epoch == u.epoch) (answers_body port f.from f.number f.body u) (still u)) (λ (st : Step). AreSession st.frames)
+    (λ _. session_append j.frames b.frames (all_pushed_session (adds (begun f.epoch u).card []) (begun f.epoch u)) (body_session port f.number f.from f.body j.switch))
+    (λ _. cond_both (f.epoch == u.epoch) (answers_body port f.from f.number f.body u) (still u) (λ (st : Step). AreSession st.frames) (λ _. body_session port f.number f.from f.body u) (λ _. tt))
 
 -- A frame goes out for one that came: of a session, or the reply to a probe by the same port
 abbrev pub Answers : SwitchOf → ℕ → Frame → Sent → Frame → Type 0

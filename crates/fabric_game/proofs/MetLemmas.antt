@@ -94,15 +94,15 @@ far_fits script kept s p t r far = subst (λ (o : Option Far). IfSome o (IsWithi
 pub from_hand : (script : ScriptOf) → IsScript script → (h : List Event) (u : ℕ) (bytes : List ℕ) → IsFrom script h (place u 0) bytes
 from_hand script kept h u bytes s p t r at far f read =
     let k = far_fits script kept s p t r far in
-    let least = k.p_least in
-    let most = k.p_most in
+    let least = k.own_port_least in
+    let most = k.own_port_most in
     absurd (omega (arith, at, least, most))
 
 -- who answers the life that is here was there while it was here
 pub replied_met : (script : ScriptOf) → IsScript script → (h : List Event) (s p t r : ℕ) (from to : EndId) → far_at script.wires s p ≡ Some (Switch t r) → to.life ≡ (switch_after script h s).life → CameReply script h s t r from to
     → Met script h s (switch_after script h s).life p from
 replied_met script kept h s p t r from to far mine came =
-    let low = (far_fits script kept s p t r far).s_below in
+    let low = (far_fits script kept s p t r far).node_below in
     let up : (switch_after script came.before s).life.boot ≤ (switch_after script h s).life.boot = subst (λ (g : List Event). (switch_after script came.before s).life.boot ≤ (switch_after script g s).life.boot) (sym came.parts) (boots_rise script came.before came.later s) in
     let known = came.known in
     let same = ap (λ (l : LifeId). l.boot) mine in

@@ -92,9 +92,9 @@ carry_nodes : (K : LifeId → PeerAt → Type 0) (x : LifeId) (port : ℕ) (f : 
 carry_nodes K x port f u g own joining old =
     let j = (joins f.epoch u).switch in
     let joined = after_join g x f.epoch j.card in
-    cond_both (nat_lt u.epoch f.epoch) (body_moves x port f.k f.body j joined) (cond (f.epoch == u.epoch) (body_moves x port f.k f.body u g) g) (AllNodes K)
-    (λ _. accepted_nodes K x port (accepted_by f.k f.body (j.receivings port)) j.card j.log joined joining (join_nodes K g x f.epoch j.card joining old))
-    (λ _. cond_both (f.epoch == u.epoch) (body_moves x port f.k f.body u g) g (AllNodes K) (λ _. accepted_nodes K x port (accepted_by f.k f.body (u.receivings port)) u.card u.log g own old) (λ _. old))
+    cond_both (nat_lt u.epoch f.epoch) (body_moves x port f.number f.body j joined) (cond (f.epoch == u.epoch) (body_moves x port f.number f.body u g) g) (AllNodes K)
+    (λ _. accepted_nodes K x port (accepted_by f.number f.body (j.receivings port)) j.card j.log joined joining (join_nodes K g x f.epoch j.card joining old))
+    (λ _. cond_both (f.epoch == u.epoch) (body_moves x port f.number f.body u g) g (AllNodes K) (λ _. accepted_nodes K x port (accepted_by f.number f.body (u.receivings port)) u.card u.log g own old) (λ _. old))
 
 frame_nodes : (K : LifeId → PeerAt → Type 0) (x : LifeId) (port : ℕ) (f : Frame) (u : SwitchOf) (g : Game) → Each (K x) u.card.links → ((e : ℕ) → Each (K x) (joins e u).switch.card.links) → AllNodes K g → AllNodes K (frame_moves x port f u g)
 frame_nodes K x port (Carry f) u g own joining old = cond_both (counts u port f.from f.to) (carry_moves x port f u g) g (AllNodes K) (λ _. carry_nodes K x port f u g own (joining f.epoch) old) (λ _. old)

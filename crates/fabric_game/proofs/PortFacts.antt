@@ -137,9 +137,9 @@ like_body port k peer body u v like =
 
 like_carry : (port : ℕ) (f : CarryOf) (u : SwitchOf) → IsLike port u (on_carry port f u).switch
 like_carry port f u =
-    cond_both (nat_lt u.epoch f.epoch) (after (joins f.epoch u) (answers_body port f.from f.k f.body (joins f.epoch u).switch)) (cond (f.epoch == u.epoch) (answers_body port f.from f.k f.body u) (still u)) (λ (st : Step). IsLike port u st.switch)
-    (λ _. like_body port f.k f.from f.body u (joins f.epoch u).switch (like_joins port f.epoch u))
-    (λ _. cond_both (f.epoch == u.epoch) (answers_body port f.from f.k f.body u) (still u) (λ (st : Step). IsLike port u st.switch) (λ _. like_body port f.k f.from f.body u u (like_itself port u)) (λ _. like_itself port u))
+    cond_both (nat_lt u.epoch f.epoch) (after (joins f.epoch u) (answers_body port f.from f.number f.body (joins f.epoch u).switch)) (cond (f.epoch == u.epoch) (answers_body port f.from f.number f.body u) (still u)) (λ (st : Step). IsLike port u st.switch)
+    (λ _. like_body port f.number f.from f.body u (joins f.epoch u).switch (like_joins port f.epoch u))
+    (λ _. cond_both (f.epoch == u.epoch) (answers_body port f.from f.number f.body u) (still u) (λ (st : Step). IsLike port u st.switch) (λ _. like_body port f.number f.from f.body u u (like_itself port u)) (λ _. like_itself port u))
 
 like_framed : (port : ℕ) (f : Frame) (u : SwitchOf) → IsLike port u (framed port f u).switch
 like_framed port (Carry f) u = cond_both (counts u port f.from f.to) (on_carry port f u) (still u) (λ (st : Step). IsLike port u st.switch) (λ _. like_carry port f u) (λ _. like_itself port u)

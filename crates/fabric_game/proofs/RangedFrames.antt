@@ -137,7 +137,7 @@ carry_frame works x s port f k c =
     let joined = linked_joined works x s port f.to k c.to in
     let few = log_few works x s k joined in
     let pushed = k.sound.pushed port in
-    let low = slice_get_within (s.sendings port).pushed (f.k - 1) f.body c.body in
+    let low = slice_get_within (s.sendings port).pushed (f.number - 1) f.body c.body in
     let least = c.least in
     let bodies : Each IsBody (s.sendings port).pushed =
     subst (Each IsBody) (sym (k.own.pushed joined port (ap is_some c.to))) (stream_ranged s.card port s.log k.ranged.card_is k.ranged.log_is few)
@@ -146,8 +146,8 @@ carry_frame works x s port f k c =
       epoch = let e = c.epoch in let low = k.ranged.epoch_is in omega (arith, e, low);
       from = subst IsEnd (sym c.from) (own_end works x s port k at.port_is);
       to = at.end_is;
-      k = (least, omega (arith, low, pushed, few, least));
-      body = each_get IsBody (s.sendings port).pushed (f.k - 1) f.body bodies c.body;
+      number = (least, omega (arith, low, pushed, few, least));
+      body = each_get IsBody (s.sendings port).pushed (f.number - 1) f.body bodies c.body;
     }
 
 ack_frame : (works : ℕ) (x : LifeId) (s : SwitchOf) (port epoch n : ℕ) (from to : EndId) → IsSender works x s → IsAckedBy s port epoch from to n → IsFrame (Ack epoch from to n)
@@ -183,19 +183,19 @@ session_frames works x s (y ∷ xs) k sent is = (session_frame works x s y.port 
 carry_sent : (x : LifeId) (port : ℕ) (f : CarryOf) (s : SwitchOf) → IsOwn x s → s.spent ≡ false → 1 ≤ port → port ≤ 12 → good_peer s port ≡ Some f.from → AreSentBy (on_carry port f s).switch (on_carry port f s).frames × AreSession (on_carry port f s).frames
 carry_sent x port f s own working least most peer =
     let j = joins f.epoch s in
-    let b = answers_body port f.from f.k f.body j.switch in
+    let b = answers_body port f.from f.number f.body j.switch in
     let linked : peer_among j.switch.card.links port ≡ Some f.from = ap (λ (c : CardOf). peer_among c.links port) (joins_card f.epoch s) ∙ good_link s port least most ∙ peer in
     let first = (joins_sends f.epoch s).frames in
-    let next = body_sends port f.k f.from f.body j.switch linked (received_more f.k f.body (j.switch.receivings port)) in
-    let here = answers_body port f.from f.k f.body s in
+    let next = body_sends port f.number f.from f.body j.switch linked (received_more f.number f.body (j.switch.receivings port)) in
+    let here = answers_body port f.from f.number f.body s in
     let P : Step → Type 0 = λ st. AreSentBy st.switch st.frames × AreSession st.frames in
     cond_both (nat_lt s.epoch f.epoch) (after j b) (cond (f.epoch == s.epoch) here (still s)) P
     (λ _. (
       all_append b.switch j.frames b.frames (all_grown j.switch b.switch j.frames next.grown first) next.frames,
-      session_append j.frames b.frames (all_pushed_session (adds (begun f.epoch s).card []) (begun f.epoch s)) (body_session port f.k f.from f.body j.switch),
+      session_append j.frames b.frames (all_pushed_session (adds (begun f.epoch s).card []) (begun f.epoch s)) (body_session port f.number f.from f.body j.switch),
     ))
     (λ _. cond_both (f.epoch == s.epoch) here (still s) P
-    (λ _. ((body_sends port f.k f.from f.body s (linked_of x s port f.from own working least most peer).linked (received_more f.k f.body (s.receivings port))).frames, body_session port f.k f.from f.body s))
+    (λ _. ((body_sends port f.number f.from f.body s (linked_of x s port f.from own working least most peer).linked (received_more f.number f.body (s.receivings port))).frames, body_session port f.number f.from f.body s))
     (λ _. (tt, tt)))
 
 -- What a frame makes go out

@@ -227,9 +227,9 @@ ranged_body port k peer body s is ok =
 
 ranged_carry : (port : ℕ) (f : CarryOf) (s : SwitchOf) → IsCarry f → IsRanged s → IsRanged (on_carry port f s).switch
 ranged_carry port f s is ok =
-    cond_both (nat_lt s.epoch f.epoch) (after (joins f.epoch s) (answers_body port f.from f.k f.body (joins f.epoch s).switch)) (cond (f.epoch == s.epoch) (answers_body port f.from f.k f.body s) (still s)) (λ (st : Step). IsRanged st.switch)
-    (λ _. ranged_body port f.k f.from f.body (joins f.epoch s).switch is.body (ranged_joins f.epoch s is.epoch ok))
-    (λ _. cond_both (f.epoch == s.epoch) (answers_body port f.from f.k f.body s) (still s) (λ (st : Step). IsRanged st.switch) (λ _. ranged_body port f.k f.from f.body s is.body ok) (λ _. ok))
+    cond_both (nat_lt s.epoch f.epoch) (after (joins f.epoch s) (answers_body port f.from f.number f.body (joins f.epoch s).switch)) (cond (f.epoch == s.epoch) (answers_body port f.from f.number f.body s) (still s)) (λ (st : Step). IsRanged st.switch)
+    (λ _. ranged_body port f.number f.from f.body (joins f.epoch s).switch is.body (ranged_joins f.epoch s is.epoch ok))
+    (λ _. cond_both (f.epoch == s.epoch) (answers_body port f.from f.number f.body s) (still s) (λ (st : Step). IsRanged st.switch) (λ _. ranged_body port f.number f.from f.body s is.body ok) (λ _. ok))
 
 ranged_hears : (port nonce : ℕ) (from : EndId) (s : SwitchOf) → IsEnd from → IsRanged s → IsRanged (record s { ports = with_happening port (Replied from nonce) s.ports })
 ranged_hears port nonce from s is ok =

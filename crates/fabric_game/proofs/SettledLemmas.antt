@@ -138,8 +138,8 @@ both_good script lives h k l has one =
     let f = (world_after script h).fabric in
     let is = link_of script lives h k l has in
     let e = ends_agree f l (agreed script lives h k l has) one in (
-      view_good (at script h l.a) l.a_port (end_shown f l.b l.b_port) (port_shown f l.a l.a_port) (view_is script lives h k l.a l.a_port is.a is.a_port_least is.a_port_most) e.0,
-      view_good (at script h l.b) l.b_port (end_shown f l.a l.a_port) (port_shown f l.b l.b_port) (view_is script lives h k l.b l.b_port is.b is.b_port_least is.b_port_most) e.1,
+      view_good (at script h l.a) l.a_port (end_shown f l.b l.b_port) (port_shown f l.a l.a_port) (view_is script lives h k l.a l.a_port is.a_below is.a_port_least is.a_port_most) e.0,
+      view_good (at script h l.b) l.b_port (end_shown f l.a l.a_port) (port_shown f l.b l.b_port) (view_is script lives h k l.b l.b_port is.b_below is.b_port_least is.b_port_most) e.1,
     )
 
 -- the port at the other end of a link
@@ -153,15 +153,15 @@ from_end script lives h k s p t q far s_in t_in own other good good_there good_b
 from_a : (script : ScriptOf) (lives : List LifeId) (h : List Event) → Settled script lives h → (l : LinkAt) (far : EndId) → Contains script.wires.links l → good_peer (at script h l.a) l.a_port ≡ Some far → FarEnd script h l.a l.a_port far
 from_a script lives h k l far has good =
     let is = link_of script lives h k l has in
-    let view = view_is script lives h k l.a l.a_port is.a is.a_port_least is.a_port_most in
+    let view = view_is script lives h k l.a l.a_port is.a_below is.a_port_least is.a_port_most in
     let both = both_good script lives h k l has (inl (view_not_dead (at script h l.a) l.a_port far _ view good)) in
-    from_end script lives h k l.a l.a_port l.b l.b_port far is.a is.b (is.a_port_least, is.a_port_most) (is.b_port_least, is.b_port_most) good both.0 both.1
+    from_end script lives h k l.a l.a_port l.b l.b_port far is.a_below is.b_below (is.a_port_least, is.a_port_most) (is.b_port_least, is.b_port_most) good both.0 both.1
 
 from_b : (script : ScriptOf) (lives : List LifeId) (h : List Event) → Settled script lives h → (l : LinkAt) (far : EndId) → Contains script.wires.links l → good_peer (at script h l.b) l.b_port ≡ Some far → FarEnd script h l.b l.b_port far
 from_b script lives h k l far has good =
     let is = link_of script lives h k l has in
-    let both = both_good script lives h k l has (inr (view_not_dead (at script h l.b) l.b_port far _ (view_is script lives h k l.b l.b_port is.b is.b_port_least is.b_port_most) good)) in
-    from_end script lives h k l.b l.b_port l.a l.a_port far is.b is.a (is.b_port_least, is.b_port_most) (is.a_port_least, is.a_port_most) good both.1 both.0
+    let both = both_good script lives h k l has (inr (view_not_dead (at script h l.b) l.b_port far _ (view_is script lives h k l.b l.b_port is.b_below is.b_port_least is.b_port_most) good)) in
+    from_end script lives h k l.b l.b_port l.a l.a_port far is.b_below is.a_below (is.b_port_least, is.b_port_most) (is.a_port_least, is.a_port_most) good both.1 both.0
 
 far_end : (script : ScriptOf) (lives : List LifeId) (h : List Event) → Settled script lives h → (s p : ℕ) (far : EndId) → s < places script → good_peer (at script h s) p ≡ Some far → FarEnd script h s p far
 far_end script lives h k s p far low good = by found.at

@@ -100,9 +100,9 @@ body_on port k peer body u =
 carry_on : (port : ℕ) (f : CarryOf) (u : SwitchOf) → Continues u (on_carry port f u).switch
 carry_on port f u =
     let j = joins f.epoch u in
-    cond_both (nat_lt u.epoch f.epoch) (after j (answers_body port f.from f.k f.body j.switch)) (cond (f.epoch == u.epoch) (answers_body port f.from f.k f.body u) (still u)) (λ (st : Step). Continues u st.switch)
-    (λ _. trans u j.switch (answers_body port f.from f.k f.body j.switch).switch (joins_on f.epoch u) (body_on port f.k f.from f.body j.switch))
-    (λ _. cond_both (f.epoch == u.epoch) (answers_body port f.from f.k f.body u) (still u) (λ (st : Step). Continues u st.switch) (λ _. body_on port f.k f.from f.body u) (λ _. itself u))
+    cond_both (nat_lt u.epoch f.epoch) (after j (answers_body port f.from f.number f.body j.switch)) (cond (f.epoch == u.epoch) (answers_body port f.from f.number f.body u) (still u)) (λ (st : Step). Continues u st.switch)
+    (λ _. trans u j.switch (answers_body port f.from f.number f.body j.switch).switch (joins_on f.epoch u) (body_on port f.number f.from f.body j.switch))
+    (λ _. cond_both (f.epoch == u.epoch) (answers_body port f.from f.number f.body u) (still u) (λ (st : Step). Continues u st.switch) (λ _. body_on port f.number f.from f.body u) (λ _. itself u))
 
 framed_on : (port : ℕ) (f : Frame) (u : SwitchOf) → Continues u (framed port f u).switch
 framed_on port (Carry f) u = cond_both (counts u port f.from f.to) (on_carry port f u) (still u) (λ (st : Step). Continues u st.switch) (λ _. carry_on port f u) (λ _. itself u)

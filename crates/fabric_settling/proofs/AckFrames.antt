@@ -111,7 +111,7 @@ other_none port (Reply from to nonce) s other = cond_both (is_same_end to (end_a
 
 -- For a body that counts: that of what was received then
 abbrev pub ack_for : ℕ → CarryOf → SwitchOf → Receiving → Sent
-ack_for port f s r = record { port = port; frame = Ack f.epoch (end_at s port) f.from (last (received f.k f.body r)) }
+ack_for port f s r = record { port = port; frame = Ack f.epoch (end_at s port) f.from (last (received f.number f.body r)) }
 
 pub record IsAckFor (port : ℕ) (f : CarryOf) (s : SwitchOf) (x : Sent) : Type 0 where
   pub counted : counts s port f.from f.to ≡ true
@@ -146,13 +146,13 @@ joined_end epoch port s = ap (λ (u : SwitchOf). end_at u port) (Rattle.switch_c
 pub joined_epoch : (epoch : ℕ) (s : SwitchOf) → (joins epoch s).switch.epoch ≡ epoch
 joined_epoch epoch s = ap (λ (u : SwitchOf). u.epoch) (Rattle.switch_core.proofs.WindowLemmas.all_pushed_few (adds (begun epoch s).card []) (begun epoch s)).only
 
-greater_in : (port : ℕ) (f : CarryOf) (s : SwitchOf) (x : Sent) → counts s port f.from f.to ≡ true → s.epoch < f.epoch → In x (after (joins f.epoch s) (answers_body port f.from f.k f.body (joins f.epoch s).switch)).frames → is_an_ack x.frame ≡ true → IsAckFor port f s x
-greater_in port f s x counted above i ack = by (in_append x j.frames (answers_body port f.from f.k f.body j.switch).frames i)
+greater_in : (port : ℕ) (f : CarryOf) (s : SwitchOf) (x : Sent) → counts s port f.from f.to ≡ true → s.epoch < f.epoch → In x (after (joins f.epoch s) (answers_body port f.from f.number f.body (joins f.epoch s).switch)).frames → is_an_ack x.frame ≡ true → IsAckFor port f s x
+greater_in port f s x counted above i ack = by (in_append x j.frames (answers_body port f.from f.number f.body j.switch).frames i)
   where
     j : Step
     j = joins f.epoch s
 
-    by : In x j.frames ⊎ In x (answers_body port f.from f.k f.body j.switch).frames → IsAckFor port f s x
+    by : In x j.frames ⊎ In x (answers_body port f.from f.number f.body j.switch).frames → IsAckFor port f s x
     by (inl first) = absurd (true≢false (sym ack ∙ each_in NoAck j.frames x (joins_none f.epoch s) first))
     by (inr next) = record {
       counted = counted;
@@ -160,28 +160,28 @@ greater_in port f s x counted above i ack = by (in_append x j.frames (answers_bo
       came = j.switch.receivings port;
       same = λ e. absurd (omega (arith, e, above));
       greater = λ _. (joins_works port f.epoch s).receivings;
-      is = answers_in port f.from f.k f.body j.switch x next ack
-          ∙ (λ n. record { port = port; frame = Ack (joined_epoch f.epoch s n) (joined_end f.epoch port s n) f.from (last (received f.k f.body (j.switch.receivings port))) });
+      is = answers_in port f.from f.number f.body j.switch x next ack
+          ∙ (λ n. record { port = port; frame = Ack (joined_epoch f.epoch s n) (joined_end f.epoch port s n) f.from (last (received f.number f.body (j.switch.receivings port))) });
     }
 
-same_in : (port : ℕ) (f : CarryOf) (s : SwitchOf) (x : Sent) → counts s port f.from f.to ≡ true → f.epoch ≡ s.epoch → In x (answers_body port f.from f.k f.body s).frames → is_an_ack x.frame ≡ true → IsAckFor port f s x
+same_in : (port : ℕ) (f : CarryOf) (s : SwitchOf) (x : Sent) → counts s port f.from f.to ≡ true → f.epoch ≡ s.epoch → In x (answers_body port f.from f.number f.body s).frames → is_an_ack x.frame ≡ true → IsAckFor port f s x
 same_in port f s x counted same i ack = record {
   counted = counted;
   not_behind = omega (arith, same);
   came = s.receivings port;
   same = λ _. refl;
   greater = λ above. absurd (omega (arith, same, above));
-  is = answers_in port f.from f.k f.body s x i ack ∙ ap (λ e. record { port = port; frame = Ack e (end_at s port) f.from (last (received f.k f.body (s.receivings port))) }) (sym same);
+  is = answers_in port f.from f.number f.body s x i ack ∙ ap (λ e. record { port = port; frame = Ack e (end_at s port) f.from (last (received f.number f.body (s.receivings port))) }) (sym same);
 }
 
 pub carry_acks : (port : ℕ) (f : CarryOf) (s : SwitchOf) (x : Sent) → In x (framed port (Carry f) s).frames → is_an_ack x.frame ≡ true → IsAckFor port f s x
 carry_acks port f s x i ack = by_count (counts s port f.from f.to) refl i
   where
-    by_same : (b : Bool) → (f.epoch == s.epoch) ≡ b → counts s port f.from f.to ≡ true → In x (cond b (answers_body port f.from f.k f.body s) (still s)).frames → IsAckFor port f s x
+    by_same : (b : Bool) → (f.epoch == s.epoch) ≡ b → counts s port f.from f.to ≡ true → In x (cond b (answers_body port f.from f.number f.body s) (still s)).frames → IsAckFor port f s x
     by_same true e counted j = same_in port f s x counted (eqb-true f.epoch s.epoch e) j ack
     by_same false e counted j = absurd j
 
-    by_greater : (b : Bool) → nat_lt s.epoch f.epoch ≡ b → counts s port f.from f.to ≡ true → In x (cond b (after (joins f.epoch s) (answers_body port f.from f.k f.body (joins f.epoch s).switch)) (cond (f.epoch == s.epoch) (answers_body port f.from f.k f.body s) (still s))).frames → IsAckFor port f s x
+    by_greater : (b : Bool) → nat_lt s.epoch f.epoch ≡ b → counts s port f.from f.to ≡ true → In x (cond b (after (joins f.epoch s) (answers_body port f.from f.number f.body (joins f.epoch s).switch)) (cond (f.epoch == s.epoch) (answers_body port f.from f.number f.body s) (still s))).frames → IsAckFor port f s x
     by_greater true e counted j = greater_in port f s x counted (ltb-true s.epoch f.epoch e) j ack
     by_greater false e counted j = by_same (f.epoch == s.epoch) refl counted j
 

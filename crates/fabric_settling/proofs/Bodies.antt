@@ -160,17 +160,17 @@ back_peer script h l k is up differ =
     let w = world_after script h in
     let port = port_of (w.switches l.place) l.port in
     good_shown port.phase port.far.conn
-    ∙ ap good_of (port_shows script h l.place l.port k is.here.s_below is.here.p_least is.here.p_most)
+    ∙ ap good_of (port_shows script h l.place l.port k is.here.node_below is.here.own_port_least is.here.own_port_most)
     ∙ (λ i. good_of (cond (up i) (behind_view (lives_of w) (end_here w l) (is.far i)) dead_view))
     ∙ known_good_peer (end_here w l) (end_there w l) differ
 
 pub session_is : (script : ScriptOf) (h : List Event) (l : LinkOf) → IsLate script h → IsLinkOf script l → is_up (world_after script h).fabric l.place l.port ≡ true → ((end_there (world_after script h) l).life.uid == (end_here (world_after script h) l).life.uid) ≡ false → peer_among ((world_after script h).switches l.place).card.links l.port ≡ Some (end_there (world_after script h) l)
-session_is script h l k is up differ = links_good script h l.place l.port k is.here.s_below is.here.p_least is.here.p_most ∙ back_peer script h l k is up differ
+session_is script h l k is up differ = links_good script h l.place l.port k is.here.node_below is.here.own_port_least is.here.own_port_most ∙ back_peer script h l k is up differ
 
 -- the way at the end of a tick
 still_way : (script : ScriptOf) (h : List Event) (l : LinkOf) → IsScript script → IsAtTick script h → IsLinkOf script l → IsStill (way (world_after script h) l)
 still_way script h l kept at is = record {
-  late = ap (λ b. cond b 3 4) (all_clocked script kept h l.place at is.here.s_below);
+  late = ap (λ b. cond b 3 4) (all_clocked script kept h l.place at is.here.node_below);
   no_carry = λ n found. false≢true (sym (none_under _ script h l at is) ∙ found);
   no_ack = λ n found. false≢true (sym (none_under _ script h (turned l) at (link_turned script l is)) ∙ found);
 }
@@ -189,7 +189,7 @@ link_through script h l runs k at is up differ late =
     let there_peer = session_is script h (turned l) k back up_back (differ_turned _ _ differ) in
     let all = run_acknowledged (last script h + 259) w l (runs h k.works l is apart) (runs h k.works (turned l) back (λ e. apart (sym e)))
     (ap (λ o. is_end o (end_there w l)) here_peer ∙ same_end (end_there w l)) (ap (λ o. is_end o (end_here w l)) there_peer ∙ same_end (end_here w l))
-    (sent_some script h l.place l.port (end_there w l) k is.here.s_below here_peer) (sent_some script h l.far_place l.far_port (end_here w l) k back.here.s_below there_peer)
+    (sent_some script h l.place l.port (end_there w l) k is.here.node_below here_peer) (sent_some script h l.far_place l.far_port (end_here w l) k back.here.node_below there_peer)
     (still_way script h l k.kept at is) (still_way script h (turned l) k.kept at back) (omega (arith, late))
     in
     none_unacked ((w.switches l.place).sendings l.port) (all_filled script h l.place l.port) all.1

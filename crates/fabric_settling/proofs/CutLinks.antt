@@ -51,8 +51,8 @@ all_clocked script kept h s at low = by (clock_due_at f s) refl
 
 tick_ends : (script : ScriptOf) → IsScript script → (h : List Event) (l : LinkOf) → IsAtTick script h → IsLinkOf script l → TickEnds (view (world_after script h) l)
 tick_ends script kept h l at is = record {
-  here = all_clocked script kept h l.place at is.here.s_below;
-  there = all_clocked script kept h l.far_place at is.there.s_below;
+  here = all_clocked script kept h l.place at is.here.node_below;
+  there = all_clocked script kept h l.far_place at is.there.node_below;
   no_probe = none_under _ script h l at is;
   no_reply = none_under _ script h (turned l) at (link_turned script l is);
 }
@@ -73,8 +73,8 @@ view_begins script kept h l at is =
     λ i. record {
       here = (view w l).here;
       there = (view w l).there;
-      has_clocked = none_clocked script kept h l.place is.here.s_below i;
-      far_has_clocked = none_clocked script kept h l.far_place is.there.s_below i;
+      has_clocked = none_clocked script kept h l.place is.here.node_below i;
+      far_has_clocked = none_clocked script kept h l.far_place is.there.node_below i;
       probe = none_under (Rattle.fabric_settling.specs.Views.is_probe (end_here w l) (Rattle.fabric_settling.specs.Views.nonce_here w l)) script h l at is i;
       reply = none_under (Rattle.fabric_settling.specs.Views.is_reply (end_there w l) (end_here w l) (Rattle.fabric_settling.specs.Views.nonce_here w l)) script h (turned l) at (link_turned script l is) i;
     }
@@ -99,7 +99,7 @@ cut_first script kept unpaced h lawful now l is up =
       at_here = (view w l).here;
       at_there = (view w l).there;
       time = omega (arith, now);
-      before = begins (view w l).here (view w l).there (never_host script kept h l.place l.port l.far_place l.far_port a.s_below a.p_least a.p_most is.far) (never_host script kept h l.far_place l.far_port l.place l.port b.s_below b.p_least b.p_most is.back);
+      before = begins (view w l).here (view w l).there (never_host script kept h l.place l.port l.far_place l.far_port a.node_below a.own_port_least a.own_port_most is.far) (never_host script kept h l.far_place l.far_port l.place l.port b.node_below b.own_port_least b.own_port_most is.back);
       run_here = run_begins (end_here v l) (end_there v l) (view v l) (view w l).here (view w l).there (view_begins script kept h l at is);
       run_there = run_begins (end_there v l) (end_here v l) (view v (turned l)) (view w l).there (view w l).here (view_begins script kept h (turned l) at (link_turned script l is));
     }

@@ -187,8 +187,8 @@ far_join_goes script h l st k st_is step none_come none_gone =
 carry_same : (c f : CarryOf) → ◌≡◌ {A = Frame} (Carry c) (Carry f) → c ≡ f
 carry_same c f e = cc
 
-carry_number : (epoch n : ℕ) (from to : EndId) (f : CarryOf) → is_carry epoch from to n (Carry f) ≡ true → f.k ≡ n
-carry_number epoch n from to f found = eqb-true f.k n (and_parts ((f.epoch == epoch) && is_same_end f.from from && is_same_end f.to to) (f.k == n) found).1
+carry_number : (epoch n : ℕ) (from to : EndId) (f : CarryOf) → is_carry epoch from to n (Carry f) ≡ true → f.number ≡ n
+carry_number epoch n from to f found = eqb-true f.number n (and_parts ((f.epoch == epoch) && is_same_end f.from from && is_same_end f.to to) (f.number == n) found).1
 
 -- where what was in hand is no body
 no_answer : (script : ScriptOf) (h : List Event) (l : LinkOf) → ((a : Sent) → IsAnswer (world_after script h) l.far_place a → ⊥) → NoneGone (world_after script h) l
@@ -218,21 +218,21 @@ pub record Comes (script : ScriptOf) (h : List Event) (l : LinkOf) (f : CarryOf)
   pub epoch : (there (effect (Handle l.far_place) (world_after script h)) l).epoch ≡ (here (world_after script h) l).epoch
   pub not_ahead : (there (world_after script h) l).epoch ≤ (here (world_after script h) l).epoch
   pub old : (way (world_after script h) l).receiving ≡ r
-  pub new : (way (effect (Handle l.far_place) (world_after script h)) l).receiving ≡ received f.k f.body r
+  pub new : (way (effect (Handle l.far_place) (world_after script h)) l).receiving ≡ received f.number f.body r
   pub answer : (x : Sent) (a : Rattle.fabric_settling.proofs.AckFrames.IsAckFor l.far_port f (there (world_after script h) l) x) → a.came ≡ r
-  pub out : is_acknowledged (verdict f.k f.body r) ≡ true → In (ack_for l.far_port f (there (world_after script h) l) r) (handled l.far_place (world_after script h)).frames
+  pub out : is_acknowledged (verdict f.number f.body r) ≡ true → In (ack_for l.far_port f (there (world_after script h) l) r) (handled l.far_place (world_after script h)).frames
 
 comes_goes : (script : ScriptOf) (h : List Event) (l : LinkOf) (f : CarryOf) (r : Receiving) → IsEvent script h (Handle l.far_place) l → (station (world_after script h).fabric l.far_place).hand ≡ hand.Frame l.far_port → frame_of (held_bytes (world_after script h).fabric l.far_place) ≡ Some (Carry f)
     → f.epoch ≡ (here (world_after script h) l).epoch → f.from ≡ end_here (world_after script h) l → f.to ≡ end_there (world_after script h) l → Comes script h l f r → GoesOn script h (Handle l.far_place) l
 comes_goes script h l f r k is read epoch_is from_is to_is c =
-    one_step script h (Handle l.far_place) l (receives f.k f.body (record {
+    one_step script h (Handle l.far_place) l (receives f.number f.body (record {
       there = under;
       not_ahead = c.not_ahead;
-      is = far_parts script h l k c.ends (here w l).epoch (received f.k f.body (way w l).receiving) c.epoch (c.new ∙ ap (received f.k f.body) (sym c.old));
+      is = far_parts script h l k c.ends (here w l).epoch (received f.number f.body (way w l).receiving) c.epoch (c.new ∙ ap (received f.number f.body) (sym c.old));
       carry = λ n found. carry_back script h l k c.ends n found;
       carry_on = λ n found. elim (carry_kept script h l k c.ends n found)
           [ inl stays ↦ inl stays | inr held ↦ inr (sym (carry_number (here w l).epoch n (end_here w l) (end_there w l) f (such_is (is_carry (here w l).epoch (end_here w l) (end_there w l) n) (held_bytes w.fabric l.far_place) (Carry f) read held.1))) ];
-      put = λ late acknowledged. subst (λ x. (way v l).ack (receiving.last (received f.k f.body x)) ≡ true) (sym c.old) (put late (subst (λ x. is_acknowledged (verdict f.k f.body x) ≡ true) c.old acknowledged));
+      put = λ late acknowledged. subst (λ x. (way v l).ack (receiving.last (received f.number f.body x)) ≡ true) (sym c.old) (put late (subst (λ x. is_acknowledged (verdict f.number f.body x) ≡ true) c.old acknowledged));
       ack = λ n found. elim (ack_from script h l k c.ends n found) [ inl old ↦ inl old | inr new ↦ inr (number n new) ];
       ack_on = λ n found. ack_kept script h l k c.ends n found;
     }))
@@ -246,32 +246,32 @@ comes_goes script h l f r k is read epoch_is from_is to_is c =
     u : SwitchOf
     u = there w l
 
-    under : (way w l).carry f.k ≡ true
-    under = held_under script h l (is_carry (here w l).epoch (end_here w l) (end_there w l) f.k) (Carry f) k.kept k.link.there.s_below is read (carry_test (here w l).epoch (end_here w l) (end_there w l) f.k f epoch_is from_is to_is refl)
+    under : (way w l).carry f.number ≡ true
+    under = held_under script h l (is_carry (here w l).epoch (end_here w l) (end_there w l) f.number) (Carry f) k.kept k.link.there.node_below is read (carry_test (here w l).epoch (end_here w l) (end_there w l) f.number f epoch_is from_is to_is refl)
 
-    put : base_after script h (Handle l.far_place) ≤ w.fabric.tick → is_acknowledged (verdict f.k f.body r) ≡ true → (way v l).ack (receiving.last (received f.k f.body r)) ≡ true
+    put : base_after script h (Handle l.far_place) ≤ w.fabric.tick → is_acknowledged (verdict f.number f.body r) ≡ true → (way v l).ack (receiving.last (received f.number f.body r)) ≡ true
     put late acknowledged =
         let now = late_now script h (Handle l.far_place) l k (tick_handle l.far_place w) late in
-        let up = carry_up script h l (here w l).epoch f.k (end_here w l) (end_there w l) now.before k.link under in
+        let up = carry_up script h l (here w l).epoch f.number (end_here w l) (end_there w l) now.before k.link under in
         let x = ack_for l.far_port f u r in
         let among = c.out acknowledged in
         let comes = sent_comes script k.kept h (turned l) x (link_turned script l k.link) now.calm (up_turned script k.kept h l k.link up) among refl in
-        let spelled = each_in IsOut (handled l.far_place w).frames x (handled_frames script k.kept h l.far_place k.link.there.s_below k.lawful) among in
-        let m = receiving.last (received f.k f.body r) in
+        let spelled = each_in IsOut (handled l.far_place w).frames x (handled_frames script k.kept h l.far_place k.link.there.node_below k.lawful) among in
+        let m = receiving.last (received f.number f.body r) in
         ack_is w v l m v c.ends
         ∙ way_such (is_ack (here w l).epoch (end_there w l) (end_here w l) m) v (turned l) (spelling x.frame) comes
         (such_frame (is_ack (here w l).epoch (end_there w l) (end_here w l) m) (spelling x.frame) x.frame (frame_again x.frame spelled.frame_is)
         ((λ i. is_ack (here w l).epoch (end_there w l) (end_here w l) m (Ack (epoch_is i) (end_there w l) (from_is i) m)) ∙ ack_itself (here w l).epoch m (end_there w l) (end_here w l)))
 
-    number : (n : ℕ) → SentSuch (is_ack (here w l).epoch (end_there w l) (end_here w l) n) w (Handle l.far_place) (turned l) → n ≡ receiving.last (received f.k f.body (way w l).receiving)
+    number : (n : ℕ) → SentSuch (is_ack (here w l).epoch (end_there w l) (end_here w l) n) w (Handle l.far_place) (turned l) → n ≡ receiving.last (received f.number f.body (way w l).receiving)
     number n new =
         let a = answer_of l.far_place w new.sent new.among (ap is_an_ack (ack_to (here w l).epoch (end_there w l) (end_here w l) n new.sent.frame new.found)) in
         let port : a.port ≡ l.far_port = same_port (station w.fabric l.far_place).hand a.port l.far_port a.hand_is is in
         let body : a.body ≡ f = carry_same a.body f (some_same (Carry a.body) (Carry f) (sym a.read ∙ read)) in
         let ack = subst (λ (z : ℕ × CarryOf). Rattle.fabric_settling.proofs.AckFrames.IsAckFor z.0 z.1 u new.sent) (λ i. (port i, body i)) a.ack in
         let test = sym (ap (λ (x : Sent). is_ack (here w l).epoch (end_there w l) (end_here w l) n x.frame) ack.is) ∙ new.found in
-        sym (ack_number (here w l).epoch f.epoch n (receiving.last (received f.k f.body ack.came)) (end_there w l) (end_here w l) (end_at u l.far_port) f.from test)
-        ∙ ap (λ x. receiving.last (received f.k f.body x)) (c.answer new.sent ack ∙ sym c.old)
+        sym (ack_number (here w l).epoch f.epoch n (receiving.last (received f.number f.body ack.came)) (end_there w l) (end_here w l) (end_at u l.far_port) f.from test)
+        ∙ ap (λ x. receiving.last (received f.number f.body x)) (c.answer new.sent ack ∙ sym c.old)
 
 body_comes : (script : ScriptOf) (h : List Event) (l : LinkOf) (f : CarryOf) → IsEvent script h (Handle l.far_place) l → (station (world_after script h).fabric l.far_place).hand ≡ hand.Frame l.far_port → frame_of (held_bytes (world_after script h).fabric l.far_place) ≡ Some (Carry f)
     → handled l.far_place (world_after script h) ≡ framed l.far_port (Carry f) (there (world_after script h) l) → f.epoch ≡ (here (world_after script h) l).epoch → f.from ≡ end_here (world_after script h) l → f.to ≡ end_there (world_after script h) l → GoesOn script h (Handle l.far_place) l
@@ -295,8 +295,8 @@ body_comes script h l f k is read st_is epoch_is from_is to_is = by_count (count
     fits : HandFits w.fabric.tick (station w.fabric l.far_place).clock u (hand.Frame l.far_port)
     fits = hand_fits script h (turned l) (back_event script h l k) (hand.Frame l.far_port) is
 
-    under : (way w l).carry f.k ≡ true
-    under = held_under script h l (is_carry e (end_here w l) (end_there w l) f.k) (Carry f) k.kept k.link.there.s_below is read (carry_test e (end_here w l) (end_there w l) f.k f epoch_is from_is to_is refl)
+    under : (way w l).carry f.number ≡ true
+    under = held_under script h l (is_carry e (end_here w l) (end_there w l) f.number) (Carry f) k.kept k.link.there.node_below is read (carry_test e (end_here w l) (end_there w l) f.number f epoch_is from_is to_is refl)
 
     still_gone : handled l.far_place w ≡ still u → NoneGone w l
     still_gone stays n x i port found = absurd (subst (λ (s : Step). In x s.frames) stays i)
@@ -321,7 +321,7 @@ body_comes script h l f k is read st_is epoch_is from_is to_is = by_count (count
         }))
     drop stays none (inr late) =
         let now = late_now script h (Handle l.far_place) l k (tick_handle l.far_place w) late in
-        absurd (true≢false (sym (carry_counts script h l e f.k (end_here w l) (end_there w l) now.before k.link k.apart under) ∙ (λ i. counts u l.far_port (sym from_is i) (sym to_is i)) ∙ none))
+        absurd (true≢false (sym (carry_counts script h l e f.number (end_here w l) (end_there w l) now.before k.link k.apart under) ∙ (λ i. counts u l.far_port (sym from_is i) (sym to_is i)) ∙ none))
 
     ignore : handled l.far_place w ≡ still u → e < u.epoch → GoesOn script h (Handle l.far_place) l
     ignore stays ahead =
@@ -334,7 +334,7 @@ body_comes script h l f k is read st_is epoch_is from_is to_is = by_count (count
 
     -- the session of the far end is with this end
     linked : counts u l.far_port f.from f.to ≡ true → peer_among u.card.links l.far_port ≡ Some (end_here w l)
-    linked is_counted = counted_link script k.kept h l.far_place l.far_port f.from f.to k.link.there.s_below k.link.there.p_least k.link.there.p_most fits.3 is_counted ∙ ap Some from_is
+    linked is_counted = counted_link script k.kept h l.far_place l.far_port f.from f.to k.link.there.node_below k.link.there.own_port_least k.link.there.own_port_most fits.3 is_counted ∙ ap Some from_is
 
     received_here : (x : WorldOf) → is_session x (turned l) ≡ true → (here x l).epoch ≤ (there x l).epoch → (way x l).receiving ≡ (there x l).receivings l.far_port
     received_here x session most = (λ i. cond (session i && not (le-ltb (there x l).epoch (here x l).epoch most i)) ((there x l).receivings l.far_port) untouched)
@@ -353,14 +353,14 @@ body_comes script h l f k is read st_is epoch_is from_is to_is = by_count (count
           epoch = epoch ∙ sym same ∙ epoch_is;
           not_ahead = omega (arith, same, epoch_is);
           old = received_here w back (omega (arith, same, epoch_is));
-          new = received_here v back_then (omega (arith, same, epoch_is, epoch, here_epoch)) ∙ ap (λ (x : SwitchOf). x.receivings l.far_port) own ∙ p.receivings ∙ at_the_port l.far_port (received f.k f.body (u.receivings l.far_port)) u.receivings;
+          new = received_here v back_then (omega (arith, same, epoch_is, epoch, here_epoch)) ∙ ap (λ (x : SwitchOf). x.receivings l.far_port) own ∙ p.receivings ∙ at_the_port l.far_port (received f.number f.body (u.receivings l.far_port)) u.receivings;
           answer = λ x a. a.same same;
           out = λ acknowledged. subst (λ (x : Step). In (ack_for l.far_port f u (u.receivings l.far_port)) x.frames) (sym st_is) (present_ack u l.far_port f is_counted same acknowledged);
         })
 
     above_goes : counts u l.far_port f.from f.to ≡ true → u.epoch < f.epoch → GoesOn script h (Handle l.far_place) l
     above_goes is_counted greater =
-        let a = far_above u l.far_port l.far_port f k.link.there.p_least k.link.there.p_most is_counted greater in
+        let a = far_above u l.far_port l.far_port f k.link.there.own_port_least k.link.there.own_port_most is_counted greater in
         let ends = far_ends script h l k (ap (λ (x : Step). x.switch.life) st_is ∙ a.life) in
         let own : there v l ≡ (framed l.far_port (Carry f) u).switch = ends.far ∙ ap (λ (x : Step). x.switch) st_is in
         let epoch : (there v l).epoch ≡ f.epoch = ap (λ (x : SwitchOf). x.epoch) own ∙ a.epoch in
@@ -374,7 +374,7 @@ body_comes script h l f k is read st_is epoch_is from_is to_is = by_count (count
           epoch = epoch ∙ epoch_is;
           not_ahead = omega (arith, greater, epoch_is);
           old = untouched_where w l (inr (omega (arith, greater, epoch_is)));
-          new = received_here v back_then (omega (arith, epoch_is, epoch, here_epoch)) ∙ ap (λ (x : SwitchOf). x.receivings l.far_port) own ∙ a.receivings ∙ at_the_port l.far_port (received f.k f.body untouched) (λ p. untouched);
+          new = received_here v back_then (omega (arith, epoch_is, epoch, here_epoch)) ∙ ap (λ (x : SwitchOf). x.receivings l.far_port) own ∙ a.receivings ∙ at_the_port l.far_port (received f.number f.body untouched) (λ p. untouched);
           answer = λ x ack. ack.greater greater;
           out = λ acknowledged. subst (λ (x : Step). In (ack_for l.far_port f u untouched) x.frames) (sym st_is) (above_ack u l.far_port f is_counted greater acknowledged);
         })
@@ -390,7 +390,7 @@ body_comes script h l f k is read st_is epoch_is from_is to_is = by_count (count
 
 -- one of another session
 body_other : (script : ScriptOf) (h : List Event) (l : LinkOf) (f : CarryOf) → IsEvent script h (Handle l.far_place) l → (station (world_after script h).fabric l.far_place).hand ≡ hand.Frame l.far_port → frame_of (held_bytes (world_after script h).fabric l.far_place) ≡ Some (Carry f)
-    → handled l.far_place (world_after script h) ≡ framed l.far_port (Carry f) (there (world_after script h) l) → is_carry (here (world_after script h) l).epoch (end_here (world_after script h) l) (end_there (world_after script h) l) f.k (Carry f) ≡ false → GoesOn script h (Handle l.far_place) l
+    → handled l.far_place (world_after script h) ≡ framed l.far_port (Carry f) (there (world_after script h) l) → is_carry (here (world_after script h) l).epoch (end_here (world_after script h) l) (end_there (world_after script h) l) f.number (Carry f) ≡ false → GoesOn script h (Handle l.far_place) l
 body_other script h l f k is read st_is other = by (body_kind l.far_port f u)
   where
     w : WorldOf
@@ -409,7 +409,7 @@ body_other script h l f k is read st_is other = by (body_kind l.far_port f u)
     fits = hand_fits script h (turned l) (back_event script h l k) (hand.Frame l.far_port) is
 
     no_test : (c : CarryOf) → c ≡ f → c.epoch ≡ e → c.from ≡ end_here w l → c.to ≡ end_there w l → ⊥
-    no_test c same epoch from to = true≢false (sym (carry_test e (end_here w l) (end_there w l) c.k c epoch from to refl) ∙ ap (λ (x : CarryOf). is_carry e (end_here w l) (end_there w l) x.k (Carry x)) same ∙ other)
+    no_test c same epoch from to = true≢false (sym (carry_test e (end_here w l) (end_there w l) c.number c epoch from to refl) ∙ ap (λ (x : CarryOf). is_carry e (end_here w l) (end_there w l) x.number (Carry x)) same ∙ other)
 
     none_come : NoneCome w l
     none_come n at found =
@@ -421,7 +421,7 @@ body_other script h l f k is read st_is other = by (body_kind l.far_port f u)
         let a = answer_of l.far_place w x i (ap is_an_ack (ack_to e (end_there w l) (end_here w l) n x.frame found)) in
         let port : a.port ≡ l.far_port = same_port (station w.fabric l.far_place).hand a.port l.far_port a.hand_is is in
         let test = sym (ap (λ (y : Sent). is_ack e (end_there w l) (end_here w l) n y.frame) a.ack.is) ∙ found in
-        let m = receiving.last (received a.body.k a.body.body a.ack.came) in
+        let m = receiving.last (received a.body.number a.body.body a.ack.came) in
         let p = and_parts ((a.body.epoch == e) && is_same_end (end_at u a.port) (end_there w l) && is_same_end a.body.from (end_here w l)) (m == n) test in
         let q = and_parts ((a.body.epoch == e) && is_same_end (end_at u a.port) (end_there w l)) (is_same_end a.body.from (end_here w l)) p.0 in
         let r = and_parts (a.body.epoch == e) (is_same_end (end_at u a.port) (end_there w l)) q.0 in
@@ -432,10 +432,10 @@ body_other script h l f k is read st_is other = by (body_kind l.far_port f u)
     apart_by : counts u l.far_port f.from f.to ≡ true → (b : Bool) → is_session w (turned l) ≡ b → (is_session w (turned l) ≡ false) ⊎ (f.epoch < e)
     apart_by is_counted false none = inl none
     apart_by is_counted true session =
-        let linked = counted_link script k.kept h l.far_place l.far_port f.from f.to k.link.there.s_below k.link.there.p_least k.link.there.p_most fits.3 is_counted in
+        let linked = counted_link script k.kept h l.far_place l.far_port f.from f.to k.link.there.node_below k.link.there.own_port_least k.link.there.own_port_most fits.3 is_counted in
         let from_is : f.from ≡ end_here w l = some_same f.from (end_here w l) (sym linked ∙ is_end_is (peer_among u.card.links l.far_port) (end_here w l) session) in
         let to_is : f.to ≡ end_there w l = (counted u l.far_port f.from f.to is_counted).1 in
-        let low = joined_low script k.kept h l.place f.epoch f.from.life k.link.here.s_below (ap (λ (z : EndId). z.life) from_is) (held_joined script k.kept h l.far_place f read) in
+        let low = joined_low script k.kept h l.place f.epoch f.from.life k.link.here.node_below (ap (λ (z : EndId). z.life) from_is) (held_joined script k.kept h l.far_place f read) in
         elim (cases_lt f.epoch e) [ inl below ↦ inr below | inr high ↦ absurd (no_test f refl (omega (arith, low, high)) from_is to_is) ]
 
     by : BodyKind l.far_port f u → GoesOn script h (Handle l.far_place) l
@@ -452,12 +452,12 @@ body_other script h l f k is read st_is other = by (body_kind l.far_port f u)
         let then : (way v l).receiving ≡ untouched = untouched_where v l (elim now [ inl none ↦ inl (session ∙ none) | inr low ↦ inr (omega (arith, low, same, epoch, here_epoch)) ]) in
         far_passes script h l k ends epoch (then ∙ sym before) none_come none_gone
     by (above is_counted greater) =
-        let a = far_above u l.far_port l.far_port f k.link.there.p_least k.link.there.p_most is_counted greater in
+        let a = far_above u l.far_port l.far_port f k.link.there.own_port_least k.link.there.own_port_most is_counted greater in
         let ends = far_ends script h l k (ap (λ (x : Step). x.switch.life) st_is ∙ a.life) in
         let own : there v l ≡ (framed l.far_port (Carry f) u).switch = ends.far ∙ ap (λ (x : Step). x.switch) st_is in
         let epoch : (there v l).epoch ≡ f.epoch = ap (λ (x : SwitchOf). x.epoch) own ∙ a.epoch in
         let here_epoch : (here v l).epoch ≡ e = ap (λ (x : SwitchOf). x.epoch) ends.near in
-        let linked = counted_link script k.kept h l.far_place l.far_port f.from f.to k.link.there.s_below k.link.there.p_least k.link.there.p_most fits.3 is_counted in
+        let linked = counted_link script k.kept h l.far_place l.far_port f.from f.to k.link.there.node_below k.link.there.own_port_least k.link.there.own_port_most fits.3 is_counted in
         let session : is_session v (turned l) ≡ is_session w (turned l) =
         (λ i. is_end (peer_among (own i).card.links l.far_port) (end_at (ends.near i) l.port)) ∙ ap (λ o. is_end o (end_here w l)) (a.links ∙ (counted u l.far_port f.from f.to is_counted).0 ∙ sym linked)
         in
@@ -492,15 +492,15 @@ body_elsewhere script h l r f k is other st_is = by (body_kind r f u)
           life = p.life;
           epoch = p.epoch;
           card = p.card;
-          receivings = p.receivings ∙ at_other_port r l.far_port (received f.k f.body (u.receivings r)) u.receivings (λ e. other (sym e));
+          receivings = p.receivings ∙ at_other_port r l.far_port (received f.number f.body (u.receivings r)) u.receivings (λ e. other (sym e));
         }) none_come none_gone
     by (above is_counted greater) =
-        let a = far_above u l.far_port r f k.link.there.p_least k.link.there.p_most is_counted greater in
+        let a = far_above u l.far_port r f k.link.there.own_port_least k.link.there.own_port_most is_counted greater in
         let epoch = a.epoch in
         far_join_goes script h l (framed r (Carry f) u) k st_is (record {
           life = a.life;
           greater = omega (arith, epoch, greater);
-          receivings = a.receivings ∙ at_other_port r l.far_port (received f.k f.body untouched) (λ p. untouched) (λ e. other (sym e));
+          receivings = a.receivings ∙ at_other_port r l.far_port (received f.number f.body untouched) (λ p. untouched) (λ e. other (sym e));
         }) none_come none_gone
 
 frame_goes : (script : ScriptOf) (h : List Event) (l : LinkOf) (r : ℕ) (f : Frame) → IsEvent script h (Handle l.far_place) l → (station (world_after script h).fabric l.far_place).hand ≡ hand.Frame r → frame_of (held_bytes (world_after script h).fabric l.far_place) ≡ Some f
@@ -513,16 +513,16 @@ frame_goes script h l r (Carry f) k is read st_is = by (cases_eq r l.far_port)
     u : SwitchOf
     u = there w l
 
-    by_test : r ≡ l.far_port → (b : Bool) → is_carry (here w l).epoch (end_here w l) (end_there w l) f.k (Carry f) ≡ b → GoesOn script h (Handle l.far_place) l
+    by_test : r ≡ l.far_port → (b : Bool) → is_carry (here w l).epoch (end_here w l) (end_there w l) f.number (Carry f) ≡ b → GoesOn script h (Handle l.far_place) l
     by_test same false other = body_other script h l f k (is ∙ ap hand.Frame same) read (st_is ∙ ap (λ p. framed p (Carry f) u) same) other
     by_test same true found =
-        let a = and_parts ((f.epoch == (here w l).epoch) && is_same_end f.from (end_here w l) && is_same_end f.to (end_there w l)) (f.k == f.k) found in
+        let a = and_parts ((f.epoch == (here w l).epoch) && is_same_end f.from (end_here w l) && is_same_end f.to (end_there w l)) (f.number == f.number) found in
         let b = and_parts ((f.epoch == (here w l).epoch) && is_same_end f.from (end_here w l)) (is_same_end f.to (end_there w l)) a.0 in
         let d = and_parts (f.epoch == (here w l).epoch) (is_same_end f.from (end_here w l)) b.0 in
         body_comes script h l f k (is ∙ ap hand.Frame same) read (st_is ∙ ap (λ p. framed p (Carry f) u) same) (eqb-true f.epoch (here w l).epoch d.0) (same_end_is f.from (end_here w l) d.1) (same_end_is f.to (end_there w l) b.1)
 
     by : (r ≡ l.far_port) ⊎ (r ≡ l.far_port → ⊥) → GoesOn script h (Handle l.far_place) l
-    by (inl same) = by_test same (is_carry (here w l).epoch (end_here w l) (end_there w l) f.k (Carry f)) refl
+    by (inl same) = by_test same (is_carry (here w l).epoch (end_here w l) (end_there w l) f.number (Carry f)) refl
     by (inr other) = body_elsewhere script h l r f k is other st_is
 frame_goes script h l r (Ack epoch from to n) k is read st_is = other_goes script h l r (Ack epoch from to n) k is read st_is (far_ack l.far_port r epoch n from to (there (world_after script h) l)) (λ c e. cc)
 frame_goes script h l r (Probe from nonce) k is read st_is = other_goes script h l r (Probe from nonce) k is read st_is (far_probe l.far_port r nonce from (there (world_after script h) l)) (λ c e. cc)

@@ -76,7 +76,7 @@ pub record IsPresent (u : SwitchOf) (q r : ℕ) (f : CarryOf) : Type 0 where
   pub life : (framed r (Carry f) u).switch.life ≡ u.life
   pub epoch : (framed r (Carry f) u).switch.epoch ≡ u.epoch
   pub card : (framed r (Carry f) u).switch.card ≡ u.card
-  pub receivings : (framed r (Carry f) u).switch.receivings q ≡ at_port r (received f.k f.body (u.receivings r)) u.receivings q
+  pub receivings : (framed r (Carry f) u).switch.receivings q ≡ at_port r (received f.number f.body (u.receivings r)) u.receivings q
 
 pub far_present : (u : SwitchOf) (q r : ℕ) (f : CarryOf) → counts u r f.from f.to ≡ true → f.epoch ≡ u.epoch → IsPresent u q r f
 far_present u q r f counted same =
@@ -88,7 +88,7 @@ pub record IsAbove (u : SwitchOf) (q r : ℕ) (f : CarryOf) : Type 0 where
   pub life : (framed r (Carry f) u).switch.life ≡ u.life
   pub epoch : (framed r (Carry f) u).switch.epoch ≡ f.epoch
   pub links : peer_among (framed r (Carry f) u).switch.card.links q ≡ good_peer u q
-  pub receivings : (framed r (Carry f) u).switch.receivings q ≡ at_port r (received f.k f.body untouched) (λ p. untouched) q
+  pub receivings : (framed r (Carry f) u).switch.receivings q ≡ at_port r (received f.number f.body untouched) (λ p. untouched) q
 
 pub far_above : (u : SwitchOf) (q r : ℕ) (f : CarryOf) → 1 ≤ q → q ≤ 12 → counts u r f.from f.to ≡ true → u.epoch < f.epoch → IsAbove u q r f
 far_above u q r f least most counted above =
@@ -98,7 +98,7 @@ far_above u q r f least most counted above =
       life = k.0.life;
       epoch = k.1;
       links = ap (λ (x : Step). peer_among x.switch.card.links q) (greater_is r f u counted above)
-          ∙ ap (λ c. peer_among c.links q) (answers_only r f.k f.from f.body j.switch).2
+          ∙ ap (λ c. peer_among c.links q) (answers_only r f.number f.from f.body j.switch).2
           ∙ ap (λ (x : SwitchOf). peer_among x.card.links q) (all_pushed_few (adds (begun f.epoch u).card []) (begun f.epoch u)).only
           ∙ good_link u q least most;
       receivings = (carry_greater q r f u counted above).receivings;
@@ -111,13 +111,13 @@ acks_in r k peer f s is =
     (all_pushed (all_added s.card r (accepted_by k f.body (s.receivings r)) s.log) (receives r k f.body s)).frames
     (subst (λ b. In (ack_to s r peer (last (received k f.body (s.receivings r)))) (cond b (ack_to s r peer (last (received k f.body (s.receivings r))) ∷ []) [])) (sym is) (inl refl))
 
-pub present_ack : (u : SwitchOf) (r : ℕ) (f : CarryOf) → counts u r f.from f.to ≡ true → f.epoch ≡ u.epoch → is_acknowledged (verdict f.k f.body (u.receivings r)) ≡ true → In (ack_for r f u (u.receivings r)) (framed r (Carry f) u).frames
+pub present_ack : (u : SwitchOf) (r : ℕ) (f : CarryOf) → counts u r f.from f.to ≡ true → f.epoch ≡ u.epoch → is_acknowledged (verdict f.number f.body (u.receivings r)) ≡ true → In (ack_for r f u (u.receivings r)) (framed r (Carry f) u).frames
 present_ack u r f counted same is =
     subst (λ (x : Step). In (ack_for r f u (u.receivings r)) x.frames) (sym (same_is r f u counted same))
-    (subst (λ e. In (record { port = r; frame = Ack e (end_at u r) f.from (last (received f.k f.body (u.receivings r))) }) (answers_body r f.from f.k f.body u).frames) (sym same) (acks_in r f.k f.from f u is))
+    (subst (λ e. In (record { port = r; frame = Ack e (end_at u r) f.from (last (received f.number f.body (u.receivings r))) }) (answers_body r f.from f.number f.body u).frames) (sym same) (acks_in r f.number f.from f u is))
 
-pub above_ack : (u : SwitchOf) (r : ℕ) (f : CarryOf) → counts u r f.from f.to ≡ true → u.epoch < f.epoch → is_acknowledged (verdict f.k f.body untouched) ≡ true → In (ack_for r f u untouched) (framed r (Carry f) u).frames
-above_ack u r f counted above is = subst (λ (x : Step). In (ack_for r f u untouched) x.frames) (sym (greater_is r f u counted above)) (in_right (ack_for r f u untouched) j.frames (answers_body r f.from f.k f.body j.switch).frames found)
+pub above_ack : (u : SwitchOf) (r : ℕ) (f : CarryOf) → counts u r f.from f.to ≡ true → u.epoch < f.epoch → is_acknowledged (verdict f.number f.body untouched) ≡ true → In (ack_for r f u untouched) (framed r (Carry f) u).frames
+above_ack u r f counted above is = subst (λ (x : Step). In (ack_for r f u untouched) x.frames) (sym (greater_is r f u counted above)) (in_right (ack_for r f u untouched) j.frames (answers_body r f.from f.number f.body j.switch).frames found)
   where
     j : Step
     j = joins f.epoch u
@@ -125,7 +125,7 @@ above_ack u r f counted above is = subst (λ (x : Step). In (ack_for r f u untou
     new : j.switch.receivings r ≡ untouched
     new = (joins_works r f.epoch u).receivings
 
-    found : In (ack_for r f u untouched) (answers_body r f.from f.k f.body j.switch).frames
+    found : In (ack_for r f u untouched) (answers_body r f.from f.number f.body j.switch).frames
     found =
-        subst (λ x. In x (answers_body r f.from f.k f.body j.switch).frames) (λ i. record { port = r; frame = Ack (joined_epoch f.epoch u i) (joined_end f.epoch r u i) f.from (last (received f.k f.body (new i))) })
-        (acks_in r f.k f.from f j.switch (ap (λ x. is_acknowledged (verdict f.k f.body x)) new ∙ is))
+        subst (λ x. In x (answers_body r f.from f.number f.body j.switch).frames) (λ i. record { port = r; frame = Ack (joined_epoch f.epoch u i) (joined_end f.epoch r u i) f.from (last (received f.number f.body (new i))) })
+        (acks_in r f.number f.from f j.switch (ap (λ x. is_acknowledged (verdict f.number f.body x)) new ∙ is))

@@ -425,16 +425,16 @@ link_fine script h x k i = by_up (is_up f x.a x.a_port) refl
         ap (λ at. (side_at f.wires at).is_up) (sym (Rattle.fabric_settling.proofs.Linked.out_is script k.kept h l is)) ∙ one.up ∙ up
 
     here : (b : Bool) → is_up f x.a x.a_port ≡ b → port_shown f x.a x.a_port ≡ cond b (known_view (end_here w l) (end_there w l)) dead_view
-    here b up = shown_behind script h x.a x.a_port (Some (far.Switch x.b x.b_port)) k is.here.s_below is.here.p_least is.here.p_most is.far b up
+    here b up = shown_behind script h x.a x.a_port (Some (far.Switch x.b x.b_port)) k is.here.node_below is.here.own_port_least is.here.own_port_most is.far b up
 
     there : (b : Bool) → is_up f x.a x.a_port ≡ b → port_shown f x.b x.b_port ≡ cond b (known_view (end_there w l) (end_here w l)) dead_view
-    there b up = shown_behind script h x.b x.b_port (Some (far.Switch x.a x.a_port)) k is.there.s_below is.there.p_least is.there.p_most is.back b (up_there b up)
+    there b up = shown_behind script h x.b x.b_port (Some (far.Switch x.a x.a_port)) k is.there.node_below is.there.own_port_least is.there.own_port_most is.back b (up_there b up)
 
     uid_a : (end_here w l).life.uid ≡ uid_of script.wires.switches x.a
-    uid_a = uid_here script k.kept h x.a is.here.s_below
+    uid_a = uid_here script k.kept h x.a is.here.node_below
 
     uid_b : (end_there w l).life.uid ≡ uid_of script.wires.switches x.b
-    uid_b = uid_here script k.kept h x.b is.there.s_below
+    uid_b = uid_here script k.kept h x.b is.there.node_below
 
     rest : PortViewOf → PortViewOf → Bool
     rest one other = cond (x.a == x.b) (Rattle.fabric_state.specs.PortStates.is_loop one.state && Rattle.fabric_state.specs.PortStates.is_loop other.state)
@@ -447,10 +447,10 @@ link_fine script h x k i = by_up (is_up f x.a x.a_port) refl
         let uid : (end_here w l).life.uid ≡ (end_there w l).life.uid = ap (λ n. (lives_of w n).uid) at in
         and_from _ _ (known_loop (end_here w l) (end_there w l) (eq-eqb _ _ (sym uid))) (known_loop (end_there w l) (end_here w l) (eq-eqb _ _ uid))
     by_same false other =
-        let apart : (end_there w l).life.uid ≡ (end_here w l).life.uid → ⊥ = λ e. true≢false (sym (eq-eqb x.a x.b (uid_one script.wires x.a x.b k.kept.wired is.here.s_below is.there.s_below (sym uid_a ∙ sym e ∙ uid_b))) ∙ other) in
+        let apart : (end_there w l).life.uid ≡ (end_here w l).life.uid → ⊥ = λ e. true≢false (sym (eq-eqb x.a x.b (uid_one script.wires x.a x.b k.kept.wired is.here.node_below is.there.node_below (sym uid_a ∙ sym e ∙ uid_b))) ∙ other) in
         and_from _ _
-        (ap (λ z. is_good_to z (known_view (end_here w l) (end_there w l))) (end_shown_is script k.kept h x.b x.b_port is.there.s_below) ∙ known_good (end_here w l) (end_there w l) (ne_eqb _ _ apart))
-        (ap (λ z. is_good_to z (known_view (end_there w l) (end_here w l))) (end_shown_is script k.kept h x.a x.a_port is.here.s_below) ∙ known_good (end_there w l) (end_here w l) (ne_eqb _ _ (λ e. apart (sym e))))
+        (ap (λ z. is_good_to z (known_view (end_here w l) (end_there w l))) (end_shown_is script k.kept h x.b x.b_port is.there.node_below) ∙ known_good (end_here w l) (end_there w l) (ne_eqb _ _ apart))
+        (ap (λ z. is_good_to z (known_view (end_there w l) (end_here w l))) (end_shown_is script k.kept h x.a x.a_port is.here.node_below) ∙ known_good (end_there w l) (end_here w l) (ne_eqb _ _ (λ e. apart (sym e))))
 
     by_up : (b : Bool) → is_up f x.a x.a_port ≡ b → link_agrees f x ≡ true
     by_up false up = dead_fine (here false up) (there false up)

@@ -71,7 +71,7 @@ was_all : (w : WorldOf) (e : Event) (l : LinkOf) → InQueues (WasOn w e l) w.fa
 was_all w e l queue = each_of (WasOn w e l queue) (wire_at w.fabric.wires queue) (λ b i at. inl (subst (λ n. In b (wire_at w.fabric.wires n)) at i))
 
 hand_is_no_wire : (script : ScriptOf) (l : LinkOf) (s : ℕ) → IsLinkOf script l → place s 0 ≡ place l.far_place l.far_port → ⊥
-hand_is_no_wire script l s is at = port_is_no_hand s l.far_place l.far_port is.there.p_least is.there.p_most at
+hand_is_no_wire script l s is at = port_is_no_hand s l.far_place l.far_port is.there.own_port_least is.there.own_port_most at
 
 -- what a switch sends goes on the wire of its port
 goes_out : (script : ScriptOf) → IsScript script → (h : List Event) (s : ℕ) (l : LinkOf) → IsLinkOf script l → (x : Sent) → s < places script → (1 ≤ x.port) × (x.port ≤ 12) → In x (handled s (world_after script h)).frames → GoesTo (WasOn (world_after script h) (Handle s) l) (world_after script h).fabric.wires s (spelled_out x)
@@ -86,7 +86,7 @@ goes_out script kept h s l is x low port i = by (side_at w.fabric.wires (place s
     arrives : (t q : ℕ) → far_at script.wires s x.port ≡ Some (Switch t q) → WasOn w (Handle s) l (place t q) (spelling x.frame)
     arrives t q far at =
         let k = link_of script kept s x.port t q far in
-        let same = same_places t q l.far_place l.far_port k.there.p_most is.there.p_most at in
+        let same = same_places t q l.far_place l.far_port k.there.own_port_most is.there.own_port_most at in
         let back : ◌≡◌ {A = Option Far} (Some (Switch s x.port)) (Some (Switch l.place l.port)) = sym k.back ∙ (λ j. far_at script.wires (same.0 j) (same.1 j)) ∙ is.back in
         let pair : ◌≡◌ {A = ℕ × ℕ} (s, x.port) (l.place, l.port) = some_same (s, x.port) (l.place, l.port) (ap (λ (o : Option Far). switch_behind o) back) in
         let here : s ≡ l.place = ap (λ (z : ℕ × ℕ). z.0) pair in
@@ -191,13 +191,13 @@ own_hand_was script kept h (Clock s) l is own lawful =
     let w = world_after script h in
     let same : s ≡ l.far_place = omega (arith, own) in
     let x = clock_station w.fabric s in
-    came_not w l (station (effect (Clock s) w).fabric l.far_place) _ (ap (λ n. came_by l.far_port (slice_index_or (slice_set w.fabric.stations n x) l.far_place vacant).hand) same ∙ ap (λ (y : StationOf). came_by l.far_port y.hand) (get_or-set_same w.fabric.stations l.far_place x vacant (within script kept h l.far_place is.there.s_below)))
+    came_not w l (station (effect (Clock s) w).fabric l.far_place) _ (ap (λ n. came_by l.far_port (slice_index_or (slice_set w.fabric.stations n x) l.far_place vacant).hand) same ∙ ap (λ (y : StationOf). came_by l.far_port y.hand) (get_or-set_same w.fabric.stations l.far_place x vacant (within script kept h l.far_place is.there.node_below)))
 own_hand_was script kept h (Take s p) l is own lawful = take_hand_was script kept h s p l is (omega (arith, own)) lawful
 own_hand_was script kept h (Handle s) l is own lawful =
     let w = world_after script h in
     let same : s ≡ l.far_place = omega (arith, own) in
     let x = handled_station s w in
-    came_not w l (station (effect (Handle s) w).fabric l.far_place) _ (ap (λ n. came_by l.far_port (slice_index_or (slice_set w.fabric.stations n x) l.far_place vacant).hand) same ∙ ap (λ (y : StationOf). came_by l.far_port y.hand) (get_or-set_same w.fabric.stations l.far_place x vacant (within script kept h l.far_place is.there.s_below)))
+    came_not w l (station (effect (Handle s) w).fabric l.far_place) _ (ap (λ n. came_by l.far_port (slice_index_or (slice_set w.fabric.stations n x) l.far_place vacant).hand) same ∙ ap (λ (y : StationOf). came_by l.far_port y.hand) (get_or-set_same w.fabric.stations l.far_place x vacant (within script kept h l.far_place is.there.node_below)))
 own_hand_was script kept h (Load s) l is own lawful = let w = world_after script h in loads_hand_was (finish_of (w.switches s)) s w l
 own_hand_was script kept h (Restart s) l is own lawful =
     let w = world_after script h in

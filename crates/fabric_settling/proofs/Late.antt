@@ -50,7 +50,7 @@ use Rattle.fabric_settling.proofs.WayParts.{SentSuch, such_from, ticked_under}
 -- two switches have two names
 pub differ_of : (script : ScriptOf) → IsScript script → (h : List Event) (l : LinkOf) → IsLinkOf script l → (l.place ≡ l.far_place → ⊥) → ((end_there (world_after script h) l).life.uid == (end_here (world_after script h) l).life.uid) ≡ false
 differ_of script kept h l is apart =
-    ne_eqb _ _ (λ e. apart (uid_one script.wires l.place l.far_place kept.wired is.here.s_below is.there.s_below (sym (uid_here script kept h l.place is.here.s_below) ∙ sym e ∙ uid_here script kept h l.far_place is.there.s_below)))
+    ne_eqb _ _ (λ e. apart (uid_one script.wires l.place l.far_place kept.wired is.here.node_below is.there.node_below (sym (uid_here script kept h l.place is.here.node_below) ∙ sym e ∙ uid_here script kept h l.far_place is.there.node_below)))
 
 -- an event after which it is so late disturbs nothing
 pub late_step : (script : ScriptOf) (h : List Event) (e : Event) → is_lawful (world_after script h).fabric e ≡ true → (effect e (world_after script h)).fabric.tick ≡ (world_after script h).fabric.tick → IsLate script (h ++ e ∷ []) → IsLateNow script h e
@@ -133,7 +133,7 @@ down_peer script h l k is down =
     let w = world_after script h in
     let port = port_of (w.switches l.place) l.port in
     good_shown port.phase port.far.conn
-    ∙ ap good_of (port_shows script h l.place l.port k is.here.s_below is.here.p_least is.here.p_most)
+    ∙ ap good_of (port_shows script h l.place l.port k is.here.node_below is.here.own_port_least is.here.own_port_most)
     ∙ (λ i. good_of (cond (down i) (behind_view (lives_of w) (end_here w l) (far_at script.wires l.place l.port)) dead_view))
 
 carry_down : (script : ScriptOf) → IsScript script → (l : LinkOf) → IsLinkOf script l → (epoch n : ℕ) (from to : EndId) → NoneSent (is_carry epoch from to n) script l
@@ -142,11 +142,11 @@ carry_down script kept l is epoch n from to h e late down k =
     let g = h ++ e ∷ [] in
     let c = carry_to epoch from to n k.sent.frame k.found in
     let lawful : is_lawful w.fabric (Handle l.place) ≡ true = subst (λ x. is_lawful w.fabric x ≡ true) k.event late.calm.lawful in
-    let out = carried_out script kept h l.place k.sent c.carry is.here.s_below lawful k.among c.frame_is in
+    let out = carried_out script kept h l.place k.sent c.carry is.here.node_below lawful k.among c.frame_is in
     let same : world_after script g ≡ effect e w = after_is script h e late.calm.lawful in
     let switch : (world_after script g).switches l.place ≡ (handled l.place w).switch = ap (λ (x : WorldOf). x.switches l.place) same ∙ ap (λ x. (effect x w).switches l.place) k.event ∙ handled_switch l.place w in
     let down_now : is_up (world_after script g).fabric l.place l.port ≡ false = ap (λ (x : WorldOf). is_up x.fabric l.place l.port) same ∙ (calm_links script h e late.calm).up (place l.place l.port) ∙ down in
-    let none = links_good script g l.place l.port late.after is.here.s_below is.here.p_least is.here.p_most ∙ down_peer script g l late.after is down_now in
+    let none = links_good script g l.place l.port late.after is.here.node_below is.here.own_port_least is.here.own_port_most ∙ down_peer script g l late.after is down_now in
     none_some (sym none ∙ ap (λ (u : SwitchOf). peer_among u.card.links l.port) switch ∙ ap (λ p. peer_among (handled l.place w).switch.card.links p) (sym k.port) ∙ out.to)
 
 -- An acknowledgement that goes out is for a body that was in hand.

@@ -62,7 +62,7 @@ same_places s p t q low most e = let f : 13 * s + p ≡ 13 * t + q = e in (omega
 
 -- in each reached world
 pub side_far : (script : ScriptOf) → IsScript script → (h : List Event) (l : LinkOf) → IsLinkOf script l → (side_at (world_after script h).fabric.wires (place l.place l.port)).far ≡ Some (Switch l.far_place l.far_port)
-side_far script kept h l is = let most = is.here.p_most in far_is script kept h l.place l.port is.here.s_below (omega (arith, most)) ∙ is.far
+side_far script kept h l is = let most = is.here.own_port_most in far_is script kept h l.place l.port is.here.node_below (omega (arith, most)) ∙ is.far
 
 pub side_link : (script : ScriptOf) → IsScript script → (h : List Event) (l : LinkOf) → IsLinkOf script l → is_link (side_at (world_after script h).fabric.wires (place l.place l.port)).far ≡ true
 side_link script kept h l is = ap is_link (side_far script kept h l is)
@@ -83,6 +83,6 @@ wire_low script kept h l is =
     let fits = world_fits script kept h in
     let size = fits.wires_sound.frames.queues in
     let same = ap (λ (s : ScriptOf). length s.wires.switches) (Rattle.fabric_world.proofs.InductionLemmas.world_script script h) in
-    let low = is.there.s_below in
-    let most = is.there.p_most in
+    let low = is.there.node_below in
+    let most = is.there.own_port_most in
     omega (arith, size, same, low, most)

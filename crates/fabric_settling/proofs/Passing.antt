@@ -143,14 +143,14 @@ take_passes script kept h s p l b is lawful i = by (way_parts f l.far_place l.fa
     by (inl on) t q = by_apart (apart t q)
       where
         q_least : 1 ≤ l.far_port
-        q_least = is.there.p_least
+        q_least = is.there.own_port_least
 
         by_apart : ((l.far_place ≡ s → l.far_port ≡ p → ⊥) ⊎ ((l.far_place ≡ s) × (l.far_port ≡ p))) → In b (under_way_to g l.far_place l.far_port)
         by_apart (inr at) = here at on
         by_apart (inl not) =
             way_on g l.far_place l.far_port b (subst (In b) (sym (take_elsewhere (place s p) (place s 0) (place l.far_place l.far_port) f.wires
-            (λ e. let at = same_places l.far_place l.far_port s p is.there.p_most p_most e in not at.0 at.1)
-            (λ e. port_is_no_hand s l.far_place l.far_port is.there.p_least is.there.p_most (sym e)))) on)
+            (λ e. let at = same_places l.far_place l.far_port s p is.there.own_port_most p_most e in not at.0 at.1)
+            (λ e. port_is_no_hand s l.far_place l.far_port is.there.own_port_least is.there.own_port_most (sym e)))) on)
     by (inr k) (inl same) q = absurd (empty_came l.far_port (station f l.far_place).hand (ap (λ n. (station f n).hand) same ∙ empty) k.0)
     by (inr k) (inr other) q =
         way_held g l.far_place l.far_port b (ap (came_by l.far_port) (same_hand other) ∙ k.0)
@@ -171,13 +171,13 @@ handle_passes script kept h s l b is lawful i = by (way_parts w.fabric l.far_pla
 
     by : On (place l.far_place l.far_port) b w.fabric.wires ⊎ ((came_by l.far_port (station w.fabric l.far_place).hand ≡ true) × In b (hand_of w.fabric.wires l.far_place)) → (l.far_place ≡ s) ⊎ (l.far_place ≡ s → ⊥) → Passes w (Handle s) l b
     by (inl on) at = inl (way_on g l.far_place l.far_port b (all_out_keeps s (place l.far_place l.far_port) out b (released (station w.fabric s).hand s w.fabric.wires)
-        (released_keeps (station w.fabric s).hand s (place l.far_place l.far_port) b w.fabric.wires (λ e. port_is_no_hand s l.far_place l.far_port is.there.p_least is.there.p_most (sym e)) on)))
+        (released_keeps (station w.fabric s).hand s (place l.far_place l.far_port) b w.fabric.wires (λ e. port_is_no_hand s l.far_place l.far_port is.there.own_port_least is.there.own_port_most (sym e)) on)))
     by (inr k) (inl same) =
         let at = came_port l.far_port (station w.fabric l.far_place).hand k.0 in
         inr (record {
           event = ap Handle (sym same);
           hand_is = at;
-          held = held_one (station w.fabric l.far_place).hand l.far_port (hand_of w.fabric.wires l.far_place) b at (holds_at script kept h l.far_place is.there.s_below) k.1;
+          held = held_one (station w.fabric l.far_place).hand l.far_port (hand_of w.fabric.wires l.far_place) b at (holds_at script kept h l.far_place is.there.node_below) k.1;
         })
     by (inr k) (inr other) = inl (way_held g l.far_place l.far_port b (ap (λ (x : StationOf). came_by l.far_port x.hand) (get_or-set_other w.fabric.stations s l.far_place _ vacant other) ∙ k.0)
         (all_out_keeps s (place l.far_place 0) out b (released (station w.fabric s).hand s w.fabric.wires)

@@ -70,7 +70,7 @@ peer_boot : (script : ScriptOf) → IsScript script → (h : List Event) (l : Li
 unfolding behind
 peer_boot script kept h l peer is linked =
     let u = here (world_after script h) l in
-    let met = peer_ok (Met script h l.place u.life) u.card.links l.port peer ((all_met script (all_lives script) kept (firm script kept) h).switches l.place is.here.s_below).card linked in
+    let met = peer_ok (Met script h l.place u.life) u.card.links l.port peer ((all_met script (all_lives script) kept (firm script kept) h).switches l.place is.here.node_below).card linked in
     let other : met.other ≡ l.far_place = ap (λ o. (behind o).0) (sym met.wired ∙ is.far) in
     let up = boots_rise script met.before met.later l.far_place in
     let now : (switch_after script (met.before ++ met.later) l.far_place).life.boot ≡ (there (world_after script h) l).life.boot = ap (λ g. (switch_after script g l.far_place).life.boot) (sym met.parts) in
@@ -86,7 +86,7 @@ no_carry_from script kept h l n is unjoined found =
     let f = frame_such test x.0 x.2 in
     let c = carry_to (here w l).epoch (end_here w l) (end_there w l) n f.0 f.2 in
     let at = under_wire script h l.far_place l.far_port x.0 x.1 in
-    joined_none script kept h l.place c.carry.epoch c.carry.from.life is.here.s_below (ap (λ (z : EndId). z.life) c.from_is) unjoined (carry_joined script kept h at.0 x.0 c.carry at.1 (f.1 ∙ ap Some c.frame_is))
+    joined_none script kept h l.place c.carry.epoch c.carry.from.life is.here.node_below (ap (λ (z : EndId). z.life) c.from_is) unjoined (carry_joined script kept h at.0 x.0 c.carry at.1 (f.1 ∙ ap Some c.frame_is))
 
 no_ack_to : (script : ScriptOf) → IsScript script → (h : List Event) (l : LinkOf) (n : ℕ) → IsLinkOf script l → (here (world_after script h) l).joined ≡ false → (way (world_after script h) l).ack n ≡ true → ⊥
 no_ack_to script kept h l n is unjoined found =
@@ -95,7 +95,7 @@ no_ack_to script kept h l n is unjoined found =
     let x = such_way test w (turned l) found in
     let f = frame_such test x.0 x.2 in
     let at = under_wire script h l.place l.port x.0 x.1 in
-    joined_none script kept h l.place (here w l).epoch (here w l).life is.here.s_below refl unjoined
+    joined_none script kept h l.place (here w l).epoch (here w l).life is.here.node_below refl unjoined
     (ack_joined script kept h at.0 x.0 (here w l).epoch n (end_there w l) (end_here w l) at.1 (f.1 ∙ ap Some (ack_to (here w l).epoch (end_there w l) (end_here w l) n f.0 f.2)))
 
 -- a far end that has joined none, and of which the near one has no link
@@ -107,7 +107,7 @@ no_ack_from script kept h l n is unjoined found =
     let f = frame_such test x.0 x.2 in
     let at = under_wire script h l.place l.port x.0 x.1 in
     let told = sent_told script kept h at.0 x.0 (Ack (here w l).epoch (end_there w l) (end_here w l) n) at.1 (f.1 ∙ ap Some (ack_to (here w l).epoch (end_there w l) (end_here w l) n f.0 f.2)) in
-    joined_none script kept h l.far_place (here w l).epoch (there w l).life is.there.s_below refl unjoined (told.node, told.joined)
+    joined_none script kept h l.far_place (here w l).epoch (there w l).life is.there.node_below refl unjoined (told.node, told.joined)
 
 no_carry_to : (script : ScriptOf) → IsScript script → (h : List Event) (l : LinkOf) (n : ℕ) → IsLinkOf script l → is_session (world_after script h) l ≡ false → (way (world_after script h) l).carry n ≡ true → ⊥
 no_carry_to script kept h l n is none found = by u.joined refl
@@ -127,7 +127,7 @@ no_carry_to script kept h l n is none found = by u.joined refl
         let c = carry_to u.epoch (end_here w l) (end_there w l) n f.0 f.2 in
         let at = under_wire script h l.far_place l.far_port x.0 x.1 in
         let told = sent_told script kept h at.0 x.0 (Carry c.carry) at.1 (f.1 ∙ ap Some c.frame_is) in
-        let node = some_same told.node _ (sym told.joined ∙ (λ i. (game_after script h).nodes (c.from_is i).life (c.epoch_is i)) ∙ (history_agrees script kept h l.place is.here.s_below).joined joined) in
+        let node = some_same told.node _ (sym told.joined ∙ (λ i. (game_after script h).nodes (c.from_is i).life (c.epoch_is i)) ∙ (history_agrees script kept h l.place is.here.node_below).joined joined) in
         let linked : peer_among u.card.links l.port ≡ Some (end_there w l) =
         same_link u.card.links l.port ∙ (λ i. link_at (sym c.from_is i).port (sym node i).card.links) ∙ told.to ∙ ap Some c.to_is
         in

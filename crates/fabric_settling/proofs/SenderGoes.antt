@@ -72,9 +72,9 @@ put_one script h l n k late one = by (is_session v l) refl one
         let now = late_now script h (Handle l.place) l k (tick_handle l.place w) late in
         let up = session_up script h (Handle l.place) l k now session in
         let comes = sent_comes script k.kept h l body.sent k.link now.calm up body.among body.port_is in
-        let out = carried_out script k.kept h l.place body.sent body.carry k.link.here.s_below k.lawful body.among body.frame_is in
+        let out = carried_out script k.kept h l.place body.sent body.carry k.link.here.node_below k.lawful body.among body.frame_is in
         let own = here_is w l in
-        let spelled = each_in IsOut (handled l.place w).frames body.sent (handled_frames script k.kept h l.place k.link.here.s_below k.lawful) body.among in
+        let spelled = each_in IsOut (handled l.place w).frames body.sent (handled_frames script k.kept h l.place k.link.here.node_below k.lawful) body.among in
         let to : body.carry.to ≡ end_there v l = some_same body.carry.to (end_there v l)
         (sym out.to ∙ (λ i. peer_among (sym own i).card.links (body.port_is i)) ∙ is_end_is (peer_among (here v l).card.links l.port) (end_there v l) session)
         in
@@ -177,7 +177,7 @@ none_ahead_carry script h l epoch n from to kept is life above found =
     let c = Rattle.fabric_settling.proofs.SenderWays.carry_to epoch from to n f.0 f.2 in
     let at = under_wire script h l.far_place l.far_port x.0 x.1 in
     let joined = carry_joined script kept h at.0 x.0 c.carry at.1 (f.1 ∙ ap Some c.frame_is) in
-    let low = joined_low script kept h l.place c.carry.epoch c.carry.from.life is.here.s_below (ap (λ (z : EndId). z.life) c.from_is ∙ life) joined in
+    let low = joined_low script kept h l.place c.carry.epoch c.carry.from.life is.here.node_below (ap (λ (z : EndId). z.life) c.from_is ∙ life) joined in
     let e = c.epoch_is in
     omega (arith, low, e, above)
 
@@ -188,7 +188,7 @@ none_ahead_ack script h l epoch n from to kept is life above found =
     let f = frame_such (is_ack epoch from to n) x.0 x.2 in
     let at = under_wire script h l.place l.port x.0 x.1 in
     let joined = ack_joined script kept h at.0 x.0 epoch n from to at.1 (f.1 ∙ ap Some (Rattle.fabric_settling.proofs.SenderWays.ack_to epoch from to n f.0 f.2)) in
-    let low = joined_low script kept h l.place epoch to.life is.here.s_below life joined in
+    let low = joined_low script kept h l.place epoch to.life is.here.node_below life joined in
     omega (arith, low, above)
 
 pub behind_none : (s : Bool) (a b : ℕ) (r : Receiving) → a < b → cond (s && not (nat_lt a b)) r untouched ≡ untouched

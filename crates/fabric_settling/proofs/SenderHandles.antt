@@ -84,12 +84,12 @@ works_after script h l k =
     let g = h ++ Handle l.place ∷ [] in
     let same = after_is script h (Handle l.place) k.lawful in
     sym (ap (λ (u : SwitchOf). u.spent) (here_is w l)) ∙ sym (ap (λ (x : WorldOf). (x.switches l.place).spent) same)
-    ∙ sym ((world_is_sound script k.kept g).places l.place k.link.here.s_below).spent ∙ ap (λ (x : WorldOf). (station x.fabric l.place).spent) same ∙ unspent_here v.fabric l.place k.works_on
+    ∙ sym ((world_is_sound script k.kept g).places l.place k.link.here.node_below).spent ∙ ap (λ (x : WorldOf). (station x.fabric l.place).spent) same ∙ unspent_here v.fabric l.place k.works_on
 
 pub hand_fits : (script : ScriptOf) (h : List Event) (l : LinkOf) → IsEvent script h (Handle l.place) l → (x : Hand) → (station (world_after script h).fabric l.place).hand ≡ x → HandFits (world_after script h).fabric.tick (station (world_after script h).fabric l.place).clock (here (world_after script h) l) x
 hand_fits script h l k x is =
     let w = world_after script h in
-    subst (λ y. HandFits w.fabric.tick (station w.fabric l.place).clock (w.switches l.place) y) is ((world_is_sound script k.kept h).places l.place k.link.here.s_below).fits
+    subst (λ y. HandFits w.fabric.tick (station w.fabric l.place).clock (w.switches l.place) y) is ((world_is_sound script k.kept h).places l.place k.link.here.node_below).fits
 
 -- A clock
 pub spent_then : (now : ℕ) (samples : List Sample) (u : SwitchOf) → is_spent_by u (sampled_by now samples u) ≡ true → (steps.clocked now samples u).switch.spent ≡ true
@@ -247,7 +247,7 @@ ack_still script h l epoch n from to k works session other = by (counts u l.port
     by_epoch : counts u l.port from to ≡ true → (b : Bool) → (epoch == u.epoch) ≡ b → on_ack l.port from epoch n u ≡ still u
     by_epoch is false differs = ap (λ b. cond (b && is_outstanding n (u.sendings l.port)) (acked_step l.port n from u) (still u)) differs
     by_epoch is true same =
-        let linked = counted_link script k.kept h l.place l.port from to k.link.here.s_below k.link.here.p_least k.link.here.p_most works is in
+        let linked = counted_link script k.kept h l.place l.port from to k.link.here.node_below k.link.here.own_port_least k.link.here.own_port_most works is in
         let from_is : from ≡ end_there w l = some_same from (end_there w l) (sym linked ∙ is_end_is (peer_among u.card.links l.port) (end_there w l) session) in
         let to_is : to ≡ end_here w l = (counted u l.port from to is).1 in
         absurd (true≢false (sym (ack_itself u.epoch n (end_there w l) (end_here w l)) ∙ (λ i. is_ack u.epoch (end_there w l) (end_here w l) n (Ack (sym (eqb-true epoch u.epoch same) i) (sym from_is i) (sym to_is i) n)) ∙ other))
@@ -350,7 +350,7 @@ ack_goes script h l n k is read st_is start run = by_count (counts u l.port far 
     ends = same_ends script h l k same
 
     under : d.ack n ≡ true
-    under = held_under script h (turned l) (is_ack u.epoch far own n) (Ack u.epoch far own n) k.kept k.link.here.s_below is read (ack_itself u.epoch n far own)
+    under = held_under script h (turned l) (is_ack u.epoch far own n) (Ack u.epoch far own n) k.kept k.link.here.node_below is read (ack_itself u.epoch n far own)
 
     ack_on : (m : ℕ) → d.ack m ≡ true → ((way v l).ack m ≡ true) ⊎ (m ≡ n)
     ack_on m found = elim (keeps_such (is_ack u.epoch far own m) script h (Handle l.place) (turned l) k.kept (link_turned script l k.link) k.lawful refl (λ e. cc) found)
@@ -487,7 +487,7 @@ ack_goes script h l n k is read st_is start run = by_count (counts u l.port far 
     by_count : (b : Bool) → counts u l.port far own ≡ b → Run base start (way v l)
     by_count false none = drop (st_is ∙ ap (λ b. cond b (on_ack l.port far u.epoch n u) (still u)) none) none (cases_lt w.fabric.tick base)
     by_count true is_counted =
-        let linked = counted_link script k.kept h l.place l.port far own k.link.here.s_below k.link.here.p_least k.link.here.p_most fits.3 is_counted in
+        let linked = counted_link script k.kept h l.place l.port far own k.link.here.node_below k.link.here.own_port_least k.link.here.own_port_most fits.3 is_counted in
         by_outstanding is_counted (ap (λ o. is_end o far) linked ∙ same_end far) (is_outstanding n t) refl
 
 -- each frame

@@ -116,24 +116,24 @@ answers_only q k peer body u =
 counted_is : (q : ℕ) (f : CarryOf) (u : SwitchOf) → counts u q f.from f.to ≡ true → framed q (Carry f) u ≡ on_carry q f u
 counted_is q f u counted = ap (λ b. cond b (on_carry q f u) (still u)) counted
 
-pub same_is : (q : ℕ) (f : CarryOf) (u : SwitchOf) → counts u q f.from f.to ≡ true → f.epoch ≡ u.epoch → framed q (Carry f) u ≡ answers_body q f.from f.k f.body u
+pub same_is : (q : ℕ) (f : CarryOf) (u : SwitchOf) → counts u q f.from f.to ≡ true → f.epoch ≡ u.epoch → framed q (Carry f) u ≡ answers_body q f.from f.number f.body u
 same_is q f u counted same =
     counted_is q f u counted
-    ∙ ap (λ b. cond b (after (joins f.epoch u) (answers_body q f.from f.k f.body (joins f.epoch u).switch)) (cond (f.epoch == u.epoch) (answers_body q f.from f.k f.body u) (still u))) (Rattle.std.proofs.lemmas.Bool.le-ltb u.epoch f.epoch (omega (arith, same)))
-    ∙ ap (λ b. cond b (answers_body q f.from f.k f.body u) (still u)) (Rattle.std.proofs.Common.eq-eqb f.epoch u.epoch same)
+    ∙ ap (λ b. cond b (after (joins f.epoch u) (answers_body q f.from f.number f.body (joins f.epoch u).switch)) (cond (f.epoch == u.epoch) (answers_body q f.from f.number f.body u) (still u))) (Rattle.std.proofs.lemmas.Bool.le-ltb u.epoch f.epoch (omega (arith, same)))
+    ∙ ap (λ b. cond b (answers_body q f.from f.number f.body u) (still u)) (Rattle.std.proofs.Common.eq-eqb f.epoch u.epoch same)
 
-pub greater_is : (q : ℕ) (f : CarryOf) (u : SwitchOf) → counts u q f.from f.to ≡ true → u.epoch < f.epoch → framed q (Carry f) u ≡ after (joins f.epoch u) (answers_body q f.from f.k f.body (joins f.epoch u).switch)
+pub greater_is : (q : ℕ) (f : CarryOf) (u : SwitchOf) → counts u q f.from f.to ≡ true → u.epoch < f.epoch → framed q (Carry f) u ≡ after (joins f.epoch u) (answers_body q f.from f.number f.body (joins f.epoch u).switch)
 greater_is q f u counted above =
     counted_is q f u counted
-    ∙ ap (λ b. cond b (after (joins f.epoch u) (answers_body q f.from f.k f.body (joins f.epoch u).switch)) (cond (f.epoch == u.epoch) (answers_body q f.from f.k f.body u) (still u))) (Rattle.std.proofs.lemmas.Bool.lt-ltb u.epoch f.epoch above)
+    ∙ ap (λ b. cond b (after (joins f.epoch u) (answers_body q f.from f.number f.body (joins f.epoch u).switch)) (cond (f.epoch == u.epoch) (answers_body q f.from f.number f.body u) (still u))) (Rattle.std.proofs.lemmas.Bool.lt-ltb u.epoch f.epoch above)
 
 pub lower_is : (q : ℕ) (f : CarryOf) (u : SwitchOf) → f.epoch < u.epoch → framed q (Carry f) u ≡ still u
 lower_is q f u below = by (counts u q f.from f.to)
   where
     rest : on_carry q f u ≡ still u
     rest =
-        ap (λ b. cond b (after (joins f.epoch u) (answers_body q f.from f.k f.body (joins f.epoch u).switch)) (cond (f.epoch == u.epoch) (answers_body q f.from f.k f.body u) (still u))) (Rattle.std.proofs.lemmas.Bool.le-ltb u.epoch f.epoch (omega (arith, below)))
-        ∙ ap (λ b. cond b (answers_body q f.from f.k f.body u) (still u)) (Rattle.std.proofs.Common.ne_eqb f.epoch u.epoch (λ e. omega (arith, e, below)))
+        ap (λ b. cond b (after (joins f.epoch u) (answers_body q f.from f.number f.body (joins f.epoch u).switch)) (cond (f.epoch == u.epoch) (answers_body q f.from f.number f.body u) (still u))) (Rattle.std.proofs.lemmas.Bool.le-ltb u.epoch f.epoch (omega (arith, below)))
+        ∙ ap (λ b. cond b (answers_body q f.from f.number f.body u) (still u)) (Rattle.std.proofs.Common.ne_eqb f.epoch u.epoch (λ e. omega (arith, e, below)))
 
     by : (b : Bool) → cond b (on_carry q f u) (still u) ≡ still u
     by true = rest
@@ -160,7 +160,7 @@ body_kind q f u = by (counts u q f.from f.to) refl (Rattle.std.proofs.lemmas.Boo
 pub body_goes_on : (now port q : ℕ) (f : CarryOf) (u : SwitchOf) → u.tick ≡ now → counts u q f.from f.to ≡ true → f.epoch ≡ u.epoch → IsSameStep u now port (framed q (Carry f) u)
 body_goes_on now port q f u tick counted same =
     let is = same_is q f u counted same in
-    let only = answers_only q f.k f.from f.body u in
+    let only = answers_only q f.number f.from f.body u in
     record {
       life = ap (λ (st : Step). st.switch.life) is ∙ only.0;
       epoch = ap (λ (st : Step). st.switch.epoch) is ∙ only.1;
@@ -173,7 +173,7 @@ body_begins now port q f u tick counted greater =
     let is = greater_is q f u counted greater in
     let j = joins f.epoch u in
     let joined = joined_is f.epoch u in
-    let only = answers_only q f.k f.from f.body j.switch in
+    let only = answers_only q f.number f.from f.body j.switch in
     let epoch : (framed q (Carry f) u).switch.epoch ≡ f.epoch = ap (λ (st : Step). st.switch.epoch) is ∙ only.1 ∙ joined.1 in (
       record {
         life = ap (λ (st : Step). st.switch.life) is ∙ only.0 ∙ joined.0;
@@ -213,12 +213,12 @@ one_parts n [] ys one = inr one
 one_parts n (x ∷ xs) ys (inl is) = inl (inl is)
 one_parts n (x ∷ xs) ys (inr one) = elim (one_parts n xs ys one) [ inl a ↦ inl (inr a) | inr b ↦ inr b ]
 
-pub one_of_in : (port : ℕ) (xs : List Sent) (x : Sent) (f : CarryOf) → In x xs → x.port ≡ port → x.frame ≡ Carry f → IsOneOf f.k (carried_by port xs)
+pub one_of_in : (port : ℕ) (xs : List Sent) (x : Sent) (f : CarryOf) → In x xs → x.port ≡ port → x.frame ≡ Carry f → IsOneOf f.number (carried_by port xs)
 one_of_in port [] x f i at is = absurd i
 one_of_in port (y ∷ ys) x f (inl same) at is =
-    one_left f.k (cond (y.port == port) (number_of y.frame) []) (carried_by port ys)
-    (subst (IsOneOf f.k) (sym (ap (λ b. cond b (number_of y.frame) []) (Rattle.std.proofs.Common.eq-eqb y.port port (ap (λ (z : Sent). z.port) (sym same) ∙ at)) ∙ ap number_of (ap (λ (z : Sent). z.frame) (sym same) ∙ is))) (inl refl))
-one_of_in port (y ∷ ys) x f (inr i) at is = one_right f.k (cond (y.port == port) (number_of y.frame) []) (carried_by port ys) (one_of_in port ys x f i at is)
+    one_left f.number (cond (y.port == port) (number_of y.frame) []) (carried_by port ys)
+    (subst (IsOneOf f.number) (sym (ap (λ b. cond b (number_of y.frame) []) (Rattle.std.proofs.Common.eq-eqb y.port port (ap (λ (z : Sent). z.port) (sym same) ∙ at)) ∙ ap number_of (ap (λ (z : Sent). z.frame) (sym same) ∙ is))) (inl refl))
+one_of_in port (y ∷ ys) x f (inr i) at is = one_right f.number (cond (y.port == port) (number_of y.frame) []) (carried_by port ys) (one_of_in port ys x f i at is)
 
 pub record IsBodyOf (port : ℕ) (xs : List Sent) (n : ℕ) : Type 0 where
   pub sent : Sent
@@ -226,7 +226,7 @@ pub record IsBodyOf (port : ℕ) (xs : List Sent) (n : ℕ) : Type 0 where
   pub port_is : sent.port ≡ port
   pub carry : CarryOf
   pub frame_is : sent.frame ≡ Carry carry
-  pub number : carry.k ≡ n
+  pub number : carry.number ≡ n
 
 pub one_of_from : (port : ℕ) (xs : List Sent) (n : ℕ) → IsOneOf n (carried_by port xs) → IsBodyOf port xs n
 one_of_from port [] n one = absurd one

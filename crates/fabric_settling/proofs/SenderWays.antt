@@ -85,23 +85,23 @@ pub record IsCarryTo (epoch : ℕ) (from to : EndId) (n : ℕ) (f : Frame) : Typ
   pub epoch_is : carry.epoch ≡ epoch
   pub from_is : carry.from ≡ from
   pub to_is : carry.to ≡ to
-  pub number : carry.k ≡ n
+  pub number : carry.number ≡ n
 
 pub carry_to : (epoch : ℕ) (from to : EndId) (n : ℕ) (f : Frame) → is_carry epoch from to n f ≡ true → IsCarryTo epoch from to n f
 carry_to epoch from to n (Carry c) found =
-    let a = and_parts ((c.epoch == epoch) && is_same_end c.from from && is_same_end c.to to) (c.k == n) found in
+    let a = and_parts ((c.epoch == epoch) && is_same_end c.from from && is_same_end c.to to) (c.number == n) found in
     let b = and_parts ((c.epoch == epoch) && is_same_end c.from from) (is_same_end c.to to) a.0 in
     let d = and_parts (c.epoch == epoch) (is_same_end c.from from) b.0 in
-    record { carry = c; frame_is = refl; epoch_is = eqb-true c.epoch epoch d.0; from_is = same_end_is c.from from d.1; to_is = same_end_is c.to to b.1; number = eqb-true c.k n a.1 }
+    record { carry = c; frame_is = refl; epoch_is = eqb-true c.epoch epoch d.0; from_is = same_end_is c.from from d.1; to_is = same_end_is c.to to b.1; number = eqb-true c.number n a.1 }
 carry_to epoch from to n (Ack e a b k) found = absurd (false≢true found)
 carry_to epoch from to n (Probe a k) found = absurd (false≢true found)
 carry_to epoch from to n (Reply a b k) found = absurd (false≢true found)
 
-pub carry_test : (epoch : ℕ) (from to : EndId) (n : ℕ) (c : CarryOf) → c.epoch ≡ epoch → c.from ≡ from → c.to ≡ to → c.k ≡ n → is_carry epoch from to n (Carry c) ≡ true
+pub carry_test : (epoch : ℕ) (from to : EndId) (n : ℕ) (c : CarryOf) → c.epoch ≡ epoch → c.from ≡ from → c.to ≡ to → c.number ≡ n → is_carry epoch from to n (Carry c) ≡ true
 carry_test epoch from to n c a b d e =
-    and_from ((c.epoch == epoch) && is_same_end c.from from && is_same_end c.to to) (c.k == n)
+    and_from ((c.epoch == epoch) && is_same_end c.from from && is_same_end c.to to) (c.number == n)
     (and_from ((c.epoch == epoch) && is_same_end c.from from) (is_same_end c.to to)
-    (and_from (c.epoch == epoch) (is_same_end c.from from) (eq-eqb c.epoch epoch a) (ap (λ z. is_same_end z from) b ∙ same_end from)) (ap (λ z. is_same_end z to) d ∙ same_end to)) (eq-eqb c.k n e)
+    (and_from (c.epoch == epoch) (is_same_end c.from from) (eq-eqb c.epoch epoch a) (ap (λ z. is_same_end z from) b ∙ same_end from)) (ap (λ z. is_same_end z to) d ∙ same_end to)) (eq-eqb c.number n e)
 
 pub record IsAckTo (epoch : ℕ) (from to : EndId) (n : ℕ) (f : Frame) : Type 0 where
   pub frame_is : f ≡ Ack epoch from to n
@@ -136,7 +136,7 @@ session_out script kept h l epoch n from is lawful k =
     let w = world_after script h in
     let v = effect (Handle l.place) w in
     let c = carry_to epoch from (end_there v l) n k.sent.frame k.found in
-    let out = carried_out script kept h l.place k.sent c.carry is.here.s_below lawful k.among c.frame_is in
+    let out = carried_out script kept h l.place k.sent c.carry is.here.node_below lawful k.among c.frame_is in
     ap (λ (u : SwitchOf). is_end (peer_among u.card.links l.port) (end_there v l)) (here_is w l)
     ∙ ap (λ n. is_end (peer_among (handled l.place w).switch.card.links n) (end_there v l)) (sym k.port)
     ∙ ap (λ o. is_end o (end_there v l)) out.to
@@ -180,7 +180,7 @@ session_up script h e l k late session =
     let same = after_is script h e k.lawful in
     let is = k.link.here in
     let linked : peer_among ((world_after script g).switches l.place).card.links l.port ≡ Some (end_there v l) = ap (λ (x : WorldOf). peer_among (x.switches l.place).card.links l.port) same ∙ is_end_is (peer_among (here v l).card.links l.port) (end_there v l) session in
-    let good = sym (links_good script g l.place l.port late.after is.s_below is.p_least is.p_most) ∙ linked in
-    let found = peer_link script g l.place l.port (end_there v l) late.after is.s_below is.p_least is.p_most good in
+    let good = sym (links_good script g l.place l.port late.after is.node_below is.own_port_least is.own_port_most) ∙ linked in
+    let found = peer_link script g l.place l.port (end_there v l) late.after is.node_below is.own_port_least is.own_port_most good in
     let up : is_up (world_after script g).fabric l.place l.port ≡ true = sym (λ i. is_up (world_after script g).fabric (found.s_is i) (found.p_is i)) ∙ found.up in
     sym ((calm_links script h e late.calm).up (place l.place l.port)) ∙ sym (ap (λ (x : WorldOf). is_up x.fabric l.place l.port) same) ∙ up

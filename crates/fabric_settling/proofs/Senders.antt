@@ -114,7 +114,7 @@ wire_none script kept h empty l is = by_any (has_frame_for f l.far_place) refl
     f = (world_after script h).fabric
 
     low : l.far_place < count f
-    low = let same = ap places (world_script script h) in let k = is.there.s_below in omega (arith, same, k)
+    low = let same = ap places (world_script script h) in let k = is.there.node_below in omega (arith, same, k)
 
     at : slice_index_or (fabric.places f) l.far_place 0 ≡ l.far_place
     at = get_or-range_with_len 0 (count f) l.far_place 0 low ∙ omega arith
@@ -133,7 +133,7 @@ wire_none script kept h empty l is = by_any (has_frame_for f l.far_place) refl
         absurd (true≢false (sym (list_any_at (has_frame_for f) (fabric.places f) l.far_place 0 (omega (arith, low, size)) (ap (has_frame_for f) at ∙ some)) ∙ not-true (list_any (has_frame_for f) (fabric.places f)) empty))
     by_any false none =
         by_link (is_link (side_at f.wires (place l.far_place l.far_port)).far) (side_link script kept h (Rattle.fabric_settling.specs.Views.turned l) (Rattle.fabric_settling.proofs.Linked.link_turned script l is))
-        (none_external (has_frame f l.far_place) none l.far_port is.there.p_least is.there.p_most)
+        (none_external (has_frame f l.far_place) none l.far_port is.there.own_port_least is.there.own_port_most)
 
 -- what a tick needs
 pub record IsAtTick (script : ScriptOf) (h : List Event) : Type 0 where
@@ -200,7 +200,7 @@ from_here script kept h s x low out from = by (side_at w.fabric.wires (place s x
     arrives : (t q : ℕ) → far_at script.wires s x.port ≡ Some (Switch t q) → IsFromEnd script (lives_of w) (place t q) (spelling x.frame)
     arrives t q far l is at f read =
         let k = link_of script kept s x.port t q far in
-        let same = same_places t q l.far_place l.far_port k.there.p_most is.there.p_most at in
+        let same = same_places t q l.far_place l.far_port k.there.own_port_most is.there.own_port_most at in
         let back : ◌≡◌ {A = Option Far} (Some (Switch s x.port)) (Some (Switch l.place l.port)) = sym k.back ∙ ap (λ n. far_at script.wires n q) same.0 ∙ ap (far_at script.wires l.far_place) same.1 ∙ is.back in
         let pair : ◌≡◌ {A = ℕ × ℕ} (s, x.port) (l.place, l.port) = some_same (s, x.port) (l.place, l.port) (ap (λ (o : Option Far). Rattle.fabric_state.specs.Fabric.switch_behind o) back) in
         let frame : x.frame ≡ f = some_same x.frame f (sym (frame_again x.frame out.frame_is) ∙ read) in
@@ -222,7 +222,7 @@ empty_from : (script : ScriptOf) (lives : ℕ → LifeId) (queue : ℕ) → IsFr
 empty_from script lives queue l is at f read = absurd (none_some (sym empty_none ∙ read))
 
 hand_from : (script : ScriptOf) (lives : ℕ → LifeId) (s : ℕ) (b : List ℕ) → IsFromEnd script lives (place s 0) b
-hand_from script lives s b l is at f read = let k = is.there.p_least in let m = is.there.p_most in let e : 13 * s + 0 ≡ 13 * l.far_place + l.far_port = at in absurd (omega (arith, e, k, m))
+hand_from script lives s b l is at f read = let k = is.there.own_port_least in let m = is.there.own_port_most in let e : 13 * s + 0 ≡ 13 * l.far_place + l.far_port = at in absurd (omega (arith, e, k, m))
 
 -- the wires
 loads_wires : (o : Option TopoOf) (s : ℕ) (w : WorldOf) (P : WiresOf → Type 0) → P w.fabric.wires → P (loads_with o s w).fabric.wires

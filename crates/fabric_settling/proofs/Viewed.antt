@@ -340,7 +340,7 @@ port_sampled script h l n samples m is =
     let w = world_after script h in
     let u = w.switches l.place in
     let k = m.link.here in
-    let now : sample_at samples l.port ≡ sample.Switch = ap (λ xs. sample_at xs l.port) (m.samples l.place k.s_below n samples is) ∙ sample_here w.fabric l.place l.port k.p_least k.p_most ∙ link_sample script m.kept h l m.link m.up in
+    let now : sample_at samples l.port ≡ sample.Switch = ap (λ xs. sample_at xs l.port) (m.samples l.place k.node_below n samples is) ∙ sample_here w.fabric l.place l.port k.own_port_least k.own_port_most ∙ link_sample script m.kept h l m.link m.up in
     ap (λ (x : SwitchOf). x.ports l.port) (handled_switch l.place w)
     ∙ ap (λ (st : Rattle.switch_core.specs.Steps.Step). st.switch.ports l.port) (handled_clock l.place n samples w is)
     ∙ (clock_is n samples u).ports l.port
@@ -371,7 +371,7 @@ reply_itself e f n = and_from (is_same_end e e && is_same_end f f) (n == n) (and
 frame_comes : (script : ScriptOf) (h : List Event) (l : LinkOf) (x : Sent) (test : Frame → Bool) → IsMoment script h (Handle l.place) l → In x (handled l.place (world_after script h)).frames → x.port ≡ l.port → test x.frame ≡ true → is_some_under_way test (effect (Handle l.place) (world_after script h)) l ≡ true
 frame_comes script h l x test m i port found =
     let w = world_after script h in
-    let out = each_in IsOut (handled l.place w).frames x (handled_frames script m.kept h l.place m.link.here.s_below m.calm.lawful) i in
+    let out = each_in IsOut (handled l.place w).frames x (handled_frames script m.kept h l.place m.link.here.node_below m.calm.lawful) i in
     way_such test (effect (Handle l.place) w) l (spelling x.frame) (sent_comes script m.kept h l x m.link m.calm m.up i port)
     (such_frame test (spelling x.frame) x.frame (frame_again x.frame out.frame_is) found)
 
@@ -384,10 +384,10 @@ probe_comes script h l n samples m is speaks =
     let x = sampled_by n samples u in
     let step = handled_clock l.place n samples w is in
     let k = m.link.here in
-    let works : (clocked n samples u).switch.spent ≡ false = sym (ap (λ (st : Rattle.switch_core.specs.Steps.Step). st.switch.spent) step) ∙ works_after script h l.place m.kept m.calm k.s_below in
+    let works : (clocked n samples u).switch.spent ≡ false = sym (ap (λ (st : Rattle.switch_core.specs.Steps.Step). st.switch.spent) step) ∙ works_after script h l.place m.kept m.calm k.node_below in
     let ports : (v.switches l.place).ports l.port ≡ x.ports l.port = ap (λ (y : SwitchOf). y.ports l.port) (handled_switch l.place w) ∙ ap (λ (st : Rattle.switch_core.specs.Steps.Step). st.switch.ports l.port) step ∙ (clock_is n samples u).ports l.port in
     let asks : (port_of x l.port).phase ≡ Switch = sym (ap (λ g. (port_after (end_here w l) g).phase) ports) ∙ speaks in
-    let sent = in_from (probe_by x l.port) (clocked n samples u).frames (clock_asks n l.port samples u k.p_least k.p_most (not_spent n samples u works) asks) in
+    let sent = in_from (probe_by x l.port) (clocked n samples u).frames (clock_asks n l.port samples u k.own_port_least k.own_port_most (not_spent n samples u works) asks) in
     let own : end_here v l ≡ end_here w l = ends_stay script h (Handle l.place) m.calm l.place l.port in
     let nonce : nonce_here v l ≡ (port_of x l.port).far.nonce = (λ i. nonce_after (own i) (ports i)) in
     let found = frame_comes script h l (probe_by x l.port) (is_probe (end_here w l) (port_of x l.port).far.nonce) m (subst (λ (st : Rattle.switch_core.specs.Steps.Step). In (probe_by x l.port) st.frames) (sym step) sent) refl (probe_itself (end_here w l) (port_of x l.port).far.nonce) in
@@ -585,7 +585,7 @@ probe_answers script h l from nonce m is read found =
     let here_is = ports_kept l.far_place w kept l.place l.port in
     let same = same_nonce script h (Handle l.far_place) l m.calm (ap (nonce_after (end_here w l)) here_is) in
     one_step script h (Handle l.far_place) l (answers (record {
-      fresh = clocked_full script m.kept h l.far_place l.far_port m.link.there.s_below is;
+      fresh = clocked_full script m.kept h l.far_place l.far_port m.link.there.node_below is;
       is = viewed (view v l) (view w l).here (view w l).there (view w l).has_clocked (view w l).far_has_clocked here_is (ports_kept l.far_place w kept l.far_place l.far_port) (frame_clocked script m.kept h l.far_place l.far_port l.place m.calm.lawful is) (frame_clocked script m.kept h l.far_place l.far_port l.far_place m.calm.lawful is);
       replies = λ speaks. reply_same w v l same v ∙ answer_comes script h l from nonce m is read from_is nonce_is speaks;
       reply_stays = λ there. elim (reply_on script h (Handle l.far_place) l m (λ e. cc) same there) [
@@ -648,7 +648,7 @@ replied_by : (script : ScriptOf) (h : List Event) (e : Event) (l : LinkOf) (from
 replied_by script h e l from to nonce m is read =
     let w = world_after script h in
     let none : IsFromEnd script (lives_of w) (place l.far_place l.far_port) [] = λ k at where_is f r. absurd (none_some (sym Rattle.fabric_game.proofs.KnownLemmas.empty_none ∙ r)) in
-    each_index (IsFromEnd script (lives_of w) (place l.far_place l.far_port)) (hand_of w.fabric.wires l.far_place) 0 [] none (m.froms.hands l.far_place l.far_port m.link.there.s_below is) l m.link refl (Reply from to nonce) read
+    each_index (IsFromEnd script (lives_of w) (place l.far_place l.far_port)) (hand_of w.fabric.wires l.far_place) 0 [] none (m.froms.hands l.far_place l.far_port m.link.there.node_below is) l m.link refl (Reply from to nonce) read
 
 reply_nonce : (own from : EndId) (nonce : ℕ) (history : History) → nonce_after own (Replied from nonce ∷ history) ≡ nonce_after own history
 reply_nonce own from nonce history = ap (λ (p : Port). p.far.nonce) (replied_as from nonce (port_after own history)).1
@@ -664,7 +664,7 @@ hears_here script h l from to nonce m is read meant =
     let there_is = heard_elsewhere l.place l.port l.far_place l.far_port w from nonce ports (ends_apart script m.kept l m.link) in
     let same = same_nonce script h (Handle l.place) l m.calm (ap (nonce_after (end_here w l)) here_is ∙ reply_nonce (end_here w l) (end_there w l) nonce (view w l).here) in
     one_step script h (Handle l.place) l (hears (record {
-      fresh = clocked_full script m.kept h l.place l.port m.link.here.s_below is;
+      fresh = clocked_full script m.kept h l.place l.port m.link.here.node_below is;
       nonce = nonce;
       is = viewed (view v l) (Replied (end_there w l) nonce ∷ (view w l).here) (view w l).there (view w l).has_clocked (view w l).far_has_clocked here_is there_is (frame_clocked script m.kept h l.place l.port l.place m.calm.lawful is) (frame_clocked script m.kept h l.place l.port l.far_place m.calm.lawful is);
       probe_stays = λ found. elim (probe_on script h (Handle l.place) l m (λ e. cc) same found) [
@@ -688,7 +688,7 @@ hears_there script h l from to nonce m is read meant =
     let here_is = heard_elsewhere l.far_place l.far_port l.place l.port w from nonce ports (λ same port. ends_apart script m.kept l m.link (sym same) (sym port)) in
     let same = same_nonce script h (Handle l.far_place) l m.calm (ap (nonce_after (end_here w l)) here_is) in
     one_step script h (Handle l.far_place) l (far_hears (record {
-      fresh = clocked_full script m.kept h l.far_place l.far_port m.link.there.s_below is;
+      fresh = clocked_full script m.kept h l.far_place l.far_port m.link.there.node_below is;
       nonce = nonce;
       is = viewed (view v l) (view w l).here (Replied (end_here w l) nonce ∷ (view w l).there) (view w l).has_clocked (view w l).far_has_clocked here_is there_is (frame_clocked script m.kept h l.far_place l.far_port l.place m.calm.lawful is) (frame_clocked script m.kept h l.far_place l.far_port l.far_place m.calm.lawful is);
       stays = record {

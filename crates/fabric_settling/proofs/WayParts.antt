@@ -84,7 +84,7 @@ such_from test script h e l kept is lawful found = by (way_from script kept h e 
     new (inr out) =
         let f = frame_such test k.0 k.2 in
         let lawful_here : is_lawful w.fabric (Handle l.place) ≡ true = subst (λ x. is_lawful w.fabric x ≡ true) out.event lawful in
-        let is_out = each_in IsOut (handled l.place w).frames out.sent (handled_frames script kept h l.place is.here.s_below lawful_here) out.among in
+        let is_out = each_in IsOut (handled l.place w).frames out.sent (handled_frames script kept h l.place is.here.node_below lawful_here) out.among in
         let same : out.sent.frame ≡ f.0 = some_same out.sent.frame f.0 (sym (frame_again out.sent.frame is_out.frame_is) ∙ ap frame_of (sym out.bytes) ∙ f.1) in
         record { event = out.event; sent = out.sent; among = out.among; port = out.port; found = ap test same ∙ f.2 }
 
@@ -156,8 +156,8 @@ tick_goes script h l k =
     let b = all_left Tick w l.far_place (λ t e. cc) (λ t e. cc) in
     let now : v.fabric.tick ≡ suc w.fabric.tick = let t = (ticked w).0 in omega (arith, t) in
     one_step script h Tick l (ticks (record {
-      before = ap (λ b. cond b 3 4) (all_clocked script k.kept h l.place at k.link.here.s_below);
-      is = way_same w v l (suc w.fabric.tick) 4 a b now (ap (λ b. cond b 3 4) (none_clocked script k.kept h l.place k.link.here.s_below));
+      before = ap (λ b. cond b 3 4) (all_clocked script k.kept h l.place at k.link.here.node_below);
+      is = way_same w v l (suc w.fabric.tick) 4 a b now (ap (λ b. cond b 3 4) (none_clocked script k.kept h l.place k.link.here.node_below));
       carries = record {
         no_others = λ n found. absurd (false≢true (sym (ticked_under (is_carry (here v l).epoch (end_here v l) (end_there v l) n) w l ∙ none_under (is_carry (here v l).epoch (end_here v l) (end_there v l) n) script h l at k.link) ∙ found));
         stay = λ n found. absurd (false≢true (sym (none_under (is_carry (here w l).epoch (end_here w l) (end_there w l) n) script h l at k.link) ∙ found));

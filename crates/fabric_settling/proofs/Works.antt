@@ -61,9 +61,9 @@ body_works port k peer body u =
 carry_works : (port : ℕ) (f : CarryOf) (u : SwitchOf) → IsWorking u (on_carry port f u).switch
 carry_works port f u =
     let j = joins f.epoch u in
-    cond_both (nat_lt u.epoch f.epoch) (after j (answers_body port f.from f.k f.body j.switch)) (cond (f.epoch == u.epoch) (answers_body port f.from f.k f.body u) (still u)) (λ (st : Step). IsWorking u st.switch)
-    (λ _. working_then u j.switch (answers_body port f.from f.k f.body j.switch).switch (joins_works f.epoch u) (body_works port f.k f.from f.body j.switch))
-    (λ _. cond_both (f.epoch == u.epoch) (answers_body port f.from f.k f.body u) (still u) (λ (st : Step). IsWorking u st.switch) (λ _. body_works port f.k f.from f.body u) (λ _. working u))
+    cond_both (nat_lt u.epoch f.epoch) (after j (answers_body port f.from f.number f.body j.switch)) (cond (f.epoch == u.epoch) (answers_body port f.from f.number f.body u) (still u)) (λ (st : Step). IsWorking u st.switch)
+    (λ _. working_then u j.switch (answers_body port f.from f.number f.body j.switch).switch (joins_works f.epoch u) (body_works port f.number f.from f.body j.switch))
+    (λ _. cond_both (f.epoch == u.epoch) (answers_body port f.from f.number f.body u) (still u) (λ (st : Step). IsWorking u st.switch) (λ _. body_works port f.number f.from f.body u) (λ _. working u))
 
 framed_works : (port : ℕ) (f : Frame) (u : SwitchOf) → IsWorking u (framed port f u).switch
 framed_works port (Carry f) u = cond_both (counts u port f.from f.to) (on_carry port f u) (still u) (λ (st : Step). IsWorking u st.switch) (λ _. carry_works port f u) (λ _. working u)

@@ -80,7 +80,7 @@ is_reply from to nonce other = false
 abbrev pub is_carry : ℕ → EndId → EndId → ℕ → Frame → Bool
 is_carry epoch from to number (Carry carry) =
     (carry.epoch == epoch) && is_same_end carry.from from && is_same_end carry.to to
-    && (carry.k == number)
+    && (carry.number == number)
 is_carry epoch from to number other = false
 
 abbrev pub is_ack : ℕ → EndId → EndId → ℕ → Frame → Bool

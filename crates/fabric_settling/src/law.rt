@@ -31,8 +31,9 @@ pub fn a_disturbance_is_not_later()
         → last_disturbance test script history ≤ last_disturbance test script (history ++ more) }
 {}
 
-/// A link that was cut into ticks: at the end of a tick there is one more; 259 ticks after the last
-/// disturbance its ends know each other; and three ticks after that all bodies on it are acknowledged.
+/// A link that was cut into ticks: at the end of a tick there is one more; 259 ticks after the last disturbance its
+/// ends know each other; and three ticks after that each body on it is acknowledged, where both ends have a session
+/// in which each sent a body, and nothing is under way.
 pub fn a_link_settles()
     ensures ends { (last : ℕ) (world : WorldOf) (link : LinkOf) → (cut : IsCut last world link)
         → TickEnds (view world link) → TickEnds (view world (turned link))
@@ -72,7 +73,7 @@ pub fn each_link_is_cut()
         → IsRun (last_disturbance is_either script history + 259) (world_after script history) link }
 {}
 
-/// Without a pace, 259 ticks after each disturbance the network agrees, no switch is spent, and no event
+/// Without a pace, 259 ticks after the last disturbance the network agrees, no switch is spent, and no event
 /// but a disturbance changes a port. So more than 512 ticks after the last command done or told loss it
 /// agrees for good, where nothing was lost for want of room.
 pub fn the_ports_are_final()
@@ -82,8 +83,9 @@ pub fn the_ports_are_final()
 {}
 
 /// Without a pace, three ticks after the ports are final each body that was pushed is acknowledged, where
-/// nothing is left to do. So once all commands are done each history is settled 1,024 ticks after the last
-/// command done or told loss, where nothing was lost for want of room.
+/// nothing is left to do. So once all commands are done, and where nothing was lost for want of room, the clock is
+/// at most 1,024 ticks after the last command done or told loss, and there, where nothing is left to do, the
+/// history is settled.
 pub fn all_settles()
     ensures through { (script : ScriptOf) → IsScript script → script.pace ≡ None → AreBodiesThrough script }
     ensures settles { (script : ScriptOf) → IsScript script → (history : List Event) → IsLawful script history

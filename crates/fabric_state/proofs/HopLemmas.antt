@@ -96,7 +96,7 @@ one_more script sent xs x number sound h = record {
 pub sent_sound : (script : ScriptOf) (f : FabricOf) (from to : HostOn) → IsHost (length script.wires.switches) from → AreSound script f.sent f.packets → AreSound script (f.sent + 1) (f.packets ++ admitted f from to)
 sent_sound script f from to host h = by (address_for f from to) where
   new : (address : ℕ) → IsPacketSound script (f.sent + 1) (packet_to (f.sent + 1) from to address)
-  new address = record { least = omega arith; most = omega arith; at = host.s; entry_least = host.port_least; entry_most = host.port_most; linked = λ (is : true ≡ false). absurd (true≢false is) }
+  new address = record { least = omega arith; most = omega arith; at = host.switch; entry_least = host.port_least; entry_most = host.port_most; linked = λ (is : true ≡ false). absurd (true≢false is) }
 
   by : (o : Result ℕ DropCause) → AreSound script (f.sent + 1) (f.packets ++ admitted_as (f.sent + 1) from to o)
   by (Err why) = none_more script f.sent f.packets h

@@ -1,14 +1,19 @@
 -- The external ports, one after the other.
 
-use Rattle.std.specs.Prelude.{◌≡◌, ◌+◌, ◌-◌, ◌<◌, ◌≤◌, ℕ, List, length, cond, drop, find, map, slice_index_or, slice_set, Some, Bool, true, false}
-use Rattle.std.proofs.Common.{◌∙◌, ap, arith}
-use Rattle.std.proofs.lemmas.List.{at_drop_more}
+use Rattle.std.specs.Prelude.{◌≡◌, ◌≢◌, ◌+◌, ◌-◌, ◌==◌, ◌<◌, ◌≤◌, ℕ, suc, List, length, cond, drop, find, map, slice_get, slice_index_or, slice_set, Some, Bool, true, false, refl}
+use Rattle.std.proofs.Common.{◌∙◌, ap, arith, ext_get_or, subst, sym}
+use Rattle.std.proofs.lemmas.Bool.{eqb-false, eqb-true}
+use Rattle.std.proofs.lemmas.Grind.{get_or-set_at}
+use Rattle.std.proofs.lemmas.List.{at_drop_more, get_or-set_other, length-set}
 use Rattle.std.proofs.lemmas.List.Edits.{fill_by_more}
 use Rattle.std.proofs.lemmas.List.FromFn.{fill_by_all}
+use Rattle.std.proofs.lemmas.Option.{get_or_from_slice_get}
+use Rattle.an_base.specs.Ports.{PortViewOf}
 use Rattle.an_base.specs.declared.port.Sample.{Sample}
 use Rattle.an_base.specs.declared.port.Sample.TheVariants as sample
 use Rattle.port_monitor.specs.Histories.{externals}
 use Rattle.switch_core.proofs.SampleLemmas.{port_at}
+use Rattle.fabric_state.specs.Fabric.{no_view}
 
 -- the first port from this one on that passes
 find_step : (p : ℕ → Bool) (port : ℕ) → 1 ≤ port → port ≤ 12 → find p (drop (port - 1) externals) ≡ cond (p port) (Some port) (find p (drop (port + 1 - 1) externals))
@@ -34,3 +39,20 @@ sampled_more f xs port at x least most place size is each k low =
 -- of all ports
 pub all_sampled : (f : ℕ → Sample) (xs : List Sample) → length xs ≡ 12 → ((k : ℕ) → k < 12 → slice_index_or xs k sample.Down ≡ f (k + 1)) → xs ≡ map f externals
 all_sampled f xs size each = fill_by_all (λ i. f (i + 1)) xs 12 sample.Down size each
+
+-- Where each other port is shown as before, all are with the view of this one in its place
+pub port_put : (port : ℕ) (before after : List PortViewOf) (view : PortViewOf) → 1 ≤ port → port ≤ 12 → length before ≡ 12 → length after ≡ 12
+    → ((other : ℕ) → 1 ≤ other → other ≢ port → slice_index_or after (other - 1) no_view ≡ slice_index_or before (other - 1) no_view) → Some view ≡ slice_get after (port - 1) → slice_set before (port - 1) view ≡ after
+port_put port before after view least most many as_many others here =
+    let size = length-set before (port - 1) view in
+    ext_get_or no_view (slice_set before (port - 1) view) after (size ∙ many ∙ sym as_many) (λ i low. at_place i (omega (arith, low, size)) (i == port - 1) refl)
+  where
+    at_place : (i : ℕ) → i < length before → (b : Bool) → b ≡ (i == port - 1) → slice_index_or (slice_set before (port - 1) view) i no_view ≡ slice_index_or after i no_view
+    at_place i low true test =
+        let place : i ≡ port - 1 = eqb-true i (port - 1) (sym test) in
+        get_or-set_at before (port - 1) i view no_view place (omega (arith, least, most, many)) ∙ sym (ap (λ k. slice_index_or after k no_view) place ∙ get_or_from_slice_get after (port - 1) view no_view (sym here))
+    at_place i low false test =
+        let apart : i ≢ port - 1 = eqb-false i (port - 1) (sym test) in
+        let place : suc i - 1 ≡ i = omega arith in
+        get_or-set_other before (port - 1) i view no_view apart
+        ∙ sym (subst (λ k. slice_index_or after k no_view ≡ slice_index_or before k no_view) place (others (suc i) (omega arith) (λ same. apart (omega (arith, same)))))

@@ -57,7 +57,7 @@ link_ports script kept at link = by (far_at script.wires (at / 13) (at % 13)) re
   by (Some (HostAt n)) is = absurd (true≢false (sym link ∙ ap is_link (far_first script at link ∙ is)))
   by (Some (Switch t p)) is =
       let within = subst (λ (o : Option Far). IfSome o (IsWithin script.wires (at / 13) (at % 13))) is (far_within script.wires (at / 13) (at % 13) kept.wired) in
-      (within.s_below, within.p_least, within.p_most)
+      (within.node_below, within.own_port_least, within.own_port_most)
 
 pub record IsLinkAt (script : ScriptOf) (w : WiresOf) (at : ℕ) : Type 0 where
   pub here : at < 13 * length script.wires.switches

@@ -1,6 +1,6 @@
 -- What each event makes of the fabric.
 
-use Rattle.std.specs.Prelude.{◌+◌, ◌*◌, ◌==◌, ℕ, List, [], ◌∷◌, ◌++◌, replicate, Option, Some, None, is_some, Result, Ok, Err, Bool, true, false, if◌then◌else◌}
+use Rattle.std.specs.Prelude.{◌≡◌, ◌≢◌, ◌+◌, ◌-◌, ◌*◌, ◌==◌, ◌≤◌, ℕ, List, [], ◌∷◌, ◌++◌, replicate, slice_index_or, Option, Some, None, is_some, Result, Ok, Err, Bool, true, false, if◌then◌else◌}
 use Rattle.std.specs.Option.{option_map_or}
 use Rattle.an_base.specs.Ports.{NoteOf}
 use Rattle.an_base.specs.declared.event.Event.{Event}
@@ -23,7 +23,7 @@ use Rattle.fabric_state.specs.declared.hand.Hand.TheVariants as hand
 use Rattle.fabric_state.specs.declared.told.Told.{Told}
 use Rattle.fabric_state.specs.declared.told.Told.TheVariants as told
 use Rattle.fabric_state.specs.Fabric.{FabricOf, StationOf, station, with_station, samples_of, host_on, host_at}
-use Rattle.fabric_state.specs.Fabric.{next_at, table_at}
+use Rattle.fabric_state.specs.Fabric.{next_at, no_view, table_at}
 
 -- one event more
 abbrev pub counted : FabricOf → FabricOf
@@ -80,6 +80,13 @@ showing note spent at = record at {
   note = note;
   spent = spent;
 }
+
+-- Of the ports of a switch this one alone can be shown as another than before: its life is the same, and each
+-- other port is shown as it was.
+pub record ShowsOnly (port : ℕ) (before after : NoteOf) : Type 0 where
+  pub life : after.life ≡ before.life
+  pub others : (other : ℕ) → 1 ≤ other → other ≢ port
+      → slice_index_or after.ports (other - 1) no_view ≡ slice_index_or before.ports (other - 1) no_view
 
 -- a switch has handled what it had in hand: these frames go out, and this is what it shows now
 abbrev pub after_handle : ℕ → List BytesOut → NoteOf → Bool → FabricOf → FabricOf

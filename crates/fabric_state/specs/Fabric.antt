@@ -16,7 +16,7 @@ use Rattle.net_script.specs.declared.command.Command.{Command}
 use Rattle.net_script.specs.Scripts.{ScriptOf}
 use Rattle.port_monitor.specs.Histories.{externals}
 use Rattle.wire_set.specs.declared.side.Side.{Side}
-use Rattle.wire_set.specs.WireState.{WiresOf, place as port_place, side_at, wire_at, hand_of, is_link}
+use Rattle.wire_set.specs.WireState.{WiresOf, place as port_place, side_at, hand_of, has_frame_on}
 use Rattle.table_build.specs.Tables.{TableOf}
 use Rattle.switch_core.specs.declared.switch.TableFor.{TableFor}
 use Rattle.fabric_state.specs.declared.hand.Hand.{Hand}
@@ -146,9 +146,6 @@ abbrev pub load_due_at : FabricOf → ℕ → Bool
 load_due_at fabric place = (station fabric place).note.load_due
 
 -- whether the wire into a port of a switch has a frame, and whether any wire has
-abbrev pub has_frame_on : WiresOf → ℕ → Bool
-has_frame_on wires at = is_link (side_at wires at).far && nat_lt 0 (length (wire_at wires at))
-
 abbrev pub has_frame : FabricOf → ℕ → ℕ → Bool
 has_frame fabric place port = has_frame_on fabric.wires (port_place place port)
 

@@ -20,7 +20,7 @@ ghost use Rattle.fabric_state.specs.Lawful.{is_barred, is_command, is_lawful, is
 ghost use Rattle.fabric_state.specs.Effects.{address_for, admitted_as, after_clock, after_command, after_load, after_move};
 ghost use Rattle.fabric_state.specs.Effects.{after_restart, after_send, after_take, after_tick, copy_becomes, emptied};
 ghost use Rattle.fabric_state.specs.Effects.{hop_of, noise, noise_out, on_wires, put_becomes, put_out, released, shows};
-ghost use Rattle.fabric_state.specs.Effects.{told_of, told_of_send};
+ghost use Rattle.fabric_state.specs.Effects.{ShowsOnly, told_of, told_of_send};
 ghost use Rattle.fabric_state.specs.Fits.{HoldsFor};
 ghost use Rattle.fabric_state.specs.Choices.{command_or_move, next_drive, next_port, next_work};
 ghost use Rattle.fabric_state.specs.Starts.{begun_fabric, next_life_at, next_note_at};
@@ -30,8 +30,7 @@ use crate::hand::Hand;
 use crate::past::Past;
 use crate::plan::Plan;
 use crate::ports::{
-    has_frame, is_dead, is_external, is_good, is_host, is_link, is_loop, port_above, samples,
-    switch_behind,
+    is_dead, is_external, is_good, is_host, is_loop, port_above, samples, switch_behind,
 };
 use crate::seen::Seen;
 use crate::station::{Station, started_note};
@@ -53,7 +52,7 @@ use std::marker::Model;
 use switch_core::out::FrameOut;
 use switch_core::switch::TableFor;
 use table_build::table::Table;
-use wire_set::side::Put;
+use wire_set::side::{Put, is_link};
 use wire_set::wires::WireSet;
 
 // Bytes that are no frame.
@@ -476,7 +475,7 @@ impl Fabric {
         self.is_free(s)
             && is_external(port)
             && !self.is_clock_due(s)
-            && has_frame(&self.wires, s, port)
+            && self.wires.has_frame(s, port)
     }
 
     // What the event needs besides is there.
@@ -622,7 +621,7 @@ impl Fabric {
     }
 
     /// The first of the three parts of handling: what a switch has in hand is given up. `put` follows for
-    /// each frame that goes out, and then `show`.
+    /// each frame that goes out, and then `show` or `show_port`.
     pub fn release(&mut self, s: u8)
         requires within { s < count self.old }
         requires full { is_full_at self.old s ≡ true }
@@ -656,6 +655,20 @@ impl Fabric {
         ensures { self.new ≡ shows s note.now spent self.old }
     {
         self.stations.show(s, note, spent);
+        self.past.event();
+    }
+
+    /// The same where of its ports this one alone, 1 to 12, can be shown as another than before, as after a
+    /// frame that came in by it.
+    pub fn show_port(&mut self, s: u8, port: u8, note: &Note, spent: bool)
+        requires within { s < count self.old }
+        requires room { self.old.events + full_hands self.old < self.old.script.limits.events }
+        requires least { 1 ≤ port }
+        requires most { port ≤ 12 }
+        requires only { ShowsOnly port (station self.old s).note note.now }
+        ensures { self.new ≡ shows s note.now spent self.old }
+    {
+        self.stations.show_port(s, port, note, spent);
         self.past.event();
     }
 

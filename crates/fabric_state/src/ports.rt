@@ -1,7 +1,7 @@
 ghost use Rattle.std.specs.Prelude.{◌≡◌, ◌&&◌, ◌≤◌, nat_lt, map, find};
 ghost use Rattle.port_monitor.specs.Histories.{externals};
-ghost use Rattle.wire_set.specs.WireState.{is_link, place, side_at};
-ghost use Rattle.fabric_state.specs.Fabric.{has_frame_on, is_external, sample_of, switch_behind};
+ghost use Rattle.wire_set.specs.WireState.{has_frame_on, place, side_at};
+ghost use Rattle.fabric_state.specs.Fabric.{is_external, sample_of, switch_behind};
 ghost use Rattle.fabric_state.specs.PortStates.{is_dead, is_good, is_host, is_loop};
 
 use an_base::port::{PortState, Sample};
@@ -44,13 +44,6 @@ pub fn is_external(port: u8) -> bool
     1 <= port && port <= 12
 }
 
-/// Whether there is a link of two switch ports.
-pub fn is_link(far: Option<Far>) -> bool
-    ensures { result ≡ is_link far }
-{
-    matches!(far, Some(Far::Switch { s: _, port: _ }))
-}
-
 /// The switch and port behind a link of two switch ports.
 pub fn switch_behind(far: Option<Far>) -> Option<(u8, u8)>
     ensures { result ≡ switch_behind far }
@@ -86,20 +79,11 @@ pub fn samples(wires: &WireSet, s: u8) -> [Sample; 12]
     samples
 }
 
-/// Whether the wire into a port of a switch has a frame.
-pub fn has_frame(wires: &WireSet, s: u8, port: u8) -> bool
-    requires { port ≤ 12 }
-    ensures { result ≡ has_frame_on wires.now (place s port) }
-{
-    is_link(wires.side(s, port).far) && wires.len(s, port) > 0
-}
-
 // Whether a port is above this one and has a frame.
 fn is_next(wires: &WireSet, s: u8, last: u8, port: u8) -> bool
-    requires { port ≤ 12 }
     ensures { result ≡ (nat_lt last port && has_frame_on wires.now (place s port)) }
 {
-    last < port && has_frame(wires, s, port)
+    last < port && wires.has_frame(s, port)
 }
 
 /// The lowest port above this one that has a frame.

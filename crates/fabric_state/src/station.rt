@@ -1,10 +1,10 @@
 //! What all may see at the place of a switch.
 
-ghost use Rattle.std.specs.Prelude.{◌≡◌, ◌==◌, None, Some, false, not, option_copied};
+ghost use Rattle.std.specs.Prelude.{◌≡◌, ◌==◌, ◌≤◌, None, Some, false, not, option_copied};
 ghost use Rattle.std.specs.Option.{option_map};
 ghost use Rattle.fabric_state.specs.declared.hand.Hand.TheVariants as in_hand;
 ghost use Rattle.fabric_state.specs.Fabric.{is_empty};
-ghost use Rattle.fabric_state.specs.Effects.{kept_table};
+ghost use Rattle.fabric_state.specs.Effects.{ShowsOnly, kept_table};
 ghost use Rattle.fabric_state.specs.Starts.{started_note};
 
 use crate::hand::Hand;
@@ -59,6 +59,21 @@ pub fn write_note(to: &mut Note, note: &Note)
     to.life = note.life;
     to.epoch = note.epoch;
     to.ports = note.ports.copy();
+    to.load_due = note.load_due;
+    to.unacked = note.unacked;
+}
+
+// The same where of its ports this one alone can be shown as another than before.
+fn write_port(to: &mut Note, port: u8, note: &Note)
+    requires least { 1 ≤ port }
+    requires most { port ≤ 12 }
+    requires only { ShowsOnly port to.old note.now }
+    ensures { to.new ≡ note.now }
+{
+    let _before = to.ports.as_slice();
+    let _after = note.ports.as_slice();
+    to.epoch = note.epoch;
+    to.ports.set(port, note.ports.get(port));
     to.load_due = note.load_due;
     to.unacked = note.unacked;
 }
@@ -153,6 +168,17 @@ impl Station {
         self.clock = clock;
     }
 
+    // The switch is in this epoch now. Where it is another one than before the table goes out of use.
+    fn join(&mut self, epoch: u64)
+        ensures { self.new ≡ record self.old {
+          table = kept_table (epoch == self.old.note.epoch) self.old.table;
+        } }
+    {
+        if epoch != self.note.epoch {
+            self.table = None;
+        }
+    }
+
     // The switch shows this now. Where it has joined another epoch the table goes out of use.
     pub(crate) fn show(&mut self, note: &Note, spent: bool)
         ensures { self.new ≡ record self.old {
@@ -161,10 +187,24 @@ impl Station {
           spent = spent;
         } }
     {
-        if note.epoch != self.note.epoch {
-            self.table = None;
-        }
+        self.join(note.epoch);
         write_note(&mut self.note, note);
+        self.spent = spent;
+    }
+
+    // The same where of its ports this one alone, 1 to 12, can be shown as another than before.
+    pub(crate) fn show_port(&mut self, port: u8, note: &Note, spent: bool)
+        requires least { 1 ≤ port }
+        requires most { port ≤ 12 }
+        requires only { ShowsOnly port self.old.note note.now }
+        ensures { self.new ≡ record self.old {
+          table = kept_table (note.now.epoch == self.old.note.epoch) self.old.table;
+          note = note.now;
+          spent = spent;
+        } }
+    {
+        self.join(note.epoch);
+        write_port(&mut self.note, port, note);
         self.spent = spent;
     }
 

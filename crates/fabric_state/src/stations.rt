@@ -4,7 +4,7 @@ ghost use Rattle.std.specs.Option.{option_map};
 ghost use Rattle.fabric_state.specs.declared.hand.Hand.TheVariants as in_hand;
 ghost use Rattle.fabric_state.specs.declared.stations.TheConstants.{MOST_TICK};
 ghost use Rattle.fabric_state.specs.Fabric.{full_among, is_due_at, is_empty, no_view};
-ghost use Rattle.fabric_state.specs.Effects.{restarted, showing};
+ghost use Rattle.fabric_state.specs.Effects.{ShowsOnly, restarted, showing};
 ghost use Rattle.fabric_state.specs.Starts.{begun_station};
 ghost use Rattle.fabric_state.specs.Tallies.{IsCounted, IsCountedAnew, one_if, station_in, with_station_in};
 
@@ -281,6 +281,19 @@ impl Stations {
         let station = &mut self.items[usize::from(s)];
         self.tally = self.tally.after(station, note, spent);
         station.show(note, spent);
+    }
+
+    /// The same where of its ports this one alone, 1 to 12, can be shown as another than before.
+    pub fn show_port(&mut self, s: u8, port: u8, note: &Note, spent: bool)
+        requires within { s < length self.old.items }
+        requires least { 1 ≤ port }
+        requires most { port ≤ 12 }
+        requires only { ShowsOnly port (station_in self.old s).note note.now }
+        ensures { self.new ≡ with_station_in s (showing note.now spent (station_in self.old s)) self.old }
+    {
+        let station = &mut self.items[usize::from(s)];
+        self.tally = self.tally.after(station, note, spent);
+        station.show_port(port, note, spent);
     }
 
     /// A switch uses this table and shows this.

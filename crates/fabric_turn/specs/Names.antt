@@ -4,4 +4,4 @@ use Rattle.fabric_turn.specs.declared.turnstile.Turnstile.{Turnstile}
 
 -- a seat is one of this turnstile where its first part is this name
 abbrev pub turnstile_id : {B A R E D : Type 0} → Turnstile B A R E D → TurnstileId
-turnstile_id t = t.table.shared.table_id
+turnstile_id turnstile = turnstile.table.shared.table_id

@@ -13,38 +13,38 @@ use Rattle.fabric_turn.specs.History.{own_entries}
 
 -- the sum of a function over a list
 abbrev pub total_by : {A : Type 0} → (A → ℕ) → List A → ℕ
-total_by f [] = 0
-total_by f (x ∷ xs) = f x + total_by f xs
+total_by measure [] = 0
+total_by measure (item ∷ items) = measure item + total_by measure items
 
 -- the seat was not joined into another
 abbrev pub is_live : Stage → Bool
 is_live Spent = false
 is_live Idle = true
-is_live (Waits t) = true
-is_live (Serves t) = true
+is_live (Waits ticket) = true
+is_live (Serves ticket) = true
 
 -- how many tickets a seat has
 abbrev pub tickets_at : Stage → ℕ
 tickets_at Spent = 0
 tickets_at Idle = 0
-tickets_at (Waits t) = 1
-tickets_at (Serves t) = 1
+tickets_at (Waits ticket) = 1
+tickets_at (Serves ticket) = 1
 
--- n, and 0 where the seat was joined into another
+-- so many numbers, and 0 where the seat was joined into another
 abbrev pub numbers_at : Stage → ℕ → ℕ
-numbers_at Spent n = 0
-numbers_at Idle n = n
-numbers_at (Waits t) n = n
-numbers_at (Serves t) n = n
+numbers_at Spent count = 0
+numbers_at Idle count = count
+numbers_at (Waits ticket) count = count
+numbers_at (Serves ticket) count = count
 
 module _ {E D : Type 0} where
   -- how many tickets the view has
   abbrev pub tickets_of : View E D → ℕ
-  tickets_of v = tickets_at v.stage
+  tickets_of view = tickets_at view.stage
 
   -- how many numbers the view has: its own, those to give, and the ended
   abbrev pub numbers_of : View E D → ℕ
-  numbers_of v = numbers_at v.stage (1 + (v.callers - v.next) + length v.ended)
+  numbers_of view = numbers_at view.stage (1 + (view.callers - view.next) + length view.ended)
 
   -- what the first seat knows: it has number 0 and may give all others, and nothing has happened yet
   abbrev pub first_view : ℕ → D → View E D
@@ -64,7 +64,8 @@ module _ {E D : Type 0} where
   abbrev pub HasNumber : View E D → ℕ → Type 0
   HasNumber view number =
       (number ≡ view.number) ⊎ (view.next ≤ number)
-      ⊎ ((k : ℕ) × (ended : Ended E) × (get_elem? view.ended k ≡ some ended) × (ended.number ≡ number))
+      ⊎ ((index : ℕ) × (ended : Ended E) × (get_elem? view.ended index ≡ some ended)
+      × (ended.number ≡ number))
 
 -- The roles of a caller's number: a seat's own, one that a seat may give, and ended
 abbrev pub acting : ℕ
@@ -76,26 +77,27 @@ spare = 1
 abbrev pub over : ℕ
 over = 2
 
-module _ {E : Type 0} (drawn served : ℕ) (log : List E) (holder : ℕ → ℕ) (i : ℕ) (seen : List E) where
+module _ {E : Type 0} (drawn served : ℕ) (log : List E) (holder : ℕ → ℕ) (index : ℕ) (seen : List E) where
   -- A ticket that a view has is one from the served up to the drawn, and no other view's. At the turn it is
   -- the one that is served, and all of the history was seen.
   abbrev pub HoldsTicket : Stage → Type 0
   HoldsTicket Spent = Unit {0}
   HoldsTicket Idle = Unit {0}
-  HoldsTicket (Waits t) = (served ≤ t) × (t < drawn) × (holder t ≡ i)
-  HoldsTicket (Serves t) = (t ≡ served) × (t < drawn) × (holder t ≡ i) × (seen ≡ log)
+  HoldsTicket (Waits ticket) = (served ≤ ticket) × (ticket < drawn) × (holder ticket ≡ index)
+  HoldsTicket (Serves ticket) = (ticket ≡ served) × (ticket < drawn) × (holder ticket ≡ index) × (seen ≡ log)
 
 module _ {S E D : Type 0} (history : S → List E) (start_of : S → D) (owner : E → ℕ) (callers : ℕ) (start : D)
   where
-    -- the numbers of view i are its alone: its own, those from the next on that it may give, and ended ones
-    pub record HasPlaces (log : List E) (place : ℕ → ℕ × ℕ) (i number next : ℕ) (ended : List (Ended E))
+    -- the numbers of the view at an index are its alone: its own, those from the next on that it may give,
+    -- and ended ones
+    pub record HasPlaces (log : List E) (place : ℕ → ℕ × ℕ) (index number next : ℕ) (ended : List (Ended E))
         : Type 0 where
       pub limit : next ≤ callers
-      pub acts : place number ≡ (i, acting)
-      pub spares : (n : ℕ) → next ≤ n → n < callers → place n ≡ (i, spare)
+      pub acts : place number ≡ (index, acting)
+      pub spares : (other : ℕ) → next ≤ other → other < callers → place other ≡ (index, spare)
       pub ends :
-          (k : ℕ) (x : Ended E) → get_elem? ended k ≡ some x
-          → (place x.number ≡ (i, over)) × (own_entries owner log x.number ≡ x.mine)
+          (at : ℕ) (one : Ended E) → get_elem? ended at ≡ some one
+          → (place one.number ≡ (index, over)) × (own_entries owner log one.number ≡ one.mine)
 
     -- its caller's entries were all seen, and what was seen, and what a seat had that was joined to it, are
     -- beginnings of the history
@@ -106,19 +108,19 @@ module _ {S E D : Type 0} (history : S → List E) (start_of : S → D) (owner :
       pub heard_rest : List E
       pub heard_prefix : heard ++ heard_rest ≡ log
 
-    -- What is so of view i, where it is not spent. `log` is the history, and `place` says of each caller's
-    -- number which view has it, and in what role.
-    pub record IsSeated (log : List E) (place : ℕ → ℕ × ℕ) (i : ℕ) (v : View E D) : Type 0 where
-      pub begun : v.start ≡ Some start
-      pub bound : v.callers ≡ callers
-      pub below : v.number < callers
-      pub made : own_entries owner log v.number ≡ v.mine
-      pub places : HasPlaces log place i v.number v.next v.ended
+    -- What is so of the view at an index, where it is not spent. `log` is the history, and `place` says of
+    -- each caller's number which view has it, and in what role.
+    pub record IsSeated (log : List E) (place : ℕ → ℕ × ℕ) (index : ℕ) (view : View E D) : Type 0 where
+      pub begun : view.start ≡ Some start
+      pub bound : view.callers ≡ callers
+      pub below : view.number < callers
+      pub made : own_entries owner log view.number ≡ view.mine
+      pub places : HasPlaces log place index view.number view.next view.ended
       pub open places use {limit, acts, spares, ends}
-      pub sight : HasSeen log v.seen v.heard v.number v.mine
+      pub sight : HasSeen log view.seen view.heard view.number view.mine
       pub open sight use {saw, rest, prefix, heard_rest, heard_prefix}
 
-    pub record IsKept (s : State S (View E D)) : Type 0 where
+    pub record IsKept (state : State S (View E D)) : Type 0 where
       -- tickets drawn and turns passed on, counted without bound, and the history
       pub drawn : ℕ
       pub served : ℕ
@@ -126,30 +128,33 @@ module _ {S E D : Type 0} (history : S → List E) (start_of : S → D) (owner :
       -- which view has a ticket; which view has a caller's number, and in what role
       pub holder : ℕ → ℕ
       pub place : ℕ → ℕ × ℕ
-      pub two : length s.words ≡ 2
-      pub tickets : slice_index s.words 0 ≡ drawn % 2 ^ 64
-      pub serving : slice_index s.words 1 ≡ served % 2 ^ 64
+      pub two : length state.words ≡ 2
+      pub tickets : slice_index state.words 0 ≡ drawn % 2 ^ 64
+      pub serving : slice_index state.words 1 ≡ served % 2 ^ 64
       pub few : callers < 2 ^ 32
       -- each ticket that is not served yet is out with a view, and the views have all numbers
-      pub counted : total_by tickets_of s.views + served ≡ drawn
-      pub numbered : total_by numbers_of s.views ≡ callers
+      pub counted : total_by tickets_of state.views + served ≡ drawn
+      pub numbered : total_by numbers_of state.views ≡ callers
       -- a number that was not given has no entry, and neither has one that is none
-      pub fresh : (n : ℕ) → (place n).1 ≡ spare → own_entries owner log n ≡ []
-      pub beyond : (n : ℕ) → callers ≤ n → own_entries owner log n ≡ []
+      pub fresh : (number : ℕ) → (place number).1 ≡ spare → own_entries owner log number ≡ []
+      pub beyond : (number : ℕ) → callers ≤ number → own_entries owner log number ≡ []
       pub seated :
-          (i : ℕ) (v : View E D) → get_elem? s.views i ≡ some v → is_live v.stage ≡ true
-          → IsSeated log place i v
+          (index : ℕ) (view : View E D) → get_elem? state.views index ≡ some view → is_live view.stage ≡ true
+          → IsSeated log place index view
       pub ticketed :
-          (i : ℕ) (v : View E D) → get_elem? s.views i ≡ some v
-          → HoldsTicket drawn served log holder i v.seen v.stage
+          (index : ℕ) (view : View E D) → get_elem? state.views index ≡ some view
+          → HoldsTicket drawn served log holder index view.seen view.stage
       -- each number is some view's, and some view has seen all of the history
       pub covers :
-          (n : ℕ) → n < callers
-          → (i : ℕ) × (v : View E D) × (get_elem? s.views i ≡ some v)
-          × (is_live v.stage ≡ true) × HasNumber v n
+          (number : ℕ) → number < callers
+          → (index : ℕ) × (view : View E D) × (get_elem? state.views index ≡ some view)
+          × (is_live view.stage ≡ true) × HasNumber view number
       pub latest :
-          (i : ℕ) × (v : View E D) × (get_elem? s.views i ≡ some v) × (is_live v.stage ≡ true)
-          × ((v.seen ≡ log) ⊎ (v.heard ≡ log))
+          (index : ℕ) × (view : View E D) × (get_elem? state.views index ≡ some view)
+          × (is_live view.stage ≡ true) × ((view.seen ≡ log) ⊎ (view.heard ≡ log))
       -- the value is at home and stands for the history, or a view has the turn
-      pub slot : ((b : S) × (get_elem? s.homes 0 ≡ some (some b)) × (history b ≡ log) × (start_of b ≡ start))
-          ⊎ ((i : ℕ) × (v : View E D) × (t : ℕ) × (get_elem? s.views i ≡ some v) × (v.stage ≡ Serves t))
+      pub slot :
+          ((held : S) × (get_elem? state.homes 0 ≡ some (some held)) × (history held ≡ log)
+          × (start_of held ≡ start))
+          ⊎ ((index : ℕ) × (view : View E D) × (ticket : ℕ) × (get_elem? state.views index ≡ some view)
+          × (view.stage ≡ Serves ticket))

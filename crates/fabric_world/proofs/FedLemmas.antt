@@ -105,9 +105,9 @@ body_fed port k peer body s fits h =
 
 carry_fed : (port : ℕ) (f : CarryOf) (s : SwitchOf) → BodyFits f.body → IsNumber s.number → IsFed s → IsFed (on_carry port f s).switch
 carry_fed port f s fits number h =
-    cond_both (nat_lt s.epoch f.epoch) (after (joins f.epoch s) (answers_body port f.from f.k f.body (joins f.epoch s).switch)) (if f.epoch == s.epoch then answers_body port f.from f.k f.body s else still s) (λ (step : Step). IsFed step.switch)
-    (λ _. body_fed port f.k f.from f.body (joins f.epoch s).switch fits (joins_fed f.epoch s number))
-    (λ _. cond_both (f.epoch == s.epoch) (answers_body port f.from f.k f.body s) (still s) (λ (step : Step). IsFed step.switch) (λ _. body_fed port f.k f.from f.body s fits h) (λ _. h))
+    cond_both (nat_lt s.epoch f.epoch) (after (joins f.epoch s) (answers_body port f.from f.number f.body (joins f.epoch s).switch)) (if f.epoch == s.epoch then answers_body port f.from f.number f.body s else still s) (λ (step : Step). IsFed step.switch)
+    (λ _. body_fed port f.number f.from f.body (joins f.epoch s).switch fits (joins_fed f.epoch s number))
+    (λ _. cond_both (f.epoch == s.epoch) (answers_body port f.from f.number f.body s) (still s) (λ (step : Step). IsFed step.switch) (λ _. body_fed port f.number f.from f.body s fits h) (λ _. h))
 
 pub framed_fed : (port : ℕ) (frame : Frame) (s : SwitchOf) → FrameFits frame → IsNumber s.number → IsFed s → IsFed (framed port frame s).switch
 framed_fed port (Carry f) s fits number h =

@@ -55,13 +55,13 @@ pub others_from_none : (c : ℕ) (more : List Event) → filter (λ e. owner_of 
 others_from_none c more none = All-from_recursion (λ e. owner_of e ≢ c) more (others_by c more none)
 
 -- what came of what is in hand, and what is to be loaded, stay so where the station, the switch and the bytes are the same
-handled_same : (w v : WorldOf) (s : ℕ) → AreSameAt s w v → hand_of v.fabric.wires s ≡ hand_of w.fabric.wires s → handled s v ≡ handled s w
+pub handled_same : (w v : WorldOf) (s : ℕ) → AreSameAt s w v → hand_of v.fabric.wires s ≡ hand_of w.fabric.wires s → handled s v ≡ handled s w
 handled_same w v s same bytes =
     ap (λ (x : StationOf). handles x.hand (held_bytes v.fabric s) (v.switches s)) same.place
     ∙ ap (λ xs. handles (station w.fabric s).hand (slice_index_or xs 0 []) (v.switches s)) bytes
     ∙ ap (handles (station w.fabric s).hand (held_bytes w.fabric s)) same.switch
 
-done_stays : (w v : WorldOf) (s : ℕ) (d : Done) → AreSameAt s w v → hand_of v.fabric.wires s ≡ hand_of w.fabric.wires s → IsDone w s d → IsDone v s d
+pub done_stays : (w v : WorldOf) (s : ℕ) (d : Done) → AreSameAt s w v → hand_of v.fabric.wires s ≡ hand_of w.fabric.wires s → IsDone w s d → IsDone v s d
 done_stays w v s d same bytes done =
     let e = handled_same w v s same bytes in
     let was = done.handled_is in

@@ -53,12 +53,12 @@ body_stays port k peer body s =
 
 carry_stays : (port : ℕ) (f : CarryOf) (s : SwitchOf) → Stays s (on_carry port f s).switch
 carry_stays port f s =
-    cond_both (nat_lt s.epoch f.epoch) (after (joins f.epoch s) (answers_body port f.from f.k f.body (joins f.epoch s).switch)) rest (λ (step : Step). Stays s step.switch)
-    (λ _. stays_then s (joins f.epoch s).switch (answers_body port f.from f.k f.body (joins f.epoch s).switch).switch (joins_stays f.epoch s) (body_stays port f.k f.from f.body (joins f.epoch s).switch))
-    (λ _. cond_both (f.epoch == s.epoch) (answers_body port f.from f.k f.body s) (still s) (λ (step : Step). Stays s step.switch) (λ _. body_stays port f.k f.from f.body s) (λ _. stays s))
+    cond_both (nat_lt s.epoch f.epoch) (after (joins f.epoch s) (answers_body port f.from f.number f.body (joins f.epoch s).switch)) rest (λ (step : Step). Stays s step.switch)
+    (λ _. stays_then s (joins f.epoch s).switch (answers_body port f.from f.number f.body (joins f.epoch s).switch).switch (joins_stays f.epoch s) (body_stays port f.number f.from f.body (joins f.epoch s).switch))
+    (λ _. cond_both (f.epoch == s.epoch) (answers_body port f.from f.number f.body s) (still s) (λ (step : Step). Stays s step.switch) (λ _. body_stays port f.number f.from f.body s) (λ _. stays s))
   where
     rest : Step
-    rest = if f.epoch == s.epoch then answers_body port f.from f.k f.body s else still s
+    rest = if f.epoch == s.epoch then answers_body port f.from f.number f.body s else still s
 
 pub framed_stays : (port : ℕ) (frame : Frame) (s : SwitchOf) → Stays s (framed port frame s).switch
 framed_stays port (Carry f) s =

@@ -66,17 +66,17 @@ body_epoch port k peer body s = ap (λ (u : SwitchOf). u.epoch) (all_pushed_few 
 
 carry_finishes : (port : ℕ) (f : CarryOf) (s : SwitchOf) → Finishes s (on_carry port f s).switch
 carry_finishes port f s =
-    cond_both (nat_lt s.epoch f.epoch) (after (joins f.epoch s) (answers_body port f.from f.k f.body (joins f.epoch s).switch)) rest (λ (step : Step). Finishes s step.switch)
+    cond_both (nat_lt s.epoch f.epoch) (after (joins f.epoch s) (answers_body port f.from f.number f.body (joins f.epoch s).switch)) rest (λ (step : Step). Finishes s step.switch)
     (λ greater same topo is.
     let lt = ltb-true s.epoch f.epoch greater in
-    let now : (answers_body port f.from f.k f.body (joins f.epoch s).switch).switch.epoch ≡ f.epoch = body_epoch port f.k f.from f.body (joins f.epoch s).switch ∙ joins_epoch f.epoch s in
+    let now : (answers_body port f.from f.number f.body (joins f.epoch s).switch).switch.epoch ≡ f.epoch = body_epoch port f.number f.from f.body (joins f.epoch s).switch ∙ joins_epoch f.epoch s in
     let less : f.epoch ≡ s.epoch = sym now ∙ same in
     absurd (omega (arith, lt, less)))
-    (λ _. cond_both (f.epoch == s.epoch) (answers_body port f.from f.k f.body s) (still s) (λ (step : Step). Finishes s step.switch)
-    (λ _ _ topo is. body_finishes port f.k f.from f.body s topo is) (λ _ _ topo is. is))
+    (λ _. cond_both (f.epoch == s.epoch) (answers_body port f.from f.number f.body s) (still s) (λ (step : Step). Finishes s step.switch)
+    (λ _ _ topo is. body_finishes port f.number f.from f.body s topo is) (λ _ _ topo is. is))
   where
     rest : Step
-    rest = if f.epoch == s.epoch then answers_body port f.from f.k f.body s else still s
+    rest = if f.epoch == s.epoch then answers_body port f.from f.number f.body s else still s
 
 pub framed_finishes : (port : ℕ) (frame : Frame) (s : SwitchOf) → Finishes s (framed port frame s).switch
 framed_finishes port (Carry f) s =

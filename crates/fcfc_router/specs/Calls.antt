@@ -29,7 +29,7 @@ Leads most old (Grants free answer ∷ calls) new =
 
 -- 1 where the two are one packet
 abbrev pub counts : ℕ → ℕ → ℕ
-counts a b = if a == b then 1 else 0
+counts one other = if one == other then 1 else 0
 
 -- how often a packet asked
 abbrev pub asked : ℕ → List Call → ℕ

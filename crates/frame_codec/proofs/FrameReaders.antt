@@ -200,8 +200,8 @@ body_reads = record { takes = body_takes; again = body_again }
 
 carry_reads : IsReader carry_at carry_bytes IsCarry
 unfolding carry_at
-carry_reads = made_reads carry_of (λ f. ((((f.epoch, f.from), f.to), f.k), f.body)) carry_bytes IsCarry (both_reads (both_reads (both_reads (both_reads (number_reads 8 (2 ^ 64) wide8) end_reads) end_reads) counted_reads) body_reads)
-    (λ p h. refl) (λ p h. record { epoch = h.0.0.0.0; from = h.0.0.0.1; to = h.0.0.1; k = h.0.1; body = h.1 }) (λ f. refl) (λ f h. ((((h.epoch, h.from), h.to), h.k), h.body))
+carry_reads = made_reads carry_of (λ f. ((((f.epoch, f.from), f.to), f.number), f.body)) carry_bytes IsCarry (both_reads (both_reads (both_reads (both_reads (number_reads 8 (2 ^ 64) wide8) end_reads) end_reads) counted_reads) body_reads)
+    (λ p h. refl) (λ p h. record { epoch = h.0.0.0.0; from = h.0.0.0.1; to = h.0.0.1; number = h.0.1; body = h.1 }) (λ f. refl) (λ f h. ((((h.epoch, h.from), h.to), h.number), h.body))
 
 ack_reads : IsReader (both (both (both (number_at 8) end_at) end_at) (number_at 4)) (λ p. number_bytes 8 p.0.0.0 ++ end_bytes p.0.0.1 ++ end_bytes p.0.1 ++ number_bytes 4 p.1) (λ p. (((p.0.0.0 < 2 ^ 64) × IsEnd p.0.0.1) × IsEnd p.0.1) × (p.1 < 2 ^ 32))
 ack_reads = both_reads (both_reads (both_reads (number_reads 8 (2 ^ 64) wide8) end_reads) end_reads) (number_reads 4 (2 ^ 32) wide4)

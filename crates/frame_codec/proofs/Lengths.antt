@@ -55,7 +55,7 @@ body_length (Stable es) h = omega (arith, entries_length es h)
 body_length (Topo b) h = omega (arith, entries_length b.entries h.entries, h.numbers.most, length-append (entries_bytes b.entries) b.numbers)
 
 pub spelling_length : (f : Frame) → IsFrame f → length (spelling f) ≤ 22591
-spelling_length (Carry f) h = omega (arith, body_length f.body h.body, number_length 8 f.epoch, end_length f.from, end_length f.to, number_length 4 f.k, length-append (number_bytes 8 f.epoch ++ end_bytes f.from ++ end_bytes f.to ++ number_bytes 4 f.k) (body_bytes f.body), length-append (number_bytes 8 f.epoch ++ end_bytes f.from ++ end_bytes f.to) (number_bytes 4 f.k), length-append (number_bytes 8 f.epoch ++ end_bytes f.from) (end_bytes f.to), length-append (number_bytes 8 f.epoch) (end_bytes f.from))
+spelling_length (Carry f) h = omega (arith, body_length f.body h.body, number_length 8 f.epoch, end_length f.from, end_length f.to, number_length 4 f.number, length-append (number_bytes 8 f.epoch ++ end_bytes f.from ++ end_bytes f.to ++ number_bytes 4 f.number) (body_bytes f.body), length-append (number_bytes 8 f.epoch ++ end_bytes f.from ++ end_bytes f.to) (number_bytes 4 f.number), length-append (number_bytes 8 f.epoch ++ end_bytes f.from) (end_bytes f.to), length-append (number_bytes 8 f.epoch) (end_bytes f.from))
 spelling_length (Ack epoch from to n) h = omega (arith, number_length 8 epoch, end_length from, end_length to, number_length 4 n, length-append (number_bytes 8 epoch ++ end_bytes from ++ end_bytes to) (number_bytes 4 n), length-append (number_bytes 8 epoch ++ end_bytes from) (end_bytes to), length-append (number_bytes 8 epoch) (end_bytes from))
 spelling_length (Probe from nonce) h = omega (arith, number_length 8 nonce, end_length from, length-append (end_bytes from) (number_bytes 8 nonce))
 spelling_length (Reply from to nonce) h = omega (arith, number_length 8 nonce, end_length from, end_length to, length-append (end_bytes from ++ end_bytes to) (number_bytes 8 nonce), length-append (end_bytes from) (end_bytes to))

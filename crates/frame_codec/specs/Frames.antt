@@ -70,7 +70,7 @@ pub record IsCarry (carry : CarryOf) : Type 0 where
   pub epoch : carry.epoch < 2 ^ 64
   pub from : IsEnd carry.from
   pub to : IsEnd carry.to
-  pub k : IsCounted carry.k
+  pub number : IsCounted carry.number
   pub body : IsBody carry.body
 
 abbrev pub IsFrame : Frame → Type 0

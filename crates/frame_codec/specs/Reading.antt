@@ -24,84 +24,85 @@ At A = List ℕ → Option (A × List ℕ)
 
 infixl 10 ◌>>=◌
 abbrev pub ◌>>=◌ : {A B : Type 0} → Option A → (A → Option B) → Option B
-(Some x) >>= f = f x
-None >>= f = None
+(Some value) >>= next = next value
+None >>= next = None
 
 -- one value after the other
 abbrev pub both : {A B : Type 0} → At A → At B → At (A × B)
-both a b bytes = do
-  x ← a bytes
-  y ← b x.1
-  Some ((x.0, y.0), y.1)
+both first second bytes = do
+  one ← first bytes
+  other ← second one.1
+  Some ((one.0, other.0), other.1)
 
 -- what is made of a value
 abbrev pub made : {A B : Type 0} → (A → B) → At A → At B
-made f a bytes = do
-  x ← a bytes
-  Some (f x.0, x.1)
+made make at bytes = do
+  value ← at bytes
+  Some (make value.0, value.1)
 
 -- a value that passes a test
 abbrev pub tested : {A : Type 0} → (A → Bool) → At A → At A
-tested t a bytes = do
-  x ← a bytes
-  if t x.0 then Some x else None
+tested passes at bytes = do
+  value ← at bytes
+  if passes value.0 then Some value else None
 
--- So many values: each is read after what is to be known of the one before it, at first s.
+-- So many values: each is read after what is to be known of the one before it, and the first after `known`.
 unfoldable pub list_at : {A S : Type 0} → (S → At A) → (A → S) → S → ℕ → At (List A)
-list_at one next s zero bytes = Some ([], bytes)
-list_at one next s (suc n) bytes = do
-  first ← one s bytes
-  others ← list_at one next (next first.0) n first.1
+list_at one next known zero bytes = Some ([], bytes)
+list_at one next known (suc more) bytes = do
+  first ← one known bytes
+  others ← list_at one next (next first.0) more first.1
   Some (first.0 ∷ others.0, others.1)
 
 -- what a call read from the bytes old, as view sees it, where it left the bytes new
 abbrev pub ReadsAs : {A B : Type 0} → (A → B) → At B → Result A DecodeRefusal → List ℕ → List ℕ → Type 0
-ReadsAs view at (Ok x) old new = at old ≡ Some (view x, new)
+ReadsAs view at (Ok value) old new = at old ≡ Some (view value, new)
 ReadsAs view at (Err NotAFrame) old new = at old ≡ None
 ReadsAs view at (Err OutOfMemory) old new = ⊤
 
 abbrev pub Reads : {A : Type 0} → At A → Result A DecodeRefusal → List ℕ → List ℕ → Type 0
-Reads at result old new = ReadsAs (λ x. x) at result old new
+Reads at result old new = ReadsAs (λ value. value) at result old new
 
 abbrev pub byte_at : At ℕ
 byte_at [] = None
-byte_at (b ∷ rest) = Some (b, rest)
+byte_at (byte ∷ rest) = Some (byte, rest)
 
 unfoldable pub number_at : ℕ → At ℕ
-number_at n bytes = if nat_lt (length bytes) n then None else Some (big_number n bytes, drop n bytes)
+number_at count bytes =
+    if nat_lt (length bytes) count then None else Some (big_number count bytes, drop count bytes)
 
 -- a byte from least to most
 abbrev pub within_at : ℕ → ℕ → At ℕ
-within_at least most = tested (λ b. not (nat_lt b least) && not (nat_lt most b)) byte_at
+within_at least most = tested (λ byte. not (nat_lt byte least) && not (nat_lt most byte)) byte_at
 
 -- four bytes that are not 0
 abbrev pub counted_at : At ℕ
-counted_at = tested (λ n. not (nat_lt n 1)) (number_at 4)
+counted_at = tested (λ number. not (nat_lt number 1)) (number_at 4)
 
 abbrev pub truth_at : At Bool
-truth_at = made (λ b. b == 1) (within_at 0 1)
+truth_at = made (λ byte. byte == 1) (within_at 0 1)
 
 abbrev pub life_of : ℕ × ℕ → LifeId
-life_of p = record { uid = p.0; boot = p.1 }
+life_of parts = record { uid = parts.0; boot = parts.1 }
 
 unfoldable pub life_at : At LifeId
 life_at = made life_of (both (number_at 6) counted_at)
 
 abbrev pub end_of : LifeId × ℕ → EndId
-end_of p = record { life = p.0; port = p.1 }
+end_of parts = record { life = parts.0; port = parts.1 }
 
 unfoldable pub end_at : At EndId
 end_at = made end_of (both life_at (within_at 1 LAST_PORT))
 
 abbrev pub position_of : ((LifeId × ℕ) × LifeId) × ℕ → Place
-position_of p = record { root = p.0.0.0; level = p.0.0.1; parent = p.0.1; port = p.1 }
+position_of parts = record { root = parts.0.0.0; level = parts.0.0.1; parent = parts.0.1; port = parts.1 }
 
 unfoldable pub position_at : At Place
 position_at =
     made position_of (both (both (both life_at (within_at 0 MOST_LEVEL)) life_at) (within_at 0 LAST_PORT))
 
 abbrev pub link_of : ℕ × EndId → PeerAt
-link_of p = record { port = p.0; peer = p.1 }
+link_of parts = record { port = parts.0; peer = parts.1 }
 
 -- a link whose port is above this one
 unfoldable pub link_above_at : ℕ → At PeerAt
@@ -109,7 +110,7 @@ link_above_at above = made link_of (both (within_at (above + 1) LAST_PORT) end_a
 
 -- so many links by rising port, all above this one
 abbrev pub links_from : ℕ → ℕ → At (List PeerAt)
-links_from = list_at link_above_at (λ k. k.port)
+links_from = list_at link_above_at (λ link. link.port)
 
 unfoldable pub links_at : At (List PeerAt)
 links_at bytes = do
@@ -117,7 +118,7 @@ links_at bytes = do
   links_from 0 count.0 count.1
 
 abbrev pub entry_of : ((LifeId × Place) × ℕ) × List PeerAt → EntryOf
-entry_of p = record { life = p.0.0.0; position = p.0.0.1; proposed = p.0.1; links = p.1 }
+entry_of parts = record { life = parts.0.0.0; position = parts.0.0.1; proposed = parts.0.1; links = parts.1 }
 
 unfoldable pub entry_at : At EntryOf
 entry_at = made entry_of (both (both (both life_at position_at) (within_at 1 MOST_NUMBER)) links_at)
@@ -129,11 +130,11 @@ is_above (Some above) life = is_lt (life_cmp above life)
 
 -- an entry whose life is above this one
 unfoldable pub entry_above_at : Option LifeId → At EntryOf
-entry_above_at above = tested (λ e. is_above above e.life) entry_at
+entry_above_at above = tested (λ entry. is_above above entry.life) entry_at
 
 -- so many entries by rising life, all above this one
 abbrev pub entries_from : Option LifeId → ℕ → At (List EntryOf)
-entries_from = list_at entry_above_at (λ e. Some e.life)
+entries_from = list_at entry_above_at (λ entry. Some entry.life)
 
 unfoldable pub entries_at : At (List EntryOf)
 entries_at bytes = do
@@ -142,11 +143,13 @@ entries_at bytes = do
 
 -- whether a number is one that there is and differs from those before it
 abbrev pub is_new : List ℕ → ℕ → Bool
-is_new before n = not (nat_lt n 1) && not (nat_lt MOST_NUMBER n) && not (list_any (λ m. m == n) before)
+is_new before number =
+    not (nat_lt number 1) && not (nat_lt MOST_NUMBER number)
+    && not (list_any (λ other. other == number) before)
 
 unfoldable pub are_new : List ℕ → List ℕ → Bool
 are_new before [] = true
-are_new before (n ∷ numbers) = is_new before n && are_new (before ++ n ∷ []) numbers
+are_new before (number ∷ numbers) = is_new before number && are_new (before ++ number ∷ []) numbers
 
 abbrev pub are_numbers : List ℕ → Bool
 are_numbers numbers = are_new [] numbers
@@ -159,13 +162,13 @@ unfoldable pub numbers_at : ℕ → At (List ℕ)
 numbers_at count = tested are_numbers (bytes_at count)
 
 abbrev pub pos_of : ((ℕ × LifeId) × ℕ) × Bool → PosOf
-pos_of p = record { version = p.0.0.0; root = p.0.0.1; level = p.0.1; to_parent = p.1 }
+pos_of parts = record { version = parts.0.0.0; root = parts.0.0.1; level = parts.0.1; to_parent = parts.1 }
 
 unfoldable pub pos_at : At PosOf
 pos_at = made pos_of (both (both (both counted_at life_at) (within_at 0 MOST_LEVEL)) truth_at)
 
 abbrev pub answer_of : ℕ × Bool → AnswerOf
-answer_of p = record { version = p.0; to_parent = p.1 }
+answer_of parts = record { version = parts.0; to_parent = parts.1 }
 
 unfoldable pub answer_at : At AnswerOf
 answer_at = made answer_of (both counted_at truth_at)
@@ -192,25 +195,32 @@ unfoldable pub body_at : At Body
 body_at bytes = byte_at bytes >>= λ kind. body_of kind.0 kind.1
 
 abbrev pub carry_of : (((ℕ × EndId) × EndId) × ℕ) × Body → CarryOf
-carry_of p = record { epoch = p.0.0.0.0; from = p.0.0.0.1; to = p.0.0.1; k = p.0.1; body = p.1 }
+carry_of parts =
+    record {
+      epoch = parts.0.0.0.0;
+      from = parts.0.0.0.1;
+      to = parts.0.0.1;
+      number = parts.0.1;
+      body = parts.1;
+    }
 
 unfoldable pub carry_at : At CarryOf
 carry_at = made carry_of (both (both (both (both (number_at 8) end_at) end_at) counted_at) body_at)
 
 abbrev pub ack_of : ((ℕ × EndId) × EndId) × ℕ → Frame
-ack_of p = Ack p.0.0.0 p.0.0.1 p.0.1 p.1
+ack_of parts = Ack parts.0.0.0 parts.0.0.1 parts.0.1 parts.1
 
 unfoldable pub ack_at : At Frame
 ack_at = made ack_of (both (both (both (number_at 8) end_at) end_at) (number_at 4))
 
 abbrev pub probe_of : EndId × ℕ → Frame
-probe_of p = Probe p.0 p.1
+probe_of parts = Probe parts.0 parts.1
 
 unfoldable pub probe_at : At Frame
 probe_at = made probe_of (both end_at (number_at 8))
 
 abbrev pub reply_of : (EndId × EndId) × ℕ → Frame
-reply_of p = Reply p.0.0 p.0.1 p.1
+reply_of parts = Reply parts.0.0 parts.0.1 parts.1
 
 unfoldable pub reply_at : At Frame
 reply_at = made reply_of (both (both end_at end_at) (number_at 8))
@@ -230,11 +240,11 @@ frame_at bytes = byte_at bytes >>= λ kind. frame_of_kind kind.0 kind.1
 -- the frame that all of the bytes spell, if they spell one
 unfoldable pub frame_of : List ℕ → Option Frame
 frame_of bytes = do
-  f ← frame_at bytes
-  if length f.1 == 0 then Some f.0 else None
+  frame ← frame_at bytes
+  if length frame.1 == 0 then Some frame.0 else None
 
 -- what a call made of all of the bytes
 abbrev pub GivesFrame : List ℕ → Result Frame DecodeRefusal → Type 0
-GivesFrame bytes (Ok f) = frame_of bytes ≡ Some f
+GivesFrame bytes (Ok frame) = frame_of bytes ≡ Some frame
 GivesFrame bytes (Err NotAFrame) = frame_of bytes ≡ None
 GivesFrame bytes (Err OutOfMemory) = ⊤

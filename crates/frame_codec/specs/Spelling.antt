@@ -71,13 +71,14 @@ body_bytes (Topo topo) = 4 ∷ topo_bytes topo
 
 -- a body with what stands before it
 abbrev pub carried : CarryHead → Body → CarryOf
-carried head body = record { epoch = head.epoch; from = head.from; to = head.to; k = head.k; body = body }
+carried head body =
+    record { epoch = head.epoch; from = head.from; to = head.to; number = head.k; body = body }
 
--- epoch 8, from 11, to 11, k 4, body
+-- epoch 8, from 11, to 11, number 4, body
 abbrev pub carry_bytes : CarryOf → List ℕ
 carry_bytes carry =
     number_bytes 8 carry.epoch ++ end_bytes carry.from ++ end_bytes carry.to
-    ++ number_bytes 4 carry.k ++ body_bytes carry.body
+    ++ number_bytes 4 carry.number ++ body_bytes carry.body
 
 -- a kind byte, and what this kind holds; nothing follows
 abbrev pub spelling : Frame → List ℕ

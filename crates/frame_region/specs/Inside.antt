@@ -6,10 +6,11 @@ use Rattle.frame_region.specs.Blocks.{needed, block, place}
 -- is not there yet is as good as 0
 pub record IsWritten (next : List ℕ) (first : ℕ) (frame old new : List ℕ) : Type 0 where
   pub more : length old ≤ length new
-  pub there : (k : ℕ) → k < needed (length frame) → 64 * block next first k + 64 ≤ length new
+  pub there : (at : ℕ) → at < needed (length frame) → 64 * block next first at + 64 ≤ length new
   pub bytes :
       (byte : ℕ) → byte < length frame
       → slice_index_or new (place next first byte) 0 ≡ slice_index_or frame byte 0
   pub others :
-      (other byte : ℕ) → byte < 64 → ((k : ℕ) → k < needed (length frame) → block next first k ≡ other → ⊥)
+      (other byte : ℕ) → byte < 64
+      → ((at : ℕ) → at < needed (length frame) → block next first at ≡ other → ⊥)
       → slice_index_or new (64 * other + byte) 0 ≡ slice_index_or old (64 * other + byte) 0

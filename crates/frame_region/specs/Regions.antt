@@ -64,14 +64,16 @@ pub record IsKept (bytes next lens : List ℕ) (first_free free : ℕ) : Type 0 
   pub most : length next ≤ MOST_BLOCKS
   pub total : sum_by needed lens + free ≡ length next
   pub short : (first : ℕ) → len_at lens first ≤ MOST_FRAME
-  pub within : (first k : ℕ) → k < count_at lens first → block next first k < length next
-  pub written : (first k : ℕ) → k < count_at lens first → 64 * block next first k + 64 ≤ length bytes
+  pub within : (first place : ℕ) → place < count_at lens first → block next first place < length next
+  pub written :
+      (first place : ℕ) → place < count_at lens first → 64 * block next first place + 64 ≤ length bytes
   pub apart :
-      (first other i j : ℕ) → i < count_at lens first → j < count_at lens other
-      → block next first i ≡ block next other j → (first ≡ other) × (i ≡ j)
+      (first other place other_place : ℕ) → place < count_at lens first → other_place < count_at lens other
+      → block next first place ≡ block next other other_place → (first ≡ other) × (place ≡ other_place)
   pub taken :
-      (first i j : ℕ) → i < count_at lens first → j < free
-      → block next first i ≡ block next first_free j → ⊥
+      (first place other_place : ℕ) → place < count_at lens first → other_place < free
+      → block next first place ≡ block next first_free other_place → ⊥
   pub free_apart :
-      (i j : ℕ) → i < free → j < free → block next first_free i ≡ block next first_free j → i ≡ j
-  pub free_within : (i : ℕ) → i < free → block next first_free i < length next
+      (place other_place : ℕ) → place < free → other_place < free
+      → block next first_free place ≡ block next first_free other_place → place ≡ other_place
+  pub free_within : (place : ℕ) → place < free → block next first_free place < length next

@@ -27,6 +27,9 @@ struct ReadyLines {
     takes: Vec<Vec<u8>>,
 }
 
+// Most lines have no more bytes.
+const LINE: usize = 16;
+
 // The making of a switch's lines pays where there are about so many events for each switch.
 const WORTH_LINES: usize = 128;
 
@@ -35,9 +38,9 @@ pub fn print(alloc: Global, script: &Script, journal: &Journal) -> Result<Vec<u8
     requires spelled { All (CanSpell script.now) journal.now }
     ensures { IfOk result (λ text. text.items ≡ journal_text script.now journal.now) }
 {
-    let mut text = Vec::new(alloc);
-    push_line(&mut text, &[b"journal", b"1"])?;
     let events = journal.as_slice();
+    let mut text = Vec::with_capacity(alloc, LINE * events.len())?;
+    push_line(&mut text, &[b"journal", b"1"])?;
     let ready = ready_lines(alloc, script, events.len() / WORTH_LINES)?;
     push_events(&mut text, script, &ready, events)?;
     push_line(&mut text, &[b"end"])?;

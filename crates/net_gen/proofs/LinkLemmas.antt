@@ -74,7 +74,7 @@ low_by : (links : List LinkAt) (a b : ℕ) (p q : Option ℕ) → lowest_free li
 low_by links a b None q ea eb low = rw (append-nil links) low
 low_by links a b (Some p) None ea eb low = rw (append-nil links) low
 low_by links a b (Some p) (Some q) ea eb low =
-    All-push IsLow links (record { a = a; a_port = p; b = b; b_port = q }) low (record { a = (lowest_is links a p ea).most; b = (lowest_is links b q eb).most })
+    All-push IsLow links (record { a = a; a_port = p; b = b; b_port = q }) low (record { a_most = (lowest_is links a p ea).most; b_most = (lowest_is links b q eb).most })
 
 pub low_with : (links : List LinkAt) (a b : ℕ) → AreLow links → AreLow (with_link links a b)
 low_with links a b low = low_by links a b (lowest_free links a) (lowest_free links b) refl refl low

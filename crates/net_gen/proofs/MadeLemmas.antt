@@ -76,7 +76,7 @@ no_hosts (h ∷ hosts) x none has = absurd (cc)
 
 pub can_link : (script : ScriptOf) (a b p q : ℕ) → script.wires.hosts ≡ [] → a < length script.wires.switches → b < length script.wires.switches → a ≢ b → IsLowest script.wires.links a p → IsLowest script.wires.links b q → CanAddLink script (record { a = a; a_port = p; b = b; b_port = q })
 can_link script a b p q none a_in b_in apart at_a at_b = record {
-  link = record { a = a_in; b = b_in; a_port_least = at_a.least; a_port_most = omega (arith, at_a.most); b_port_least = at_b.least; b_port_most = omega (arith, at_b.most) };
+  link = record { a_below = a_in; b_below = b_in; a_port_least = at_a.least; a_port_most = omega (arith, at_a.most); b_port_least = at_b.least; b_port_most = omega (arith, at_b.most) };
   apart = λ e. apart (ap (λ (x : ℕ × ℕ). x.0) e);
   a_free = unused a p at_a;
   b_free = unused b q at_b;
@@ -96,9 +96,9 @@ low_unused [] s p low has = absurd (let l = has.1 in omega arith)
 low_unused (l ∷ ls) s p low has =
     let first = All-head IsLow l ls low in
     elim (Contains-cons_cases (a_end l) (s, p) (b_end l ∷ flat_map link_ends ls) has) [
-      | inl is ↦ (let e : l.a_port ≡ p = ap (λ (x : ℕ × ℕ). x.1) is in omega (arith, e, first.a))
+      | inl is ↦ (let e : l.a_port ≡ p = ap (λ (x : ℕ × ℕ). x.1) is in omega (arith, e, first.a_most))
       | inr later ↦ elim (Contains-cons_cases (b_end l) (s, p) (flat_map link_ends ls) later) [
-        | inl is ↦ (let e : l.b_port ≡ p = ap (λ (x : ℕ × ℕ). x.1) is in omega (arith, e, first.b))
+        | inl is ↦ (let e : l.b_port ≡ p = ap (λ (x : ℕ × ℕ). x.1) is in omega (arith, e, first.b_most))
         | inr rest ↦ low_unused ls s p (All-tail IsLow l ls low) rest
       ]
     ]
@@ -106,7 +106,7 @@ low_unused (l ∷ ls) s p low has =
 pub can_host : (count i : ℕ) (links : List LinkAt) → count ≤ 100 → i < count → AreLow links → CanAddHost (made_of count links i []) (host_name i) (host_of i)
 can_host count i links few low are_low = record {
   new_name = record { is_name = numbered 72 (i + 1) refl refl (omega arith); is_new = new };
-  host = record { uid = omega arith; s = (let l = length-map-range_with_len switch_of 0 count in omega (arith, l)); port_least = omega arith; port_most = omega arith };
+  host = record { uid = omega arith; switch = (let l = length-map-range_with_len switch_of 0 count in omega (arith, l)); port_least = omega arith; port_most = omega arith };
   uid_new = uid;
   free = free;
   room = (let l = length-map-range_with_len host_of 0 i in omega (arith, l));

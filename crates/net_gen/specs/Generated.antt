@@ -39,12 +39,14 @@ has_free links place = is_some (lowest_free links place)
 
 -- the link between such ports of two switches, if both have one
 abbrev pub link_by : Option ℕ → Option ℕ → ℕ → ℕ → List LinkAt
-link_by (Some a_port) (Some b_port) a b = record { a = a; a_port = a_port; b = b; b_port = b_port } ∷ []
-link_by None b_port a b = []
-link_by (Some a_port) None a b = []
+link_by (Some port) (Some far_port) place far_place =
+    record { a = place; a_port = port; b = far_place; b_port = far_port } ∷ []
+link_by None far_port place far_place = []
+link_by (Some port) None place far_place = []
 
 abbrev pub with_link : List LinkAt → ℕ → ℕ → List LinkAt
-with_link links a b = links ++ link_by (lowest_free links a) (lowest_free links b) a b
+with_link links place far_place =
+    links ++ link_by (lowest_free links place) (lowest_free links far_place) place far_place
 
 -- what has been drawn so far: the links, and the seed of the next draw
 pub record DrawnOf : Type 0 where

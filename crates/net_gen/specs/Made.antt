@@ -21,8 +21,8 @@ drawn_of script seed = record { links = script.wires.links; seed = seed }
 
 -- the links use none but the ports 1 to 8
 pub record IsLow (link : LinkAt) : Type 0 where
-  pub a : link.a_port ≤ 8
-  pub b : link.b_port ≤ 8
+  pub a_most : link.a_port ≤ 8
+  pub b_most : link.b_port ≤ 8
 
 abbrev pub AreLow : List LinkAt → Type 0
 AreLow = All IsLow

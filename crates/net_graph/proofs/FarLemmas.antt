@@ -201,7 +201,7 @@ network_closed w wired = λ x p y q e. (far_range (length w.switches) w.links x 
 pub far_is : (w : Wires) (s p : ℕ) (far : ℕ × ℕ) → IsWired w → far_of w.links s p ≡ Some far → IsFar (length w.switches) s p far
 far_is w s p far wired e =
     let r = far_range (length w.switches) w.links s p far.0 far.1 wired.links e in
-    record { s_below = r.s_below; p_least = r.p_least; p_most = r.p_most; below = r.y_below; port_least = r.q_least; port_most = r.q_most }
+    record { node_below = r.s_below; own_port_least = r.p_least; own_port_most = r.p_most; below = r.y_below; port_least = r.q_least; port_most = r.q_most }
 
 -- a port leads to another exactly where a link joins the two
 pub far_joins : (w : Wires) (s p y q : ℕ) → IsWired w → (far_of w.links s p ≡ Some (y, q)) ↔ Any (λ l. Joins l s p y q) w.links

@@ -41,7 +41,7 @@ far_within w s p wired = go (far_of w.links s p) (host_of w.hosts s p) refl refl
         let found : IsHost (length w.switches) x.0 = subst (λ (y : HostOn). IsHost (length w.switches) y) (get_or_from_slice_get w.hosts h x.0 x.0 x.2) (All-get_or (IsHost (length w.switches)) w.hosts h x.0 x.1 wired.hosts) in
         let at_s : x.0.s ≡ s = ap (λ (y : ℕ × ℕ). y.0) x.3 in
         let at_p : x.0.port ≡ p = ap (λ (y : ℕ × ℕ). y.1) x.3 in
-        let below = found.s in
+        let below = found.switch in
         let least = found.port_least in
         let most = found.port_most in
         (omega arith, omega arith, omega arith, x.1)

@@ -38,10 +38,10 @@ switch_wired w x kept room is new = record {
     one_more = length-append w.switches (x ∷ [])
 
     more_link : (l : LinkAt) → IsLink (length w.switches) l → IsLink (length (w.switches ++ x ∷ [])) l
-    more_link l old = record { a = let h = old.a in omega (arith, one_more); b = let h = old.b in omega (arith, one_more); a_port_least = old.a_port_least; a_port_most = old.a_port_most; b_port_least = old.b_port_least; b_port_most = old.b_port_most }
+    more_link l old = record { a_below = let h = old.a_below in omega (arith, one_more); b_below = let h = old.b_below in omega (arith, one_more); a_port_least = old.a_port_least; a_port_most = old.a_port_most; b_port_least = old.b_port_least; b_port_most = old.b_port_most }
 
     more_host : (h : HostOn) → IsHost (length w.switches) h → IsHost (length (w.switches ++ x ∷ [])) h
-    more_host h old = record { uid = old.uid; s = let k = old.s in omega (arith, one_more); port_least = old.port_least; port_most = old.port_most }
+    more_host h old = record { uid = old.uid; switch = let k = old.switch in omega (arith, one_more); port_least = old.port_least; port_most = old.port_most }
 
     uids_are : uids (record w { switches = w.switches ++ x ∷ [] }) ≡ map (λ s. s.uid) w.switches ++ (x.uid ∷ map (λ h. h.uid) w.hosts)
     uids_are = ap (λ (l : List ℕ). l ++ map (λ h. h.uid) w.hosts) (map-append (λ s. s.uid) w.switches (x ∷ [])) ∙ append_assoc (map (λ s. s.uid) w.switches) (x.uid ∷ []) (map (λ h. h.uid) w.hosts)

@@ -48,8 +48,8 @@ pub record IsSwitch (node : SwitchAt) : Type 0 where
 
 -- a link between ports of so many switches
 pub record IsLink (count : ℕ) (link : LinkAt) : Type 0 where
-  pub a : link.a < count
-  pub b : link.b < count
+  pub a_below : link.a < count
+  pub b_below : link.b < count
   pub a_port_least : 1 ≤ link.a_port
   pub a_port_most : link.a_port ≤ LAST_PORT
   pub b_port_least : 1 ≤ link.b_port
@@ -58,7 +58,7 @@ pub record IsLink (count : ℕ) (link : LinkAt) : Type 0 where
 -- a host on a port of so many switches
 pub record IsHost (count : ℕ) (host : HostOn) : Type 0 where
   pub uid : host.uid < 2 ^ 48
-  pub s : host.s < count
+  pub switch : host.s < count
   pub port_least : 1 ≤ host.port
   pub port_most : host.port ≤ LAST_PORT
 
@@ -133,9 +133,9 @@ network wires =
 
 -- the other end of a port is in range, and so is the port
 pub record IsFar (count node own_port : ℕ) (far : ℕ × ℕ) : Type 0 where
-  pub s_below : node < count
-  pub p_least : 1 ≤ own_port
-  pub p_most : own_port ≤ LAST_PORT
+  pub node_below : node < count
+  pub own_port_least : 1 ≤ own_port
+  pub own_port_most : own_port ≤ LAST_PORT
   pub below : far.0 < count
   pub port_least : 1 ≤ far.1
   pub port_most : far.1 ≤ LAST_PORT

@@ -146,7 +146,7 @@ link_can s a a_port b b_port kept good =
     let a_range = port_is a_port two.0 in
     let b_range = port_is b_port four.0 in
     record {
-      link = record { a = switch_low s a kept one.0; b = switch_low s b kept three.0; a_port_least = a_range.0; a_port_most = a_range.1; b_port_least = b_range.0; b_port_most = b_range.1 };
+      link = record { a_below = switch_low s a kept one.0; b_below = switch_low s b kept three.0; a_port_least = a_range.0; a_port_most = a_range.1; b_port_least = b_range.0; b_port_most = b_range.1 };
       apart = λ same. let no = not-true (eqb l.a l.b && eqb l.a_port l.b_port) others.1 in
           let yes = port_test l.a l.a_port l.b l.b_port same in absurd (cc);
       a_free = unused s.wires l.a l.a_port parts.0;
@@ -169,7 +169,7 @@ host_can s name uid switch port kept good =
     let range = port_is port four.0 in
     record {
       new_name = new_name_is s name one.0;
-      host = record { uid = id.0; s = switch_low s switch kept three.0; port_least = range.0; port_most = range.1 };
+      host = record { uid = id.0; switch = switch_low s switch kept three.0; port_least = range.0; port_most = range.1 };
       uid_new = id.1;
       free = unused s.wires x.s x.port (holds free PortUsed five.0);
       room = lt_is (length s.wires.hosts) 1000 (holds (ltb (length s.wires.hosts) 1000) TooMany six.0);

@@ -12,7 +12,7 @@ pub data Form : Type 0 where
   Number : (setting : Setting) (number : List ℕ) → Form
   AnyRoutes : Form
   SwitchLine : (name uid : List ℕ) (had : Option (List ℕ)) → Form
-  LinkLine : (a a_port b b_port : List ℕ) → Form
+  LinkLine : (switch port far_switch far_port : List ℕ) → Form
   HostLine : (name uid switch port : List ℕ) → Form
   ChangesLink : (change : LinkChange) (time name port : List ℕ) → Form
   ChangesWire : (change : WireChange) (time name port number : List ℕ) → Form
@@ -30,7 +30,8 @@ abbrev pub form_words : Form → List (List ℕ)
 form_words (Number setting number) = setting_words setting ++ number ∷ []
 form_words AnyRoutes = codes "routes" ∷ codes "any" ∷ []
 form_words (SwitchLine name uid had) = codes "switch" ∷ name ∷ uid ∷ had_words had
-form_words (LinkLine a a_port b b_port) = codes "link" ∷ a ∷ a_port ∷ b ∷ b_port ∷ []
+form_words (LinkLine switch port far_switch far_port) =
+    codes "link" ∷ switch ∷ port ∷ far_switch ∷ far_port ∷ []
 form_words (HostLine name uid switch port) = codes "host" ∷ name ∷ uid ∷ switch ∷ port ∷ []
 form_words (ChangesLink change time name port) = codes "at" ∷ time ∷ link_word change ∷ name ∷ port ∷ []
 form_words (ChangesWire change time name port number) =

@@ -95,13 +95,13 @@ had_of (Some word) = number_value word
 abbrev pub switch_of : List ℕ → Option (List ℕ) → SwitchAt
 switch_of uid had = record { uid = uid_value uid; had = had_of had }
 
-abbrev pub link_of : ScriptOf → (a a_port b b_port : List ℕ) → LinkAt
-link_of script a a_port b b_port =
+abbrev pub link_of : ScriptOf → (switch port far_switch far_port : List ℕ) → LinkAt
+link_of script switch port far_switch far_port =
     record {
-      a = place script.switch_names a;
-      a_port = number_value a_port;
-      b = place script.switch_names b;
-      b_port = number_value b_port;
+      a = place script.switch_names switch;
+      a_port = number_value port;
+      b = place script.switch_names far_switch;
+      b_port = number_value far_port;
     }
 
 abbrev pub host_of : ScriptOf → (uid switch port : List ℕ) → HostOn
@@ -128,10 +128,11 @@ switch_cause script name uid had =
     first_of (new_name_cause script name ∷ new_uid_cause script uid ∷ had_cause had ∷ lives_cause script ∷ [])
 
 -- a link,
-unfoldable pub link_cause : ScriptOf → (a a_port b b_port : List ℕ) → Option ScriptCause
-link_cause script a a_port b b_port =
-    first_of (known_cause script.switch_names a ∷ port_cause a_port ∷ known_cause script.switch_names b
-    ∷ port_cause b_port ∷ unless (is_free script.wires (link_of script a a_port b b_port)) PortUsed ∷ [])
+unfoldable pub link_cause : ScriptOf → (switch port far_switch far_port : List ℕ) → Option ScriptCause
+link_cause script switch port far_switch far_port =
+    first_of (known_cause script.switch_names switch ∷ port_cause port
+    ∷ known_cause script.switch_names far_switch ∷ port_cause far_port
+    ∷ unless (is_free script.wires (link_of script switch port far_switch far_port)) PortUsed ∷ [])
 
 -- a host,
 unfoldable pub host_cause : ScriptOf → (name uid switch port : List ℕ) → Option ScriptCause
@@ -174,7 +175,8 @@ abbrev pub cause_of : Draft → Form → Option ScriptCause
 cause_of draft (Number setting number) = setting_cause draft.came setting number
 cause_of draft AnyRoutes = unless (not draft.came.routes) NameTwice
 cause_of draft (SwitchLine name uid had) = switch_cause draft.script name uid had
-cause_of draft (LinkLine a a_port b b_port) = link_cause draft.script a a_port b b_port
+cause_of draft (LinkLine switch port far_switch far_port) =
+    link_cause draft.script switch port far_switch far_port
 cause_of draft (HostLine name uid switch port) = host_cause draft.script name uid switch port
 cause_of draft (ChangesLink change time name port) = link_change_cause draft.script time name port
 cause_of draft (ChangesWire change time name port number) =
@@ -223,8 +225,8 @@ with_form draft AnyRoutes =
     }
 with_form draft (SwitchLine name uid had) =
     record draft { script = with_switch draft.script name (switch_of uid had) }
-with_form draft (LinkLine a a_port b b_port) =
-    record draft { script = with_link draft.script (link_of draft.script a a_port b b_port) }
+with_form draft (LinkLine switch port far_switch far_port) =
+    record draft { script = with_link draft.script (link_of draft.script switch port far_switch far_port) }
 with_form draft (HostLine name uid switch port) =
     record draft { script = with_host draft.script name (host_of draft.script uid switch port) }
 with_form draft (ChangesLink change time name port) =

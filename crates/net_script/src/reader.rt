@@ -1,7 +1,8 @@
 //! The reader of scripts.
 
-ghost use Rattle.std.specs.Prelude.{◌<◌, ◌-◌, ◌^◌, [], ◌∷◌, length, map, IfOk, IfErr};
+ghost use Rattle.std.specs.Prelude.{◌≡◌, ◌<◌, ◌-◌, ◌^◌, [], ◌∷◌, length, map, IfOk, IfErr, OnOk};
 ghost use Rattle.net_script.specs.declared.draft.Part.TheVariants.{Header};
+ghost use Rattle.net_script.specs.Drafts.{start};
 ghost use Rattle.net_script.specs.Texts.{IsText, Adds, IsFaulty, AddsWords, IsFaultyWords};
 ghost use Rattle.text_lines.specs.Stops.{IsStep};
 ghost use Rattle.net_script.specs.Steps.{IsRefusal};
@@ -28,10 +29,21 @@ pub fn read(alloc: Global, bytes: &[u8]) -> Result<Script, ReadRefusal>
     ensures fault { IfErr result (IsRefusal bytes.now) }
 {
     let mut draft = Draft::new(alloc);
+    read_all(&mut draft, alloc, bytes)?;
+    Ok(draft.script)
+}
+
+// Adds what all lines of a text say to what no lines say.
+fn read_all(draft: &mut Draft, alloc: Global, bytes: &[u8]) -> Result<(), ReadRefusal>
+    requires few { length bytes.now < 2 ^ 32 - 1 }
+    requires none { draft.old ≡ start }
+    ensures text { OnOk result (IsText bytes.now draft.new.script) }
+    ensures fault { IfErr result (IsRefusal bytes.now) }
+{
     let mut rest = bytes;
     let mut line = 1u32;
     'lines: while let Some((first, after)) = first_line(rest) {
-        if let Err(stop) = read_line(&mut draft, alloc, first) {
+        if let Err(stop) = read_line(draft, alloc, first) {
             return Err(stop.at(line));
         }
         line += 1;
@@ -43,7 +55,7 @@ pub fn read(alloc: Global, bytes: &[u8]) -> Result<Script, ReadRefusal>
             cause: ScriptCause::NoEnd,
         });
     }
-    Ok(draft.script)
+    Ok(())
 }
 
 /// Adds what one line, without its end, says after those before it; a blank line, or a comment alone, adds

@@ -16,13 +16,13 @@ pub record IsBody (pushed : List Body) (k : ℕ) (body : Body) : Type 0 where
   pub there : slice_get pushed (k - 1) ≡ Some body
 
 abbrev AreBodies : List Body → List Numbered → Type 0
-AreBodies pushed xs = (i : ℕ) (x : Numbered) → slice_get xs i ≡ Some x → IsBody pushed x.k x.body
+AreBodies pushed xs = (i : ℕ) (x : Numbered) → slice_get xs i ≡ Some x → IsBody pushed x.number x.body
 
 -- What holds at any time: the accepted bodies are a front of those pushed, each body that is held or on a wire is the pushed one of its number, and no acknowledgement is above the last accepted one
 pub record IsSound (w : Session) : Type 0 where
   pub order : IsFrontOf w.receiving.accepted w.sending.pushed
   pub held : (k : ℕ) (b : Body) → w.receiving.held k ≡ Some b → IsBody w.sending.pushed k b
-  pub bodies : (i : ℕ) (x : Numbered) → slice_get w.bodies i ≡ Some x → IsBody w.sending.pushed x.k x.body
+  pub bodies : (i : ℕ) (x : Numbered) → slice_get w.bodies i ≡ Some x → IsBody w.sending.pushed x.number x.body
   pub acks : (i n : ℕ) → slice_get w.acks i ≡ Some n → n ≤ last w.receiving
   pub acked : w.sending.acked ≤ last w.receiving
 
@@ -68,7 +68,7 @@ front_longer accepted pushed more front = (front.0 ++ more, sym (append_assoc ac
 -- what goes out is the pushed body of its number
 numbered_are : (pushed : List Body) (k : ℕ) (o : Option Body) (xs : List Numbered) → 1 ≤ k → slice_get pushed (k - 1) ≡ o → AreBodies pushed xs → AreBodies pushed (numbered k o ++ xs)
 numbered_are pushed k None xs least there are i x h = are i x h
-numbered_are pushed k (Some b) xs least there are zero x h = subst (λ (y : Numbered). IsBody pushed y.k y.body) (same_Some _ x h) (record { least = least; there = there })
+numbered_are pushed k (Some b) xs least there are zero x h = subst (λ (y : Numbered). IsBody pushed y.number y.body) (same_Some _ x h) (record { least = least; there = there })
 numbered_are pushed k (Some b) xs least there are (suc i) x h = are i x h
 
 put_out_are : (s : Sending) (number : Option ℕ) (xs : List Numbered) → ((k : ℕ) → number ≡ Some k → 1 ≤ k) → AreBodies s.pushed xs → AreBodies s.pushed (put_out s number ++ xs)
@@ -81,7 +81,7 @@ sound_sends w s number more sound pushed acked least =
     record {
       order = subst (λ l. IsFrontOf w.receiving.accepted l) (sym pushed) (front_longer w.receiving.accepted w.sending.pushed more sound.order);
       held = λ k b h. still k b (sound.held k b h);
-      bodies = put_out_are s number w.bodies least (λ i x h. still x.k x.body (sound.bodies i x h));
+      bodies = put_out_are s number w.bodies least (λ i x h. still x.number x.body (sound.bodies i x h));
       acks = sound.acks;
       acked = acked;
     }
@@ -170,7 +170,7 @@ sound_follow w (Some b) held sound =
 
 sound_body : (w : Session) (i : ℕ) (o : Option Numbered) → slice_get w.bodies i ≡ o → IsSound w → IsSound (body_comes o w)
 sound_body w i None at sound = sound
-sound_body w i (Some x) at sound = sound_come w x.k x.body sound (sound.bodies i x at)
+sound_body w i (Some x) at sound = sound_come w x.number x.body sound (sound.bodies i x at)
 
 sound_ack : (w : Session) (i : ℕ) (o : Option ℕ) (now : ℕ) → slice_get w.acks i ≡ o → IsSound w → IsSound (ack_comes o now w)
 sound_ack w i None now at sound = sound

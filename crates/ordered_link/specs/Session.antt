@@ -9,7 +9,7 @@ use Rattle.ordered_link.specs.Receiving.{Receiving, untouched, last, come, follo
 
 -- a body on its way, with its number
 pub record Numbered : Type 0 where
-  pub k : ℕ
+  pub number : ℕ
   pub body : Body
 
 -- The two ends, with all that was ever put on the wires: each body with its number, and the number of each
@@ -27,7 +27,7 @@ start = record { sending = unused; receiving = untouched; bodies = []; acks = []
 pub data Event : Type 0 where
   Push : (body : Body) → (now : ℕ) → Event
   More : (now : ℕ) → Event
-  Send_again : (k : ℕ) → (now : ℕ) → Event
+  Send_again : (number : ℕ) → (now : ℕ) → Event
   Body_comes : (which : ℕ) → Event
   Follow : Event
   Answer : Event
@@ -36,7 +36,7 @@ pub data Event : Type 0 where
 -- the body with this number goes out, where one does
 abbrev pub numbered : ℕ → Option Body → List Numbered
 numbered number None = []
-numbered number (Some body) = record { k = number; body = body } ∷ []
+numbered number (Some body) = record { number = number; body = body } ∷ []
 
 abbrev pub put_out : Sending → Option ℕ → List Numbered
 put_out sending None = []
@@ -48,7 +48,7 @@ sends sending number session =
 
 abbrev pub body_comes : Option Numbered → Session → Session
 body_comes None session = session
-body_comes (Some item) session = record session { receiving = come item.k item.body session.receiving }
+body_comes (Some item) session = record session { receiving = come item.number item.body session.receiving }
 
 abbrev pub ack_comes : Option ℕ → ℕ → Session → Session
 ack_comes None now session = session

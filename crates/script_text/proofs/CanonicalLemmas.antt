@@ -166,8 +166,8 @@ link_step s kept ls l ms parts d script part =
     let are = switch_names_are s kept in
     let a = get_or s.switch_names l.a [] in
     let b = get_or s.switch_names l.b [] in
-    let a_low : l.a < length s.switch_names = omega (arith, can.link.a, are.counted) in
-    let b_low : l.b < length s.switch_names = omega (arith, can.link.b, are.counted) in
+    let a_low : l.a < length s.switch_names = omega (arith, can.link.a_below, are.counted) in
+    let b_low : l.b < length s.switch_names = omega (arith, can.link.b_below, are.counted) in
     record {
       good = record {
         words = words_cons (codes "link") (a ∷ decimal l.a_port ∷ b ∷ decimal l.b_port ∷ []) (fixed_word (codes "link") refl (omega arith) (omega arith))
@@ -221,7 +221,7 @@ host_step s kept ps (n, x) qs parts d script part =
     let can = can_host s ps qs n x kept parts in
     let are = switch_names_are s kept in
     let at = get_or s.switch_names x.s [] in
-    let low : x.s < length s.switch_names = omega (arith, can.host.s, are.counted) in
+    let low : x.s < length s.switch_names = omega (arith, can.host.switch, are.counted) in
     record {
       good = record {
         words = words_cons (codes "host") (n ∷ hex_text 12 x.uid ∷ at ∷ decimal x.port ∷ []) (fixed_word (codes "host") refl (omega arith) (omega arith))

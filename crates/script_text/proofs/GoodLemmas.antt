@@ -126,8 +126,8 @@ pub record AreNames (names : List (List ℕ)) (count : ℕ) : Type 0 where
 
 pub link_is : (s : ScriptOf) (l : LinkAt) → AreNames s.switch_names (length s.wires.switches) → CanAddLink s l → link_of s (get_or s.switch_names l.a []) (decimal l.a_port) (get_or s.switch_names l.b []) (decimal l.b_port) ≡ l
 link_is s l are can =
-    let a_low : l.a < length s.switch_names = omega (arith, can.link.a, are.counted) in
-    let b_low : l.b < length s.switch_names = omega (arith, can.link.b, are.counted) in
+    let a_low : l.a < length s.switch_names = omega (arith, can.link.a_below, are.counted) in
+    let b_low : l.b < length s.switch_names = omega (arith, can.link.b_below, are.counted) in
     ap (λ (x : ℕ). record { a = x; a_port = number_value (decimal l.a_port); b = place s.switch_names (get_or s.switch_names l.b []); b_port = number_value (decimal l.b_port) }) (place_is s.switch_names l.a are.apart a_low)
     ∙ ap (λ (x : ℕ). record { a = l.a; a_port = x; b = place s.switch_names (get_or s.switch_names l.b []); b_port = number_value (decimal l.b_port) }) (port_value l.a_port can.link.a_port_most)
     ∙ ap (λ (x : ℕ). record { a = l.a; a_port = l.a_port; b = x; b_port = number_value (decimal l.b_port) }) (place_is s.switch_names l.b are.apart b_low)
@@ -136,8 +136,8 @@ link_is s l are can =
 pub link_good : (s : ScriptOf) (l : LinkAt) → AreNames s.switch_names (length s.wires.switches) → CanAddLink s l → link_cause s (get_or s.switch_names l.a []) (decimal l.a_port) (get_or s.switch_names l.b []) (decimal l.b_port) ≡ None
 unfolding link_cause
 link_good s l are can =
-    let a_low : l.a < length s.switch_names = omega (arith, can.link.a, are.counted) in
-    let b_low : l.b < length s.switch_names = omega (arith, can.link.b, are.counted) in
+    let a_low : l.a < length s.switch_names = omega (arith, can.link.a_below, are.counted) in
+    let b_low : l.b < length s.switch_names = omega (arith, can.link.b_below, are.counted) in
     let free : is_free s.wires l ≡ true = free_test (is_used s.wires l.a l.a_port) (is_used s.wires l.b l.b_port) l.a l.a_port l.b l.b_port (unused s.wires l.a l.a_port can.a_free) (unused s.wires l.b l.b_port can.b_free) can.apart in
     first_good (known_cause s.switch_names (get_or s.switch_names l.a [])) _ (known_good s.switch_names l.a are.are_names are.apart a_low)
     (first_good (port_cause (decimal l.a_port)) _ (port_good l.a_port can.link.a_port_least can.link.a_port_most)
@@ -148,7 +148,7 @@ link_good s l are can =
 -- hosts
 pub host_is : (s : ScriptOf) (name : List ℕ) (x : HostOn) → AreNames s.switch_names (length s.wires.switches) → CanAddHost s name x → host_of s (hex_text 12 x.uid) (get_or s.switch_names x.s []) (decimal x.port) ≡ x
 host_is s name x are can =
-    let low : x.s < length s.switch_names = omega (arith, can.host.s, are.counted) in
+    let low : x.s < length s.switch_names = omega (arith, can.host.switch, are.counted) in
     ap (λ (u : ℕ). record { uid = u; s = place s.switch_names (get_or s.switch_names x.s []); port = number_value (decimal x.port) }) (uid_value_is x.uid can.host.uid)
     ∙ ap (λ (y : ℕ). record { uid = x.uid; s = y; port = number_value (decimal x.port) }) (place_is s.switch_names x.s are.apart low)
     ∙ ap (λ (p : ℕ). record { uid = x.uid; s = x.s; port = p }) (port_value x.port can.host.port_most)
@@ -156,7 +156,7 @@ host_is s name x are can =
 pub host_good : (s : ScriptOf) (name : List ℕ) (x : HostOn) → AreNames s.switch_names (length s.wires.switches) → CanAddHost s name x → host_cause s name (hex_text 12 x.uid) (get_or s.switch_names x.s []) (decimal x.port) ≡ None
 unfolding host_cause
 host_good s name x are can =
-    let low : x.s < length s.switch_names = omega (arith, can.host.s, are.counted) in
+    let low : x.s < length s.switch_names = omega (arith, can.host.switch, are.counted) in
     let here : is_used s.wires (place s.switch_names (get_or s.switch_names x.s [])) (number_value (decimal x.port)) ≡ false =
     ap (λ (y : ℕ). is_used s.wires y (number_value (decimal x.port))) (place_is s.switch_names x.s are.apart low)
     ∙ ap (λ (p : ℕ). is_used s.wires x.s p) (port_value x.port can.host.port_most)

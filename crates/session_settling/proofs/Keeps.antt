@@ -82,16 +82,16 @@ keeps_answers port k peer body s =
     })
     (keeps_all_pushed (all_added s.card port (accepted_by k body (s.receivings port)) s.log) (receives port k body s))
 
-keeps_greater : (port : ℕ) (f : CarryOf) (s : SwitchOf) → Stays s (after (joins f.epoch s) (answers_body port f.from f.k f.body (joins f.epoch s).switch))
-keeps_greater port f s = keeps_then s.life s.ports (joins f.epoch s) (answers_body port f.from f.k f.body (joins f.epoch s).switch) (keeps_joins f.epoch s) (keeps_answers port f.k f.from f.body (joins f.epoch s).switch)
+keeps_greater : (port : ℕ) (f : CarryOf) (s : SwitchOf) → Stays s (after (joins f.epoch s) (answers_body port f.from f.number f.body (joins f.epoch s).switch))
+keeps_greater port f s = keeps_then s.life s.ports (joins f.epoch s) (answers_body port f.from f.number f.body (joins f.epoch s).switch) (keeps_joins f.epoch s) (keeps_answers port f.number f.from f.body (joins f.epoch s).switch)
 
 -- a frame: what happened at the ports is that of before, but for a reply
 pub keeps_carry : (port : ℕ) (f : CarryOf) (s : SwitchOf) → Stays s (framed port (Carry f) s)
 keeps_carry port f s =
     by_test (λ b. Stays s (cond b (on_carry port f s) (still s))) (counts s port f.from f.to)
-    (λ _. by_test (λ b. Stays s (cond b (after (joins f.epoch s) (answers_body port f.from f.k f.body (joins f.epoch s).switch)) (cond (f.epoch == s.epoch) (answers_body port f.from f.k f.body s) (still s)))) (nat_lt s.epoch f.epoch)
+    (λ _. by_test (λ b. Stays s (cond b (after (joins f.epoch s) (answers_body port f.from f.number f.body (joins f.epoch s).switch)) (cond (f.epoch == s.epoch) (answers_body port f.from f.number f.body s) (still s)))) (nat_lt s.epoch f.epoch)
     (λ _. keeps_greater port f s)
-    (λ _. by_test (λ b. Stays s (cond b (answers_body port f.from f.k f.body s) (still s))) (f.epoch == s.epoch) (λ _. keeps_answers port f.k f.from f.body s) (λ _. keeps_still s)))
+    (λ _. by_test (λ b. Stays s (cond b (answers_body port f.from f.number f.body s) (still s))) (f.epoch == s.epoch) (λ _. keeps_answers port f.number f.from f.body s) (λ _. keeps_still s)))
     (λ _. keeps_still s)
 
 keeps_acked : (port n : ℕ) (peer : EndId) (s : SwitchOf) → Stays s (acked_step port n peer s)
@@ -164,9 +164,9 @@ filled_clock now samples s filled p =
 filled_carry : (p port : ℕ) (f : CarryOf) (s : SwitchOf) → AreFilled s → IsFilled ((framed port (Carry f) s).switch.sendings p)
 filled_carry p port f s filled =
     by_test (λ b. IsFilled ((cond b (on_carry port f s) (still s)).switch.sendings p)) (counts s port f.from f.to)
-    (λ _. by_test (λ b. IsFilled ((cond b (after (joins f.epoch s) (answers_body port f.from f.k f.body (joins f.epoch s).switch)) (cond (f.epoch == s.epoch) (answers_body port f.from f.k f.body s) (still s))).switch.sendings p)) (nat_lt s.epoch f.epoch)
+    (λ _. by_test (λ b. IsFilled ((cond b (after (joins f.epoch s) (answers_body port f.from f.number f.body (joins f.epoch s).switch)) (cond (f.epoch == s.epoch) (answers_body port f.from f.number f.body s) (still s))).switch.sendings p)) (nat_lt s.epoch f.epoch)
     (λ _. (greater_works p port f s).filled unused_filled)
-    (λ _. by_test (λ b. IsFilled ((cond b (answers_body port f.from f.k f.body s) (still s)).switch.sendings p)) (f.epoch == s.epoch) (λ _. (answers_works p port f.k f.from f.body s).filled (filled p)) (λ _. filled p)))
+    (λ _. by_test (λ b. IsFilled ((cond b (answers_body port f.from f.number f.body s) (still s)).switch.sendings p)) (f.epoch == s.epoch) (λ _. (answers_works p port f.number f.from f.body s).filled (filled p)) (λ _. filled p)))
     (λ _. filled p)
 
 filled_ack : (port epoch n : ℕ) (from to : EndId) (s : SwitchOf) → AreFilled s → IsFilled ((framed port (Ack epoch from to n) s).switch.sendings port)

@@ -130,7 +130,7 @@ carried_both p (x ∷ xs) ys =
 none_elsewhere : (p port : ℕ) (s : SwitchOf) (peer : EndId) (xs : List Numbered) → p ≢ port → carried_by p (map (carried_to s port peer) xs) ≡ []
 none_elsewhere p port s peer [] other = refl
 none_elsewhere p port s peer (x ∷ xs) other =
-    ap (λ b. cond b (x.k ∷ []) [] ++ carried_by p (map (carried_to s port peer) xs)) (ne_eqb port p (λ e. other (sym e))) ∙ none_elsewhere p port s peer xs other
+    ap (λ b. cond b (x.number ∷ []) [] ++ carried_by p (map (carried_to s port peer) xs)) (ne_eqb port p (λ e. other (sym e))) ∙ none_elsewhere p port s peer xs other
 
 one_here : (port k : ℕ) (s : SwitchOf) (peer : EndId) (bodies : List Body) → 1 ≤ k → k ≤ length bodies → carried_by port (map (carried_to s port peer) (numbered k (slice_get bodies (k - 1)))) ≡ k ∷ []
 one_here port k s peer bodies least most =

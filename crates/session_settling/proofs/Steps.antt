@@ -65,28 +65,28 @@ answers_works p port k peer body s =
     (silent p s.tick (s.sendings p) (s.receivings p) s (acks port peer k body s) refl refl refl (no_ack p port peer k body s))
     (all_pushed_works p (all_added s.card port (accepted_by k body (s.receivings port)) s.log) (receives port k body s))
 
-pub carry_same : (p port : ℕ) (f : CarryOf) (s : SwitchOf) → counts s port f.from f.to ≡ true → f.epoch ≡ s.epoch → WorksFrom 0 0 p s.tick (s.sendings p) (at_port port (received f.k f.body (s.receivings port)) s.receivings p) (framed port (Carry f) s)
+pub carry_same : (p port : ℕ) (f : CarryOf) (s : SwitchOf) → counts s port f.from f.to ≡ true → f.epoch ≡ s.epoch → WorksFrom 0 0 p s.tick (s.sendings p) (at_port port (received f.number f.body (s.receivings port)) s.receivings p) (framed port (Carry f) s)
 carry_same p port f s count same =
-    subst (λ b. WorksFrom 0 0 p s.tick (s.sendings p) (at_port port (received f.k f.body (s.receivings port)) s.receivings p) (cond b (on_carry port f s) (still s))) (sym count)
-    (subst (λ b. WorksFrom 0 0 p s.tick (s.sendings p) (at_port port (received f.k f.body (s.receivings port)) s.receivings p) (cond b (after (joins f.epoch s) (answers_body port f.from f.k f.body (joins f.epoch s).switch)) (cond (f.epoch == s.epoch) (answers_body port f.from f.k f.body s) (still s)))) (sym (le-ltb s.epoch f.epoch (omega (arith, same))))
-    (subst (λ b. WorksFrom 0 0 p s.tick (s.sendings p) (at_port port (received f.k f.body (s.receivings port)) s.receivings p) (cond b (answers_body port f.from f.k f.body s) (still s))) (sym (eq-eqb f.epoch s.epoch same))
-    (answers_works p port f.k f.from f.body s)))
+    subst (λ b. WorksFrom 0 0 p s.tick (s.sendings p) (at_port port (received f.number f.body (s.receivings port)) s.receivings p) (cond b (on_carry port f s) (still s))) (sym count)
+    (subst (λ b. WorksFrom 0 0 p s.tick (s.sendings p) (at_port port (received f.number f.body (s.receivings port)) s.receivings p) (cond b (after (joins f.epoch s) (answers_body port f.from f.number f.body (joins f.epoch s).switch)) (cond (f.epoch == s.epoch) (answers_body port f.from f.number f.body s) (still s)))) (sym (le-ltb s.epoch f.epoch (omega (arith, same))))
+    (subst (λ b. WorksFrom 0 0 p s.tick (s.sendings p) (at_port port (received f.number f.body (s.receivings port)) s.receivings p) (cond b (answers_body port f.from f.number f.body s) (still s))) (sym (eq-eqb f.epoch s.epoch same))
+    (answers_works p port f.number f.from f.body s)))
 
 -- a body of a greater epoch comes
 came_anew : (p port k : ℕ) (body : Body) (r : ℕ → Receiving) → ((q : ℕ) → r q ≡ untouched) → at_port port (received k body (r port)) r p ≡ at_port port (received k body untouched) (λ q. untouched) p
 came_anew p port k body r new =
     by_test (λ b. cond b (received k body (r port)) (r p) ≡ cond b (received k body untouched) untouched) (p == port) (λ _. ap (received k body) (new port)) (λ _. new p)
 
-pub greater_works : (p port : ℕ) (f : CarryOf) (s : SwitchOf) → WorksFrom 0 0 p s.tick unused (at_port port (received f.k f.body untouched) (λ q. untouched) p) (after (joins f.epoch s) (answers_body port f.from f.k f.body (joins f.epoch s).switch))
+pub greater_works : (p port : ℕ) (f : CarryOf) (s : SwitchOf) → WorksFrom 0 0 p s.tick unused (at_port port (received f.number f.body untouched) (λ q. untouched) p) (after (joins f.epoch s) (answers_body port f.from f.number f.body (joins f.epoch s).switch))
 greater_works p port f s =
     let j = joins f.epoch s in
-    subst (λ r. WorksFrom 0 0 p s.tick unused r (after j (answers_body port f.from f.k f.body j.switch))) (came_anew p port f.k f.body j.switch.receivings (λ q. (joins_works q f.epoch s).receivings))
-    (works_then 0 0 0 p s.tick unused untouched (at_port port (received f.k f.body (j.switch.receivings port)) j.switch.receivings p) j (answers_body port f.from f.k f.body j.switch) (joins_works p f.epoch s) (answers_works p port f.k f.from f.body j.switch))
+    subst (λ r. WorksFrom 0 0 p s.tick unused r (after j (answers_body port f.from f.number f.body j.switch))) (came_anew p port f.number f.body j.switch.receivings (λ q. (joins_works q f.epoch s).receivings))
+    (works_then 0 0 0 p s.tick unused untouched (at_port port (received f.number f.body (j.switch.receivings port)) j.switch.receivings p) j (answers_body port f.from f.number f.body j.switch) (joins_works p f.epoch s) (answers_works p port f.number f.from f.body j.switch))
 
-pub carry_greater : (p port : ℕ) (f : CarryOf) (s : SwitchOf) → counts s port f.from f.to ≡ true → s.epoch < f.epoch → WorksFrom 0 0 p s.tick unused (at_port port (received f.k f.body untouched) (λ q. untouched) p) (framed port (Carry f) s)
+pub carry_greater : (p port : ℕ) (f : CarryOf) (s : SwitchOf) → counts s port f.from f.to ≡ true → s.epoch < f.epoch → WorksFrom 0 0 p s.tick unused (at_port port (received f.number f.body untouched) (λ q. untouched) p) (framed port (Carry f) s)
 carry_greater p port f s count greater =
-    subst (λ b. WorksFrom 0 0 p s.tick unused (at_port port (received f.k f.body untouched) (λ q. untouched) p) (cond b (on_carry port f s) (still s))) (sym count)
-    (subst (λ b. WorksFrom 0 0 p s.tick unused (at_port port (received f.k f.body untouched) (λ q. untouched) p) (cond b (after (joins f.epoch s) (answers_body port f.from f.k f.body (joins f.epoch s).switch)) (cond (f.epoch == s.epoch) (answers_body port f.from f.k f.body s) (still s)))) (sym (lt-ltb s.epoch f.epoch greater))
+    subst (λ b. WorksFrom 0 0 p s.tick unused (at_port port (received f.number f.body untouched) (λ q. untouched) p) (cond b (on_carry port f s) (still s))) (sym count)
+    (subst (λ b. WorksFrom 0 0 p s.tick unused (at_port port (received f.number f.body untouched) (λ q. untouched) p) (cond b (after (joins f.epoch s) (answers_body port f.from f.number f.body (joins f.epoch s).switch)) (cond (f.epoch == s.epoch) (answers_body port f.from f.number f.body s) (still s)))) (sym (lt-ltb s.epoch f.epoch greater))
     (greater_works p port f s))
 
 -- an acknowledgement comes

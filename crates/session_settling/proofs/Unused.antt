@@ -111,9 +111,9 @@ unused_clock now samples s unsent =
 carry_unused : (port : ℕ) (f : CarryOf) (s : SwitchOf) → AreUnused s → AreUnused (framed port (Carry f) s).switch
 carry_unused port f s unsent =
     by_test (λ b. AreUnused (cond b (on_carry port f s) (still s)).switch) (counts s port f.from f.to)
-    (λ _. by_test (λ b. AreUnused (cond b (after (joins f.epoch s) (answers_body port f.from f.k f.body (joins f.epoch s).switch)) (cond (f.epoch == s.epoch) (answers_body port f.from f.k f.body s) (still s))).switch) (nat_lt s.epoch f.epoch)
-    (λ _. unused_kept (joins f.epoch s).switch (answers_body port f.from f.k f.body (joins f.epoch s).switch) (joins_unused f.epoch s) (leaves_answers port f.k f.from f.body (joins f.epoch s).switch))
-    (λ _. by_test (λ b. AreUnused (cond b (answers_body port f.from f.k f.body s) (still s)).switch) (f.epoch == s.epoch) (λ _. unused_kept s (answers_body port f.from f.k f.body s) unsent (leaves_answers port f.k f.from f.body s)) (λ _. unsent)))
+    (λ _. by_test (λ b. AreUnused (cond b (after (joins f.epoch s) (answers_body port f.from f.number f.body (joins f.epoch s).switch)) (cond (f.epoch == s.epoch) (answers_body port f.from f.number f.body s) (still s))).switch) (nat_lt s.epoch f.epoch)
+    (λ _. unused_kept (joins f.epoch s).switch (answers_body port f.from f.number f.body (joins f.epoch s).switch) (joins_unused f.epoch s) (leaves_answers port f.number f.from f.body (joins f.epoch s).switch))
+    (λ _. by_test (λ b. AreUnused (cond b (answers_body port f.from f.number f.body s) (still s)).switch) (f.epoch == s.epoch) (λ _. unused_kept s (answers_body port f.from f.number f.body s) unsent (leaves_answers port f.number f.from f.body s)) (λ _. unsent)))
     (λ _. unsent)
 
 none_outstanding : (n : ℕ) (t : Sending) → t ≡ unused → is_outstanding n t ≡ false

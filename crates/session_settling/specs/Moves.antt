@@ -14,7 +14,7 @@ use Rattle.switch_core.specs.Steps.{Sent, Step, peer_among}
 
 -- the number of the body in a frame, where it has one
 abbrev pub number_of : Frame → List ℕ
-number_of (Carry carry) = carry.k ∷ []
+number_of (Carry carry) = carry.number ∷ []
 number_of (Ack epoch from to number) = []
 number_of (Probe from nonce) = []
 number_of (Reply from to nonce) = []

@@ -60,11 +60,11 @@ pub fn a_body_works_in_each_session()
     ensures same { (q port : ℕ) (f : CarryOf) (s : SwitchOf) → counts s port f.from f.to ≡ true
         → f.epoch ≡ s.epoch
         → WorksFrom 0 0 q s.tick (s.sendings q)
-        (at_port port (received f.k f.body (s.receivings port)) s.receivings q) (framed port (Carry f) s) }
+        (at_port port (received f.number f.body (s.receivings port)) s.receivings q) (framed port (Carry f) s) }
     ensures greater { (q port : ℕ) (f : CarryOf) (s : SwitchOf) → counts s port f.from f.to ≡ true
         → s.epoch < f.epoch
         → WorksFrom 0 0 q s.tick unused
-        (at_port port (received f.k f.body untouched) (λ p. untouched) q) (framed port (Carry f) s) }
+        (at_port port (received f.number f.body untouched) (λ p. untouched) q) (framed port (Carry f) s) }
 {}
 
 /// An acknowledgement that counts is one in the session of its port, which then fills its window again;

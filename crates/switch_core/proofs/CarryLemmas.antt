@@ -122,28 +122,28 @@ core_joined epoch old new x y room does =
 carry_lower : (port : ℕ) (f : CarryOf) (s : SwitchOf) → f.epoch < s.epoch → on_carry port f s ≡ still s
 carry_lower port f s lower =
     let other : f.epoch ≢ s.epoch = omega (arith, lower) in
-    let present = cond (f.epoch == s.epoch) (answers_body port f.from f.k f.body s) (still s) in
-    ap (λ b. cond b (after (joins f.epoch s) (answers_body port f.from f.k f.body (joins f.epoch s).switch)) present) (le-ltb s.epoch f.epoch (omega (arith, lower)))
-    ∙ ap (λ b. cond b (answers_body port f.from f.k f.body s) (still s)) (ne_eqb f.epoch s.epoch other)
+    let present = cond (f.epoch == s.epoch) (answers_body port f.from f.number f.body s) (still s) in
+    ap (λ b. cond b (after (joins f.epoch s) (answers_body port f.from f.number f.body (joins f.epoch s).switch)) present) (le-ltb s.epoch f.epoch (omega (arith, lower)))
+    ∙ ap (λ b. cond b (answers_body port f.from f.number f.body s) (still s)) (ne_eqb f.epoch s.epoch other)
 
 -- one of the present epoch is answered
-carry_same : (port : ℕ) (f : CarryOf) (s : SwitchOf) → f.epoch ≡ s.epoch → on_carry port f s ≡ answers_body port f.from f.k f.body s
+carry_same : (port : ℕ) (f : CarryOf) (s : SwitchOf) → f.epoch ≡ s.epoch → on_carry port f s ≡ answers_body port f.from f.number f.body s
 carry_same port f s same =
-    let present = cond (f.epoch == s.epoch) (answers_body port f.from f.k f.body s) (still s) in
-    ap (λ b. cond b (after (joins f.epoch s) (answers_body port f.from f.k f.body (joins f.epoch s).switch)) present) (le-ltb s.epoch f.epoch (omega (arith, same)))
-    ∙ ap (λ b. cond b (answers_body port f.from f.k f.body s) (still s)) (eq-eqb f.epoch s.epoch same)
+    let present = cond (f.epoch == s.epoch) (answers_body port f.from f.number f.body s) (still s) in
+    ap (λ b. cond b (after (joins f.epoch s) (answers_body port f.from f.number f.body (joins f.epoch s).switch)) present) (le-ltb s.epoch f.epoch (omega (arith, same)))
+    ∙ ap (λ b. cond b (answers_body port f.from f.number f.body s) (still s)) (eq-eqb f.epoch s.epoch same)
 
 -- a greater one is joined first
-carry_greater : (port : ℕ) (f : CarryOf) (s : SwitchOf) → s.epoch < f.epoch → on_carry port f s ≡ after (joins f.epoch s) (answers_body port f.from f.k f.body (joins f.epoch s).switch)
+carry_greater : (port : ℕ) (f : CarryOf) (s : SwitchOf) → s.epoch < f.epoch → on_carry port f s ≡ after (joins f.epoch s) (answers_body port f.from f.number f.body (joins f.epoch s).switch)
 carry_greater port f s greater =
-    let present = cond (f.epoch == s.epoch) (answers_body port f.from f.k f.body s) (still s) in
-    ap (λ b. cond b (after (joins f.epoch s) (answers_body port f.from f.k f.body (joins f.epoch s).switch)) present) (lt-ltb s.epoch f.epoch greater)
+    let present = cond (f.epoch == s.epoch) (answers_body port f.from f.number f.body s) (still s) in
+    ap (λ b. cond b (after (joins f.epoch s) (answers_body port f.from f.number f.body (joins f.epoch s).switch)) present) (lt-ltb s.epoch f.epoch greater)
 
 -- the body that comes is that of the frame
-pub answers_of : (port k : ℕ) (peer : EndId) (body : Body) (f : CarryOf) (old new : Control) (x y : List BytesOut) → peer ≡ f.from → k ≡ f.k → body ≡ f.body → Does (answers_body port peer k body) old new x y → Does (answers_body port f.from f.k f.body) old new x y
+pub answers_of : (port k : ℕ) (peer : EndId) (body : Body) (f : CarryOf) (old new : Control) (x y : List BytesOut) → peer ≡ f.from → k ≡ f.number → body ≡ f.body → Does (answers_body port peer k body) old new x y → Does (answers_body port f.from f.number f.body) old new x y
 answers_of port k peer body f old new x y from number same does s stands =
     subst (λ step. Done new x y step)
-    (ap (λ (p : EndId). answers_body port p k body s) from ∙ ap (λ n. answers_body port f.from n body s) number ∙ ap (λ (b : Body). answers_body port f.from f.k b s) same)
+    (ap (λ (p : EndId). answers_body port p k body s) from ∙ ap (λ n. answers_body port f.from n body s) number ∙ ap (λ (b : Body). answers_body port f.from f.number b s) same)
     (does s stands)
 
 -- one of a lower epoch changes nothing that is kept
@@ -153,17 +153,17 @@ carries_lower port f c x lower s stands =
     subst (λ step. Done c x x step) (sym (carry_lower port f s less)) (does_nothing c x s stands)
 
 -- one of the present epoch is answered by what is kept
-pub carries_same : (port : ℕ) (f : CarryOf) (old mid new : Control) (x y z : List BytesOut) → f.epoch ≡ old.epoch → mid ≡ old → y ≡ x → Does (answers_body port f.from f.k f.body) mid new y z → Does (on_carry port f) old new x z
+pub carries_same : (port : ℕ) (f : CarryOf) (old mid new : Control) (x y z : List BytesOut) → f.epoch ≡ old.epoch → mid ≡ old → y ≡ x → Does (answers_body port f.from f.number f.body) mid new y z → Does (on_carry port f) old new x z
 carries_same port f old mid new x y z same is out_is does s stands =
     subst (λ step. Done new x z step) (sym (carry_same port f s (same ∙ stands.epoch)))
-    (subst (λ out. Done new out z (answers_body port f.from f.k f.body s)) out_is (does s (subst (λ (c : Control). Stands c s) (sym is) stands)))
+    (subst (λ out. Done new out z (answers_body port f.from f.number f.body s)) out_is (does s (subst (λ (c : Control). Stands c s) (sym is) stands)))
 
 -- a greater one is joined by it first
-pub carries_greater : (port : ℕ) (f : CarryOf) (old joined mid new : Control) (x y_joined y z : List BytesOut) → old.epoch < f.epoch → mid ≡ joined → y ≡ y_joined → Does (joins f.epoch) old joined x y_joined → Does (answers_body port f.from f.k f.body) mid new y z → Does (on_carry port f) old new x z
+pub carries_greater : (port : ℕ) (f : CarryOf) (old joined mid new : Control) (x y_joined y z : List BytesOut) → old.epoch < f.epoch → mid ≡ joined → y ≡ y_joined → Does (joins f.epoch) old joined x y_joined → Does (answers_body port f.from f.number f.body) mid new y z → Does (on_carry port f) old new x z
 carries_greater port f old joined mid new x y_joined y z greater is out_is joins_it does s stands =
     let more : s.epoch < f.epoch = omega (arith, greater, stands.epoch) in
     let first = subst (λ (c : Control). Does (joins f.epoch) old c x y) (sym is) (subst (λ out. Does (joins f.epoch) old joined x out) (sym out_is) joins_it) in
-    subst (λ step. Done new x z step) (sym (carry_greater port f s more)) (does_then (joins f.epoch) (answers_body port f.from f.k f.body) old mid new x y z first does s stands)
+    subst (λ step. Done new x z step) (sym (carry_greater port f s more)) (does_then (joins f.epoch) (answers_body port f.from f.number f.body) old mid new x y z first does s stands)
 
 -- one step is done where a test holds
 pub does_where : (test : SwitchOf → Bool) (f g : SwitchOf → Step) (old new : Control) (x y : List BytesOut) → ((s : SwitchOf) → Stands old s → true ≡ test s) → Does f old new x y → Does (λ s. cond (test s) (f s) (g s)) old new x y

@@ -62,12 +62,12 @@ carry_sent : (works port : ℕ) (f : CarryOf) (s : SwitchOf) → IsSound works s
 carry_sent works port f s h working least most good =
     let one = joins f.epoch s in
     let P : Step → Type 0 = λ step. AreSentBy step.switch step.frames in
-    cond_both (nat_lt s.epoch f.epoch) (after one (answers_body port f.from f.k f.body one.switch)) (cond (f.epoch == s.epoch) (answers_body port f.from f.k f.body s) (still s)) P
-    (λ _. (sends_then (begun f.epoch s) one (answers_body port f.from f.k f.body one.switch) (joins_sends f.epoch s)
-    (body_sends port f.k f.from f.body one.switch (ap (λ (c : CardOf). peer_among c.links port) (joins_card f.epoch s) ∙ good_link s port least most ∙ good)
-    (joined_more f.epoch port f.k f.body s))).frames)
-    (λ _. cond_both (f.epoch == s.epoch) (answers_body port f.from f.k f.body s) (still s) P
-    (λ _. (body_sends port f.k f.from f.body s (linked works port f.from s h working least most good) (received_grows f.k f.body (s.receivings port) (h.near port)).more).frames)
+    cond_both (nat_lt s.epoch f.epoch) (after one (answers_body port f.from f.number f.body one.switch)) (cond (f.epoch == s.epoch) (answers_body port f.from f.number f.body s) (still s)) P
+    (λ _. (sends_then (begun f.epoch s) one (answers_body port f.from f.number f.body one.switch) (joins_sends f.epoch s)
+    (body_sends port f.number f.from f.body one.switch (ap (λ (c : CardOf). peer_among c.links port) (joins_card f.epoch s) ∙ good_link s port least most ∙ good)
+    (joined_more f.epoch port f.number f.body s))).frames)
+    (λ _. cond_both (f.epoch == s.epoch) (answers_body port f.from f.number f.body s) (still s) P
+    (λ _. (body_sends port f.number f.from f.body s (linked works port f.from s h working least most good) (received_grows f.number f.body (s.receivings port) (h.near port)).more).frames)
     (λ _. tt))
 
 -- any frame comes

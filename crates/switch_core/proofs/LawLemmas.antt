@@ -53,11 +53,11 @@ body_epoch port k peer body s = ap (λ (u : SwitchOf). u.epoch) (all_pushed_few 
 carry_raises : (port : ℕ) (f : CarryOf) (s : SwitchOf) → s.epoch ≤ (on_carry port f s).switch.epoch
 carry_raises port f s =
     let one = joins f.epoch s in
-    let here = answers_body port f.from f.k f.body s in
-    let later = answers_body port f.from f.k f.body one.switch in
+    let here = answers_body port f.from f.number f.body s in
+    let later = answers_body port f.from f.number f.body one.switch in
     cond_both (nat_lt s.epoch f.epoch) (after one later) (cond (f.epoch == s.epoch) here (still s)) (λ step. s.epoch ≤ step.switch.epoch)
-    (λ above. let low = ltb-true s.epoch f.epoch above in let e = joins_epoch f.epoch s in let same = body_epoch port f.k f.from f.body one.switch in omega (arith, low, e, same))
-    (λ _. cond_both (f.epoch == s.epoch) here (still s) (λ step. s.epoch ≤ step.switch.epoch) (λ _. let same = body_epoch port f.k f.from f.body s in omega (arith, same)) (λ _. omega arith))
+    (λ above. let low = ltb-true s.epoch f.epoch above in let e = joins_epoch f.epoch s in let same = body_epoch port f.number f.from f.body one.switch in omega (arith, low, e, same))
+    (λ _. cond_both (f.epoch == s.epoch) here (still s) (λ step. s.epoch ≤ step.switch.epoch) (λ _. let same = body_epoch port f.number f.from f.body s in omega (arith, same)) (λ _. omega arith))
 
 -- an acknowledgement changes only what is sent
 pub ack_only : (port epoch n : ℕ) (from to : EndId) (s : SwitchOf) → OnlySends s (framed port (Ack epoch from to n) s).switch
@@ -96,11 +96,11 @@ body_came at port k peer body before s came =
 carry_came : (port : ℕ) (f : CarryOf) (s : SwitchOf) → CameBy port s (on_carry port f s).switch
 carry_came port f s =
     let one = joins f.epoch s in
-    let here = answers_body port f.from f.k f.body s in
-    let later = answers_body port f.from f.k f.body one.switch in
+    let here = answers_body port f.from f.number f.body s in
+    let later = answers_body port f.from f.number f.body one.switch in
     cond_both (nat_lt s.epoch f.epoch) (after one later) (cond (f.epoch == s.epoch) here (still s)) (λ step. CameBy port s step.switch)
-    (λ above. body_came port port f.k f.from f.body s one.switch (joins_came port f.epoch s))
-    (λ _. cond_both (f.epoch == s.epoch) here (still s) (λ step. CameBy port s step.switch) (λ _. body_came port port f.k f.from f.body s s (nothing_came port s)) (λ _. nothing_came port s))
+    (λ above. body_came port port f.number f.from f.body s one.switch (joins_came port f.epoch s))
+    (λ _. cond_both (f.epoch == s.epoch) here (still s) (λ step. CameBy port s step.switch) (λ _. body_came port port f.number f.from f.body s s (nothing_came port s)) (λ _. nothing_came port s))
 
 -- a reply happens at its port
 reply_came : (port nonce : ℕ) (from : EndId) (s : SwitchOf) → CameBy port s (record s { ports = with_happening port (Replied from nonce) s.ports })
@@ -164,9 +164,9 @@ ack_lower port epoch n from to s low = ack_other port epoch n from to s (omega (
 pub carry_lower : (port : ℕ) (f : CarryOf) (s : SwitchOf) → f.epoch < s.epoch → framed port (Carry f) s ≡ still s
 carry_lower port f s low =
     let one = joins f.epoch s in
-    let here = answers_body port f.from f.k f.body s in
+    let here = answers_body port f.from f.number f.body s in
     let nothing : on_carry port f s ≡ still s =
-    ap (λ b. cond b (after one (answers_body port f.from f.k f.body one.switch)) (cond (f.epoch == s.epoch) here (still s))) (le-ltb s.epoch f.epoch (omega (arith, low)))
+    ap (λ b. cond b (after one (answers_body port f.from f.number f.body one.switch)) (cond (f.epoch == s.epoch) here (still s))) (le-ltb s.epoch f.epoch (omega (arith, low)))
     ∙ ap (λ b. cond b here (still s)) (ne_eqb f.epoch s.epoch (omega (arith, low))) in
     cond_both (counts s port f.from f.to) (on_carry port f s) (still s) (λ step. step ≡ still s) (λ _. nothing) (λ _. refl)
 

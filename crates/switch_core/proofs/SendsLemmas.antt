@@ -56,8 +56,8 @@ same_port a b port g =
 
 sent_grown : (a b : SwitchOf) (port : ℕ) (frame : Frame) → IsGrown a b → IsFrameOf a port frame → IsFrameOf b port frame
 sent_grown a b port (Carry f) g h =
-    let is : IsBody (a.sendings port).pushed f.k f.body = record { least = h.least; there = h.body } in
-    let more = body_front (a.sendings port).pushed (b.sendings port).pushed f.k f.body (g.pushed port) is in
+    let is : IsBody (a.sendings port).pushed f.number f.body = record { least = h.least; there = h.body } in
+    let more = body_front (a.sendings port).pushed (b.sendings port).pushed f.number f.body (g.pushed port) is in
     record {
       epoch = h.epoch ∙ sym g.epoch;
       from = h.from ∙ ap (λ (l : LifeId). record { life = l; port = port }) (sym g.life);

@@ -126,10 +126,10 @@ numbers_of_body works port k body s h joined few least most q =
 sound_carried : (works port : ℕ) (f : CarryOf) (s : SwitchOf) → 1 ≤ port → port ≤ 12 → s.joined ≡ true → IsSound works s → IsSound (suc works) (on_carry port f s).switch
 sound_carried works port f s least most joined h =
     let one = joins f.epoch s in
-    let here = answers_body port f.from f.k f.body s in
-    let later = cond_both (f.epoch == s.epoch) here (still s) (λ step. IsSound (suc works) step.switch) (λ _. sound_body works port f.k f.from f.body s least most joined h) (λ _. sound_more works (suc works) s (omega arith) h) in
-    cond_both (nat_lt s.epoch f.epoch) (after one (answers_body port f.from f.k f.body one.switch)) (cond (f.epoch == s.epoch) here (still s)) (λ step. IsSound (suc works) step.switch)
-    (λ _. sound_body works port f.k f.from f.body one.switch least most (joins_joined f.epoch s) (sound_joins works f.epoch s (omega (arith, h.came joined)) h))
+    let here = answers_body port f.from f.number f.body s in
+    let later = cond_both (f.epoch == s.epoch) here (still s) (λ step. IsSound (suc works) step.switch) (λ _. sound_body works port f.number f.from f.body s least most joined h) (λ _. sound_more works (suc works) s (omega arith) h) in
+    cond_both (nat_lt s.epoch f.epoch) (after one (answers_body port f.from f.number f.body one.switch)) (cond (f.epoch == s.epoch) here (still s)) (λ step. IsSound (suc works) step.switch)
+    (λ _. sound_body works port f.number f.from f.body one.switch least most (joins_joined f.epoch s) (sound_joins works f.epoch s (omega (arith, h.came joined)) h))
     (λ _. later)
 
 -- a reply comes in

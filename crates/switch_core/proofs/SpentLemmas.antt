@@ -29,9 +29,9 @@ body_spends_not port k peer body s = ap (λ (u : SwitchOf). u.spent) (all_pushed
 
 carry_spends_not : (port : ℕ) (f : CarryOf) (s : SwitchOf) → SpendsNot s (on_carry port f s)
 carry_spends_not port f s =
-    one_of (nat_lt s.epoch f.epoch) (after (joins f.epoch s) (answers_body port f.from f.k f.body (joins f.epoch s).switch)) (cond (f.epoch == s.epoch) (answers_body port f.from f.k f.body s) (still s)) s
-    (body_spends_not port f.k f.from f.body (joins f.epoch s).switch ∙ joins_spent f.epoch s)
-    (one_of (f.epoch == s.epoch) (answers_body port f.from f.k f.body s) (still s) s (body_spends_not port f.k f.from f.body s) refl)
+    one_of (nat_lt s.epoch f.epoch) (after (joins f.epoch s) (answers_body port f.from f.number f.body (joins f.epoch s).switch)) (cond (f.epoch == s.epoch) (answers_body port f.from f.number f.body s) (still s)) s
+    (body_spends_not port f.number f.from f.body (joins f.epoch s).switch ∙ joins_spent f.epoch s)
+    (one_of (f.epoch == s.epoch) (answers_body port f.from f.number f.body s) (still s) s (body_spends_not port f.number f.from f.body s) refl)
 
 -- a frame spends none
 pub frame_spends_not : (port : ℕ) (frame : Frame) (s : SwitchOf) → SpendsNot s (framed port frame s)

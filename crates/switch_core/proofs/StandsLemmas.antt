@@ -42,11 +42,11 @@ stands_same old new s same stands = subst (λ c. Stands c s) (sym same) (assumpt
 
 -- the spelling of a body that goes out
 pub carried_spelled : (c : Control) (s : SwitchOf) (port k : ℕ) (peer end : EndId) (body : Body) → Stands c s → end ≡ record { life = c.life; port = port }
-    → spelling (Carry (record { epoch = c.epoch; from = end; to = peer; k = k; body = body })) ≡ (spelled_out (carried_to s port peer (record { k = k; body = body }))).bytes
+    → spelling (Carry (record { epoch = c.epoch; from = end; to = peer; number = k; body = body })) ≡ (spelled_out (carried_to s port peer (record { number = k; body = body }))).bytes
 carried_spelled c s port k peer end body stands end_is =
     let from : end ≡ record { life = s.life; port = port } = end_is ∙ ap (λ (l : LifeId). record { life = l; port = port }) stands.life in
-    ap (λ (e : EndId). spelling (Carry (record { epoch = c.epoch; from = e; to = peer; k = k; body = body }))) from
-    ∙ ap (λ (n : ℕ). spelling (Carry (record { epoch = n; from = record { life = s.life; port = port }; to = peer; k = k; body = body }))) stands.epoch
+    ap (λ (e : EndId). spelling (Carry (record { epoch = c.epoch; from = e; to = peer; number = k; body = body }))) from
+    ∙ ap (λ (n : ℕ). spelling (Carry (record { epoch = n; from = record { life = s.life; port = port }; to = peer; number = k; body = body }))) stands.epoch
 
 -- and of an acknowledgement
 pub ack_spelled : (c : Control) (s : SwitchOf) (port n : ℕ) (peer end : EndId) → Stands c s → end ≡ record { life = c.life; port = port } → n ≡ last (s.receivings port)

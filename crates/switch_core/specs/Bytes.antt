@@ -13,18 +13,18 @@ pub record BytesOut : Type 0 where
   pub bytes : List ℕ
 
 -- it is the spelling of a frame, and goes out by an external port
-pub record IsFrameOut (x : BytesOut) : Type 0 where
-  pub least : 1 ≤ x.port
-  pub most : x.port ≤ LAST_PORT
+pub record IsFrameOut (out : BytesOut) : Type 0 where
+  pub least : 1 ≤ out.port
+  pub most : out.port ≤ LAST_PORT
   pub frame : Frame
   pub is_frame : IsFrame frame
-  pub spelled : x.bytes ≡ spelling frame
+  pub spelled : out.bytes ≡ spelling frame
 
 abbrev pub spelled_out : Sent → BytesOut
-spelled_out x = record { port = x.port; bytes = spelling x.frame }
+spelled_out sent = record { port = sent.port; bytes = spelling sent.frame }
 
 abbrev pub all_spelled : List Sent → List BytesOut
-all_spelled xs = map spelled_out xs
+all_spelled frames = map spelled_out frames
 
 -- what comes of a call: the frames in their order, and whether what came in is no frame
 pub record OutOf : Type 0 where

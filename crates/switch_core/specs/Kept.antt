@@ -43,29 +43,29 @@ IsLoadDue kept = load_due kept ≡ true
 
 -- Bytes came by a port to a switch that then is of this kind. Those of a frame are handled as this frame;
 -- those of none change nothing, which is told.
-pub record Handles (port : ℕ) (bytes : List ℕ) (s : SwitchOf) (Is : SwitchOf → Type 0)
+pub record Handles (port : ℕ) (bytes : List ℕ) (switch : SwitchOf) (Is : SwitchOf → Type 0)
     (out : OutOf) : Type 0 where
   pub frame : (frame : Frame) → IsFrame frame → bytes ≡ spelling frame
-      → Is (framed port frame s).switch
-      × (out ≡ record { frames = all_spelled (framed port frame s).frames; noframe = false })
-  pub no_frame : IsNoFrame bytes → Is s × (out ≡ record { frames = []; noframe = true })
+      → Is (framed port frame switch).switch
+      × (out ≡ record { frames = all_spelled (framed port frame switch).frames; noframe = false })
+  pub no_frame : IsNoFrame bytes → Is switch × (out ≡ record { frames = []; noframe = true })
 
 -- a clock came, and it is answered whether no epoch is left for a change that is due
-pub record Ticks (now : ℕ) (samples : List Sample) (s : SwitchOf) (Is : SwitchOf → Type 0) (out : OutOf)
+pub record Ticks (now : ℕ) (samples : List Sample) (switch : SwitchOf) (Is : SwitchOf → Type 0) (out : OutOf)
     (spent : Bool) : Type 0 where
-  pub spends : spent ≡ is_spent_by s (sampled_by now samples s)
-  pub stands : Is (clocked now samples s).switch
-  pub frames : out ≡ record { frames = all_spelled (clocked now samples s).frames; noframe = false }
+  pub spends : spent ≡ is_spent_by switch (sampled_by now samples switch)
+  pub stands : Is (clocked now samples switch).switch
+  pub frames : out ≡ record { frames = all_spelled (clocked now samples switch).frames; noframe = false }
 
 -- A table was loaded. It is that of the topology with which the switch has finished, which is a graph with as
 -- many different numbers of 1 to 126.
-pub record Loads (s : SwitchOf) (Is : SwitchOf → Type 0) (table : TableOf) : Type 0 where
+pub record Loads (switch : SwitchOf) (Is : SwitchOf → Type 0) (table : TableOf) : Type 0 where
   pub topo : TopoOf
-  pub finished : finish_of s ≡ Some topo
+  pub finished : finish_of switch ≡ Some topo
   pub graph : IsGraph topo.entries
   pub numbers : AreNumbers topo.numbers
   pub as_many : length topo.entries ≡ length topo.numbers
-  pub is_table : IsTableOf topo.entries topo.numbers s.any s.life table
-  pub stands : Is (loaded table.number s)
+  pub is_table : IsTableOf topo.entries topo.numbers switch.any switch.life table
+  pub stands : Is (loaded table.number switch)
   pub least : 1 ≤ table.number
   pub most : table.number ≤ MOST_NUMBER

@@ -20,9 +20,9 @@ IsNew session = IsSessionOf session unused untouched
 -- of each port, from port 1: the session, and whether some body that was pushed there is not acknowledged
 abbrev pub AreSessions : Sessions → (ℕ → Sending) → (ℕ → Receiving) → Type 0
 AreSessions sessions sendings receivings =
-    (i : ℕ) → ((session : Session) → slice_get sessions.items i ≡ Some session
-    → IsSessionOf session (sendings (suc i)) (receivings (suc i)))
-    × (i < PORTS → slice_get sessions.unacked i ≡ Some (is_unacked (sendings (suc i))))
+    (index : ℕ) → ((session : Session) → slice_get sessions.items index ≡ Some session
+    → IsSessionOf session (sendings (suc index)) (receivings (suc index)))
+    × (index < PORTS → slice_get sessions.unacked index ≡ Some (is_unacked (sendings (suc index))))
 
 -- what is so of what the sender of a port keeps
 abbrev pub OfSender : Sessions → ℕ → (SenderOf → Type 0) → Type 0
@@ -31,31 +31,35 @@ OfSender sessions port P =
 
 -- the number is that of an outstanding body of the port
 abbrev pub IsOutAt : Sessions → ℕ → ℕ → Type 0
-IsOutAt sessions port k = (1 ≤ k) × OfSender sessions port (λ v. IsOut v k)
+IsOutAt sessions port number = (1 ≤ number) × OfSender sessions port (λ kept. IsOut kept number)
 
 -- what is sent changes by this, and the answer is that of what it was
 abbrev pub SendsBy : (Sending → Sending) → (Sending → Option ℕ) → Session → Session → Option ℕ → Type 0
 SendsBy change answer old new number =
-    (t : Sending) (r : Receiving) → IsSessionOf old t r → IsSessionOf new (change t) r × (number ≡ answer t)
+    (sending : Sending) (receiving : Receiving) → IsSessionOf old sending receiving
+    → IsSessionOf new (change sending) receiving × (number ≡ answer sending)
 
 -- what is received changes by this, and the answer is that of what it was
 abbrev pub ReceivesBy : {A : Type 0} → (Receiving → Receiving) → (Receiving → A) → Session → Session → A
     → Type 0
 ReceivesBy change answer old new value =
-    (t : Sending) (r : Receiving) → IsSessionOf old t r → IsSessionOf new t (change r) × (value ≡ answer r)
+    (sending : Sending) (receiving : Receiving) → IsSessionOf old sending receiving
+    → IsSessionOf new sending (change receiving) × (value ≡ answer receiving)
 
 -- and so at a port
 abbrev pub Sends : ℕ → (Sending → Sending) → (Sending → Option ℕ) → Sessions → Sessions → Option ℕ → Type 0
 Sends port change answer old new number =
-    (t : ℕ → Sending) (r : ℕ → Receiving) → AreSessions old t r
-    → AreSessions new (at_port port (change (t port)) t) r × (number ≡ answer (t port))
+    (sendings : ℕ → Sending) (receivings : ℕ → Receiving) → AreSessions old sendings receivings
+    → AreSessions new (at_port port (change (sendings port)) sendings) receivings
+    × (number ≡ answer (sendings port))
 
 abbrev pub Receives : {A : Type 0} → ℕ → (Receiving → Receiving) → (Receiving → A) → Sessions → Sessions → A
     → Type 0
 Receives port change answer old new value =
-    (t : ℕ → Sending) (r : ℕ → Receiving) → AreSessions old t r
-    → AreSessions new t (at_port port (change (r port)) r) × (value ≡ answer (r port))
+    (sendings : ℕ → Sending) (receivings : ℕ → Receiving) → AreSessions old sendings receivings
+    → AreSessions new sendings (at_port port (change (receivings port)) receivings)
+    × (value ≡ answer (receivings port))
 
 -- the held body that is wanted next
 abbrev pub wanted : Receiving → Option Body
-wanted r = r.held (last r + 1)
+wanted receiving = receiving.held (last receiving + 1)

@@ -55,7 +55,7 @@ carried_to switch port peer item =
         epoch = switch.epoch;
         from = end_at switch port;
         to = peer;
-        k = item.k;
+        number = item.number;
         body = item.body;
       });
     }
@@ -154,8 +154,8 @@ abbrev pub on_carry : ℕ → CarryOf → SwitchOf → Step
 on_carry port carry switch =
     if nat_lt switch.epoch carry.epoch
     then after (joins carry.epoch switch)
-    (answers_body port carry.from carry.k carry.body (joins carry.epoch switch).switch)
-    else if carry.epoch == switch.epoch then answers_body port carry.from carry.k carry.body switch
+    (answers_body port carry.from carry.number carry.body (joins carry.epoch switch).switch)
+    else if carry.epoch == switch.epoch then answers_body port carry.from carry.number carry.body switch
     else still switch
 
 -- the first waiting body of a session goes out, where the window lets it, so many times

@@ -53,7 +53,7 @@ pub record IsCarriedIn (g : Game) (f : CarryOf) : Type 0 where
   pub node : Node
   pub joined : g.nodes f.from.life f.epoch ≡ Some node
   pub to : link_at f.from.port node.card.links ≡ Some f.to
-  pub body : IsBody (stream node.card f.from.port node.log) f.k f.body
+  pub body : IsBody (stream node.card f.from.port node.log) f.number f.body
 
 -- and an acknowledgement is of no more than its sender accepted
 pub record IsAckedIn (g : Game) (e : ℕ) (from to : EndId) (n : ℕ) : Type 0 where
@@ -129,7 +129,7 @@ told_later lives first g h (Carry f) play more w =
       node = n.node;
       joined = n.joined;
       to = ap (λ (d : CardOf). link_at f.from.port d.links) n.card ∙ w.to;
-      body = body_front (stream w.node.card f.from.port w.node.log) (stream n.node.card f.from.port n.node.log) f.k f.body (stream_later w.node.card n.node.card f.from.port w.node.log n.node.log n.card n.log) w.body;
+      body = body_front (stream w.node.card f.from.port w.node.log) (stream n.node.card f.from.port n.node.log) f.number f.body (stream_later w.node.card n.node.card f.from.port w.node.log n.node.log n.card n.log) w.body;
     }
 told_later lives first g h (Ack e from to m) play more w =
     let n = grown lives first g h from.life e w.node play more w.joined in
@@ -156,7 +156,7 @@ carried_told true x t h p f joined own agrees s =
       node = node_of t;
       joined = ap (λ (d : EndId). h.nodes d.life f.epoch) s.from ∙ ap (λ (l : LifeId). h.nodes l f.epoch) own.life ∙ ap (h.nodes x) s.epoch ∙ agrees.joined joined;
       to = ap (λ (q : ℕ). link_at q t.card.links) port ∙ sym (same_link t.card.links p) ∙ s.to;
-      body = subst (λ (q : ℕ). IsBody (stream t.card q t.log) f.k f.body) (sym port) (subst (λ (l : List Body). IsBody l f.k f.body) all (record { least = s.least; there = s.body }));
+      body = subst (λ (q : ℕ). IsBody (stream t.card q t.log) f.number f.body) (sym port) (subst (λ (l : List Body). IsBody l f.number f.body) all (record { least = s.least; there = s.body }));
     }
 
 acked_told : (b : Bool) (x : LifeId) (t : SwitchOf) (h : Game) (p e : ℕ) (from to : EndId) (n : ℕ) → t.joined ≡ b → IsOwn x t → Agrees x t h → IsAckedBy t p e from to n → IsAckedIn h e from to n

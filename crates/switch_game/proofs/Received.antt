@@ -62,7 +62,7 @@ pub record HasCome (stream : List Body) (r : Receiving) : Type 0 where
 
 -- a session with this stream, of which one body is under way
 abbrev session : List Body → Receiving → ℕ → Body → Session
-session stream r k body = record { sending = record unused { pushed = stream }; receiving = r; bodies = record { k = k; body = body } ∷ []; acks = [] }
+session stream r k body = record { sending = record unused { pushed = stream }; receiving = r; bodies = record { number = k; body = body } ∷ []; acks = [] }
 
 begins_sound : (stream : List Body) (r : Receiving) (k : ℕ) (body : Body) → HasCome stream r → IsBody stream k body → IsSound (session stream r k body)
 begins_sound stream r k body come is = record {
@@ -73,8 +73,8 @@ begins_sound stream r k body come is = record {
   acked = omega arith;
 }
   where
-    there : (i : ℕ) (x : Numbered) → slice_get (session stream r k body).bodies i ≡ Some x → IsBody stream x.k x.body
-    there zero x h = subst (λ (y : Numbered). IsBody stream y.k y.body) (same_Some _ x h) is
+    there : (i : ℕ) (x : Numbered) → slice_get (session stream r k body).bodies i ≡ Some x → IsBody stream x.number x.body
+    there zero x h = subst (λ (y : Numbered). IsBody stream y.number y.body) (same_Some _ x h) is
     there (suc i) x h = absurd (none-some x h)
 
 follows_sound : (n : ℕ) (w : Session) → IsSound w → IsSound (record w { receiving = follow_all n w.receiving })

@@ -255,11 +255,11 @@ unfinished lives first g x e n play sx none =
     false≢true (sym none ∙ ap (λ (m : Node). is_some (finish m.card m.log)) (sym same) ∙ ap is_some f.finish))
 
 body_part : (lives : List LifeId) (first : LifeId → ℕ) (g : Game) (x : LifeId) (port : ℕ) (f : CarryOf) (s : SwitchOf) → Play lives (begins first) g → IsPart g x s → (c : Counts g x port f s) → (ends : BothEnds lives g x port f s c.told.node)
-    → HasAccepted lives x s.card (log_with port (accepted_by f.k f.body (s.receivings port)) s.log) g (body_moves x port f.k f.body s g)
-    → IsPart (body_moves x port f.k f.body s g) x (answers_body port f.from f.k f.body s).switch
+    → HasAccepted lives x s.card (log_with port (accepted_by f.number f.body (s.receivings port)) s.log) g (body_moves x port f.number f.body s g)
+    → IsPart (body_moves x port f.number f.body s g) x (answers_body port f.from f.number f.body s).switch
 body_part lives first g x port f s play part c ends acc =
     subst (IsPart h x) (sym only) (record {
-      own = subst (IsOwn x) only (own_body x port f.k f.from f.body s c.joined part.own);
+      own = subst (IsOwn x) only (own_body x port f.number f.from f.body s c.joined part.own);
       agrees = record {
         present = acc.present ∙ part.agrees.present;
         joined = λ _. ap (h.nodes x) (sym part.agrees.present) ∙ acc.node;
@@ -267,23 +267,23 @@ body_part lives first g x port f s play part c ends acc =
         load_due = due ∙ ap (λ (o : Option TopoOf). is_some o && not (h.loaded x s.epoch)) (sym (finish_joined u c.joined));
       };
       held = λ p k b is. held (p == port) p k b refl is;
-      acked = λ q. subst (λ (n : ℕ). (n ≡ 0) ⊎ IsHeard h x s.card s.epoch q n) (sym (body_acked port f.k f.from f.body s q)) (counted_later lives first g h x s.card s.epoch q (s.sendings q).acked play acc.play (part.acked q));
+      acked = λ q. subst (λ (n : ℕ). (n ≡ 0) ⊎ IsHeard h x s.card s.epoch q n) (sym (body_acked port f.number f.from f.body s q)) (counted_later lives first g h x s.card s.epoch q (s.sendings q).acked play acc.play (part.acked q));
     })
   where
     bodies : List Body
-    bodies = accepted_by f.k f.body (s.receivings port)
+    bodies = accepted_by f.number f.body (s.receivings port)
 
     log : Log
     log = log_with port bodies s.log
 
     h : Game
-    h = body_moves x port f.k f.body s g
+    h = body_moves x port f.number f.body s g
 
     u : SwitchOf
-    u = receives port f.k f.body s
+    u = receives port f.number f.body s
 
     t : SwitchOf
-    t = (answers_body port f.from f.k f.body s).switch
+    t = (answers_body port f.from f.number f.body s).switch
 
     only : t ≡ record u { sendings = t.sendings }
     only = (all_pushed_few (all_added s.card port bodies s.log) u).only
@@ -296,31 +296,31 @@ body_part lives first g x port f s play part c ends acc =
         (finish_stays s.card port bodies s.log)
         ∙ ap (λ (b : Bool). is_some (finish s.card log) && not b) (sym (acc.loaded s.epoch))
 
-    come : HasCome (stream c.told.node.card f.from.port c.told.node.log) (received f.k f.body (s.receivings port))
-    come = received_come (stream c.told.node.card f.from.port c.told.node.log) f.k f.body (s.receivings port) ends.come c.told.body
+    come : HasCome (stream c.told.node.card f.from.port c.told.node.log) (received f.number f.body (s.receivings port))
+    come = received_come (stream c.told.node.card f.from.port c.told.node.log) f.number f.body (s.receivings port) ends.come c.told.body
 
-    here : (k : ℕ) (b : Body) → (received f.k f.body (s.receivings port)).held k ≡ Some b → ComesIn h x s.card s.epoch port k b
+    here : (k : ℕ) (b : Body) → (received f.number f.body (s.receivings port)).held k ≡ Some b → ComesIn h x s.card s.epoch port k b
     here k b is =
         let joined = acc.elsewhere.nodes f.from.life s.epoch ends.apart ∙ ap (g.nodes f.from.life) (sym part.agrees.present) ∙ ends.there in
         record { there = record { far = f.from; named = ends.named; node = c.told.node; joined = joined; back = ends.back }; body = come.held k b is }
 
-    held : (b : Bool) (p k : ℕ) (body : Body) → b ≡ (p == port) → (cond b (received f.k f.body (s.receivings port)) (s.receivings p)).held k ≡ Some body → ComesIn h x s.card s.epoch p k body
+    held : (b : Bool) (p k : ℕ) (body : Body) → b ≡ (p == port) → (cond b (received f.number f.body (s.receivings port)) (s.receivings p)).held k ≡ Some body → ComesIn h x s.card s.epoch p k body
     held true p k body test is = subst (λ (i : ℕ). ComesIn h x s.card s.epoch i k body) (sym (eqb-true p port (sym test))) (here k body is)
     held false p k body test is = held_later lives first g h x s.card s.epoch p k body play acc.play (part.held p k body is)
 
 body_plays : (lives : List LifeId) (first : LifeId → ℕ) (switches : LifeId → SwitchOf) (g : Game) (x : LifeId) (port : ℕ) (f : CarryOf) (s : SwitchOf) → IsPlayed lives first switches g → IsPart g x s → Counts g x port f s
-    → Plays lives first switches x (answers_body port f.from f.k f.body s) g (body_moves x port f.k f.body s g)
+    → Plays lives first switches x (answers_body port f.from f.number f.body s) g (body_moves x port f.number f.body s g)
 body_plays lives first switches g x port f s played part c =
     let m = c.told.node in
     let r = s.receivings port in
-    let bodies = accepted_by f.k f.body r in
+    let bodies = accepted_by f.number f.body r in
     let ends = both_ends lives first g x port f s played.play part c in
-    let come = received_come (stream m.card f.from.port m.log) f.k f.body r ends.come c.told.body in
-    let splits : (received f.k f.body r).accepted ≡ reverse (on_port port s.log) ++ bodies = received_splits f.k f.body r ∙ ap (λ (l : List Body). l ++ bodies) (part.own.accepted port) in
+    let come = received_come (stream m.card f.from.port m.log) f.number f.body r ends.come c.told.body in
+    let splits : (received f.number f.body r).accepted ≡ reverse (on_port port s.log) ++ bodies = received_splits f.number f.body r ∙ ap (λ (l : List Body). l ++ bodies) (part.own.accepted port) in
     let acc = accepts_all lives x f.from.life port f.from.port s.card m bodies s.log g ends.here ends.there ends.named ends.back ends.apart (subst (λ (l : List Body). IsFrontOf l (stream m.card f.from.port m.log)) splits come.order) in
-    plays_part lives first switches x (answers_body port f.from f.k f.body s) g (body_moves x port f.k f.body s g) played acc.play acc.elsewhere
+    plays_part lives first switches x (answers_body port f.from f.number f.body s) g (body_moves x port f.number f.body s g) played acc.play acc.elsewhere
     (body_part lives first g x port f s played.play part c ends acc)
-    (body_sends port f.k f.from f.body s c.linked (received_more f.k f.body r)).frames
+    (body_sends port f.number f.from f.body s c.linked (received_more f.number f.body r)).frames
 
 -- it comes in a greater epoch, which is joined first
 may_join : (g : Game) (x : LifeId) (f : CarryOf) → g.present x < f.epoch → IsCarriedIn g f → MayJoin g x f.epoch
@@ -331,13 +331,13 @@ may_join g x f above told = record {
     node = told.node;
     joined = told.joined;
     port = f.from.port;
-    sent = λ none. none-some f.body (ap (λ (l : List Body). slice_get (reverse l) (f.k - 1)) (sym none) ∙ told.body.there);
+    sent = λ none. none-some f.body (ap (λ (l : List Body). slice_get (reverse l) (f.number - 1)) (sym none) ∙ told.body.there);
   });
 }
 
 greater_plays : (lives : List LifeId) (first : LifeId → ℕ) (switches : LifeId → SwitchOf) (g : Game) (x : LifeId) (port : ℕ) (f : CarryOf) (s : SwitchOf) → IsPlayed lives first switches g → IsPart g x s → Contains lives x → s.epoch < f.epoch → 1 ≤ port → port ≤ 12
     → good_peer s port ≡ Some f.from → f.to ≡ end_at s port → IsCarriedIn g f
-    → Plays lives first switches x (after (joins f.epoch s) (answers_body port f.from f.k f.body (joins f.epoch s).switch)) g (body_moves x port f.k f.body (joins f.epoch s).switch (after_join g x f.epoch (joins f.epoch s).switch.card))
+    → Plays lives first switches x (after (joins f.epoch s) (answers_body port f.from f.number f.body (joins f.epoch s).switch)) g (body_moves x port f.number f.body (joins f.epoch s).switch (after_join g x f.epoch (joins f.epoch s).switch.card))
 greater_plays lives first switches g x port f s played part among above least most peer to told =
     let one = joins f.epoch s in
     let t = one.switch in
@@ -353,7 +353,7 @@ greater_plays lives first switches g x port f s played part among above least mo
       told = told_later lives first g h (Carry f) played.play first_step.play told;
     }
     in
-    plays_then lives first switches x one (answers_body port f.from f.k f.body t) g h (body_moves x port f.k f.body t h) played.play first_step
+    plays_then lives first switches x one (answers_body port f.from f.number f.body t) g h (body_moves x port f.number f.body t h) played.play first_step
     (body_plays lives first (with_switch switches x t) h x port f t first_step.played new counts_now)
 
 still_plays : (lives : List LifeId) (first : LifeId → ℕ) (switches : LifeId → SwitchOf) (g : Game) (x : LifeId) (s : SwitchOf) → IsPlayed lives first switches g → IsPart g x s → Plays lives first switches x (still s) g g
@@ -368,8 +368,8 @@ carry_plays lives first switches g x port f s played part among working least mo
     one = joins f.epoch s
 
     by : (b c : Bool) → b ≡ nat_lt s.epoch f.epoch → c ≡ (f.epoch == s.epoch)
-        → Plays lives first switches x (cond b (after one (answers_body port f.from f.k f.body one.switch)) (cond c (answers_body port f.from f.k f.body s) (still s))) g
-        (cond b (body_moves x port f.k f.body one.switch (after_join g x f.epoch one.switch.card)) (cond c (body_moves x port f.k f.body s g) g))
+        → Plays lives first switches x (cond b (after one (answers_body port f.from f.number f.body one.switch)) (cond c (answers_body port f.from f.number f.body s) (still s))) g
+        (cond b (body_moves x port f.number f.body one.switch (after_join g x f.epoch one.switch.card)) (cond c (body_moves x port f.number f.body s g) g))
     by true c test same = greater_plays lives first switches g x port f s played part among (ltb-true s.epoch f.epoch (sym test)) least most peer to told
     by false true test same =
         let linked = linked_of x s port f.from part.own working least most peer in

@@ -70,9 +70,9 @@ body_moves life port number body switch game =
 abbrev pub carry_moves : LifeId → ℕ → CarryOf → SwitchOf → Game → Game
 carry_moves life port carry switch game =
     if nat_lt switch.epoch carry.epoch
-    then body_moves life port carry.k carry.body (joins carry.epoch switch).switch
+    then body_moves life port carry.number carry.body (joins carry.epoch switch).switch
     (after_join game life carry.epoch (joins carry.epoch switch).switch.card)
-    else if carry.epoch == switch.epoch then body_moves life port carry.k carry.body switch game
+    else if carry.epoch == switch.epoch then body_moves life port carry.number carry.body switch game
     else game
 
 -- no other frame is a move

@@ -7,7 +7,6 @@ use Rattle.an_base.specs.Ports.{NoteOf}
 use Rattle.an_base.specs.declared.event.Event.{Event}
 use Rattle.net_script.specs.Scripts.{IsScript, ScriptOf}
 use Rattle.wire_set.specs.WireState.{hand_of}
-use Rattle.switch_core.specs.Bytes.{all_spelled}
 use Rattle.switch_core.specs.Kept.{KeptOf, StandsFor}
 use Rattle.switch_core.specs.Steps.{Step, loaded}
 use Rattle.switch_core.specs.Switch.{SwitchOf, note_of}
@@ -16,12 +15,11 @@ use Rattle.fabric_turn.specs.History.{NoneOf}
 use Rattle.fabric_turn.specs.declared.view.View.{View}
 use Rattle.fabric_world.specs.declared.ask.Ask.TheVariants as ask
 use Rattle.fabric_world.specs.Histories.{owner_of}
-use Rattle.fabric_world.specs.declared.ask.Done.{Done}
-use Rattle.fabric_world.specs.Turns.{IsDone, IsToLoad, is_noise}
-use Rattle.fabric_world.specs.World.{WorldOf, handled, handles, start_of, world_after}
+use Rattle.fabric_world.specs.Turns.{IsDone, IsToLoad}
+use Rattle.fabric_world.specs.World.{handled, start_of, world_after}
 use Rattle.fabric_world.proofs.CountLemmas.{event_counts}
 use Rattle.fabric_world.proofs.ElsewhereLemmas.{AreSameAt, world_elsewhere}
-use Rattle.fabric_world.proofs.FitLemmas.{fit_stays, others_from_none, world_hand_elsewhere}
+use Rattle.fabric_world.proofs.FitLemmas.{done_stays, fit_stays, handled_same, others_from_none, world_hand_elsewhere}
 use Rattle.fabric_world.proofs.InductionLemmas.{kept_by}
 use Rattle.fabric_book.specs.Nets.{PowerOf}
 use Rattle.fabric_book.specs.Told.{hand_lines}
@@ -45,27 +43,7 @@ events_grow script kept h (e ∷ more) =
     let rest = events_grow script kept (h ++ e ∷ []) more in
     subst (λ (x : List Event). (world_after script h).fabric.events ≤ (world_after script x).fabric.events) (append_assoc h (e ∷ []) more) (omega (arith, one, rest))
 
--- what comes of what is in hand stays
-module _ (w v : WorldOf) (s : ℕ) (same : AreSameAt s w v) (bytes : hand_of v.fabric.wires s ≡ hand_of w.fabric.wires s) where
-  handled_same : handled s v ≡ handled s w
-  handled_same =
-      ap (λ (x : StationOf). handles x.hand (held_bytes v.fabric s) (v.switches s)) same.place
-      ∙ ap (λ xs. handles (station w.fabric s).hand (slice_index_or xs 0 []) (v.switches s)) bytes
-      ∙ ap (handles (station w.fabric s).hand (held_bytes w.fabric s)) same.switch
-
-  done_same : (done : Done) → IsDone w s done → IsDone v s done
-  done_same done is =
-      let steps = sym handled_same in
-      record {
-        handled_is = record {
-          full = ap (λ (x : StationOf). not (is_empty x.hand)) same.place ∙ is.handled_is.full;
-          frames_are = is.handled_is.frames_are ∙ ap (λ (t : Step). all_spelled t.frames) steps;
-          note_is = is.handled_is.note_is ∙ ap (λ (t : Step). note_of t.switch) steps;
-          spent_is = is.handled_is.spent_is ∙ ap (λ (t : Step). t.switch.spent) steps;
-        };
-        noframe = is.noframe ∙ sym (ap (λ (x : StationOf). is_noise x.hand (held_bytes v.fabric s)) same.place ∙ ap (λ xs. is_noise (station w.fabric s).hand (slice_index_or xs 0 [])) bytes);
-      }
-
+-- what a worker has to ask for stays fit
 module _ (script : ScriptOf) (kept : IsScript script) (h more : List Event) (s : ℕ) (below : s < length script.wires.switches) (none : NoneOf owner_of (s + 1) more) where
   others : All (λ e. owner_of e ≢ s + 1) more
   others = others_from_none (s + 1) more none
@@ -82,7 +60,7 @@ module _ (script : ScriptOf) (kept : IsScript script) (h more : List Event) (s :
   fits_stay switch (pending.Put out) is =
       let w = world_after script h in
       let v = world_after script (h ++ more) in
-      let done = done_same w v s same bytes (done_with out (handled s w).switch) is.0 in
+      let done = done_stays w v s (done_with out (handled s w).switch) same bytes is.0 in
       subst (λ (t : Step). IsDone v s (done_with out t.switch) × StandsFor switch t.switch) (sym (handled_same w v s same bytes)) (done, is.1)
   fits_stay switch (pending.Load table) is =
       let w = world_after script h in

@@ -14,8 +14,8 @@ use Rattle.net_script.specs.Scripts.{IsScript, ScriptOf, restarts_of}
 use Rattle.wire_set.specs.declared.side.Put.{Put}
 use Rattle.switch_core.specs.Bytes.{OutOf}
 use Rattle.switch_core.specs.Kept.{KeptOf, Loads, StandsFor}
-use Rattle.switch_core.specs.Steps.{Step, loaded}
-use Rattle.switch_core.specs.Switch.{SwitchOf, note_of, started_as}
+use Rattle.switch_core.specs.Steps.{loaded}
+use Rattle.switch_core.specs.Switch.{note_of, started_as}
 use Rattle.switch_core.specs.declared.switch.TableFor.{TableFor}
 use Rattle.fabric_state.specs.declared.ending.Ending.{Ending}
 use Rattle.fabric_state.specs.declared.hand.Hand.{Hand}
@@ -41,19 +41,19 @@ use Rattle.fabric_world.specs.declared.line.PlacedLine.{PlacedLine}
 use Rattle.fabric_world.specs.Accounts.{AccountOf, account_of, placed}
 use Rattle.fabric_world.specs.Histories.{end_of, owner_of}
 use Rattle.fabric_world.specs.Turns.{AnswersAsk, Drives, LoadsOrNot, PutsFrames, TakesWork, is_noise, puts_at}
-use Rattle.fabric_world.specs.World.{WorldOf, begun, first_station, handled, handles, start_of, world_after}
+use Rattle.fabric_world.specs.World.{begun, first_station, handled, handles, start_of, world_after}
 use Rattle.fabric_world.proofs.InductionLemmas.{world_script}
 use Rattle.fabric_world.proofs.NextLemmas.{handle_is_lawful, load_is_lawful}
 use Rattle.fabric_world.proofs.PlaceLemmas.{world_places}
 use Rattle.fabric_book.specs.Accounts.{HasAccount, IsAccount, with_lines, with_load}
 use Rattle.fabric_book.specs.Asking.{ask_of, reply_of}
 use Rattle.fabric_book.specs.Nets.{HasFrame, IsHandled, IsStarted, PowerOf, power_of, start_with}
-use Rattle.fabric_book.specs.Told.{hand_lines, losses}
+use Rattle.fabric_book.specs.Told.{losses}
 use Rattle.fabric_book.specs.declared.account.Account.{Account}
 use Rattle.fabric_book.specs.declared.asking.BookAsk.{BookAsk}
 use Rattle.fabric_book.specs.declared.asking.BookReply.{BookReply}
 use Rattle.fabric_book.proofs.DriveLemmas.{driven, driver_owns}
-use Rattle.fabric_book.proofs.HandLemmas.{done_is, stands_is, step_is}
+use Rattle.fabric_book.proofs.HandLemmas.{done_is, stands_is}
 use Rattle.switch_threads.specs.declared.desk.Desk.{Desk}
 use Rattle.switch_threads.specs.declared.desk.Next.{Next}
 use Rattle.switch_threads.specs.declared.desk.Next.TheVariants as next
@@ -62,7 +62,7 @@ use Rattle.switch_threads.specs.declared.desk.Pending.{Pending}
 use Rattle.switch_threads.specs.declared.desk.Pending.TheVariants as pending
 use Rattle.switch_threads.specs.declared.desk.Tale.{Tale}
 use Rattle.switch_threads.specs.Runs.{IsToldAt, SeatOf}
-use Rattle.switch_threads.specs.Workers.{HasInHand, HasTold, IsAsking, IsDriving, IsInStep, IsNext, IsPrepared, IsToDo, IsUpTo, KeepsUp, lines_at_hand}
+use Rattle.switch_threads.specs.Workers.{HasInHand, HasTold, IsAsking, IsDriving, IsInStep, IsNext, IsPrepared, IsToDo, IsUpTo, KeepsUp}
 use Rattle.switch_threads.proofs.EndLemmas.{end_told, told_extends}
 use Rattle.switch_threads.proofs.OwnLemmas.{clock_switch, clock_taken, frame_taken, handled_here, life_begun, load_own, loaded_here, put_own, take_switch, taken_comes, taken_of}
 use Rattle.switch_threads.proofs.StayLemmas.{IsAtPlace, at_place, others_came, prepared_stays}
@@ -139,20 +139,6 @@ handled_fits script h s power old new buffer in_hand out is start works_are does
         stands_is w s in_hand buffer is.hand_is is.kept.frame new does.stands,
       );
     }
-
--- and what is told of it but of the frames that were lost
-same_lines : (place : ℕ) (h : Hand) (held bytes : List ℕ) (old new : SwitchOf) → HasFrame h held bytes → hand_lines place h bytes old new ≡ hand_lines place h held old new
-same_lines place hand.Empty held bytes old new has = refl
-same_lines place (hand.Clock now samples) held bytes old new has = refl
-same_lines place (hand.Frame port) held bytes old new has = ap (λ (b : List ℕ). hand_lines place (hand.Frame port) b old new) has
-
-pub handled_lines : (w : WorldOf) (s : ℕ) (in_hand : Hand) (bytes : List ℕ) → in_hand ≡ (station w.fabric s).hand → HasFrame (station w.fabric s).hand (held_bytes w.fabric s) bytes
-    → hand_lines s in_hand bytes (w.switches s) (handles in_hand bytes (w.switches s)).switch ≡ lines_at_hand w s
-handled_lines w s in_hand bytes is has =
-    let x = w.switches s in
-    let y = (handled s w).switch in
-    ap (λ (t : Step). hand_lines s in_hand bytes x t.switch) (step_is w s in_hand bytes is has) ∙ ap (λ (k : Hand). hand_lines s k bytes x y) is
-    ∙ same_lines s (station w.fabric s).hand (held_bytes w.fabric s) bytes x y has
 
 -- Of a seat that made a call
 abbrev pub AnswersBook : ScriptOf → List Event → ℕ → Ask → Reply → List Event → Type 0

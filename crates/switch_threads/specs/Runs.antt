@@ -47,8 +47,8 @@ pub record IsSeatOf (turnstile : TurnstileId) (script : ScriptOf) (number : ℕ)
 
 -- the seats of the workers, in the order of the script
 abbrev pub AreWorkers : TurnstileId → ScriptOf → List SeatOf → Type 0
-AreWorkers turnstile script seats = (k : ℕ) (seat : SeatOf) → k < length seats
-    → IsSeatOf turnstile script (k + 1) (slice_index_or seats k seat)
+AreWorkers turnstile script seats = (index : ℕ) (seat : SeatOf) → index < length seats
+    → IsSeatOf turnstile script (index + 1) (slice_index_or seats index seat)
 
 -- a seat of this turnstile has all numbers
 pub record IsWhole (turnstile : TurnstileId) (script : ScriptOf) (seat : SeatOf) : Type 0 where
@@ -68,8 +68,8 @@ HasCalled before after = (after.0 ≡ before.0) × DifferByCalls before.1 after.
 
 -- each of these seats
 abbrev pub HaveCalled : List SeatOf → List SeatOf → Type 0
-HaveCalled before after = (k : ℕ) (seat : SeatOf) → k < length before
-    → HasCalled (slice_index_or before k seat) (slice_index_or after k seat)
+HaveCalled before after = (index : ℕ) (seat : SeatOf) → index < length before
+    → HasCalled (slice_index_or before index seat) (slice_index_or after index seat)
 
 -- the account is of all events of the caller of a seat that are in what the seat has seen
 abbrev pub IsToldAt : SeatOf → Account → Type 0
@@ -80,7 +80,7 @@ IsToldAt seat account = (own_entries owner_of seat.1.seen seat.1.number ≡ seat
 -- a seat has these entries of the caller with a number: as its own, or as one that was ended in it
 abbrev pub HasEntries : View Event ScriptOf → ℕ → List Event → Type 0
 HasEntries view number mine = ((number ≡ view.number) × (mine ≡ view.mine))
-    ⊎ ((k : ℕ) × (get_elem? view.ended k ≡ some (ended_caller number mine)))
+    ⊎ ((index : ℕ) × (get_elem? view.ended index ≡ some (ended_caller number mine)))
 
 -- The account is of all events of a caller, as a seat knows: the entries that it has of the caller are all in
 -- what the caller had seen, from which what the seat has seen goes on.
@@ -95,10 +95,10 @@ pub record IsToldBy (script : ScriptOf) (view : View Event ScriptOf) (number : �
 
 -- the accounts of callers: of the workers, the last one first, and of all in the order of their numbers
 abbrev pub AreToldDown : ScriptOf → View Event ScriptOf → List Account → Type 0
-AreToldDown script view accounts = (k : ℕ) (account : Account) → k < length accounts
-    → IsToldBy script view (length script.wires.switches - k) (slice_index_or accounts k account)
+AreToldDown script view accounts = (index : ℕ) (account : Account) → index < length accounts
+    → IsToldBy script view (length script.wires.switches - index) (slice_index_or accounts index account)
 
 abbrev pub AreToldBy : ScriptOf → View Event ScriptOf → List Account → Type 0
 AreToldBy script view accounts = (length accounts ≡ callers_of script)
-    × ((k : ℕ) (account : Account) → k < length accounts
-    → IsToldBy script view k (slice_index_or accounts k account))
+    × ((number : ℕ) (account : Account) → number < length accounts
+    → IsToldBy script view number (slice_index_or accounts number account))

@@ -6,29 +6,32 @@ use Rattle.updown.specs.Routes.{is_up_end}
 use Rattle.table_build.specs.declared.link.Link.{Link}
 use Rattle.table_build.specs.declared.link.Links.{Links}
 
--- the link at a place of a list
+-- the link at an index of a list
 abbrev pub link_at : List Link → ℕ → Link
-link_at links k = slice_index_or links k (record { place = 0; by = 0 })
+link_at links index = slice_index_or links index (record { place = 0; by = 0 })
 
--- a port of y leads there, and y is the up end or is not
-pub record IsLink (es : List EntryOf) (y : ℕ) (lower : Bool) (link : Link) : Type 0 where
+-- a port of a place leads there, and the place is the up end or is not
+pub record IsLink (entries : List EntryOf) (place : ℕ) (lower : Bool) (link : Link) : Type 0 where
   pub port : ℕ
-  pub far : far_of es y port ≡ Some (link.place, link.by)
-  pub which : is_up_end es y link.place ≡ lower
+  pub far : far_of entries place port ≡ Some (link.place, link.by)
+  pub which : is_up_end entries place link.place ≡ lower
 
--- the links of that sort at the ports of y below end
-pub record AreThose (es : List EntryOf) (y end : ℕ) (lower : Bool) (links : List Link) : Type 0 where
-  pub each : (k : ℕ) → k < length links → IsLink es y lower (link_at links k)
+-- the links of that sort at the ports of a place below end
+pub record AreThose (entries : List EntryOf) (place end : ℕ) (lower : Bool) (links : List Link) : Type 0 where
+  pub each : (index : ℕ) → index < length links → IsLink entries place lower (link_at links index)
   pub whole :
-      (port z q : ℕ) → port < end → far_of es y port ≡ Some (z, q) → is_up_end es y z ≡ lower
-      → (k : ℕ) × (k < length links) × (link_at links k ≡ record { place = z; by = q })
+      (port next came : ℕ) → port < end → far_of entries place port ≡ Some (next, came)
+      → is_up_end entries place next ≡ lower
+      → (index : ℕ) × (index < length links) × (link_at links index ≡ record { place = next; by = came })
 
--- all links at the ports of y below end
-pub record AreLinksBelow (es : List EntryOf) (y end : ℕ) (links : Links) : Type 0 where
-  pub lower : AreThose es y end true links.lower.items
-  pub upper : AreThose es y end false links.upper.items
+-- all links at the ports of a place below end
+pub record AreLinksBelow (entries : List EntryOf) (place end : ℕ) (links : Links) : Type 0 where
+  pub lower : AreThose entries place end true links.lower.items
+  pub upper : AreThose entries place end false links.upper.items
 
 -- those of the members below end
-pub record AreLinks (es : List EntryOf) (end : ℕ) (links : List Links) : Type 0 where
+pub record AreLinks (entries : List EntryOf) (end : ℕ) (links : List Links) : Type 0 where
   pub count : length links ≡ end
-  pub each : (y : ℕ) (none : Links) → y < end → AreLinksBelow es y 13 (slice_index_or links y none)
+  pub each :
+      (place : ℕ) (none : Links) → place < end
+      → AreLinksBelow entries place 13 (slice_index_or links place none)

@@ -14,62 +14,62 @@ use Rattle.table_build.specs.Tables.{TableOf}
 abbrev pub exit_ports : List ℕ
 exit_ports = range_with_len 1 12
 
--- Whether so many links lead from x to y, along a legal route or, where the way may not go up, along downward
--- links alone. A link upward is passed only where the way may go up.
+-- Whether so many links lead from a place to the target, along a legal route or, where the way may not go up,
+-- along downward links alone. A link upward is passed only where the way may go up.
 abbrev pub leads_in : List EntryOf → ℕ → ℕ → Bool → ℕ → Bool
-leads_in entries y zero up x = x == y
-leads_in entries y (suc links) up x =
+leads_in entries target zero up place = place == target
+leads_in entries target (suc links) up place =
     list_any
     (λ port. option_map_or
     (λ far.
-    if is_up_end entries far.0 x
-    then (up && leads_in entries y links true far.0)
-    else leads_in entries y links false far.0)
-    (far_of entries x port) false)
+    if is_up_end entries far.0 place
+    then (up && leads_in entries target links true far.0)
+    else leads_in entries target links false far.0)
+    (far_of entries place port) false)
     exit_ports
 
 -- the length of a shortest such way; none has more than twice as many links as there are members
 abbrev pub shortest : List EntryOf → ℕ → Bool → ℕ → Option ℕ
-shortest entries y up x =
-    find (λ links. leads_in entries y links up x) (range_with_len 0 (2 * length entries))
+shortest entries target up place =
+    find (λ links. leads_in entries target links up place) (range_with_len 0 (2 * length entries))
 
 -- the same behind a port: any legal route behind an upward link, downward links alone behind a downward one
 abbrev pub left_behind : List EntryOf → ℕ → Bool → ℕ → ℕ × ℕ → Option ℕ
-left_behind entries y up x far =
-    if is_up_end entries far.0 x
-    then (if up then shortest entries y true far.0 else None)
-    else shortest entries y false far.0
+left_behind entries target up place far =
+    if is_up_end entries far.0 place
+    then (if up then shortest entries target true far.0 else None)
+    else shortest entries target false far.0
 
 -- whether a port begins a way to another member; unless any way will do, a shortest one
 abbrev pub is_exit : List EntryOf → Bool → Bool → ℕ → ℕ → ℕ → Bool
-is_exit entries any up x y port =
-    not (x == y)
-    && passes any (option_map_or (left_behind entries y up x) (far_of entries x port) None)
-    (shortest entries y up x)
+is_exit entries any up place target port =
+    not (place == target)
+    && passes any (option_map_or (left_behind entries target up place) (far_of entries place port) None)
+    (shortest entries target up place)
 
 abbrev pub exits_to : List EntryOf → Bool → Bool → ℕ → ℕ → List ℕ
-exits_to entries any up x y = filter (is_exit entries any up x y) exit_ports
+exits_to entries any up place target = filter (is_exit entries any up place target) exit_ports
 
--- the row of the member at x for an entry and a number, if the number is that of another member
+-- the row of the member at a place for an entry and a number, if the number is that of another member
 abbrev pub row_to : TopoOf → Bool → ℕ → ℕ → ℕ → ℕ → List RowOf
-row_to topo any x entry number y =
-    if x == y then [] else record {
-      at = slice_index topo.numbers x;
+row_to topo any place entry number target =
+    if place == target then [] else record {
+      at = slice_index topo.numbers place;
       entry = entry;
       to = number;
-      exits = exits_to topo.entries any (may_go_up topo.entries x entry) x y;
+      exits = exits_to topo.entries any (may_go_up topo.entries place entry) place target;
     } ∷ []
 
 abbrev pub rows_for : TopoOf → Bool → ℕ → ℕ → ℕ → List RowOf
-rows_for topo any x entry number =
-    option_map_or (row_to topo any x entry number) (position (λ other. other == number) topo.numbers) []
+rows_for topo any place entry number =
+    option_map_or (row_to topo any place entry number) (position (λ other. other == number) topo.numbers) []
 
--- the rows of the member at x, by rising entry and then by rising number
+-- the rows of the member at a place, by rising entry and then by rising number
 abbrev pub rows_of : TopoOf → Bool → ℕ → List RowOf
-rows_of topo any x =
+rows_of topo any place =
     flat_map
-    (λ entry. flat_map (rows_for topo any x entry) (range_with_len 1 126))
-    (filter (is_entry topo.entries x) (range_with_len 0 13))
+    (λ entry. flat_map (rows_for topo any place entry) (range_with_len 1 126))
+    (filter (is_entry topo.entries place) (range_with_len 0 13))
 
 -- the table of a member of a topology, and its number there
 abbrev pub number_in : TopoOf → LifeId → ℕ

@@ -8,13 +8,15 @@ use Rattle.table_build.specs.Links.{AreLinks}
 
 -- the place that has a number
 abbrev pub place_at : List (Option ℕ) → ℕ → Option ℕ
-place_at places n = slice_index_or places n None
+place_at places number = slice_index_or places number None
 
 -- for each number the place that has it, of the places below end
 pub record ArePlaces (numbers : List ℕ) (end : ℕ) (places : List (Option ℕ)) : Type 0 where
   pub count : length places ≡ 127
-  pub each : (n y : ℕ) → place_at places n ≡ Some y → (y < end) × (slice_index numbers y ≡ n)
-  pub whole : (y : ℕ) → y < end → place_at places (slice_index numbers y) ≡ Some y
+  pub each :
+      (number place : ℕ) → place_at places number ≡ Some place
+      → (place < end) × (slice_index numbers place ≡ number)
+  pub whole : (place : ℕ) → place < end → place_at places (slice_index numbers place) ≡ Some place
 
 -- what the tables of all members share: the place of each number, the places from the highest to the lowest,
 -- and the links of each member
@@ -23,7 +25,7 @@ pub record RoutingOf : Type 0 where
   pub order : List Height
   pub links : List Links
 
-pub record IsRouting (es : List EntryOf) (numbers : List ℕ) (r : RoutingOf) : Type 0 where
-  pub places : ArePlaces numbers (length es) r.places
-  pub order : IsDescent es r.order
-  pub links : AreLinks es (length es) r.links
+pub record IsRouting (entries : List EntryOf) (numbers : List ℕ) (routing : RoutingOf) : Type 0 where
+  pub places : ArePlaces numbers (length entries) routing.places
+  pub order : IsDescent entries routing.order
+  pub links : AreLinks entries (length entries) routing.links

@@ -1,7 +1,7 @@
-ghost use Rattle.std.specs.Prelude.{◌≡◌, ◌<◌, ◌≤◌, ℕ, List, Bool, true, false, length, IfOk};
+ghost use Rattle.std.specs.Prelude.{◌≡◌, ◌≢◌, ◌<◌, ◌≤◌, ℕ, List, Bool, None, true, false, length, replicate, IfOk};
 ghost use Rattle.an_base.specs.Values.{EntryOf};
 ghost use Rattle.topo_graph.specs.Topology.{IsGraph};
-ghost use Rattle.updown.specs.Order.{IsDescent};
+ghost use Rattle.updown.specs.Order.{IsDescent, place_at};
 ghost use Rattle.table_build.specs.Bests.{AreBestFrom, AreBestTo, best_at, climbing, Goes, IsBest, IsBetter};
 ghost use Rattle.table_build.specs.Bests.{IsBetterOf, IsKnown, IsLonger, KnowsFar, Over, OverBelow};
 ghost use Rattle.table_build.specs.Links.{AreLinks, AreLinksBelow, link_at};
@@ -178,13 +178,50 @@ fn fall_to(
 
 // So many places to which no way is known.
 fn none_known(alloc: Global, count: u8) -> Result<Vec<Option<Best>>, OutOfMemory>
-    ensures { IfOk result (λ bests. length bests.items ≡ count) }
+    ensures { IfOk result (λ bests. bests.items ≡ replicate count None) }
 {
     let none: Option<Best> = None;
     Ok(vec![in alloc; none; usize::from(count)]?)
 }
 
-// The best ways that lead upward alone, from the lowest place to the highest.
+// The first position of a place.
+fn first_of(order: &[Height], place: u8) -> usize
+    ensures within { result ≤ length order.now }
+    ensures before { (k : ℕ) → k < result → place_at order.now k ≢ place }
+{
+    let mut i = 0;
+    'places: while i < order.len() && order[i].place != place {
+        i += 1;
+    }
+    i
+}
+
+// The position behind the last one of a place.
+fn behind_last(order: &[Height], place: u8) -> usize
+    ensures within { result ≤ length order.now }
+    ensures behind { (k : ℕ) → result ≤ k → k < length order.now → place_at order.now k ≢ place }
+{
+    let mut i = order.len();
+    'places: while i > 0 && order[i - 1].place != place {
+        i -= 1;
+    }
+    i
+}
+
+// The first position to which ways may lead downward: those that lead downward alone lead to none that is
+// higher than the place where they begin.
+fn first_below(order: &[Height], search: Search) -> usize
+    ensures within { result ≤ length order.now }
+    ensures all { search.up ≡ true → result ≡ 0 }
+    ensures before { search.up ≡ false → (k : ℕ) → k < result → place_at order.now k ≢ search.from }
+{
+    if search.up {
+        return 0;
+    }
+    first_of(order, search.from)
+}
+
+// The best ways that lead upward alone, from the place where they begin to the highest.
 fn climbs_of(
     alloc: Global,
     graph: &Graph,
@@ -199,7 +236,7 @@ fn climbs_of(
     ensures { IfOk result (λ bests. AreBestTo graph.now any true false from bests.items) }
 {
     let mut bests = none_known(alloc, graph.count())?;
-    let mut i = order.len();
+    let mut i = behind_last(order, from);
     'places: while i > 0 {
         i -= 1;
         let y = order[i].place;
@@ -228,7 +265,7 @@ fn falls_of(
         AreBestTo graph.now search.any search.up true search.from bests.items) }
 {
     let mut bests = none_known(alloc, graph.count())?;
-    'places: for i in 0..order.len() {
+    'places: for i in first_below(order, search)..order.len() {
         let y = order[i].place;
         let best = fall_to(graph, &links[usize::from(y)], search, climbs, &bests, y);
         bests[usize::from(y)] = best;

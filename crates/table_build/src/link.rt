@@ -1,4 +1,4 @@
-ghost use Rattle.std.specs.Prelude.{◌≡◌, ◌+◌, ◌<◌, length, IfOk, OnOk};
+ghost use Rattle.std.specs.Prelude.{◌≡◌, ◌+◌, ◌<◌, [], length, IfOk, OnOk};
 ghost use Rattle.table_build.specs.Links.{AreLinks, AreLinksBelow};
 
 use an_base::memory::OutOfMemory;
@@ -57,13 +57,22 @@ fn links_at(alloc: Global, graph: &Graph, y: u8) -> Result<Links, OutOfMemory>
     Ok(links)
 }
 
+// Adds to none the links of all members, by place.
+fn push_all(links: &mut Vec<Links>, alloc: Global, graph: &Graph) -> Result<(), OutOfMemory>
+    requires { links.old.items ≡ [] }
+    ensures { OnOk result (AreLinks graph.now (length graph.now) links.new.items) }
+{
+    'places: for y in 0..graph.count() {
+        links.push(links_at(alloc, graph, y)?)?;
+    }
+    Ok(())
+}
+
 /// The links of all members, by place.
 pub fn links_of(alloc: Global, graph: &Graph) -> Result<Vec<Links>, OutOfMemory>
     ensures { IfOk result (λ links. AreLinks graph.now (length graph.now) links.items) }
 {
     let mut links = Vec::with_capacity(alloc, usize::from(graph.count()))?;
-    'places: for y in 0..graph.count() {
-        links.push(links_at(alloc, graph, y)?)?;
-    }
+    push_all(&mut links, alloc, graph)?;
     Ok(links)
 }

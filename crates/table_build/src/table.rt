@@ -1,4 +1,4 @@
-ghost use Rattle.std.specs.Prelude.{◌≡◌, ◌<◌, ◌≤◌, ◌++◌, Any, length, map, IfOk, OnOk};
+ghost use Rattle.std.specs.Prelude.{◌≡◌, ◌<◌, ◌≤◌, ◌++◌, [], Any, length, map, IfOk, OnOk};
 ghost use Rattle.an_base.specs.declared.limits.TheConstants.{MOST_NUMBER};
 ghost use Rattle.table_build.specs.Routing.{IsRouting};
 ghost use Rattle.table_build.specs.Tables.{AreRowsBelow, AreWays, exits_of, IsTable, IsTableOf, row_of};
@@ -14,6 +14,19 @@ use std::alloc::Global;
 use std::marker::Model;
 use topo_graph::graph::Graph;
 
+// The row of an entry towards another member.
+fn row_of(at: u8, entry: u8, up: bool, way: &Way) -> Row
+    ensures { result ≡ row_of at entry up way.now }
+{
+    let exits = if up { way.up.copy() } else { way.down.copy() };
+    Row {
+        at,
+        entry,
+        to: way.number,
+        exits,
+    }
+}
+
 // Adds the rows of an entry, one towards each other member.
 fn push_rows(
     rows: &mut Vec<Row>,
@@ -25,13 +38,31 @@ fn push_rows(
     ensures { OnOk result (rows.new.items ≡ rows.old.items ++ map (row_of at entry up) ways.now) }
 {
     'ways: for way in ways {
-        let exits = if up { way.up.copy() } else { way.down.copy() };
-        rows.push(Row {
-            at,
-            entry,
-            to: way.number,
-            exits,
-        })?;
+        rows.push(row_of(at, entry, up, way))?;
+    }
+    Ok(())
+}
+
+// Adds to none the rows of all entries.
+fn push_all(
+    rows: &mut Vec<Row>,
+    graph: &Graph,
+    numbers: &Numbers,
+    x: u8,
+    any: bool,
+    ways: &[Way],
+) -> Result<(), OutOfMemory>
+    requires none { rows.old.items ≡ [] }
+    requires count { length numbers.now ≡ length graph.now }
+    requires within { x < length graph.now }
+    requires ways { AreWays graph.now numbers.now any x 127 ways.now }
+    ensures { OnOk result (AreRowsBelow graph.now numbers.now any x 13 rows.new.items) }
+{
+    let at = numbers.as_slice()[usize::from(x)];
+    'entries: for entry in 0..13u8 {
+        if is_entry(graph, x, entry) {
+            push_rows(rows, at, entry, may_go_up(graph, x, entry), ways)?;
+        }
     }
     Ok(())
 }
@@ -50,13 +81,8 @@ fn rows_of(
     requires ways { AreWays graph.now numbers.now any x 127 ways.now }
     ensures { IfOk result (λ rows. AreRowsBelow graph.now numbers.now any x 13 rows.items) }
 {
-    let at = numbers.as_slice()[usize::from(x)];
     let mut rows = Vec::with_capacity(alloc, 13 * ways.len().min(126))?;
-    'entries: for entry in 0..13u8 {
-        if is_entry(graph, x, entry) {
-            push_rows(&mut rows, at, entry, may_go_up(graph, x, entry), ways)?;
-        }
-    }
+    push_all(&mut rows, graph, numbers, x, any, ways)?;
     Ok(rows)
 }
 

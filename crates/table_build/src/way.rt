@@ -1,4 +1,5 @@
-ghost use Rattle.std.specs.Prelude.{◌≡◌, ◌≢◌, ◌<◌, ℕ, length, slice_index, IfOk, MatchOption};
+ghost use Rattle.std.specs.Prelude.{◌≡◌, ◌≢◌, ◌<◌, ℕ, [], length, slice_index, IfOk, OnOk, MatchOption};
+ghost use Rattle.an_base.specs.Numbers.{AreNumbers};
 ghost use Rattle.topo_graph.specs.Topology.{IsGraph};
 ghost use Rattle.table_build.specs.Bests.{AreBestFrom};
 ghost use Rattle.table_build.specs.Routing.{IsRouting};
@@ -58,6 +59,32 @@ fn way_to(
     })
 }
 
+// Adds to none the exits towards all other members, by rising number.
+fn push_ways(
+    ways: &mut Vec<Way>,
+    graph: &Graph,
+    numbers: &Numbers,
+    routing: &Routing,
+    bests: &Bests,
+    x: u8,
+    any: bool,
+) -> Result<(), OutOfMemory>
+    requires none { ways.old.items ≡ [] }
+    requires numbers { AreNumbers numbers.now }
+    requires routing { IsRouting graph.now numbers.now routing.now }
+    requires bests { AreBestFrom graph.now any x bests.now }
+    requires count { length numbers.now ≡ length graph.now }
+    requires within { x < length graph.now }
+    ensures { OnOk result (AreWays graph.now numbers.now any x 127 ways.new.items) }
+{
+    'numbers: for number in 0..127u8 {
+        if let Some(way) = way_to(graph, numbers, routing, bests, x, any, number) {
+            ways.push(way)?;
+        }
+    }
+    Ok(())
+}
+
 /// The exits towards all other members, by rising number.
 pub fn ways_of(
     alloc: Global,
@@ -76,10 +103,6 @@ pub fn ways_of(
     let count = usize::from(graph.count()).min(numbers.as_slice().len());
     let bests = Bests::from(alloc, graph, routing.links(), routing.order(), x, any)?;
     let mut ways = Vec::with_capacity(alloc, count)?;
-    'numbers: for number in 0..127u8 {
-        if let Some(way) = way_to(graph, numbers, routing, &bests, x, any, number) {
-            ways.push(way)?;
-        }
-    }
+    push_ways(&mut ways, graph, numbers, routing, &bests, x, any)?;
     Ok(ways)
 }

@@ -417,7 +417,7 @@ member_shown s r e kept low (x, below, is) =
       | inr other ↦ (
           let b = is.place.below other in
           let far = far_is s.wires x e.position.port (b.0, b.1.port.0) kept.wired b.1.port.1 in
-          ((b.0, life_named s b.0 e.position.parent kept far.below b.1.parent), far.p_most))
+          ((b.0, life_named s b.0 e.position.parent kept far.below b.1.parent), far.own_port_most))
     ] in
     record {
       life = (x, life_named s x e.life kept below is.life);

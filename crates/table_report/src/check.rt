@@ -396,29 +396,28 @@ fn judge_component(
     judge_rows(alloc, text, script, component, &numbers, &rows)
 }
 
-// Judges the rows of the components, until some are refused.
+// Judges the rows of the components, until some are refused, into a text without bytes. Answers whether all
+// pass.
 fn judge_all(
     alloc: Global,
+    text: &mut Vec<u8>,
     script: &Script,
     tables: &Tables,
     forest: &[Entries],
-) -> Result<Judgement, OutOfMemory>
+) -> Result<bool, OutOfMemory>
+    requires none { text.old.items ≡ [] }
     requires tables { AreTablesOf script.now.wires tables.now }
     requires forest { IsForest script.now.wires forest.now }
-    ensures { IfOk result (λ j. IsJudged script.now tables.now j.passed j.text.items) }
+    ensures { IfOk result (λ passed. IsJudged script.now tables.now passed text.new.items) }
 {
     let runs = runs_of(alloc, tables.rows())?;
-    let mut text = Vec::new(alloc);
     'components: for component in forest {
-        if !judge_component(alloc, &mut text, script, tables, &runs, component)? {
-            return Ok(Judgement {
-                passed: false,
-                text,
-            });
+        if !judge_component(alloc, text, script, tables, &runs, component)? {
+            return Ok(false);
         }
     }
     text.extend_from_slice(b"ok\n")?;
-    Ok(Judgement { passed: true, text })
+    Ok(true)
 }
 
 // Whether all rows are those of members.
@@ -428,7 +427,34 @@ fn are_rows_of(members: &[bool], rows: &[Row]) -> bool
     rows.iter().all(|row| is_row_of(members, row))
 }
 
-// The rows of a component, in which each stands as its number. Where all are, no memory is taken.
+// Whether all rows are those of members of a component.
+fn has_all(
+    alloc: Global,
+    switches: &[SwitchAt],
+    tables: &Tables,
+    entries: &[Entry],
+) -> Result<bool, AllocError>
+    ensures { IfOk result (λ all. all
+        ≡ list_all (is_row_of (members_of switches.now entries.now)) tables.now.rows) }
+{
+    let members = members_of(alloc, switches, entries)?;
+    Ok(are_rows_of(&members, tables.rows()))
+}
+
+// The rows of a component, in which each stands as its number, copied.
+fn copied_rows(
+    alloc: Global,
+    switches: &[SwitchAt],
+    tables: &Tables,
+    entries: &[Entry],
+) -> Result<Vec<Row>, AllocError>
+    ensures { IfOk result (λ rows. rows.items ≡ rows_of switches.now tables.now entries.now) }
+{
+    let runs = runs_of(alloc, tables.rows())?;
+    rows_of(alloc, switches, tables, &runs, entries)
+}
+
+// The same rows. Where all are those of the component, none is copied.
 fn taken_rows(
     alloc: Global,
     script: &Script,
@@ -439,36 +465,51 @@ fn taken_rows(
 {
     let switches = script.wiring().switches();
     let entries = component.as_slice();
-    let members = members_of(alloc, switches, entries)?;
-    if are_rows_of(&members, tables.rows()) {
+    let all = has_all(alloc, switches, &tables, entries)?;
+    if all {
         return Ok(tables.into_numbered());
     }
-    let runs = runs_of(alloc, tables.rows())?;
-    rows_of(alloc, switches, &tables, &runs, entries)
+    copied_rows(alloc, switches, &tables, entries)
 }
 
-// Judges the rows of a network of one component.
+// Judges the rows of a network of one component into a text without bytes. Answers whether they pass.
 fn judge_only(
     alloc: Global,
+    text: &mut Vec<u8>,
     script: &Script,
     tables: Tables,
     component: &Entries,
-) -> Result<Judgement, OutOfMemory>
+) -> Result<bool, OutOfMemory>
+    requires none { text.old.items ≡ [] }
     requires tables { AreTablesOf script.now.wires tables }
     requires forest { IsForest script.now.wires (component.now ∷ []) }
-    ensures { IfOk result (λ j. IsJudged script.now tables j.passed j.text.items) }
+    ensures { IfOk result (λ passed. IsJudged script.now tables passed text.new.items) }
 {
-    let mut text = Vec::new(alloc);
     let numbers = component_numbers(alloc, script, &tables, component)?;
     let rows = taken_rows(alloc, script, tables, component)?;
-    if !judge_rows(alloc, &mut text, script, component, &numbers, &rows)? {
-        return Ok(Judgement {
-            passed: false,
-            text,
-        });
+    if !judge_rows(alloc, text, script, component, &numbers, &rows)? {
+        return Ok(false);
     }
     text.extend_from_slice(b"ok\n")?;
-    Ok(Judgement { passed: true, text })
+    Ok(true)
+}
+
+// Judges the tables of a network into a text without bytes. Answers whether they pass.
+fn judge_into(
+    alloc: Global,
+    text: &mut Vec<u8>,
+    script: &Script,
+    tables: Tables,
+) -> Result<bool, OutOfMemory>
+    requires none { text.old.items ≡ [] }
+    requires tables { AreTablesOf script.now.wires tables }
+    ensures { IfOk result (λ passed. IsJudged script.now tables passed text.new.items) }
+{
+    let forest = trees(alloc, script.wiring())?;
+    if let [component] = forest.as_slice() {
+        return judge_only(alloc, text, script, tables, component);
+    }
+    judge_all(alloc, text, script, &tables, &forest)
 }
 
 /// Checks the tables of a network, those of one component after another by rising root. Where all pass
@@ -478,9 +519,7 @@ pub fn judge(alloc: Global, script: &Script, tables: Tables) -> Result<Judgement
     requires { AreTablesOf script.now.wires tables }
     ensures { IfOk result (λ j. IsJudged script.now tables j.passed j.text.items) }
 {
-    let forest = trees(alloc, script.wiring())?;
-    if let [component] = forest.as_slice() {
-        return judge_only(alloc, script, tables, component);
-    }
-    judge_all(alloc, script, &tables, &forest)
+    let mut text = Vec::new(alloc);
+    let passed = judge_into(alloc, &mut text, script, tables)?;
+    Ok(Judgement { passed, text })
 }

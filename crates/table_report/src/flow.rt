@@ -272,6 +272,29 @@ fn push_turns(
     Ok(())
 }
 
+// The same, with the names of the switches of a component.
+fn push_flow(
+    alloc: Global,
+    text: &mut Vec<u8>,
+    out: &mut usize,
+    script: &Script,
+    graph: &Graph,
+    numbers: &Numbers,
+    flow: &mut Flow,
+) -> Result<(), OutOfMemory>
+    ghost ranks: { List (Option ℕ) }
+    requires numbered { numbers.now ≡ numbering graph.now }
+    requires ranked { IsRanked ranks flow.old }
+    requires few { out.old ≤ length text.old.items }
+    ensures told { OnOk result ((layout : LayoutOf) → IsOver layout flow.old
+        → IsToldRun layout script.now graph.now flow.old.flow text.old.items text.new.items out.old out.new) }
+    ensures few { OnOk result (out.new ≤ length text.new.items) }
+{
+    let entries = graph.entries().as_slice();
+    let names = names_of(alloc, script, entries, numbers.as_slice())?;
+    push_turns(text, out, &names, flow)
+}
+
 // Appends the lines of the moves of packets where these are the tables, and adds how many go out of a switch.
 fn push_run(
     alloc: Global,
@@ -298,10 +321,8 @@ fn push_run(
         numbers,
         exits,
     } = tabled;
-    let entries = graph.entries().as_slice();
-    let names = names_of(alloc, script, entries, numbers.as_slice())?;
     let mut flow = begun(alloc, &graph, &numbers, exits, home, those, b)?;
-    push_turns(text, out, &names, &mut flow)
+    push_flow(alloc, text, out, script, &graph, &numbers, &mut flow)
 }
 
 // Appends the lines of the moves of those packets that enter a component, and adds how many go out of a switch.
@@ -405,7 +426,7 @@ fn push_fates(
         ≡ text.old.items ++ flow_told (flat_map (fate_lines script.now homes.now) sends.now)) }
     ensures those { IfOk result (λ those. those.items ≡ filter (is_entering homes.now) sends.now) }
 {
-    let mut those = Vec::new(alloc);
+    let mut those = Vec::with_capacity(alloc, sends.len())?;
     'sends: for sent in sends {
         if push_fate(text, script, homes, *sent)? {
             those.push(*sent)?;
@@ -445,6 +466,13 @@ fn push_end(
     )
 }
 
+// No text, with room for 64 bytes of each packet, of up to 10,000, so that it seldom moves while it grows.
+fn empty_text(alloc: Global, sends: &[Sent]) -> Result<Vec<u8>, OutOfMemory>
+    ensures { IfOk result (λ text. text.items ≡ []) }
+{
+    Ok(Vec::with_capacity(alloc, sends.len().min(10_000) * 64)?)
+}
+
 // The text of the components, with the numbers of their switches, and of what is sent.
 fn text_with(
     alloc: Global,
@@ -460,7 +488,7 @@ fn text_with(
     requires room { 1 ≤ b }
     ensures { IfOk result (λ text. IsFlowOf script.now b text.items) }
 {
-    let mut text = Vec::new(alloc);
+    let mut text = empty_text(alloc, sends)?;
     let those = push_fates(alloc, &mut text, script, homes, sends)?;
     let mut out = 0;
     'components: for component in forest {

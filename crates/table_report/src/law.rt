@@ -98,8 +98,8 @@ pub fn one_flow_text()
         → IsFlowOf s room text → IsFlowOf s room other → text ≡ other }
 {}
 
-/// The last line of the text on packets counts as many that arrive as lines say so: each packet that enters
-/// a component arrives there once.
+/// The last line of the text on packets counts as many that arrive as lines say so: there are as many of these
+/// lines as packets that enter a component.
 pub fn all_that_enter_arrive()
     ensures { (s : ScriptOf) (room : ℕ) (text : List ℕ) (is : IsFlowOf s room text) → IsScript s → 1 ≤ room
         → count_by is_arrival (flat_map (part_lines s) is.parts)

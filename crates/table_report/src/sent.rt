@@ -48,7 +48,7 @@ pub fn sends_of(alloc: Global, script: &Script) -> Result<Vec<Sent>, OutOfMemory
     ensures { IfOk result (λ sends. sends.items ≡ sends_of script.now) }
 {
     let hosts = script.wiring().hosts();
-    let mut sends = Vec::new(alloc);
+    let mut sends = Vec::with_capacity(alloc, script.commands().len())?;
     'commands: for command in script.commands() {
         if let Event::Send { host, to } = command.event {
             sends.push(Sent {
@@ -166,7 +166,7 @@ pub fn count_local(sends: &[Sent]) -> usize
 pub fn entering(alloc: Global, home: &Home, sends: &[Sent]) -> Result<Vec<Sent>, OutOfMemory>
     ensures { IfOk result (λ those. those.items ≡ entering home.now sends.now) }
 {
-    let mut those = Vec::new(alloc);
+    let mut those = Vec::with_capacity(alloc, sends.len())?;
     'sends: for sent in sends {
         if !sent.is_local() && home.has_both(*sent) {
             those.push(*sent)?;

@@ -47,7 +47,7 @@ number_kept : (v : ScriptOf) (d : TableDraftOf) (s n : ℕ) → IsKept v d → d
 unfolding is_numbered is_number_taken is_entered
 number_kept v d s n kept unended low least most new free = record {
   named = kept.named;
-  numbers = All-push (IsNumberAt (length v.wires.switches)) d.numbers (record { s = s; number = n }) kept.numbers (record { s = low; least = least; most = most });
+  numbers = All-push (IsNumberAt (length v.wires.switches)) d.numbers (record { s = s; number = n }) kept.numbers (record { switch = low; least = least; most = most });
   numbers_apart = all_pairs_push (AreNumbersApart v.wires) d.numbers (record { s = s; number = n }) kept.numbers_apart apart;
   rows = kept.rows;
   entered = kept.entered;

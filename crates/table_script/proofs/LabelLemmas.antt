@@ -33,10 +33,10 @@ labels_more count l ls labels from to is are b_is a_is = record {
   alike = λ x y low high.
       rw (
         are.alike x y low high,
-        are.alike x l.a low is.a,
-        are.alike l.b y is.b high,
-        are.alike x l.b low is.b,
-        are.alike l.a y is.a high,
+        are.alike x l.a low is.a_below,
+        are.alike l.b y is.b_below high,
+        are.alike x l.b low is.b_below,
+        are.alike l.a y is.a_below high,
         get_or-map (λ c. cond (eqb c from) to c) labels x 0 0 (omega (arith, are.count_is)),
         get_or-map (λ c. cond (eqb c from) to c) labels y 0 0 (omega (arith, are.count_is)),
         b_is,
@@ -60,8 +60,8 @@ labels_step items (Err e) count links d labels passed at_b at_a from to some all
 labels_step items (Ok v) count links d labels passed at_b at_a from to some all are b_is a_is from_is to_is passed_is is =
     let l = get_or links 0 d in
     let link : IsLink count l = all 0 d (omega arith) in
-    let b_low : at_b < length labels = omega (arith, link.b, are.count_is) in
-    let a_low : at_a < length labels = omega (arith, link.a, are.count_is) in
+    let b_low : at_b < length labels = omega (arith, link.b_below, are.count_is) in
+    let a_low : at_a < length labels = omega (arith, link.a_below, are.count_is) in
     rw is (rw passed_is (subst (λ (ls : List LinkAt). AreLabels count ls (map (λ c. cond (eqb c from) to c) labels)) (sym (list_first links d some))
     (labels_more count l (take (length links - 1) (drop 1 links)) labels from to link are
     (from_is ∙ get_or_default labels at_b from 0 b_low ∙ ap (λ (i : ℕ). get_or labels i 0) b_is)
@@ -90,4 +90,4 @@ pub taken_is : (w : Wires) (d : TableDraftOf) (labels : List ℕ) (s n : ℕ) �
 unfolding is_labelled is_number_taken
 taken_is w d labels s n are numbers low =
     list_any_same (λ x. eqb x.number n && eqb (get_or labels x.s 0) (get_or labels s 0)) (λ x. eqb x.number n && are_joined w.links x.s s) d.numbers
-    (λ k e within. ap (λ (b : Bool). eqb (get_or d.numbers k e).number n && b) (sym (are.alike (get_or d.numbers k e).s s (numbers k e within).s low)))
+    (λ k e within. ap (λ (b : Bool). eqb (get_or d.numbers k e).number n && b) (sym (are.alike (get_or d.numbers k e).s s (numbers k e within).switch low)))

@@ -4,7 +4,7 @@ use Rattle.net_script.specs.Scripts.{ScriptOf}
 use Rattle.table_script.specs.Tables.{TablesOf}
 use Rattle.table_script.specs.TableRules.{tables_of}
 use Rattle.table_script.specs.TableTexts.{Told, AddsTold, none_told, AreEnded, IsTextWith}
-use Rattle.text_lines.proofs.ChainLaws.{IsReadBy, all_read}
+use Rattle.text_lines.specs.Chains.{LeadsBy}
 use Rattle.net_script.specs.declared.draft.Part.TheVariants.{After}
 use Rattle.table_script.specs.declared.table_reader.Reading.{Reading}
 use Rattle.table_script.specs.TableDrafts.{TableDraftOf}
@@ -19,10 +19,10 @@ ready_after r ready ended = elim (ended_or r.script) [
 ]
 
 -- the text of what all the lines say
-pub text_read : (bytes rest : List ℕ) (t : Told) (line : ℕ) (s : ScriptOf) (u : TablesOf) → IsReadBy AddsTold none_told bytes rest t line → lines_of rest ≡ [] → AreEnded t → s ≡ t.script.script → u ≡ tables_of (length t.script.script.wires.switches) t.tables → IsTextWith bytes s u
-text_read bytes rest t line s u read none ended says tables = record {
+pub text_read : (bytes : List ℕ) (t : Told) (s : ScriptOf) (u : TablesOf) → LeadsBy AddsTold none_told (lines_of bytes) t → AreEnded t → s ≡ t.script.script → u ≡ tables_of (length t.script.script.wires.switches) t.tables → IsTextWith bytes s u
+text_read bytes t s u good ended says tables = record {
   last = t;
-  good = (all_read AddsTold none_told bytes rest t line read none).0;
+  good = good;
   ended = ended;
   says = says;
   tables = tables ∙ ap (λ (v : ScriptOf). tables_of (length v.wires.switches) t.tables) (sym says);

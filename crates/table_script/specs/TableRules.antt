@@ -140,7 +140,7 @@ pub record AreNumbersApart (wires : Wires) (one other : NumberAt) : Type 0 where
 
 -- a number of one of so many switches
 pub record IsNumberAt (count : ℕ) (one : NumberAt) : Type 0 where
-  pub s : one.s < count
+  pub switch : one.s < count
   pub least : 1 ≤ one.number
   pub most : one.number ≤ 126
 

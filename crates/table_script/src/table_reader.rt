@@ -5,9 +5,10 @@ ghost use Rattle.std.specs.List.{range_with_len};
 ghost use Rattle.net_script.specs.declared.draft.Part.TheVariants.{After};
 ghost use Rattle.table_script.specs.Tables.{AreTablesOf};
 ghost use Rattle.table_script.specs.TableRules.{IsKept, number_of, tables_of};
-ghost use Rattle.text_lines.specs.Lines.{parts_of, words_of};
+ghost use Rattle.text_lines.specs.Chains.{LeadsBy};
+ghost use Rattle.text_lines.specs.Lines.{lines_of, parts_of, words_of};
 ghost use Rattle.table_script.specs.TableTexts.{AddsTable, IsFaultyTable, AddsTableWords, IsFaultyTableWords};
-ghost use Rattle.table_script.specs.TableTexts.{AddsTold, IsFaultyTold, AreEnded, IsTextWith};
+ghost use Rattle.table_script.specs.TableTexts.{AddsTold, IsFaultyTold, AreEnded, IsTextWith, none_told};
 ghost use Rattle.net_script.specs.Texts.{Adds, IsFaulty};
 ghost use Rattle.text_lines.specs.Stops.{IsStep};
 ghost use Rattle.table_script.specs.TableSteps.{told_of, IsReady, IsRefusalWith};
@@ -55,10 +56,26 @@ pub fn read_with_tables(alloc: Global, bytes: &[u8]) -> Result<(Script, Tables),
         tables: TableDraft::new(alloc),
         labels: Vec::new(alloc),
     };
+    read_all(&mut reading, alloc, bytes)?;
+    let count = reading.script.script.wiring().count();
+    let numbers = numbers_of(alloc, &reading.tables, count)?;
+    Ok(finished(reading, numbers))
+}
+
+// Adds what all lines of a text say to what no lines say.
+fn read_all(reading: &mut Reading, alloc: Global, bytes: &[u8]) -> Result<(), ReadRefusal>
+    requires few { length bytes.now < 2 ^ 32 - 1 }
+    requires none { told_of reading.old ≡ none_told }
+    requires ready { IsReady reading.old }
+    ensures good { OnOk result (LeadsBy AddsTold none_told (lines_of bytes.now) (told_of reading.new)) }
+    ensures ended { OnOk result (AreEnded (told_of reading.new)) }
+    ensures ready { OnOk result (IsReady reading.new) }
+    ensures fault { IfErr result (IsRefusalWith bytes.now) }
+{
     let mut rest = bytes;
     let mut line = 1u32;
     'lines: while let Some((first, after)) = first_line(rest) {
-        if let Err(stop) = read_told(&mut reading, alloc, first) {
+        if let Err(stop) = read_told(reading, alloc, first) {
             return Err(stop.at(line));
         }
         line += 1;
@@ -70,10 +87,7 @@ pub fn read_with_tables(alloc: Global, bytes: &[u8]) -> Result<(Script, Tables),
             cause: ScriptCause::NoEnd,
         });
     }
-    match finished(alloc, reading) {
-        Ok(read) => Ok(read),
-        Err(_error) => Err(Refusal::OutOfMemory),
-    }
+    Ok(())
 }
 
 // Adds what a line says.
@@ -161,23 +175,23 @@ fn read_table_words(
     read_table_form(draft, network, &words)
 }
 
-// The script and the tables that the lines say.
-fn finished(alloc: Global, reading: Reading) -> Result<(Script, Tables), OutOfMemory>
+// The script and the tables that the lines say, where the switches have these numbers.
+fn finished(reading: Reading, numbers: Vec<u8>) -> (Script, Tables)
     requires ready { IsReady reading }
     requires ended { AreEnded (told_of reading) }
-    ensures script { IfOk result (λ r. r.0 ≡ reading.script.script) }
-    ensures tables { IfOk result (λ r. r.1 ≡ tables_of (length reading.script.script.wires.switches) reading.tables) }
-    ensures network { IfOk result (λ r. AreTablesOf r.0.wires r.1) }
+    requires numbers { numbers.items
+        ≡ map (number_of reading.tables) (range_with_len 0 (length reading.script.script.wires.switches)) }
+    ensures script { result.0 ≡ reading.script.script }
+    ensures tables { result.1 ≡ tables_of (length reading.script.script.wires.switches) reading.tables }
+    ensures network { AreTablesOf result.0.wires result.1 }
 {
     let Reading {
         script: draft,
         tables,
         labels: _,
     } = reading;
-    let script = draft.script;
-    let numbers = numbers_of(alloc, &tables, script.wiring().count())?;
     let tables = Tables::new(numbers, tables.into_rows());
-    Ok((script, tables))
+    (draft.script, tables)
 }
 
 // The numbers of so many switches, by place.

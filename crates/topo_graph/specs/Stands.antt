@@ -3,27 +3,27 @@ use Rattle.std.specs.Prelude.{◌≡◌, ◌≢◌, ℕ, ◌+◌, ◌≤◌, Lis
 use Rattle.an_base.specs.Values.{EntryOf, Place}
 use Rattle.topo_graph.specs.Topology.{life_at, level_at, far_of}
 
--- What the port leads to is at most one level nearer than x, and where it is, it is not before the parent y,
--- nor is it y by a lesser port.
+-- What the port leads to is at most one level nearer than here, and where it is, it is not before the parent
+-- above, nor is it the parent by a lesser port.
 abbrev pub IsAfter : List EntryOf → ℕ → ℕ → Place → ℕ → Type 0
-IsAfter es x y place o =
-    (z q : ℕ) → far_of es x o ≡ Some (z, q)
-    → (place.level ≤ level_at es z + 1)
-    × (level_at es z + 1 ≡ place.level → (y ≤ z) × (y ≡ z → place.port ≤ o))
+IsAfter entries here above place port =
+    (next came : ℕ) → far_of entries here port ≡ Some (next, came)
+    → (place.level ≤ level_at entries next + 1)
+    × (level_at entries next + 1 ≡ place.level → (above ≤ next) × (above ≡ next → place.port ≤ port))
 
--- the parent y is at the port, one level nearer
-pub record IsParent (es : List EntryOf) (x y : ℕ) (place : Place) : Type 0 where
-  pub port : (q : ℕ) × (far_of es x place.port ≡ Some (y, q))
-  pub level : level_at es y + 1 ≡ place.level
-  pub parent : place.parent ≡ life_at es y
+-- the parent above is at the port, one level nearer
+pub record IsParent (entries : List EntryOf) (here above : ℕ) (place : Place) : Type 0 where
+  pub port : (entry : ℕ) × (far_of entries here place.port ≡ Some (above, entry))
+  pub level : level_at entries above + 1 ≡ place.level
+  pub parent : place.parent ≡ life_at entries above
 
 -- and no port leads to anything before it
-pub record IsNextBelow (es : List EntryOf) (x y : ℕ) (place : Place) : Type 0 where
-  pub parent : IsParent es x y place
-  pub after : (o : ℕ) → IsAfter es x y place o
+pub record IsNextBelow (entries : List EntryOf) (here above : ℕ) (place : Place) : Type 0 where
+  pub parent : IsParent entries here above place
+  pub after : (port : ℕ) → IsAfter entries here above place port
 
--- the entry at x stands where the stated levels of its neighbours put it
-pub record Stands (es : List EntryOf) (x : ℕ) (place : Place) : Type 0 where
-  pub root : place.root ≡ life_at es 0
-  pub first : x ≡ 0 → (place.level ≡ 0) × (place.parent ≡ life_at es 0) × (place.port ≡ 0)
-  pub below : x ≢ 0 → (y : ℕ) × IsNextBelow es x y place
+-- the entry here stands where the stated levels of its neighbours put it
+pub record Stands (entries : List EntryOf) (here : ℕ) (place : Place) : Type 0 where
+  pub root : place.root ≡ life_at entries 0
+  pub first : here ≡ 0 → (place.level ≡ 0) × (place.parent ≡ life_at entries 0) × (place.port ≡ 0)
+  pub below : here ≢ 0 → (above : ℕ) × IsNextBelow entries here above place

@@ -8,30 +8,31 @@ use Rattle.topo_graph.specs.Topology.{entry_at, far_of, joined, link_at, AreWith
 
 -- the cell of a port, none past the end
 abbrev pub cell_of : PortRow → ℕ → Option (ℕ × ℕ)
-cell_of row p = slice_index_or row.cells p None
+cell_of row port = slice_index_or row.cells port None
 
 -- the cell of a port of the entry at a place, none past the ends of the table
 abbrev pub cell_at : List PortRow → ℕ → ℕ → Option (ℕ × ℕ)
-cell_at rows x p = cell_of (slice_index_or rows x (record { cells = [] })) p
+cell_at rows place port = cell_of (slice_index_or rows place (record { cells = [] })) port
 
--- the row has the first links of the entry at x
+-- the row has the first links of the entry at a place
 abbrev pub HasLinks : List EntryOf → ℕ → List PeerAt → List (Option (ℕ × ℕ)) → Type 0
-HasLinks es x links cells =
-    (p : ℕ) → slice_index_or cells p None ≡ option_and_then (joined es x) (link_at links p)
+HasLinks entries place links cells =
+    (port : ℕ) → slice_index_or cells port None ≡ option_and_then (joined entries place) (link_at links port)
 
 -- each link of the graph is within it
 abbrev pub LinksAreWithin : List EntryOf → ℕ → List (Option (ℕ × ℕ)) → Type 0
-LinksAreWithin es x cells =
-    (p : ℕ) (far : ℕ × ℕ) → slice_index_or cells p None ≡ Some far → AreWithin es x p far
+LinksAreWithin entries place cells =
+    (port : ℕ) (far : ℕ × ℕ) → slice_index_or cells port None ≡ Some far → AreWithin entries place port far
 
 -- the table has the first entries
-pub record AreRows (es : List EntryOf) (rows : List PortRow) (end : ℕ) : Type 0 where
+pub record AreRows (entries : List EntryOf) (rows : List PortRow) (end : ℕ) : Type 0 where
   pub count : length rows ≡ end
-  pub cells : (x p : ℕ) → x < end → cell_at rows x p ≡ far_of es x p
-  pub ports : (x : ℕ) → x < end → PortsRise (entry_at es x).links
-  pub within : (x p : ℕ) (far : ℕ × ℕ) → cell_at rows x p ≡ Some far → AreWithin es x p far
+  pub cells : (place port : ℕ) → place < end → cell_at rows place port ≡ far_of entries place port
+  pub ports : (place : ℕ) → place < end → PortsRise (entry_at entries place).links
+  pub within :
+      (place port : ℕ) (far : ℕ × ℕ) → cell_at rows place port ≡ Some far → AreWithin entries place port far
 
 -- what a graph keeps with its entries: what is at the far side of each port
-pub record IsKept (es : List EntryOf) (rows : List PortRow) : Type 0 where
-  pub graph : IsGraph es
-  pub cells : (x p : ℕ) → cell_at rows x p ≡ far_of es x p
+pub record IsKept (entries : List EntryOf) (rows : List PortRow) : Type 0 where
+  pub graph : IsGraph entries
+  pub cells : (place port : ℕ) → cell_at rows place port ≡ far_of entries place port

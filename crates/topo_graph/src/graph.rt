@@ -102,6 +102,13 @@ fn rows_of(alloc: Global, entries: &[Entry]) -> Result<Vec<PortRow>, OutOfMemory
     Ok(rows)
 }
 
+// Whether this is where the root stands.
+fn is_at_root(place: &Position, root: Life) -> bool
+    ensures { IsTrue result ↔ (place.now.level ≡ 0) × (place.now.parent ≡ root) × (place.now.port ≡ 0) }
+{
+    place.level == 0 && place.parent == root && place.port == 0
+}
+
 /// The entries of a topology and the links that both ends name. Contracts see it as the list of
 /// the entries. Inside, an entry is known by its place in that list.
 #[derive(Debug, Drop)]
@@ -264,7 +271,7 @@ impl Graph {
         if x > 0 {
             return self.is_next_below(x, place);
         }
-        place.level == 0 && place.parent == root && place.port == 0
+        is_at_root(place, root)
     }
 
     /// Whether the entries are one component of the links, each with its place in the tree of

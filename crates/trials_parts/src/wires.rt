@@ -43,7 +43,7 @@ fn a_frame_is_lost_where_it_has_no_room(rt: HostRuntime) -> Result<(), Fail> {
     assert!(rt; has_link(&wires, 0, 1));
     assert!(rt; wires.put(0, 1, &[7u8; 65]) == Put::Kept);
     assert!(rt; has_link(&wires, 1, 1));
-    assert!(rt; wires.len(1, 1) == 1);
+    assert!(rt; wires.has_frame(1, 1));
     assert!(rt; wires.put(1, 1, &[7]) == no_room);
     Ok(())
 }

@@ -14,16 +14,16 @@ pub record DistancesOf : Type 0 where
 
 -- the place of a life
 abbrev pub place_in : List LifeId → LifeId → Option ℕ
-place_in lives life = position (λ l. is_eq (life_cmp l life)) lives
+place_in lives life = position (λ other. is_eq (life_cmp other life)) lives
 
 -- its lengths, none where it is not among the lives
 abbrev pub up_of : DistancesOf → LifeId → Option ℕ
-up_of d life = option_and_then (length_at d.lengths.up) (place_in d.lives life)
+up_of distances life = option_and_then (length_at distances.lengths.up) (place_in distances.lives life)
 
 abbrev pub down_of : DistancesOf → LifeId → Option ℕ
-down_of d life = option_and_then (length_at d.lengths.down) (place_in d.lives life)
+down_of distances life = option_and_then (length_at distances.lengths.down) (place_in distances.lives life)
 
 -- they are the least lengths of routes to this life
-pub record AreDistances (es : List EntryOf) (to : LifeId) (d : DistancesOf) : Type 0 where
-  pub up : (life : LifeId) → IsLeast (HasLegalFrom es life to) (up_of d life)
-  pub down : (life : LifeId) → IsLeast (HasDownFrom es life to) (down_of d life)
+pub record AreDistances (entries : List EntryOf) (to : LifeId) (distances : DistancesOf) : Type 0 where
+  pub up : (life : LifeId) → IsLeast (HasLegalFrom entries life to) (up_of distances life)
+  pub down : (life : LifeId) → IsLeast (HasDownFrom entries life to) (down_of distances life)

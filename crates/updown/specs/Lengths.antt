@@ -11,7 +11,7 @@ use Rattle.updown.specs.Routes.{is_up_end, HasLegal, HasDown, IsLeast}
 
 -- the length that a table has for a place
 abbrev pub length_at : List (Option ℕ) → ℕ → Option ℕ
-length_at lengths x = slice_index_or lengths x None
+length_at lengths place = slice_index_or lengths place None
 
 -- the lengths to one place: for each place that of a shortest legal route, and that of a shortest one with
 -- downward links alone
@@ -20,47 +20,52 @@ pub record LengthsOf : Type 0 where
   pub down : List (Option ℕ)
 
 -- they are the least lengths of routes to the place
-pub record AreLengths (es : List EntryOf) (to : ℕ) (lengths : LengthsOf) : Type 0 where
-  pub up : (x : ℕ) → x < length es → IsLeast (HasLegal es x to) (length_at lengths.up x)
-  pub down : (x : ℕ) → x < length es → IsLeast (HasDown es x to) (length_at lengths.down x)
-  pub up_count : length lengths.up ≡ length es
-  pub down_count : length lengths.down ≡ length es
+pub record AreLengths (entries : List EntryOf) (to : ℕ) (lengths : LengthsOf) : Type 0 where
+  pub up :
+      (place : ℕ) → place < length entries → IsLeast (HasLegal entries place to) (length_at lengths.up place)
+  pub down :
+      (place : ℕ) → place < length entries → IsLeast (HasDown entries place to) (length_at lengths.down place)
+  pub up_count : length lengths.up ≡ length entries
+  pub down_count : length lengths.down ≡ length entries
 
 -- what is left to go behind the far end of a port: by any legal route behind an upward link, downward alone
 -- behind a downward one
 abbrev pub behind_at : List EntryOf → List (Option ℕ) → List (Option ℕ) → ℕ → (ℕ × ℕ) → Option ℕ
-behind_at es up down x far = length_at (if is_up_end es far.0 x then up else down) far.0
+behind_at entries up down place far = length_at (if is_up_end entries far.0 place then up else down) far.0
 
 abbrev pub behind_of : List EntryOf → List (Option ℕ) → List (Option ℕ) → ℕ → ℕ → Option ℕ
-behind_of es up down x p = option_and_then (behind_at es up down x) (far_of es x p)
+behind_of entries up down place port =
+    option_and_then (behind_at entries up down place) (far_of entries place port)
 
 -- no length is above this
 abbrev pub AreAtMost : List (Option ℕ) → ℕ → Type 0
-AreAtMost lengths most = (x n : ℕ) → length_at lengths x ≡ Some n → n ≤ most
+AreAtMost lengths most = (place count : ℕ) → length_at lengths place ≡ Some count → count ≤ most
 
 -- the lesser of two lengths, where there are both
 abbrev pub lesser_of : Option ℕ → Option ℕ → Option ℕ
-lesser_of None b = b
-lesser_of (Some a) None = Some a
-lesser_of (Some a) (Some b) = Some (min a b)
+lesser_of None other = other
+lesser_of (Some one) None = Some one
+lesser_of (Some one) (Some other) = Some (min one other)
 
--- the lengths of ways from x: none at the place itself, and one more than what is left behind a port
+-- the lengths of ways from a place: none at the place itself, and one more than what is left behind a port
 abbrev pub Onward : List EntryOf → List (Option ℕ) → List (Option ℕ) → ℕ → ℕ → ℕ → Type 0
-Onward es up down to x zero = x ≡ to
-Onward es up down to x (suc n) = (p : ℕ) × (behind_of es up down x p ≡ Some n)
+Onward entries up down to place zero = place ≡ to
+Onward entries up down to place (suc count) = (port : ℕ) × (behind_of entries up down place port ≡ Some count)
 
--- the table has the lengths of routes downward of the places of the order from i on
-pub record AreDownSoFar (es : List EntryOf) (to : ℕ) (order : List Height) (down : List (Option ℕ)) (i : ℕ)
-    : Type 0 where
-  pub count : length down ≡ length es
+-- the table has the lengths of routes downward of the places of the order from this index on
+pub record AreDownSoFar (entries : List EntryOf) (to : ℕ) (order : List Height) (down : List (Option ℕ))
+    (first : ℕ) : Type 0 where
+  pub count : length down ≡ length entries
   pub known :
-      (k : ℕ) → i ≤ k → k < length order
-      → IsLeast (HasDown es (place_at order k) to) (length_at down (place_at order k))
+      (index : ℕ) → first ≤ index → index < length order
+      → IsLeast (HasDown entries (place_at order index) to) (length_at down (place_at order index))
   pub most : AreAtMost down MOST_LEVEL
 
--- the table has the lengths of legal routes of the places of the order before i
-pub record AreUpSoFar (es : List EntryOf) (to : ℕ) (order : List Height) (up : List (Option ℕ)) (i : ℕ)
+-- the table has the lengths of legal routes of the places of the order before this index
+pub record AreUpSoFar (entries : List EntryOf) (to : ℕ) (order : List Height) (up : List (Option ℕ)) (end : ℕ)
     : Type 0 where
-  pub count : length up ≡ length es
-  pub known : (k : ℕ) → k < i → IsLeast (HasLegal es (place_at order k) to) (length_at up (place_at order k))
+  pub count : length up ≡ length entries
+  pub known :
+      (index : ℕ) → index < end
+      → IsLeast (HasLegal entries (place_at order index) to) (length_at up (place_at order index))
   pub most : AreAtMost up 250

@@ -22,8 +22,9 @@ slot slips queue place = slice_index_or (queue_at slips queue) place 0
 -- no slip is twice in the queues
 abbrev pub IsApart : QueuesOf → Type 0
 IsApart slips =
-    (queue other i j : ℕ) → i < length (queue_at slips queue) → j < length (queue_at slips other)
-    → slot slips queue i ≡ slot slips other j → (queue ≡ other) × (i ≡ j)
+    (queue other place other_place : ℕ) → place < length (queue_at slips queue)
+    → other_place < length (queue_at slips other)
+    → slot slips queue place ≡ slot slips other other_place → (queue ≡ other) × (place ≡ other_place)
 
 -- a slip is in no queue
 abbrev pub IsNew : ℕ → QueuesOf → Type 0
@@ -63,8 +64,10 @@ pub record IsLinked (slips : List (Option ℕ)) (next : List ℕ) (queues : List
       (number place : ℕ) → place < (queue_of queues number).count
       → item next queues number place < length next
   pub apart :
-      (number other i j : ℕ) → i < (queue_of queues number).count → j < (queue_of queues other).count
-      → item next queues number i ≡ item next queues other j → (number ≡ other) × (i ≡ j)
+      (number other place other_place : ℕ) → place < (queue_of queues number).count
+      → other_place < (queue_of queues other).count
+      → item next queues number place ≡ item next queues other other_place
+      → (number ≡ other) × (place ≡ other_place)
   pub there :
       (number place : ℕ) → place < (queue_of queues number).count
       → slice_index_or slips (item next queues number place) None ≡ Some (item next queues number place)

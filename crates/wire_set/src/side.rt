@@ -1,3 +1,6 @@
+ghost use Rattle.std.specs.Prelude.{◌≡◌};
+ghost use Rattle.wire_set.specs.WireState.{is_link};
+
 use net_graph::wiring::Far;
 
 /// A port of a switch, with the wire into it.
@@ -50,4 +53,11 @@ pub struct Taken {
     pub second: bool,
     /// What became of its copy; none exactly where no copy was told.
     pub copied: Option<Put>,
+}
+
+/// Whether there is a link of two switch ports.
+pub fn is_link(far: Option<Far>) -> bool
+    ensures { result ≡ is_link far }
+{
+    matches!(far, Some(Far::Switch { s: _, port: _ }))
 }

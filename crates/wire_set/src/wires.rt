@@ -7,7 +7,7 @@ ghost use Rattle.frame_region.specs.declared.buffer.TheConstants.{MOST_FRAME};
 ghost use Rattle.frame_region.specs.declared.region.TheConstants.{MOST_BLOCKS};
 ghost use Rattle.wire_set.specs.WireState.{HasLink, IsUsed, WiresOf, again_on, copied_from, dropped_at};
 ghost use Rattle.wire_set.specs.WireState.{fail_at};
-ghost use Rattle.wire_set.specs.WireState.{far_place, hand_of, held_from, how_taken, is_link, is_second};
+ghost use Rattle.wire_set.specs.WireState.{far_place, hand_of, has_frame_on, held_from, how_taken, is_link, is_second};
 ghost use Rattle.wire_set.specs.WireState.{link_set};
 ghost use Rattle.wire_set.specs.WireState.{lose_on, place, put_into, release_from, repair_at, side_at};
 ghost use Rattle.wire_set.specs.WireState.{side_of};
@@ -16,7 +16,7 @@ ghost use Rattle.wire_set.specs.WireState.{what_copy_becomes};
 ghost use Rattle.wire_set.specs.WireState.{wire_at, wire_out};
 
 use crate::frames::Frames;
-use crate::side::{Loss, Put, Side, Taken};
+use crate::side::{Loss, Put, Side, Taken, is_link};
 use an_base::memory::OutOfMemory;
 use frame_region::buffer::FrameBuf;
 use frame_region::region::NoRoom;
@@ -224,12 +224,16 @@ impl WireSet {
         side.swap = side.swap.saturating_add(n);
     }
 
-    /// How many frames are on the wire into a switch at a port that has a link of two switch ports.
-    pub fn len(&self, s: u8, port: u8) -> u32
-        requires { HasLink self.now s port }
-        ensures { result ≡ length (wire_at self.now (place s port)) }
+    /// Whether the wire into a port of a switch has a frame. It answers for all values. Most wires have none, so that
+    /// is looked at first.
+    pub fn has_frame(&self, s: u8, port: u8) -> bool
+        ensures { result ≡ has_frame_on self.now (place s port) }
     {
-        self.frames.len(place_of(s, port))
+        let wire = place_of(s, port);
+        match self.sides.get(wire) {
+            Some(side) => self.frames.len(wire) > 0 && is_link(side.far),
+            None => false,
+        }
     }
 
     /// How many blocks are free: those that no frame on a wire or held by a switch occupies.

@@ -1,7 +1,6 @@
 use Rattle.std.proofs.Common.{◌≡◌, ◌&&◌, ◌-◌, nat_lt, find, drop}
 use Rattle.port_monitor.specs.Histories.{externals}
-use Rattle.wire_set.specs.WireState.{place}
-use Rattle.fabric_state.specs.Fabric.{has_frame_on}
+use Rattle.wire_set.specs.WireState.{has_frame_on, place}
 use Rattle.fabric_state.proofs.ports.port_above.Given as goal
 
 -- the port is not among those so far

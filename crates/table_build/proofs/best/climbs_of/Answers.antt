@@ -1,7 +1,15 @@
-use Rattle.std.proofs.Common.{◌≡◌, ◌+◌, ◌-◌, ◌≤◌, ℕ, subst, refl, true, false, arith}
+use Rattle.std.proofs.Common.{◌≡◌, ◌∙◌, ◌+◌, ◌-◌, ◌≤◌, ℕ, None, ap, subst, refl, true, false, arith}
+use Rattle.std.specs.Prelude.{replicate}
 use Rattle.updown.specs.Order.{place_at}
-use Rattle.table_build.proofs.PassLemmas.{AreBestAt, knows_below, one_more, all_known}
+use Rattle.table_build.proofs.PassLemmas.{AreBestAt, knows_below, none_lower, one_more, all_known}
 use Rattle.table_build.proofs.best.climbs_of.Goals as goal
+
+pub places-init : goal.places-init
+places-init c =
+    let is = c.in_ok-bests.ensures ∙ ap (λ (n : ℕ). replicate n None) c.count.ensures.count in (
+      none_lower c.args.graph.now c.args.any c.args.order.now c.behind_last-i.result c.args.from c.in_ok-bests.bests.items c.count.ensures.graph c.requires.order c.requires.from c.behind_last-i.ensures.behind is,
+      c.behind_last-i.ensures.within,
+    )
 
 pub climb_to-best-requires-clause-knows : goal.climb_to-best-requires-clause-knows
 climb_to-best-requires-clause-knows c =

@@ -5,5 +5,5 @@ use Rattle.table_report.proofs.flow.push_run.Given as goal
 abbrev pub ghost-begun : goal.ghost-begun
 ghost-begun g a = g.layout
 
-abbrev pub ghost-push_turns : goal.ghost-push_turns
-ghost-push_turns g a = ranks_in g.layout
+abbrev pub ghost-push_flow : goal.ghost-push_flow
+ghost-push_flow g a = ranks_in g.layout

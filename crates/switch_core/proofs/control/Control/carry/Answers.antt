@@ -19,7 +19,7 @@ pub push-requires : goal.push-requires
 push-requires c = record {
   least = c.requires.least;
   most = c.requires.most;
-  frame = Carry (record { epoch = c.args.self.now.epoch; from = c.end_at.result; to = c.args.peer; k = c.args.k; body = c.body.result.now });
+  frame = Carry (record { epoch = c.args.self.now.epoch; from = c.end_at.result; to = c.args.peer; number = c.args.k; body = c.body.result.now });
   is_frame = c.encode_carry.ensures.within;
   spelled = c.bytes.ensures.all ∙ c.encode_carry.ensures.spelled;
 }

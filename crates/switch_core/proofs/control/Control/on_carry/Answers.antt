@@ -45,8 +45,8 @@ returns c =
     let y = c.if-carry-self-2.out in
     let z = c.answer_body.new.out in
     let epoch : c.carry.inside.epoch ≡ f.epoch = ap (λ (g : CarryOf). g.epoch) c.carry.view_is in
-    let answers : Does (answers_body port f.from f.k f.body) mid new y z =
-    answers_of port c.carry.inside.k c.carry.inside.from c.carry.inside.body f mid new y z (ap (λ (g : CarryOf). g.from) c.carry.view_is) (ap (λ (g : CarryOf). g.k) c.carry.view_is) (ap (λ (g : CarryOf). g.body) c.carry.view_is) c.in_ok-answer_body.ensures in
+    let answers : Does (answers_body port f.from f.number f.body) mid new y z =
+    answers_of port c.carry.inside.k c.carry.inside.from c.carry.inside.body f mid new y z (ap (λ (g : CarryOf). g.from) c.carry.view_is) (ap (λ (g : CarryOf). g.number) c.carry.view_is) (ap (λ (g : CarryOf). g.body) c.carry.view_is) c.in_ok-answer_body.ensures in
     elim c.if-carry-self-2.branch [
       | then-carry-self-2+in_ok-join w ↦
           carries_greater port f old w.join.new.self mid new x w.join.new.out y z (omega (arith, epoch, w.if-carry-self-2.true)) w.self-is w.out-is

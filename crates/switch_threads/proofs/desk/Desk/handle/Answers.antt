@@ -13,8 +13,8 @@ use Rattle.fabric_world.specs.declared.ask.Done.{Done}
 use Rattle.fabric_world.specs.declared.line.Line.{Line}
 use Rattle.fabric_book.specs.Nets.{IsHandled}
 use Rattle.fabric_book.specs.Told.{hand_lines}
-use Rattle.fabric_book.proofs.HandLemmas.{hand_filled, hand_port, hand_working, hand_works, step_is}
-use Rattle.switch_threads.proofs.TurnLemmas.{handled_fits, handled_lines}
+use Rattle.fabric_book.proofs.HandLemmas.{hand_filled, hand_port, hand_working, hand_works, lines_at, step_is}
+use Rattle.switch_threads.proofs.TurnLemmas.{handled_fits}
 use Rattle.switch_threads.proofs.desk.Desk.handle.Goals as goal
 
 pub handle-requires-clause-full : goal.handle-requires-clause-full
@@ -75,7 +75,7 @@ returns-clause-done c script history is =
           (subst (IsHandled x hand papers.buffer c.handle.new.switch) (sym c.replace-out.ensures.value) does);
       prepared = (
         shown ∙ ap (λ (t : Step). note_of t.switch) (step_is w desk.s hand papers.buffer is.has.hand_is is.has.kept.frame),
-        told ∙ handled_lines w desk.s hand papers.buffer is.has.hand_is is.has.kept.frame,
+        told ∙ lines_at w desk.s hand papers.buffer is.has.hand_is is.has.kept.frame,
         sym c.resize.new.self.ok.0 ∙ c.in_ok-resize.ensures.len ∙ ap (length {A = BytesOut}) frames,
       );
     }

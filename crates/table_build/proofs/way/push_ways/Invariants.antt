@@ -1,5 +1,5 @@
 use Rattle.table_build.specs.Tables.{AreWays}
-use Rattle.table_build.proofs.way.ways_of.Given as goal
+use Rattle.table_build.proofs.way.push_ways.Given as goal
 
 -- the ways to the numbers so far
 abbrev pub invariant-numbers : goal.invariant-numbers

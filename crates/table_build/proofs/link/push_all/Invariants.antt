@@ -1,5 +1,5 @@
 use Rattle.table_build.specs.Links.{AreLinks}
-use Rattle.table_build.proofs.link.links_of.Given as goal
+use Rattle.table_build.proofs.link.push_all.Given as goal
 
 -- the links of the places so far
 abbrev pub invariant-places : goal.invariant-places

@@ -1,5 +1,5 @@
 use Rattle.table_build.specs.Tables.{AreRowsBelow}
-use Rattle.table_build.proofs.table.rows_of.Given as goal
+use Rattle.table_build.proofs.table.push_all.Given as goal
 
 -- the rows of the entries so far
 abbrev pub invariant-entries : goal.invariant-entries

@@ -1,6 +1,6 @@
 use Rattle.std.proofs.Common.{length, ◌+◌, ◌≤◌}
 use Rattle.net_script.proofs.ReadLemmas.{IsRead}
-use Rattle.net_script.proofs.reader.read.Given as goal
+use Rattle.net_script.proofs.reader.read_all.Given as goal
 
 -- the lines before the rest are good, and no more than the bytes before it
 abbrev pub invariant-lines : goal.invariant-lines

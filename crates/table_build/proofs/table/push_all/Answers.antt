@@ -1,7 +1,7 @@
 use Rattle.std.proofs.Common.{refl}
 use Rattle.table_build.proofs.TableLemmas.{rows_same, rows_more}
-use Rattle.table_build.proofs.table.rows_of.Goals as goal
-use Rattle.table_build.proofs.table.rows_of.Goals.{then-is_entry+in_ok-push_rows, else-is_entry}
+use Rattle.table_build.proofs.table.push_all.Goals as goal
+use Rattle.table_build.proofs.table.push_all.Goals.{then-is_entry+in_ok-push_rows, else-is_entry}
 
 pub entries-preserved : goal.entries-preserved
 entries-preserved c =
