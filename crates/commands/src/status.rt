@@ -22,7 +22,7 @@ pub enum Status {
     Ok,
     /// The words are those of no command.
     Usage,
-    /// The input is no script, or has more bytes than the limit.
+    /// The input is no script (for `check` no script with tables), or has more bytes than the limit.
     ScriptRefused {
         /// The first faulty line, from 1.
         line: u32,

@@ -1,4 +1,4 @@
--- Sets of ports, as bits of a number. Only private functions cite this.
+-- Sets of ports, as bits of a number.
 use Rattle.std.specs.Prelude.{◌≡◌, ◌<◌, ℕ}
 use Rattle.std.specs.Int.{bit_at}
 

@@ -2,6 +2,7 @@
 
 use Rattle.fabric_world.specs.declared.ask.Ask.{Ask}
 use Rattle.fabric_world.specs.declared.ask.Ask.TheVariants as ask
+use Rattle.fabric_world.specs.declared.ask.LoadReply.TheVariants as load
 use Rattle.fabric_world.specs.declared.ask.Reply.{Reply}
 use Rattle.fabric_world.specs.declared.ask.Reply.TheVariants as reply
 use Rattle.fabric_book.specs.declared.asking.BookAsk.{BookAsk}
@@ -10,13 +11,14 @@ use Rattle.fabric_book.specs.declared.asking.BookReply.{BookReply}
 use Rattle.fabric_book.specs.declared.asking.BookReply.TheVariants as book_reply
 
 abbrev pub ask_of : BookAsk → Ask
-ask_of (book_ask.Take place out) = ask.Take place out
-ask_of (book_ask.Put place done puts) = ask.Put place done.value puts
-ask_of (book_ask.Load place table note) = ask.Load place table note.value
-ask_of book_ask.Drive = ask.Drive
+ask_of (book_ask.Take place letter) = ask.Take place letter.value.buffer
+ask_of (book_ask.Put place parcel) = ask.Put place parcel.value.done parcel.value.puts
+ask_of (book_ask.Load place sheet) = ask.Load place sheet.value.table sheet.value.note
+ask_of (book_ask.Drive slip) = ask.Drive
 
 abbrev pub reply_of : BookReply → Reply
-reply_of (book_reply.Take job out told) = reply.Take job out told
-reply_of (book_reply.Put done puts event) = reply.Put done.value puts event
-reply_of (book_reply.Load came note) = reply.Load came
-reply_of (book_reply.Drive did told) = reply.Drive did told
+reply_of (book_reply.Take letter) = reply.Take letter.value.work letter.value.buffer letter.value.told
+reply_of (book_reply.Put parcel) = reply.Put parcel.value.done parcel.value.puts parcel.value.event
+reply_of (book_reply.Loaded event) = reply.Load (load.Loaded event)
+reply_of (book_reply.NotNow sheet) = reply.Load (load.NotNow sheet.value.table)
+reply_of (book_reply.Drive slip) = reply.Drive slip.value.drive slip.value.told

@@ -1,15 +1,56 @@
 //! What callers ask of a book, and what it replies.
 //!
-//! It is what the world has as asks and replies, but that what is large lies in a box, which goes to and fro: so few
-//! bytes are moved, and a caller asks as often as it likes with the memory that it took at its start.
+//! It is what the world has as asks and replies, but all that is large lies in a box, which goes to and fro: so few
+//! bytes are moved, and the book takes no memory for what it is asked. A letter, a parcel and a slip come back with
+//! the reply, and serve for the next ask; a sheet is made for each table.
 
 use an_base::port::Note;
 use fabric_state::work::{Drive, Work};
-use fabric_world::ask::{Done, LoadReply};
+use fabric_world::ask::Done;
 use fabric_world::line::PlacedLine;
 use frame_region::buffer::FrameBuf;
 use switch_core::switch::TableFor;
 use wire_set::side::Put;
+
+/// On which a worker is told its next work.
+#[derive(Drop)]
+pub struct Letter {
+    /// Where the bytes of a frame go.
+    pub buffer: FrameBuf,
+    /// The work.
+    pub work: Work,
+    /// What is told of its event, if something is.
+    pub told: Option<PlacedLine>,
+}
+
+/// In which a worker puts what came of what its switch had in hand.
+#[derive(Drop)]
+pub struct Parcel {
+    /// What came of it.
+    pub done: Done,
+    /// Where what becomes of each frame is noted.
+    pub puts: Vec<Option<Put>>,
+    /// The place of the event in the history, from 1, once there is one.
+    pub event: u32,
+}
+
+/// A table that a switch is to use.
+#[derive(Drop)]
+pub struct Sheet {
+    /// The table.
+    pub table: TableFor,
+    /// What the switch shows of itself then.
+    pub note: Note,
+}
+
+/// On which the driver is told what it did.
+#[derive(Drop)]
+pub struct Slip {
+    /// What was done.
+    pub drive: Drive,
+    /// What is told of its event, if something is.
+    pub told: Option<PlacedLine>,
+}
 
 /// What a caller asks.
 #[derive(Drop)]
@@ -18,29 +59,28 @@ pub enum BookAsk {
     Take {
         /// The place of the switch in the script, from 0.
         s: u8,
-        /// Where the bytes of a frame go.
-        out: FrameBuf,
+        /// Where the work is written.
+        letter: Box<Letter>,
     },
-    /// To take what came of it.
+    /// To take what came of what a switch had in hand.
     Put {
         /// The place of the switch in the script, from 0.
         s: u8,
         /// What came of it.
-        done: Box<Done>,
-        /// Where it goes what becomes of each frame.
-        puts: Vec<Option<Put>>,
+        parcel: Box<Parcel>,
     },
     /// To use a table.
     Load {
         /// The place of the switch in the script, from 0.
         s: u8,
         /// The table.
-        table: TableFor,
-        /// What the switch shows of itself then.
-        note: Box<Note>,
+        sheet: Box<Sheet>,
     },
     /// To do the next thing that belongs to no switch.
-    Drive,
+    Drive {
+        /// Where what was done is written.
+        slip: Box<Slip>,
+    },
 }
 
 /// What is replied.
@@ -49,33 +89,26 @@ pub enum BookReply {
     /// To `Take`.
     Take {
         /// The work.
-        work: Work,
-        /// The bytes of a frame.
-        out: FrameBuf,
-        /// What is told of its event, if something is.
-        told: Option<PlacedLine>,
+        letter: Box<Letter>,
     },
-    /// To `Put`, with the memory of what was given.
+    /// To `Put`.
     Put {
-        /// What was given.
-        done: Box<Done>,
-        /// What became of each frame.
-        puts: Vec<Option<Put>>,
+        /// What was given, with what became of it.
+        parcel: Box<Parcel>,
+    },
+    /// To `Load`: the table is in use.
+    Loaded {
         /// The place of the event in the history, from 1.
         event: u32,
     },
-    /// To `Load`, with the memory of what was shown.
-    Load {
-        /// What became of the table.
-        reply: LoadReply,
-        /// What was shown.
-        note: Box<Note>,
+    /// To `Load`: the table is handed back.
+    NotNow {
+        /// The table.
+        sheet: Box<Sheet>,
     },
     /// To `Drive`.
     Drive {
         /// What was done.
-        drive: Drive,
-        /// What is told of its event, if something is.
-        told: Option<PlacedLine>,
+        slip: Box<Slip>,
     },
 }

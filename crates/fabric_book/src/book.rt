@@ -12,19 +12,20 @@ ghost use Rattle.fabric_state.specs.Fabric.{count, full_hands, held_bytes, is_fu
 ghost use Rattle.fabric_state.specs.Agree.{is_settled};
 ghost use Rattle.fabric_state.specs.Effects.{ShowsOnly, all_put_becomes, all_put_out, shows};
 ghost use Rattle.fabric_state.specs.Fits.{IsHandPort};
-ghost use Rattle.fabric_state.specs.Lawful.{is_barred, is_command, is_lawful};
+ghost use Rattle.fabric_state.specs.Lawful.{is_command, is_lawful};
 ghost use Rattle.fabric_state.specs.Starts.{next_life_at};
 ghost use Rattle.fabric_world.specs.Histories.{IsLawful, fabric_of, owner_of, with_event, world_of};
 ghost use Rattle.fabric_world.specs.Accounts.{placed};
 ghost use Rattle.fabric_world.specs.Lines.{all_lines, lines_of};
 ghost use Rattle.fabric_world.specs.Sound.{AllMayCome};
-ghost use Rattle.fabric_world.specs.Turns.{AnswersAsk, Drives, Handled, HasBytes, IsDone, IsFit, IsToLoad, LoadsOrNot, TakesWork, puts_at};
+ghost use Rattle.fabric_world.specs.Turns.{AnswersAsk, AnswersLoad, Drives, Handled, HasBytes, IsDone, IsFit, IsToLoad, TakesWork, puts_at};
 ghost use Rattle.fabric_world.proofs.FitLemmas.{fit_stays};
 ghost use Rattle.fabric_settling.specs.Settling.{HasTime, SettlesSoon};
 ghost use Rattle.fabric_book.specs.Asking.{ask_of, reply_of};
 ghost use Rattle.fabric_book.specs.Kept.{IsDrivers, with_events};
+ghost use Rattle.fabric_book.specs.declared.asking.BookReply.TheVariants as book_reply;
 
-use crate::asking::{BookAsk, BookReply};
+use crate::asking::{BookAsk, BookReply, Parcel, Sheet};
 use crate::telling::{command_line, copy_line, epoch_of, hop_line};
 use an_base::event::{Event, Journal};
 use an_base::life::Life;
@@ -34,7 +35,7 @@ use fabric_state::fabric::Fabric;
 use fabric_state::hand::Hand;
 use fabric_state::work::{Drive, Work};
 use fabric_turn::Staged;
-use fabric_world::ask::{Done, LoadReply};
+use fabric_world::ask::Done;
 use fabric_world::line::{Line, PlacedLine};
 use frame_region::buffer::FrameBuf;
 use net_script::script::Script;
@@ -198,19 +199,21 @@ impl Book {
         self.fabric.events()
     }
 
-    /// A switch is to use this table, and shows this then. The table is handed back exactly where a switch is
-    /// spent or there is too little room.
-    pub fn load(&mut self, s: u8, table: TableFor, note: &Note) -> LoadReply
+    /// A switch is to use the table of this sheet, and shows what stands there then. The sheet is handed back exactly
+    /// where a switch is spent or there is too little room.
+    pub fn load(&mut self, s: u8, sheet: Box<Sheet>) -> BookReply
         requires within { s < length self.old.script.wires.switches }
-        requires load { IsToLoad (world_of self.old) s table note.now }
+        requires load { IsToLoad (world_of self.old) s sheet.value.table sheet.value.note }
         ensures script { self.new.script ≡ self.old.script }
-        ensures reply { LoadsOrNot (is_barred (fabric_of self.old)) table result s self.old.script self.old.events self.new.events }
+        ensures reply { AnswersLoad self.old.script self.old.events s sheet.value.table (reply_of result) self.new.events }
+        ensures back { (back : _) → result ≡ book_reply.NotNow back → back ≡ sheet }
     {
         if self.fabric.is_barred() {
-            return LoadReply::NotNow(table);
+            return BookReply::NotNow { sheet };
         }
-        self.load_now(s, table, note);
-        LoadReply::Loaded {
+        let Sheet { table, note } = Box::into_inner(sheet);
+        self.load_now(s, table, &note);
+        BookReply::Loaded {
             event: self.fabric.events(),
         }
     }
@@ -376,21 +379,23 @@ impl Staged for Book {
 
     fn act(&mut self, _caller: u32, ask: BookAsk) -> BookReply {
         match ask {
-            BookAsk::Take { s, mut out } => {
-                let (work, told) = self.take(s, &mut out);
-                BookReply::Take { work, out, told }
+            BookAsk::Take { s, mut letter } => {
+                let (work, told) = self.take(s, &mut letter.buffer);
+                letter.work = work;
+                letter.told = told;
+                BookReply::Take { letter }
             }
-            BookAsk::Put { s, done, mut puts } => {
-                let event = self.put(s, &done, &mut puts);
-                BookReply::Put { done, puts, event }
+            BookAsk::Put { s, mut parcel } => {
+                let Parcel { done, puts, event } = &mut *parcel;
+                *event = self.put(s, done, puts);
+                BookReply::Put { parcel }
             }
-            BookAsk::Load { s, table, note } => {
-                let reply = self.load(s, table, &note);
-                BookReply::Load { reply, note }
-            }
-            BookAsk::Drive => {
+            BookAsk::Load { s, sheet } => self.load(s, sheet),
+            BookAsk::Drive { mut slip } => {
                 let (drive, told) = self.drive();
-                BookReply::Drive { drive, told }
+                slip.drive = drive;
+                slip.told = told;
+                BookReply::Drive { slip }
             }
         }
     }

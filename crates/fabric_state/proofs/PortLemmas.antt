@@ -1,6 +1,6 @@
 -- The external ports, one after the other.
 
-use Rattle.std.specs.Prelude.{◌≡◌, ◌≢◌, ◌+◌, ◌-◌, ◌==◌, ◌<◌, ◌≤◌, ℕ, suc, List, length, cond, drop, find, map, slice_get, slice_index_or, slice_set, Some, Bool, true, false, refl}
+use Rattle.std.specs.Prelude.{◌≡◌, ◌≢◌, ◌+◌, ◌-◌, ◌==◌, ◌<◌, ◌≤◌, ℕ, zero, suc, List, length, cond, drop, find, map, slice_get, slice_index_or, slice_set, Some, Bool, true, false, refl}
 use Rattle.std.proofs.Common.{◌∙◌, ap, arith, ext_get_or, subst, sym}
 use Rattle.std.proofs.lemmas.Bool.{eqb-false, eqb-true}
 use Rattle.std.proofs.lemmas.Grind.{get_or-set_at}
@@ -27,6 +27,17 @@ found_here p port least most is = find_step p port least most ∙ ap (λ b. cond
 
 pub found_later : (p : ℕ → Bool) (port : ℕ) → 1 ≤ port → port ≤ 12 → p port ≡ false → find p (drop (port - 1) externals) ≡ find p (drop (port + 1 - 1) externals)
 found_later p port least most is = find_step p port least most ∙ ap (λ b. cond b (Some port) (find p (drop (port + 1 - 1) externals))) is
+
+-- the first port that passes, where none of so many does
+pub skipped : (p : ℕ → Bool) (many : ℕ) → many ≤ 12 → ((port : ℕ) → 1 ≤ port → port ≤ many → p port ≡ false) → find p externals ≡ find p (drop many externals)
+skipped p zero most none = refl
+skipped p (suc many) most none =
+    let before : many ≡ suc many - 1 = omega arith in
+    let behind : suc many + 1 - 1 ≡ suc many = omega arith in
+    skipped p many (omega (arith, most)) (λ port least low. none port least (omega (arith, low)))
+    ∙ ap (λ k. find p (drop k externals)) before
+    ∙ found_later p (suc many) (omega arith) most (none (suc many) (omega arith) (omega arith))
+    ∙ ap (λ k. find p (drop k externals)) behind
 
 -- the samples of the ports so far, with one more
 pub sampled_more : (f : ℕ → Sample) (xs : List Sample) (port at : ℕ) (x : Sample) → 1 ≤ port → port ≤ 12 → at ≡ port - 1 → length xs ≡ 12 → x ≡ f port

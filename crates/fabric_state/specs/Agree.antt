@@ -51,7 +51,7 @@ agrees fabric =
     list_all (link_agrees fabric) fabric.script.wires.links
     && list_all (host_agrees fabric) fabric.script.wires.hosts
 
--- Nothing is left to do but to wait for a command or the next tick.
+-- No packet is under way, no clock and no load is due, and no wire has a frame.
 abbrev pub is_idle : FabricOf → Bool
 is_idle fabric =
     not (is_some_packet fabric) && not (is_some_clock_due fabric) && not (is_some_load_due fabric)

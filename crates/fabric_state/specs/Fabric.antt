@@ -207,7 +207,7 @@ host_at fabric place port =
     then host_behind fabric (side_of_port fabric place port).far
     else None
 
--- the switch and port at the far end of a link that is up
+-- the switch and port at the far end of a link, up or down
 abbrev pub switch_behind : Option Far → Option (ℕ × ℕ)
 switch_behind None = None
 switch_behind (Some (Switch place port)) = Some (place, port)

@@ -62,7 +62,7 @@ pub record IsInTime (script : ScriptOf) (fabric : FabricOf) : Type 0 where
   pub ticks : fabric.tick ≤ script.limits.ticks
   pub commands : fabric.done ≤ length script.commands
 
--- what a switch has in hand came in by an external port, and the wires hold it
+-- what a switch has in hand, if it is a frame, came in by an external port
 abbrev pub IsHandPort : Hand → Type 0
 IsHandPort hand.Empty = Unit {0}
 IsHandPort (hand.Clock now samples) = Unit {0}

@@ -6,9 +6,9 @@
 //! It stands on `net_script` for the script, `wire_set` for links and frames, `host_traffic` for packets and
 //! `switch_core` for what goes between it and a switch. Its contract: a `Fabric` is a fabric, each call makes
 //! of it what the definition of the event says, and each question is answered by its definition: which events
-//! may come next, which end has come, what a switch or the driver is to do next. No call after the beginning
-//! takes memory, and none looks at all switches, frames or packets, but for the end: where a network is quiet
-//! it looks at the links, and where a switch is spent it looks for the first one.
+//! may come next, which end has come, what a switch or the driver is to do next. No call after the beginning takes
+//! memory. As the code is written, and by no clause, none looks at all switches, frames or packets, but for the end:
+//! where a network is quiet it looks at the links, and where a switch is spent it looks for the first one.
 #![tactic(auto)]
 
 pub mod ending;

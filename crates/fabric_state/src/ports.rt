@@ -90,7 +90,7 @@ fn is_next(wires: &WireSet, s: u8, last: u8, port: u8) -> bool
 pub fn port_above(wires: &WireSet, s: u8, last: u8) -> Option<u8>
     ensures { result ≡ find (λ port. nat_lt last port && has_frame_on wires.now (place s port)) externals }
 {
-    'ports: for port in 1..13u8 {
+    'ports: for port in last.min(12) + 1..13u8 {
         if is_next(wires, s, last, port) {
             return Some(port);
         }

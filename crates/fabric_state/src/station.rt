@@ -168,7 +168,7 @@ impl Station {
         self.clock = clock;
     }
 
-    // The switch is in this epoch now. Where it is another one than before the table goes out of use.
+    // The switch joins this epoch, which its note then says: where it is another one the table goes out of use.
     fn join(&mut self, epoch: u64)
         ensures { self.new ≡ record self.old {
           table = kept_table (epoch == self.old.note.epoch) self.old.table;

@@ -43,7 +43,7 @@ pub enum Work {
     },
 }
 
-/// What the driver did.
+/// What the driver is to do next, or did.
 #[derive(Clone, Copy, Debug)]
 pub enum Drive {
     /// This event.

@@ -44,13 +44,13 @@ pub enum Ask {
         /// Where the bytes of a frame go.
         out: FrameBuf,
     },
-    /// To take what came of it.
+    /// To take what came of what a switch had in hand.
     Put {
         /// The place of the switch in the script, from 0.
         s: u8,
         /// What came of it.
         done: Done,
-        /// Where it goes what becomes of each frame.
+        /// Where what becomes of each frame is noted.
         puts: Vec<Option<Put>>,
     },
     /// To use a table.

@@ -9,8 +9,8 @@ ghost use Rattle.fabric_world.specs.Examples.{packets_script, packets_history};
 ghost use Rattle.fabric_world.specs.Examples.{spent_script, spent_history};
 ghost use Rattle.fabric_world.specs.Examples.{told_script, told_history};
 
-/// Of these histories, each lawful to its end with one event changed, so many events are lawful and the next
-/// one is not: a load before anything is finished, or once more; a clock that is not due; a second clock or a
+/// These histories are lawful to their ends. With one event put in or left out, so many events are still lawful and
+/// the next one is not: a load before anything is finished, or once more; a clock that is not due; a second clock or a
 /// restart with a full hand; what is in an empty hand handled; a frame taken that nobody sent; a load in an
 /// epoch that was joined and not finished; a packet moved after it was delivered; a tick while one is under
 /// way; a tick after the end. Where the last load is left out, no end has come.

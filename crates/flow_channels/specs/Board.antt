@@ -96,7 +96,8 @@ HavePlaces wires places end queues =
     → wire_at wires channel ≡ Some far → (slice_index_or queues (place_of channel) none).places ≡ places
 
 -- and they are empty
-pub record AreEmptyQueues (wires : List (Option Channel)) (places end : ℕ) (queues : List QueueOf) : Type 0 where
+pub record AreEmptyQueues (wires : List (Option Channel)) (places end : ℕ) (queues : List QueueOf)
+    : Type 0 where
   pub count : length queues ≡ end
   pub empty : All (λ queue. queue.slots ≡ []) queues
   pub places_are : HavePlaces wires places end queues
@@ -111,7 +112,8 @@ HaveMost wires most end routers =
     (at : ℕ) (none : RouterOf) → at < end → HasLink wires at → (slice_index_or routers at none).most ≡ most
 
 -- and nobody waits there
-pub record AreIdleRouters (wires : List (Option Channel)) (most end : ℕ) (routers : List RouterOf) : Type 0 where
+pub record AreIdleRouters (wires : List (Option Channel)) (most end : ℕ) (routers : List RouterOf)
+    : Type 0 where
   pub count : length routers ≡ end
   pub idle : All (λ router. router.waiting ≡ []) routers
   pub most_is : HaveMost wires most end routers

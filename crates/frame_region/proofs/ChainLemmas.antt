@@ -1,15 +1,15 @@
 use Rattle.std.proofs.Common.{◌≡◌, ◌≢◌, ◌∙◌, sym, ap, subst, refl, ℕ, zero, suc, ◌+◌, ◌-◌, ◌*◌, ◌/◌, ◌%◌, min, ◌<◌, ◌≤◌, List, length, arith, slice_index_or, slice_set, ◌⊎◌, inl, inr}
 use Rattle.std.proofs.lemmas.Bool.{cases_eq}
 use Rattle.std.proofs.lemmas.List.{get_or-set_other}
-use Rattle.frame_region.specs.Blocks.{block, place, needed}
+use Rattle.frame_region.specs.Blocks.{after, block, place, needed}
 
 -- the chain goes on from each of its blocks
 pub block_add : (next : List ℕ) (first n k : ℕ) → block next (block next first n) k ≡ block next first (n + k)
 block_add next first zero k = ap (block next first) {x = k} {y = zero + k} (omega arith)
-block_add next first (suc n) k = block_add next (slice_index_or next first 0) n k ∙ ap (block next first) {x = suc (n + k)} {y = suc n + k} (omega arith)
+block_add next first (suc n) k = block_add next (after next first) n k ∙ ap (block next first) {x = suc (n + k)} {y = suc n + k} (omega arith)
 
 -- the block after block number n
-pub block_next : (next : List ℕ) (first n : ℕ) → slice_index_or next (block next first n) 0 ≡ block next first (n + 1)
+pub block_next : (next : List ℕ) (first n : ℕ) → after next (block next first n) ≡ block next first (n + 1)
 block_next next first n = block_add next first n 1
 
 -- a chain that does not reach a block goes on as before where another one is to follow that block
@@ -17,8 +17,13 @@ pub block_kept : (next : List ℕ) (x v k first : ℕ) → ((j : ℕ) → j < k 
 block_kept next x v zero first apart = refl
 block_kept next x v (suc k) first apart =
     let here : first ≢ x = apart 0 (omega arith) in
-    ap (λ b. block (slice_set next x v) b k) (get_or-set_other next x first v 0 here)
-    ∙ block_kept next x v k (slice_index_or next first 0) (λ j below. apart (suc j) (omega (arith, below)))
+    ap (λ b. block (slice_set next x v) b k) (get_or-set_other next x first v (first + 1) here)
+    ∙ block_kept next x v k (after next first) (λ j below. apart (suc j) (omega (arith, below)))
+
+-- chains are the same where the same follows each block
+pub block_same : (next follow : List ℕ) → ((b : ℕ) → after follow b ≡ after next b) → (first k : ℕ) → block follow first k ≡ block next first k
+block_same next follow same first zero = refl
+block_same next follow same first (suc k) = ap (λ b. block follow b k) (same first) ∙ block_same next follow same (after next first) k
 
 -- One turn of writing a frame: the bytes of block number k are there as well
 pub there_more : (next : List ℕ) (first k old new : ℕ) → 64 * block next first k + 64 ≤ new → old ≤ new → ((j : ℕ) → j < k → 64 * block next first j + 64 ≤ old)

@@ -6,10 +6,14 @@ use Rattle.std.specs.List.{range_with_len}
 abbrev pub needed : ℕ → ℕ
 needed len = (len + 63) / 64
 
--- the block at this place, from 0, of the chain that begins with a block; each block names the next
+-- the block that follows one: the one that it names, or that of the next number as long as it names none
+abbrev pub after : List ℕ → ℕ → ℕ
+after next before = slice_index_or next before (before + 1)
+
+-- the block at this place, from 0, of the chain that begins with a block
 abbrev pub block : List ℕ → ℕ → ℕ → ℕ
 block next first zero = first
-block next first (suc place) = block next (slice_index_or next first 0) place
+block next first (suc place) = block next (after next first) place
 
 -- where the byte at this place, from 0, of a chain lies
 abbrev pub place : List ℕ → ℕ → ℕ → ℕ

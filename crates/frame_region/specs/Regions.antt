@@ -43,7 +43,7 @@ abbrev pub content : List ℕ → List ℕ → ℕ → ℕ → Option (List ℕ)
 content bytes next first zero = None
 content bytes next first (suc len) = Some (chain_bytes bytes next first (suc len))
 
--- the length of the byte string that begins with a block; 0 where none does
+-- the length of the byte string that begins with a block; 0 where none does, or none has begun yet
 abbrev pub len_at : List ℕ → ℕ → ℕ
 len_at lens first = slice_index_or lens first 0
 
@@ -52,19 +52,19 @@ abbrev pub count_at : List ℕ → ℕ → ℕ
 count_at lens first = needed (len_at lens first)
 
 -- what the blocks show
-abbrev pub shown : List ℕ → List ℕ → List ℕ → ℕ → RegionOf
-shown bytes next lens free = record {
-  held = map (λ first. content bytes next first (len_at lens first)) (range_with_len 0 (length lens));
+abbrev pub shown : List ℕ → List ℕ → List ℕ → ℕ → ℕ → RegionOf
+shown bytes next lens blocks free = record {
+  held = map (λ first. content bytes next first (len_at lens first)) (range_with_len 0 blocks);
   free = free;
 }
 
 -- The blocks are sound: no block is twice in a chain or in two of them, the free one among them.
-pub record IsKept (bytes next lens : List ℕ) (first_free free : ℕ) : Type 0 where
-  pub count : length lens ≡ length next
-  pub most : length next ≤ MOST_BLOCKS
-  pub total : sum_by needed lens + free ≡ length next
+pub record IsKept (bytes next lens : List ℕ) (blocks first_free free : ℕ) : Type 0 where
+  pub count : length lens ≤ blocks
+  pub most : blocks ≤ MOST_BLOCKS
+  pub total : sum_by needed lens + free ≡ blocks
   pub short : (first : ℕ) → len_at lens first ≤ MOST_FRAME
-  pub within : (first place : ℕ) → place < count_at lens first → block next first place < length next
+  pub within : (first place : ℕ) → place < count_at lens first → block next first place < blocks
   pub written :
       (first place : ℕ) → place < count_at lens first → 64 * block next first place + 64 ≤ length bytes
   pub apart :
@@ -76,4 +76,4 @@ pub record IsKept (bytes next lens : List ℕ) (first_free free : ℕ) : Type 0 
   pub free_apart :
       (place other_place : ℕ) → place < free → other_place < free
       → block next first_free place ≡ block next first_free other_place → place ≡ other_place
-  pub free_within : (place : ℕ) → place < free → block next first_free place < length next
+  pub free_within : (place : ℕ) → place < free → block next first_free place < blocks

@@ -1,8 +1,8 @@
-ghost use Rattle.std.specs.Prelude.{◌≡◌, ◌≢◌, min, ◌+◌, ◌-◌, ◌*◌, ◌<◌, ◌≤◌, ℕ, length, take, replicate};
+ghost use Rattle.std.specs.Prelude.{◌≡◌, ◌≢◌, min, ◌+◌, ◌-◌, ◌*◌, ◌<◌, ◌≤◌, ◌++◌, ℕ, length, take, replicate};
 ghost use Rattle.std.specs.Prelude.{None, IfOk, IfErr, OnOk, OnErr, IsSome, slice_index_or, vec_capacity};
 ghost use Rattle.frame_region.specs.declared.buffer.TheConstants.{MOST_FRAME};
 ghost use Rattle.frame_region.specs.declared.region.TheConstants.{MOST_BLOCKS};
-ghost use Rattle.frame_region.specs.Blocks.{needed, block, chain_bytes};
+ghost use Rattle.frame_region.specs.Blocks.{needed, after, block, chain_bytes};
 ghost use Rattle.frame_region.specs.Inside.{IsWritten};
 ghost use Rattle.frame_region.specs.Regions.{blocks_of, bytes_at, held_at, piece_of, with_put, without};
 
@@ -51,28 +51,31 @@ pub struct NoRoom {
     pub free: u32,
 }
 
-/// Blocks of 64 bytes, the memory for all of which is taken at once; a block's bytes are there from
-/// when it is first written. Each has the number of the next block of its chain, and the first block
-/// of a chain has the length of the byte string in it.
+/// Blocks of 64 bytes, the memory for all of which is taken at once; what belongs to a block is not
+/// there before that block, or one of a higher number, is first used. Each names the next block of its
+/// chain, which is that of the next number as long as it names none, and the first block of a chain has
+/// the length of the byte string in it.
 #[derive(Debug, Drop)]
 pub struct Region {
     bytes: Vec<u8>,
     next: Vec<u32>,
     lens: Vec<u16>,
+    blocks: u32,
     first_free: u32,
     free: u32,
 }
 
 impl Model for Region {
-    ghost use Rattle.std.specs.Prelude.{◌*◌, ◌≤◌, length, vec_capacity};
+    ghost use Rattle.std.specs.Prelude.{◌*◌, ◌≤◌, vec_capacity};
     ghost use Rattle.frame_region.specs.Regions.{RegionOf, shown, IsKept};
 
     ghost Value = { RegionOf };
 
-    ghost view = { λ r. shown r.bytes.items r.next.items r.lens.items r.free };
+    ghost view = { λ r. shown r.bytes.items r.next.items r.lens.items r.blocks r.free };
 
-    ghost invariant = { λ r. IsKept r.bytes.items r.next.items r.lens.items r.first_free r.free
-        × (64 * length r.next.items ≤ vec_capacity r.bytes) };
+    ghost invariant = { λ r. IsKept r.bytes.items r.next.items r.lens.items r.blocks r.first_free r.free
+        × (64 * r.blocks ≤ vec_capacity r.bytes) × (r.blocks ≤ vec_capacity r.next)
+        × (r.blocks ≤ vec_capacity r.lens) };
 }
 
 // How many blocks so many bytes need.
@@ -83,16 +86,16 @@ fn needed(len: usize) -> u32
     ((len + 63) / BLOCK) as u32
 }
 
-// So many bytes are there then, without taking memory: those that were not are 0.
-fn reach(bytes: &mut Vec<u8>, end: usize)
-    requires { end ≤ vec_capacity bytes.old }
-    ensures end { end ≤ length bytes.new.items }
-    ensures more { length bytes.old.items ≤ length bytes.new.items }
-    ensures room { vec_capacity bytes.old ≤ vec_capacity bytes.new }
-    ensures shown { (m : ℕ) → slice_index_or bytes.new.items m 0 ≡ slice_index_or bytes.old.items m 0 }
+// So many values are there then, without taking memory: those that were not are this one.
+fn reach<T: Copy>(list: &mut Vec<T>, end: usize, value: T)
+    requires { end ≤ vec_capacity list.old }
+    ensures end { end ≤ length list.new.items }
+    ensures more { length list.old.items ≤ length list.new.items }
+    ensures room { vec_capacity list.old ≤ vec_capacity list.new }
+    ensures items { list.new.items ≡ list.old.items ++ replicate (end - length list.old.items) value }
 {
-    if bytes.len() < end {
-        let _reached = bytes.resize(end, 0);
+    if list.len() < end {
+        let _reached = list.resize(end, value);
     }
 }
 
@@ -109,7 +112,7 @@ fn write(bytes: &mut Vec<u8>, block: u32, piece: &[u8])
         → slice_index_or bytes.new.items (64 * b + m) 0 ≡ slice_index_or bytes.old.items (64 * b + m) 0 }
 {
     let start = BLOCK * block as usize;
-    reach(bytes, start + BLOCK);
+    reach(bytes, start + BLOCK, 0);
     bytes[start..start + piece.len()].copy_from_slice(piece);
 }
 
@@ -135,14 +138,25 @@ fn front_of(bytes: &[u8], block: u32, left: usize) -> &[u8]
     &bytes[start..start + left.min(BLOCK)]
 }
 
+// The block that follows one: that of the next number as long as it names none.
+fn after(next: &[u32], block: u32) -> u32
+    requires { block < MOST_BLOCKS }
+    ensures { result ≡ after next.now block }
+{
+    match next.get(block as usize) {
+        Some(next) => *next,
+        None => block + 1,
+    }
+}
+
 // The block of a chain after so many.
 fn block_after(next: &[u32], first: u32, count: u32) -> u32
-    requires { (k : ℕ) → k < count → block next.now first k < length next.now }
+    requires { (k : ℕ) → k < count → block next.now first k < MOST_BLOCKS }
     ensures { result ≡ block next.now first count }
 {
     let mut block = first;
     'blocks: for _ in 0..count {
-        block = next[block as usize];
+        block = after(next, block);
     }
     block
 }
@@ -150,8 +164,9 @@ fn block_after(next: &[u32], first: u32, count: u32) -> u32
 // Writes a frame into the blocks of a chain, and answers the block after them.
 fn fill(bytes: &mut Vec<u8>, next: &[u32], first: u32, frame: &[u8]) -> u32
     requires most { length frame.now ≤ MOST_FRAME }
-    requires room { 64 * length next.now ≤ vec_capacity bytes.old }
-    requires within { (k : ℕ) → k < needed (length frame.now) → block next.now first k < length next.now }
+    requires within { (k : ℕ) → k < needed (length frame.now) → block next.now first k < MOST_BLOCKS }
+    requires room { (k : ℕ) → k < needed (length frame.now)
+        → 64 * block next.now first k + 64 ≤ vec_capacity bytes.old }
     requires apart { (i j : ℕ) → i < needed (length frame.now) → j < needed (length frame.now)
         → block next.now first i ≡ block next.now first j → i ≡ j }
     ensures end { result ≡ block next.now first (needed (length frame.now)) }
@@ -161,7 +176,7 @@ fn fill(bytes: &mut Vec<u8>, next: &[u32], first: u32, frame: &[u8]) -> u32
     let mut block = first;
     'blocks: for k in 0..needed(frame.len()) as usize {
         write(bytes, block, piece_of(frame, k));
-        block = next[block as usize];
+        block = after(next, block);
     }
     block
 }
@@ -169,7 +184,7 @@ fn fill(bytes: &mut Vec<u8>, next: &[u32], first: u32, frame: &[u8]) -> u32
 // Sets the buffer to so many bytes of a chain.
 fn gather(bytes: &[u8], next: &[u32], first: u32, len: usize, out: &mut FrameBuf)
     requires most { len ≤ MOST_FRAME }
-    requires within { (k : ℕ) → k < needed len → block next.now first k < length next.now }
+    requires within { (k : ℕ) → k < needed len → block next.now first k < MOST_BLOCKS }
     requires written { (k : ℕ) → k < needed len → 64 * block next.now first k + 64 ≤ length bytes.now }
     ensures { out.new ≡ chain_bytes bytes.now next.now first len }
 {
@@ -177,21 +192,21 @@ fn gather(bytes: &[u8], next: &[u32], first: u32, len: usize, out: &mut FrameBuf
     let mut block = first;
     'blocks: for k in 0..needed(len) as usize {
         out.add(front_of(bytes, block, len - BLOCK * k));
-        block = next[block as usize];
+        block = after(next, block);
     }
 }
 
-// For each of so many blocks the next one.
-fn following(alloc: Global, blocks: u32) -> Result<Vec<u32>, OutOfMemory>
-    requires { blocks ≤ MOST_BLOCKS }
-    ensures count { IfOk result (λ next. length next.items ≡ blocks) }
-    ensures next { IfOk result (λ next. (b : ℕ) → b < blocks → slice_index_or next.items b 0 ≡ b + 1) }
+// All blocks up to one name those that follow them then, without taking memory.
+fn name_following(next: &mut Vec<u32>, last: u32)
+    requires room { last < vec_capacity next.old }
+    requires most { last < MOST_BLOCKS }
+    ensures end { last < length next.new.items }
+    ensures room { vec_capacity next.new ≡ vec_capacity next.old }
+    ensures same { (b : ℕ) → after next.new.items b ≡ after next.old.items b }
 {
-    let mut next = Vec::with_capacity(alloc, blocks as usize)?;
-    'blocks: for b in 0..blocks {
-        next.push(b + 1)?;
+    'blocks: for block in next.len()..last as usize + 1 {
+        next.push_reserved(block as u32 + 1);
     }
-    Ok(next)
 }
 
 impl Region {
@@ -200,13 +215,11 @@ impl Region {
         requires { blocks ≤ MOST_BLOCKS }
         ensures { IfOk result (λ region. region ≡ record { held = replicate blocks None; free = blocks }) }
     {
-        let next = following(alloc, blocks)?;
-        let lens = vec![in alloc; 0u16; blocks as usize]?;
-        let bytes = Vec::with_capacity(alloc, BLOCK * blocks as usize)?;
         Ok(Region {
-            bytes,
-            next,
-            lens,
+            bytes: Vec::with_capacity(alloc, BLOCK * blocks as usize)?,
+            next: Vec::with_capacity(alloc, blocks as usize)?,
+            lens: Vec::with_capacity(alloc, blocks as usize)?,
+            blocks,
             first_free: 0,
             free: blocks,
         })
@@ -243,6 +256,7 @@ impl Region {
         let first = self.first_free;
         self.first_free = fill(&mut self.bytes, &self.next, first, bytes);
         self.free -= need;
+        reach(&mut self.lens, first as usize + 1, 0);
         self.lens[first as usize] = bytes.len() as u16;
         Ok(Slip { first })
     }
@@ -295,6 +309,7 @@ impl Region {
         let first = slip.first;
         let count = needed(usize::from(self.lens[first as usize]));
         let last = block_after(&self.next, first, count - 1);
+        name_following(&mut self.next, last);
         self.next[last as usize] = self.first_free;
         self.first_free = first;
         self.free += count;

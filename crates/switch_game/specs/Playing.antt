@@ -13,8 +13,8 @@ abbrev pub node_of : SwitchOf → Node
 node_of switch = record { card = switch.card; log = switch.log }
 
 -- What the game has of a life is what its switch has: its epoch, its node there once it has joined, and
--- whether it has loaded since, which is whether it has finished and is to load no more: that is all of when it
--- may load
+-- whether it has loaded since, which is whether it has finished and is to load no more: that is all of when
+-- it may load
 pub record Agrees (life : LifeId) (switch : SwitchOf) (game : Game) : Type 0 where
   pub present : game.present life ≡ switch.epoch
   pub joined : switch.joined ≡ true → game.nodes life switch.epoch ≡ Some (node_of switch)

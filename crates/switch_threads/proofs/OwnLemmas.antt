@@ -1,6 +1,7 @@
 -- A worker keeps up with the world when an event of its own comes.
 
 use Rattle.std.specs.Prelude.{◌≡◌, ◌+◌, ◌<◌, ◌≤◌, ℕ, List, [], ◌∷◌, ◌++◌, cond, length, nat_lt, not, Bool, Option, Some, None, true, false, refl}
+use Rattle.std.specs.Global.{Box}
 use Rattle.std.specs.Option.{option_map}
 use Rattle.std.proofs.Common.{sym, ◌∙◌, ap, subst, arith, true≢false}
 use Rattle.std.proofs.lemmas.List.Elements.{All-head}
@@ -13,7 +14,6 @@ use Rattle.net_script.specs.Scripts.{IsScript, ScriptOf}
 use Rattle.table_build.proofs.MadeTables.{only_table}
 use Rattle.table_build.specs.Made.{number_in, table_of}
 use Rattle.table_build.specs.Tables.{TableOf}
-use Rattle.switch_core.specs.Bytes.{OutOf}
 use Rattle.switch_core.specs.Kept.{KeptOf, StandsFor}
 use Rattle.switch_core.specs.Steps.{loaded}
 use Rattle.switch_core.specs.Switch.{SwitchOf, finish_of, note_of}
@@ -38,6 +38,7 @@ use Rattle.fabric_world.proofs.InductionLemmas.{world_script}
 use Rattle.fabric_world.proofs.NextLemmas.{handle_is_lawful, load_is_lawful, work_is_lawful}
 use Rattle.fabric_world.proofs.StaysLemmas.{handles_stay}
 use Rattle.fabric_book.specs.Nets.{HasFrame, IsStarted, IsSwitchKept, PowerOf, start_with}
+use Rattle.fabric_book.specs.declared.asking.Sheet.{Sheet}
 use Rattle.fabric_book.proofs.BookLemmas.{world_more}
 use Rattle.fabric_book.proofs.OwnLemmas.{at_same, clock_own, restart_own, set_here, take_own}
 use Rattle.switch_threads.specs.declared.desk.Pending.TheVariants as pending
@@ -61,9 +62,9 @@ put_in script h s power switch at start works stands =
       );
     }
 
-pub put_own : (script : ScriptOf) (h : List Event) (s : ℕ) (power : PowerOf) (switch : KeptOf) (out : OutOf) → KeepsUp script (world_after script h) s power switch (pending.Put out) → KeepsUp script (world_after script (h ++ Handle s ∷ [])) s power switch pending.Work
-put_own script h s power switch out is =
-    let lawful = handle_is_lawful script h s is.powered.within is.fits.0.handled_is.full in
+pub put_own : (script : ScriptOf) (h : List Event) (s : ℕ) (power : PowerOf) (switch : KeptOf) → KeepsUp script (world_after script h) s power switch pending.Put → KeepsUp script (world_after script (h ++ Handle s ∷ [])) s power switch pending.Work
+put_own script h s power switch is =
+    let lawful = handle_is_lawful script h s is.powered.within is.fits.0 in
     subst (λ (v : WorldOf). KeepsUp script v s power switch pending.Work) (sym (world_more script h (Handle s) lawful))
     (put_in script h s power switch is.powered is.start is.works is.fits.1)
 
@@ -112,9 +113,10 @@ load_on : (script : ScriptOf) (h : List Event) (s : ℕ) (power : PowerOf) (swit
 unfolding effect
 load_on script h s power switch topo finished is = (subst (IsLoaded script (world_after script h) s power switch) (sym finished) is).now
 
-pub load_own : (script : ScriptOf) (h : List Event) (s : ℕ) (power : PowerOf) (switch : KeptOf) (table : TableFor) → KeepsUp script (world_after script h) s power switch (pending.Load table) → is_barred (world_after script h).fabric ≡ false
+pub load_own : (script : ScriptOf) (h : List Event) (s : ℕ) (power : PowerOf) (switch : KeptOf) (sheet : Box Sheet) → KeepsUp script (world_after script h) s power switch (pending.Load sheet) → is_barred (world_after script h).fabric ≡ false
     → KeepsUp script (world_after script (h ++ Load s ∷ [])) s power switch pending.Work
-load_own script h s power switch table is unbarred =
+load_own script h s power switch sheet is unbarred =
+    let table = sheet.value.table in
     let w = world_after script h in
     let to = is.fits.0 in
     let lawful = load_is_lawful script h s is.powered.within unbarred to.empty to.due in

@@ -3,7 +3,6 @@
 use Rattle.std.specs.Prelude.{◌≡◌, ◌≢◌, ◌+◌, ◌<◌, ◌≤◌, ℕ, List, [], ◌∷◌, ◌++◌, All, length, not, slice_index_or, Some, refl}
 use Rattle.std.proofs.Common.{sym, ◌∙◌, ap, subst, arith, append_assoc}
 use Rattle.std.proofs.lemmas.List.{append-nil}
-use Rattle.an_base.specs.Ports.{NoteOf}
 use Rattle.an_base.specs.declared.event.Event.{Event}
 use Rattle.net_script.specs.Scripts.{IsScript, ScriptOf}
 use Rattle.wire_set.specs.WireState.{hand_of}
@@ -15,7 +14,7 @@ use Rattle.fabric_turn.specs.History.{NoneOf}
 use Rattle.fabric_turn.specs.declared.view.View.{View}
 use Rattle.fabric_world.specs.declared.ask.Ask.TheVariants as ask
 use Rattle.fabric_world.specs.Histories.{owner_of}
-use Rattle.fabric_world.specs.Turns.{IsDone, IsToLoad}
+use Rattle.fabric_world.specs.Turns.{IsToLoad}
 use Rattle.fabric_world.specs.World.{handled, start_of, world_after}
 use Rattle.fabric_world.proofs.CountLemmas.{event_counts}
 use Rattle.fabric_world.proofs.ElsewhereLemmas.{AreSameAt, world_elsewhere}
@@ -23,12 +22,13 @@ use Rattle.fabric_world.proofs.FitLemmas.{done_stays, fit_stays, handled_same, o
 use Rattle.fabric_world.proofs.InductionLemmas.{kept_by}
 use Rattle.fabric_book.specs.Nets.{PowerOf}
 use Rattle.fabric_book.specs.Told.{hand_lines}
+use Rattle.fabric_book.specs.declared.asking.Parcel.{Parcel}
 use Rattle.switch_threads.specs.declared.desk.Desk.{Desk}
 use Rattle.switch_threads.specs.declared.desk.Papers.{Papers}
 use Rattle.switch_threads.specs.declared.desk.Pending.{Pending}
 use Rattle.switch_threads.specs.declared.desk.Pending.TheVariants as pending
 use Rattle.switch_threads.specs.declared.desk.Tale.{Tale}
-use Rattle.switch_threads.specs.Workers.{IsAsking, IsPending, IsPrepared, KeepsUp, done_with, lines_at_hand}
+use Rattle.switch_threads.specs.Workers.{IsAsking, IsPending, IsPrepared, KeepsUp, lines_at_hand}
 
 -- there are never fewer events
 grow_one : (script : ScriptOf) → IsScript script → (h : List Event) (e : Event) → (world_after script h).fabric.events ≤ (world_after script (h ++ e ∷ [])).fabric.events
@@ -57,12 +57,12 @@ module _ (script : ScriptOf) (kept : IsScript script) (h more : List Event) (s :
   fits_stay : (switch : KeptOf) (next : Pending) → IsPending (world_after script h) s switch next → IsPending (world_after script (h ++ more)) s switch next
   fits_stay switch pending.Work is =
       (ap (λ (x : StationOf). not (is_empty x.hand)) same.place ∙ is.0, subst (StandsFor switch) (sym same.switch) is.1)
-  fits_stay switch (pending.Put out) is =
-      let w = world_after script h in
-      let v = world_after script (h ++ more) in
-      let done = done_stays w v s (done_with out (handled s w).switch) same bytes is.0 in
-      subst (λ (t : Step). IsDone v s (done_with out t.switch) × StandsFor switch t.switch) (sym (handled_same w v s same bytes)) (done, is.1)
-  fits_stay switch (pending.Load table) is =
+  fits_stay switch pending.Put is = (
+    ap (λ (x : StationOf). not (is_empty x.hand)) same.place ∙ is.0,
+    subst (λ (t : Step). StandsFor switch t.switch) (sym (handled_same (world_after script h) (world_after script (h ++ more)) s same bytes)) is.1,
+  )
+  fits_stay switch (pending.Load sheet) is =
+      let table = sheet.value.table in
       let w = world_after script h in
       let v = world_after script (h ++ more) in
       let note = note_of (loaded table.table.number (w.switches s)) in
@@ -90,12 +90,12 @@ module _ (script : ScriptOf) (kept : IsScript script) (h more : List Event) (s :
       ∙ ap (λ (x : SwitchOf). hand_lines s (station w.fabric s).hand (held_bytes w.fabric s) x (handled s v).switch) same.switch
       ∙ ap (λ (t : Step). hand_lines s (station w.fabric s).hand (held_bytes w.fabric s) (w.switches s) t.switch) (handled_same w v s same bytes)
 
-  pub prepared_stays : (note : NoteOf) (tale : Tale) (next : Pending) → IsPrepared (world_after script h) s note tale next → IsPrepared (world_after script (h ++ more)) s note tale next
-  prepared_stays note tale pending.Work is = is ∙ ap note_of (sym same.switch)
-  prepared_stays note tale (pending.Put out) is =
-      (is.0 ∙ ap (λ (t : Step). note_of t.switch) (sym (handled_same (world_after script h) (world_after script (h ++ more)) s same bytes)), is.1 ∙ sym lines_stay, is.2)
-  prepared_stays note tale (pending.Load table) is =
-      (is.0 ∙ ap (λ (x : SwitchOf). note_of (loaded table.table.number x)) (sym same.switch), is.1)
+  pub prepared_stays : (parcel : Parcel) (tale : Tale) (next : Pending) → IsPrepared (world_after script h) s parcel tale next → IsPrepared (world_after script (h ++ more)) s parcel tale next
+  prepared_stays parcel tale pending.Work is = is ∙ ap note_of (sym same.switch)
+  prepared_stays parcel tale pending.Put is =
+      (done_stays (world_after script h) (world_after script (h ++ more)) s parcel.done same bytes is.0, is.1 ∙ sym lines_stay, is.2)
+  prepared_stays parcel tale (pending.Load sheet) is =
+      (is.0 ∙ ap (λ (x : SwitchOf). note_of (loaded sheet.value.table.table.number x)) (sym same.switch), is.1)
 
 -- what a worker has to ask for keeps up with the world, by the parts of its desk
 pub record IsAtPlace (view : View Event ScriptOf) (place : ℕ) (power : PowerOf) (switch : KeptOf) (pending : Pending) : Type 0 where

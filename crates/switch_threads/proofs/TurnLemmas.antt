@@ -1,7 +1,8 @@
 -- A worker and the driver, before and after a call of the turnstile.
 
 use Rattle.std.specs.Prelude.{◌≡◌, ◌+◌, ◌<◌, ◌≤◌, ℕ, List, [], ◌++◌, length, not, option_to_list, Bool, Option, Some, IfSome, true, false, refl}
-use Rattle.std.specs.Global.{Vec}
+use Rattle.std.specs.Box.{with_value}
+use Rattle.std.specs.Global.{Box}
 use Rattle.std.proofs.Common.{sym, ◌∙◌, ap, subst, arith, append_assoc}
 use Rattle.std.proofs.lemmas.List.{append-nil}
 use Rattle.std.proofs.lemmas.List.FromFn.{get_or-map-range_with_len}
@@ -11,7 +12,6 @@ use Rattle.an_base.specs.declared.event.Event.{Event}
 use Rattle.an_base.specs.declared.event.Event.TheVariants.{Clock, Load, Restart, Take}
 use Rattle.net_graph.specs.Wires.{network}
 use Rattle.net_script.specs.Scripts.{IsScript, ScriptOf, restarts_of}
-use Rattle.wire_set.specs.declared.side.Put.{Put}
 use Rattle.switch_core.specs.Bytes.{OutOf}
 use Rattle.switch_core.specs.Kept.{KeptOf, Loads, StandsFor}
 use Rattle.switch_core.specs.Steps.{loaded}
@@ -40,8 +40,8 @@ use Rattle.fabric_world.specs.declared.line.Line.TheVariants as line
 use Rattle.fabric_world.specs.declared.line.PlacedLine.{PlacedLine}
 use Rattle.fabric_world.specs.Accounts.{AccountOf, account_of, placed}
 use Rattle.fabric_world.specs.Histories.{end_of, owner_of}
-use Rattle.fabric_world.specs.Turns.{AnswersAsk, Drives, LoadsOrNot, PutsFrames, TakesWork, is_noise, puts_at}
-use Rattle.fabric_world.specs.World.{begun, first_station, handled, handles, start_of, world_after}
+use Rattle.fabric_world.specs.Turns.{AnswersAsk, Drives, IsDone, IsToLoad, LoadsOrNot, PutsFrames, TakesWork, is_noise, puts_at}
+use Rattle.fabric_world.specs.World.{begun, first_station, handles, start_of, world_after}
 use Rattle.fabric_world.proofs.InductionLemmas.{world_script}
 use Rattle.fabric_world.proofs.NextLemmas.{handle_is_lawful, load_is_lawful}
 use Rattle.fabric_world.proofs.PlaceLemmas.{world_places}
@@ -52,6 +52,9 @@ use Rattle.fabric_book.specs.Told.{losses}
 use Rattle.fabric_book.specs.declared.account.Account.{Account}
 use Rattle.fabric_book.specs.declared.asking.BookAsk.{BookAsk}
 use Rattle.fabric_book.specs.declared.asking.BookReply.{BookReply}
+use Rattle.fabric_book.specs.declared.asking.Letter.{Letter}
+use Rattle.fabric_book.specs.declared.asking.Parcel.{Parcel}
+use Rattle.fabric_book.specs.declared.asking.Sheet.{Sheet}
 use Rattle.fabric_book.proofs.DriveLemmas.{driven, driver_owns}
 use Rattle.fabric_book.proofs.HandLemmas.{done_is, stands_is}
 use Rattle.switch_threads.specs.declared.desk.Desk.{Desk}
@@ -62,7 +65,7 @@ use Rattle.switch_threads.specs.declared.desk.Pending.{Pending}
 use Rattle.switch_threads.specs.declared.desk.Pending.TheVariants as pending
 use Rattle.switch_threads.specs.declared.desk.Tale.{Tale}
 use Rattle.switch_threads.specs.Runs.{IsToldAt, SeatOf}
-use Rattle.switch_threads.specs.Workers.{HasInHand, HasTold, IsAsking, IsDriving, IsInStep, IsNext, IsPrepared, IsToDo, IsUpTo, KeepsUp}
+use Rattle.switch_threads.specs.Workers.{HasInHand, HasTold, IsAsking, IsDriving, IsInStep, IsNext, IsPrepared, IsToDo, IsUpTo, KeepsUp, done_with}
 use Rattle.switch_threads.proofs.EndLemmas.{end_told, told_extends}
 use Rattle.switch_threads.proofs.OwnLemmas.{clock_switch, clock_taken, frame_taken, handled_here, life_begun, load_own, loaded_here, put_own, take_switch, taken_comes, taken_of}
 use Rattle.switch_threads.proofs.StayLemmas.{IsAtPlace, at_place, others_came, prepared_stays}
@@ -87,10 +90,10 @@ begun_fits script s power switch kept below power_is started =
     }
 
 -- A table that is due
-pub due_fits : (script : ScriptOf) (h : List Event) (s : ℕ) (power : PowerOf) (old new : KeptOf) (table : TableFor) → KeepsUp script (world_after script h) s power old pending.Work
-    → ((world_after script h).switches s).load_due ≡ true → table.epoch ≡ ((world_after script h).switches s).epoch → Loads ((world_after script h).switches s) (StandsFor new) table.table → new.start ≡ old.start → new.works ≡ old.works
-    → KeepsUp script (world_after script h) s power new (pending.Load table)
-due_fits script h s power old new table is due epoch loads start works_are =
+pub due_fits : (script : ScriptOf) (h : List Event) (s : ℕ) (power : PowerOf) (old new : KeptOf) (sheet : Box Sheet) → KeepsUp script (world_after script h) s power old pending.Work
+    → ((world_after script h).switches s).load_due ≡ true → sheet.value.table.epoch ≡ ((world_after script h).switches s).epoch → Loads ((world_after script h).switches s) (StandsFor new) sheet.value.table.table → new.start ≡ old.start → new.works ≡ old.works
+    → KeepsUp script (world_after script h) s power new (pending.Load sheet)
+due_fits script h s power old new sheet is due epoch loads start works_are =
     let works = is.works in
     record {
       powered = is.powered;
@@ -119,26 +122,28 @@ same_noise hand.Empty held bytes has = refl
 same_noise (hand.Clock now samples) held bytes has = refl
 same_noise (hand.Frame port) held bytes has = ap (λ (b : List ℕ). is_noise (hand.Frame port) b) has
 
-pub handled_fits : (script : ScriptOf) (h : List Event) (s : ℕ) (power : PowerOf) (old new : KeptOf) (buffer : List ℕ) (in_hand : Hand) (out : OutOf) → HasInHand script (world_after script h) s power old buffer in_hand
-    → new.start ≡ old.start → new.works ≡ old.works + 1 → IsHandled ((world_after script h).switches s) in_hand buffer new out → KeepsUp script (world_after script h) s power new (pending.Put out)
-handled_fits script h s power old new buffer in_hand out is start works_are does =
-    let w = world_after script h in
-    let more = is.more in
-    let there = station w.fabric s in
-    let y = (handles in_hand buffer (w.switches s)).switch in
-    let came = done_is w s in_hand buffer is.hand_is is.kept.frame out.frames (note_of y) y.spent is.full does.frames refl refl in
-    record {
-      powered = is.powered;
-      start = start ∙ is.kept.start ∙ ap (λ (x : ScriptOf). start_of x s (w.switches s).life.boot) (world_script script h);
-      works = omega (arith, more, works_are);
-      fits = (
-        record {
-          handled_is = record { full = is.full; frames_are = came.frames_are; note_is = refl; spent_is = refl };
-          noframe = does.noframe ∙ ap (λ (k : Hand). is_noise k buffer) is.hand_is ∙ same_noise there.hand (held_bytes w.fabric s) buffer is.kept.frame;
-        },
-        stands_is w s in_hand buffer is.hand_is is.kept.frame new does.stands,
-      );
-    }
+module _ (script : ScriptOf) (h : List Event) (s : ℕ) (power : PowerOf) (old new : KeptOf) (buffer : List ℕ) (in_hand : Hand) (out : OutOf) (is : HasInHand script (world_after script h) s power old buffer in_hand)
+    (does : IsHandled ((world_after script h).switches s) in_hand buffer new out) where
+  pub handled_fits : new.start ≡ old.start → new.works ≡ old.works + 1 → KeepsUp script (world_after script h) s power new pending.Put
+  handled_fits start works_are =
+      let w = world_after script h in
+      let more = is.more in
+      record {
+        powered = is.powered;
+        start = start ∙ is.kept.start ∙ ap (λ (x : ScriptOf). start_of x s (w.switches s).life.boot) (world_script script h);
+        works = omega (arith, more, works_are);
+        fits = (is.full, stands_is w s in_hand buffer is.hand_is is.kept.frame new does.stands);
+      }
+
+  pub handled_done : (done : Done) → done ≡ done_with out (handles in_hand buffer ((world_after script h).switches s)).switch → IsDone (world_after script h) s done
+  handled_done done laid =
+      let w = world_after script h in
+      let there = station w.fabric s in
+      let y = (handles in_hand buffer (w.switches s)).switch in
+      subst (IsDone w s) (sym laid) (record {
+        handled_is = done_is w s in_hand buffer is.hand_is is.kept.frame out.frames (note_of y) y.spent is.full does.frames refl refl;
+        noframe = does.noframe ∙ ap (λ (k : Hand). is_noise k buffer) is.hand_is ∙ same_noise there.hand (held_bytes w.fabric s) buffer is.kept.frame;
+      })
 
 -- Of a seat that made a call
 abbrev pub AnswersBook : ScriptOf → List Event → ℕ → Ask → Reply → List Event → Type 0
@@ -189,8 +194,8 @@ module _ (view after : View Event ScriptOf) (asked : Ask) (answer : Reply) (call
     pub moment : KeepsUp step.script (world_after step.script (view.seen ++ called.between)) place power switch next
     moment = others_came step.script step.keeps_up.powered.kept view.seen called.between place step.keeps_up.powered.within others_there power switch next step.keeps_up
 
-    pub prepared_then : (note : NoteOf) (tale : Tale) → IsPrepared (world_after step.script view.seen) place note tale next → IsPrepared (world_after step.script (view.seen ++ called.between)) place note tale next
-    prepared_then note tale is = prepared_stays step.script step.keeps_up.powered.kept view.seen called.between place step.keeps_up.powered.within others_there note tale next is
+    pub prepared_then : (parcel : Parcel) (tale : Tale) → IsPrepared (world_after step.script view.seen) place parcel tale next → IsPrepared (world_after step.script (view.seen ++ called.between)) place parcel tale next
+    prepared_then parcel tale is = prepared_stays step.script step.keeps_up.powered.kept view.seen called.between place step.keeps_up.powered.within others_there parcel tale next is
 
     -- which tells of what came
     pub tells_there : (old new : Account) (more : AccountOf → AccountOf) → ((told : AccountOf) → IsAccount told old → IsAccount (more told) new)
@@ -200,161 +205,181 @@ module _ (view after : View Event ScriptOf) (asked : Ask) (answer : Reply) (call
         (subst (λ (n : ℕ). account_of step.script n after.seen ≡ more (account_of step.script n (view.seen ++ called.between))) (sym step.number) next) told
 
 -- what came of what was in hand was put
-module _ (view after : View Event ScriptOf) (place : ℕ) (power : PowerOf) (switch : KeptOf) (out : OutOf) (done back : Done) (puts answers : Vec (Option Put)) (event : ℕ) (step : IsAtPlace view place power switch (pending.Put out))
-    (called : Called owner_of AnswersBook view (ask.Put place done puts) (reply.Put back answers event) after) where
-  pub put_does : PutsFrames step.script (view.seen ++ called.between) place done back answers.items event after.seen
-  put_does = answered view after (ask.Put place done puts) (reply.Put back answers event) called step.script step.begun
+module _ (view after : View Event ScriptOf) (place : ℕ) (power : PowerOf) (switch : KeptOf) (parcel back : Parcel) (step : IsAtPlace view place power switch pending.Put)
+    (called : Called owner_of AnswersBook view (ask.Put place parcel.done parcel.puts) (reply.Put back.done back.puts back.event) after) where
+  pub put_does : PutsFrames step.script (view.seen ++ called.between) place parcel.done back.done back.puts.items back.event after.seen
+  put_does = answered view after (ask.Put place parcel.done parcel.puts) (reply.Put back.done back.puts back.event) called step.script step.begun
 
-  pub put_moment : KeepsUp step.script (world_after step.script (view.seen ++ called.between)) place power switch (pending.Put out)
-  put_moment = moment view after (ask.Put place done puts) (reply.Put back answers event) called place power switch (pending.Put out) step
+  pub put_moment : KeepsUp step.script (world_after step.script (view.seen ++ called.between)) place power switch pending.Put
+  put_moment = moment view after (ask.Put place parcel.done parcel.puts) (reply.Put back.done back.puts back.event) called place power switch pending.Put step
 
   pub put_keeps : KeepsUp step.script (world_after step.script after.seen) place power switch pending.Work
   put_keeps =
       subst (λ (xs : List Event). KeepsUp step.script (world_after step.script xs) place power switch pending.Work) (sym put_does.event)
-      (put_own step.script (view.seen ++ called.between) place power switch out put_moment)
+      (put_own step.script (view.seen ++ called.between) place power switch put_moment)
 
-  module _ (note : NoteOf) (tale : Tale) (prepared : IsPrepared (world_after step.script view.seen) place note tale (pending.Put out)) where
-    put_prepared : IsPrepared (world_after step.script (view.seen ++ called.between)) place note tale (pending.Put out)
-    put_prepared = prepared_then view after (ask.Put place done puts) (reply.Put back answers event) called place power switch (pending.Put out) step note tale prepared
+  module _ (tale : Tale) (prepared : IsPrepared (world_after step.script view.seen) place parcel tale pending.Put) where
+    put_prepared : IsPrepared (world_after step.script (view.seen ++ called.between)) place parcel tale pending.Put
+    put_prepared = prepared_then view after (ask.Put place parcel.done parcel.puts) (reply.Put back.done back.puts back.event) called place power switch pending.Put step parcel tale prepared
 
     -- its switch shows the same
-    pub put_note : note ≡ note_of ((world_after step.script after.seen).switches place)
+    pub put_note : back.done.note ≡ note_of ((world_after step.script after.seen).switches place)
     put_note =
         let h = view.seen ++ called.between in
-        let lawful = handle_is_lawful step.script h place step.keeps_up.powered.within put_moment.fits.0.handled_is.full in
-        put_prepared.0 ∙ ap note_of (sym (handled_here step.script h place lawful)) ∙ ap (λ (xs : List Event). note_of ((world_after step.script xs).switches place)) (sym put_does.event)
+        let lawful = handle_is_lawful step.script h place step.keeps_up.powered.within put_moment.fits.0 in
+        ap (λ (d : Done). d.note) put_does.same ∙ put_prepared.0.handled_is.note_is ∙ ap note_of (sym (handled_here step.script h place lawful))
+        ∙ ap (λ (xs : List Event). note_of ((world_after step.script xs).switches place)) (sym put_does.event)
 
     -- and it tells of that
-    pub put_tells : (old new : Account) → done.frames ≡ out.frames → ((told : AccountOf) → IsAccount told old → IsAccount (with_lines (placed event (tale.lines ++ losses place back.frames answers.items)) told) new)
+    pub put_tells : (old new : Account) → ((told : AccountOf) → IsAccount told old → IsAccount (with_lines (placed back.event (tale.lines ++ losses place back.done.frames back.puts.items)) told) new)
         → HasTold step.script view old → HasTold step.script after new
-    put_tells old new frames adds told =
+    put_tells old new adds told =
         let h = view.seen ++ called.between in
-        let given : back.frames ≡ done.frames = ap (λ (d : Done). d.frames) put_does.same in
-        tells_there view after (ask.Put place done puts) (reply.Put back answers event) called place power switch (pending.Put out) step old new (with_lines (placed event (tale.lines ++ losses place back.frames answers.items))) adds
-        (put_told step.script h after.seen place back.frames answers.items tale.lines event (given ∙ frames ∙ put_moment.fits.0.handled_is.frames_are)
+        let given : back.done.frames ≡ parcel.done.frames = ap (λ (d : Done). d.frames) put_does.same in
+        tells_there view after (ask.Put place parcel.done parcel.puts) (reply.Put back.done back.puts back.event) called place power switch pending.Put step old new (with_lines (placed back.event (tale.lines ++ losses place back.done.frames back.puts.items))) adds
+        (put_told step.script h after.seen place back.done.frames back.puts.items tale.lines back.event (given ∙ put_prepared.0.handled_is.frames_are)
         (put_does.puts_are ∙ ap (puts_at (world_after step.script h).fabric place) (sym given)) put_prepared.1 put_does.event put_does.number_is) told
 
--- a table was to be loaded
-abbrev pub asked_after : LoadReply → Pending
-asked_after (load.Loaded event) = pending.Work
-asked_after (load.NotNow table) = pending.Load table
+-- a table is to be loaded, whose sheet is written on
+pub written_on : (view : View Event ScriptOf) (desk : Desk) (papers : Papers) (sheet : Box Sheet) (now : Sheet) → now ≡ sheet.value → IsAsking view desk papers (pending.Load sheet) → IsAsking view desk papers (pending.Load (with_value sheet now))
+written_on view desk papers sheet now same step = subst (λ (s : Sheet). IsAsking view desk papers (pending.Load (with_value sheet s))) (sym same) step
+
+-- it was loaded, or is left to be loaded
+abbrev pub IsLeft : LoadReply → Pending → Type 0
+IsLeft (load.Loaded event) left = left ≡ pending.Work
+IsLeft (load.NotNow table) left = (back : Box Sheet) × (left ≡ pending.Load back) × (back.value.table ≡ table)
 
 abbrev pub told_of_load : LoadReply → ℕ → TableFor → AccountOf → AccountOf
 told_of_load (load.Loaded event) place table told = with_load (record { event = event; line = line.Load place table.epoch table.table.number }) table.table.rows told
 told_of_load (load.NotNow other) place table told = told
 
-module _ (view after : View Event ScriptOf) (place : ℕ) (power : PowerOf) (switch : KeptOf) (table : TableFor) (note : NoteOf) (came : LoadReply) (step : IsAtPlace view place power switch (pending.Load table))
-    (called : Called owner_of AnswersBook view (ask.Load place table note) (reply.Load came) after) where
-  load_moment : KeepsUp step.script (world_after step.script (view.seen ++ called.between)) place power switch (pending.Load table)
-  load_moment = moment view after (ask.Load place table note) (reply.Load came) called place power switch (pending.Load table) step
+module _ (view after : View Event ScriptOf) (place : ℕ) (power : PowerOf) (switch : KeptOf) (sheet : Box Sheet) (note : NoteOf) (came : LoadReply) (step : IsAtPlace view place power switch (pending.Load sheet))
+    (called : Called owner_of AnswersBook view (ask.Load place sheet.value.table note) (reply.Load came) after) where
+  load_moment : KeepsUp step.script (world_after step.script (view.seen ++ called.between)) place power switch (pending.Load sheet)
+  load_moment = moment view after (ask.Load place sheet.value.table note) (reply.Load came) called place power switch (pending.Load sheet) step
 
-  load_does : LoadsOrNot (is_barred (world_after step.script (view.seen ++ called.between)).fabric) table came place step.script (view.seen ++ called.between) after.seen
-  load_does = answered view after (ask.Load place table note) (reply.Load came) called step.script step.begun
+  load_does : LoadsOrNot (is_barred (world_after step.script (view.seen ++ called.between)).fabric) sheet.value.table came place step.script (view.seen ++ called.between) after.seen
+  load_does = answered view after (ask.Load place sheet.value.table note) (reply.Load came) called step.script step.begun
 
   load_lawful : is_barred (world_after step.script (view.seen ++ called.between)).fabric ≡ false → is_lawful (world_after step.script (view.seen ++ called.between)).fabric (Load place) ≡ true
   load_lawful free = load_is_lawful step.script (view.seen ++ called.between) place step.keeps_up.powered.within free load_moment.fits.0.empty load_moment.fits.0.due
 
-  pub load_keeps : KeepsUp step.script (world_after step.script after.seen) place power switch (asked_after came)
-  load_keeps = by (is_barred (world_after step.script (view.seen ++ called.between)).fabric) refl load_does where
-    Keeps : List Event → LoadReply → Type 0
-    Keeps seen answer = KeepsUp step.script (world_after step.script seen) place power switch (asked_after answer)
+  pub load_keeps : (left : Pending) → IsLeft came left → KeepsUp step.script (world_after step.script after.seen) place power switch left
+  load_keeps left leaves = by (is_barred (world_after step.script (view.seen ++ called.between)).fabric) refl load_does where
+    Keeps : List Event → Pending → Type 0
+    Keeps seen next = KeepsUp step.script (world_after step.script seen) place power switch next
 
-    by : (b : Bool) → is_barred (world_after step.script (view.seen ++ called.between)).fabric ≡ b → LoadsOrNot b table came place step.script (view.seen ++ called.between) after.seen → Keeps after.seen came
+    by : (b : Bool) → is_barred (world_after step.script (view.seen ++ called.between)).fabric ≡ b → LoadsOrNot b sheet.value.table came place step.script (view.seen ++ called.between) after.seen → Keeps after.seen left
     by false free does =
-        subst (Keeps after.seen) (sym does.0)
-        (subst (λ (xs : List Event). KeepsUp step.script (world_after step.script xs) place power switch pending.Work) (sym does.1) (load_own step.script (view.seen ++ called.between) place power switch table load_moment free))
+        let none = subst (λ (c : LoadReply). IsLeft c left) does.0 leaves in
+        subst (Keeps after.seen) (sym none)
+        (subst (λ (xs : List Event). Keeps xs pending.Work) (sym does.1) (load_own step.script (view.seen ++ called.between) place power switch sheet load_moment free))
     by true barred does =
-        subst (Keeps after.seen) (sym does.0)
-        (subst (λ (xs : List Event). KeepsUp step.script (world_after step.script xs) place power switch (pending.Load table)) (sym does.1) load_moment)
+        let back = subst (λ (c : LoadReply). IsLeft c left) does.0 leaves in
+        let w = world_after step.script (view.seen ++ called.between) in
+        let fits = subst (λ (t : TableFor). IsToLoad w place t (note_of (loaded t.table.number (w.switches place))) × StandsFor switch (loaded t.table.number (w.switches place))) (sym back.2) load_moment.fits in
+        let keeps : Keeps (view.seen ++ called.between) (pending.Load back.0) = record { powered = load_moment.powered; start = load_moment.start; works = load_moment.works; fits = fits } in
+        subst (Keeps after.seen) (sym back.1) (subst (λ (xs : List Event). Keeps xs (pending.Load back.0)) (sym does.1) keeps)
 
   -- it shows the same, and has the same rows where the table is to be loaded later
-  pub load_prepared : (shown : NoteOf) (tale : Tale) → IsPrepared (world_after step.script view.seen) place shown tale (pending.Load table) → IsPrepared (world_after step.script after.seen) place shown tale (asked_after came)
-  load_prepared shown tale prepared = by (is_barred (world_after step.script (view.seen ++ called.between)).fabric) refl load_does where
-    now : IsPrepared (world_after step.script (view.seen ++ called.between)) place shown tale (pending.Load table)
-    now = prepared_then view after (ask.Load place table note) (reply.Load came) called place power switch (pending.Load table) step shown tale prepared
+  pub load_prepared : (shown : Parcel) (tale : Tale) → IsPrepared (world_after step.script view.seen) place shown tale (pending.Load sheet) → (left : Pending) → IsLeft came left → IsPrepared (world_after step.script after.seen) place shown tale left
+  load_prepared shown tale prepared left leaves = by (is_barred (world_after step.script (view.seen ++ called.between)).fabric) refl load_does where
+    now : IsPrepared (world_after step.script (view.seen ++ called.between)) place shown tale (pending.Load sheet)
+    now = prepared_then view after (ask.Load place sheet.value.table note) (reply.Load came) called place power switch (pending.Load sheet) step shown tale prepared
 
-    by : (b : Bool) → is_barred (world_after step.script (view.seen ++ called.between)).fabric ≡ b → LoadsOrNot b table came place step.script (view.seen ++ called.between) after.seen
-        → IsPrepared (world_after step.script after.seen) place shown tale (asked_after came)
+    by : (b : Bool) → is_barred (world_after step.script (view.seen ++ called.between)).fabric ≡ b → LoadsOrNot b sheet.value.table came place step.script (view.seen ++ called.between) after.seen
+        → IsPrepared (world_after step.script after.seen) place shown tale left
     by false free does =
         let h = view.seen ++ called.between in
+        let table = sheet.value.table in
+        let none = subst (λ (c : LoadReply). IsLeft c left) does.0 leaves in
         let loads = loaded_here step.script h place table (note_of (loaded table.table.number ((world_after step.script h).switches place))) (load_lawful free) load_moment.fits.0 in
-        subst (λ (c : LoadReply). IsPrepared (world_after step.script after.seen) place shown tale (asked_after c)) (sym does.0)
+        subst (IsPrepared (world_after step.script after.seen) place shown tale) (sym none)
         (now.0 ∙ ap note_of (sym loads) ∙ ap (λ (xs : List Event). note_of ((world_after step.script xs).switches place)) (sym does.1))
     by true barred does =
-        subst (λ (c : LoadReply). IsPrepared (world_after step.script after.seen) place shown tale (asked_after c)) (sym does.0)
-        (subst (λ (xs : List Event). IsPrepared (world_after step.script xs) place shown tale (pending.Load table)) (sym does.1) now)
+        let back = subst (λ (c : LoadReply). IsLeft c left) does.0 leaves in
+        let w = world_after step.script (view.seen ++ called.between) in
+        let same = subst (λ (t : TableFor). (shown.done.note ≡ note_of (loaded t.table.number (w.switches place))) × (tale.rows.items ≡ t.table.rows)) (sym back.2) now in
+        subst (IsPrepared (world_after step.script after.seen) place shown tale) (sym back.1)
+        (subst (λ (xs : List Event). IsPrepared (world_after step.script xs) place shown tale (pending.Load back.0)) (sym does.1) same)
 
   -- and it tells of that
-  pub load_tells : (old new : Account) → ((told : AccountOf) → IsAccount told old → IsAccount (told_of_load came place table told) new) → HasTold step.script view old → HasTold step.script after new
+  pub load_tells : (old new : Account) → ((told : AccountOf) → IsAccount told old → IsAccount (told_of_load came place sheet.value.table told) new) → HasTold step.script view old → HasTold step.script after new
   load_tells old new adds told =
-      tells_there view after (ask.Load place table note) (reply.Load came) called place power switch (pending.Load table) step old new (told_of_load came place table) adds
+      tells_there view after (ask.Load place sheet.value.table note) (reply.Load came) called place power switch (pending.Load sheet) step old new (told_of_load came place sheet.value.table) adds
       (by (is_barred (world_after step.script (view.seen ++ called.between)).fabric) refl load_does) told
     where
       Next : LoadReply → Type 0
-      Next c = account_of step.script (place + 1) after.seen ≡ told_of_load c place table (account_of step.script (place + 1) (view.seen ++ called.between))
+      Next c = account_of step.script (place + 1) after.seen ≡ told_of_load c place sheet.value.table (account_of step.script (place + 1) (view.seen ++ called.between))
 
-      by : (b : Bool) → is_barred (world_after step.script (view.seen ++ called.between)).fabric ≡ b → LoadsOrNot b table came place step.script (view.seen ++ called.between) after.seen → Next came
+      by : (b : Bool) → is_barred (world_after step.script (view.seen ++ called.between)).fabric ≡ b → LoadsOrNot b sheet.value.table came place step.script (view.seen ++ called.between) after.seen → Next came
       by false free does =
           let h = view.seen ++ called.between in
           let at = step.keeps_up.powered in
+          let table = sheet.value.table in
           let note = note_of (loaded table.table.number ((world_after step.script h).switches place)) in
           subst Next (sym does.0)
           (load_told step.script at.kept h after.seen place at.within table note (world_after step.script after.seen).fabric.events (load_lawful free) load_moment.fits.0 does.1 refl)
       by true barred does = subst Next (sym does.0) (ap (account_of step.script (place + 1)) does.1)
 
+-- what was read was told
+pub tells_that : (old new : Account) (read told : Option PlacedLine) → read ≡ told → ((was : AccountOf) → IsAccount was old → IsAccount (with_lines (option_to_list read) was) new)
+    → (was : AccountOf) → IsAccount was old → IsAccount (with_lines (option_to_list told) was) new
+tells_that old new read told same adds = subst (λ (line : Option PlacedLine). (was : AccountOf) → IsAccount was old → IsAccount (with_lines (option_to_list line) was) new) same adds
+
 -- work was taken
-module _ (script : ScriptOf) (h seen : List Event) (desk : Desk) (papers : Papers) (buffer : List ℕ) (tale : Tale) (told : Option PlacedLine) (now : IsUpTo script h desk papers pending.Work) (asks : desk.pending ≡ pending.Work) where
-  pub to_do : (job : Work) → TakesWork script h desk.s job buffer told seen → IsToDo script seen (record desk { tale = tale }) (record papers { buffer = buffer }) job
+module _ (script : ScriptOf) (h seen : List Event) (desk : Desk) (papers : Papers) (letter : Box Letter) (tale : Tale) (now : IsUpTo script h desk papers pending.Work) (asks : desk.pending ≡ pending.Work) where
+  pub to_do : (job : Work) → TakesWork script h desk.s job letter.value.buffer letter.value.told seen → IsToDo script seen (record desk { tale = tale }) (record papers { letter = letter }) job
   to_do (work.Nothing reason) takes =
       let same : h ≡ seen = sym (takes.event ∙ append-nil h) in
-      subst (IsUpTo script seen (record desk { tale = tale }) (record papers { buffer = buffer })) (sym asks) (record {
+      subst (IsUpTo script seen (record desk { tale = tale }) (record papers { letter = letter })) (sym asks) (record {
         keeps_up = subst (λ (xs : List Event). KeepsUp script (world_after script xs) desk.s desk.power_on desk.switch.value pending.Work) same now.keeps_up;
         prepared = now.prepared ∙ ap (λ (xs : List Event). note_of ((world_after script xs).switches desk.s)) same;
       })
   to_do (work.Clock tick samples) takes =
       let at = now.keeps_up in
-      let lawful = taken_comes script h desk.s (work.Clock tick samples) (Clock desk.s) buffer told seen at.powered.within at.fits.0 takes refl in
+      let lawful = taken_comes script h desk.s (work.Clock tick samples) (Clock desk.s) letter.value.buffer letter.value.told seen at.powered.within at.fits.0 takes refl in
       record {
-        has = subst (λ (xs : List Event). HasInHand script (world_after script xs) desk.s desk.power_on desk.switch.value buffer (hand.Clock tick samples)) (sym takes.event)
-            (clock_taken script h desk.s desk.power_on desk.switch.value at tick samples buffer (taken_of script h desk.s (work.Clock tick samples) buffer told seen takes) lawful);
+        has = subst (λ (xs : List Event). HasInHand script (world_after script xs) desk.s desk.power_on desk.switch.value letter.value.buffer (hand.Clock tick samples)) (sym takes.event)
+            (clock_taken script h desk.s desk.power_on desk.switch.value at tick samples letter.value.buffer (taken_of script h desk.s (work.Clock tick samples) letter.value.buffer letter.value.told seen takes) lawful);
         note_is = now.prepared ∙ ap note_of (sym (clock_switch script h desk.s desk.power_on desk.switch.value at lawful))
             ∙ ap (λ (xs : List Event). note_of ((world_after script xs).switches desk.s)) (sym takes.event);
       }
   to_do (work.Frame port) takes =
       let at = now.keeps_up in
-      let lawful = taken_comes script h desk.s (work.Frame port) (Take desk.s port) buffer told seen at.powered.within at.fits.0 takes refl in
+      let lawful = taken_comes script h desk.s (work.Frame port) (Take desk.s port) letter.value.buffer letter.value.told seen at.powered.within at.fits.0 takes refl in
       record {
-        has = subst (λ (xs : List Event). HasInHand script (world_after script xs) desk.s desk.power_on desk.switch.value buffer (hand.Frame port)) (sym takes.event)
-            (frame_taken script h desk.s desk.power_on desk.switch.value at port buffer lawful (takes.bytes ∙ ap (λ (xs : List Event). held_bytes (world_after script xs).fabric desk.s) takes.event));
+        has = subst (λ (xs : List Event). HasInHand script (world_after script xs) desk.s desk.power_on desk.switch.value letter.value.buffer (hand.Frame port)) (sym takes.event)
+            (frame_taken script h desk.s desk.power_on desk.switch.value at port letter.value.buffer lawful (takes.bytes ∙ ap (λ (xs : List Event). held_bytes (world_after script xs).fabric desk.s) takes.event));
         note_is = now.prepared ∙ ap note_of (sym (take_switch script h desk.s desk.power_on desk.switch.value at port lawful))
             ∙ ap (λ (xs : List Event). note_of ((world_after script xs).switches desk.s)) (sym takes.event);
       }
   to_do (work.Restart life) takes = λ new started.
       let at = now.keeps_up in
       subst (λ (xs : List Event). KeepsUp script (world_after script xs) desk.s desk.power_on new pending.Work) (sym takes.event)
-      (life_begun script h desk.s desk.power_on desk.switch.value at life (taken_of script h desk.s (work.Restart life) buffer told seen takes)
-      (taken_comes script h desk.s (work.Restart life) (Restart desk.s) buffer told seen at.powered.within at.fits.0 takes refl) new started)
+      (life_begun script h desk.s desk.power_on desk.switch.value at life (taken_of script h desk.s (work.Restart life) letter.value.buffer letter.value.told seen takes)
+      (taken_comes script h desk.s (work.Restart life) (Restart desk.s) letter.value.buffer letter.value.told seen at.powered.within at.fits.0 takes refl) new started)
 
-pub take_step : (view after : View Event ScriptOf) (desk : Desk) (papers : Papers) (buffer : List ℕ) (job : Work) (told : Option PlacedLine) (tale : Tale) → desk.pending ≡ pending.Work → IsAsking view desk papers pending.Work
-    → Called owner_of AnswersBook view (ask.Take desk.s papers.buffer) (reply.Take job buffer told) after
-    → ((was : AccountOf) → IsAccount was desk.tale.account → IsAccount (with_lines (option_to_list told) was) tale.account) → IsInStep after (record desk { tale = tale }) (record papers { buffer = buffer }) (next.Do job)
-take_step view after desk papers buffer job told tale asks step called adds =
-    let asked = ask.Take desk.s papers.buffer in
-    let answer = reply.Take job buffer told in
+pub take_step : (view after : View Event ScriptOf) (desk : Desk) (papers : Papers) (letter : Box Letter) (tale : Tale) → desk.pending ≡ pending.Work → IsAsking view desk papers pending.Work
+    → Called owner_of AnswersBook view (ask.Take desk.s papers.letter.value.buffer) (reply.Take letter.value.work letter.value.buffer letter.value.told) after
+    → ((was : AccountOf) → IsAccount was desk.tale.account → IsAccount (with_lines (option_to_list letter.value.told) was) tale.account) → IsInStep after (record desk { tale = tale }) (record papers { letter = letter }) next.Do
+take_step view after desk papers letter tale asks step called adds =
+    let asked = ask.Take desk.s papers.letter.value.buffer in
+    let answer = reply.Take letter.value.work letter.value.buffer letter.value.told in
     let at = at_place view desk papers pending.Work step in
     let h = view.seen ++ called.between in
     let does = answered view after asked answer called step.script step.begun in
     let now : IsUpTo step.script h desk papers pending.Work = record {
       keeps_up = moment view after asked answer called desk.s desk.power_on desk.switch.value pending.Work at;
-      prepared = prepared_then view after asked answer called desk.s desk.power_on desk.switch.value pending.Work at papers.done.value.note desk.tale step.fits.prepared;
+      prepared = prepared_then view after asked answer called desk.s desk.power_on desk.switch.value pending.Work at papers.parcel.value desk.tale step.fits.prepared;
     } in
     record {
       script = step.script;
       begun = start_stays view after asked answer called step.script step.begun;
       number = number_stays view after asked answer called (desk.s + 1) step.number;
-      fits = to_do step.script h after.seen desk papers buffer tale told now asks job does;
-      told = tells_there view after asked answer called desk.s desk.power_on desk.switch.value pending.Work at desk.tale.account tale.account (with_lines (option_to_list told)) adds
-          (ap (account_of step.script (desk.s + 1)) does.event ∙ work_told step.script h desk.s job ∙ ap (λ (lines : List PlacedLine). with_lines lines (account_of step.script (desk.s + 1) h)) (sym does.told_is)) step.told;
+      fits = to_do step.script h after.seen desk papers letter tale now asks letter.value.work does;
+      told = tells_there view after asked answer called desk.s desk.power_on desk.switch.value pending.Work at desk.tale.account tale.account (with_lines (option_to_list letter.value.told)) adds
+          (ap (account_of step.script (desk.s + 1)) does.event ∙ work_told step.script h desk.s letter.value.work ∙ ap (λ (lines : List PlacedLine). with_lines lines (account_of step.script (desk.s + 1) h)) (sym does.told_is)) step.told;
     }
 
 -- what is to be asked for is taken in hand
@@ -365,18 +390,8 @@ in_hand view desk papers asked left is step = record {
   number = step.number;
   fits = record {
     keeps_up = subst (KeepsUp step.script (world_after step.script view.seen) desk.s desk.power_on desk.switch.value) is step.fits.keeps_up;
-    prepared = subst (IsPrepared (world_after step.script view.seen) desk.s papers.done.value.note desk.tale) is step.fits.prepared;
+    prepared = subst (IsPrepared (world_after step.script view.seen) desk.s papers.parcel.value desk.tale) is step.fits.prepared;
   };
-  told = step.told;
-}
-
--- or left to be asked for
-pub left_to_ask : (view : View Event ScriptOf) (desk : Desk) (papers : Papers) (asked : Pending) → desk.pending ≡ asked → IsAsking view desk papers asked → IsInStep view desk papers next.Ask
-left_to_ask view desk papers asked is step = record {
-  script = step.script;
-  begun = step.begun;
-  number = step.number;
-  fits = subst (IsUpTo step.script view.seen desk papers) (sym is) step.fits;
   told = step.told;
 }
 

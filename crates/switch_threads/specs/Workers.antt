@@ -2,7 +2,6 @@
 -- seat has seen.
 
 use Rattle.std.specs.Prelude.{◌≡◌, ◌+◌, ◌<◌, ◌≤◌, ℕ, List, length, Option, Some, IfSome, false, true}
-use Rattle.an_base.specs.Ports.{NoteOf}
 use Rattle.an_base.specs.declared.event.Event.{Event}
 use Rattle.net_script.specs.Scripts.{IsScript, ScriptOf}
 use Rattle.switch_core.specs.Bytes.{OutOf}
@@ -25,6 +24,7 @@ use Rattle.fabric_book.specs.Accounts.{IsAccount}
 use Rattle.fabric_book.specs.Nets.{IsStarted, IsSwitchKept, PowerOf, power_of, start_with}
 use Rattle.fabric_book.specs.Told.{hand_lines}
 use Rattle.fabric_book.specs.declared.account.Account.{Account}
+use Rattle.fabric_book.specs.declared.asking.Parcel.{Parcel}
 use Rattle.fabric_turn.specs.History.{own_entries}
 use Rattle.fabric_turn.specs.declared.view.View.{View}
 use Rattle.switch_threads.specs.declared.desk.Desk.{Desk}
@@ -45,12 +45,12 @@ done_with out switch =
 abbrev pub IsPending : WorldOf → ℕ → KeptOf → Pending → Type 0
 IsPending world place switch pending.Work =
     (is_full_at world.fabric place ≡ false) × StandsFor switch (world.switches place)
-IsPending world place switch (pending.Put out) =
-    IsDone world place (done_with out (handled place world).switch)
-    × StandsFor switch (handled place world).switch
-IsPending world place switch (pending.Load table) =
-    IsToLoad world place table (note_of (loaded table.table.number (world.switches place)))
-    × StandsFor switch (loaded table.table.number (world.switches place))
+IsPending world place switch pending.Put =
+    (is_full_at world.fabric place ≡ true) × StandsFor switch (handled place world).switch
+IsPending world place switch (pending.Load sheet) =
+    IsToLoad world place sheet.value.table
+    (note_of (loaded sheet.value.table.table.number (world.switches place)))
+    × StandsFor switch (loaded sheet.value.table.table.number (world.switches place))
 
 -- all that is told of what a switch has in hand, once it is handled, but of the frames that are lost
 abbrev pub lines_at_hand : WorldOf → ℕ → List Line
@@ -58,15 +58,17 @@ lines_at_hand world place =
     hand_lines place (station world.fabric place).hand (held_bytes world.fabric place) (world.switches place)
     (handled place world).switch
 
--- What a worker is to show and to tell fits what it has to ask for: its note is what its switch shows then.
--- Of what was handled it has the lines, and room for what becomes of each frame; of a table it has the rows.
-abbrev pub IsPrepared : WorldOf → ℕ → NoteOf → Tale → Pending → Type 0
-IsPrepared world place note tale pending.Work = note ≡ note_of (world.switches place)
-IsPrepared world place note tale (pending.Put out) =
-    (note ≡ note_of (handled place world).switch)
-    × (tale.lines ≡ lines_at_hand world place) × (length tale.puts.items ≡ length out.frames)
-IsPrepared world place note tale (pending.Load table) =
-    (note ≡ note_of (loaded table.table.number (world.switches place))) × (tale.rows.items ≡ table.table.rows)
+-- What a worker is to put, to show and to tell fits what it has to ask for: its note is what its switch shows
+-- then. Of what was handled it has what came of it, the lines, and room for what becomes of each frame; of a
+-- table it has the rows.
+abbrev pub IsPrepared : WorldOf → ℕ → Parcel → Tale → Pending → Type 0
+IsPrepared world place parcel tale pending.Work = parcel.done.note ≡ note_of (world.switches place)
+IsPrepared world place parcel tale pending.Put =
+    IsDone world place parcel.done
+    × (tale.lines ≡ lines_at_hand world place) × (length parcel.puts.items ≡ length parcel.done.frames)
+IsPrepared world place parcel tale (pending.Load sheet) =
+    (parcel.done.note ≡ note_of (loaded sheet.value.table.table.number (world.switches place)))
+    × (tale.rows.items ≡ sheet.value.table.table.rows)
 
 -- This is with what the switch at a place of a script is started.
 pub record IsPowerAt (script : ScriptOf) (place : ℕ) (power : PowerOf) : Type 0 where
@@ -92,21 +94,21 @@ pub record HasInHand (script : ScriptOf) (world : WorldOf) (place : ℕ) (power 
   pub kept : IsSwitchKept world place switch buffer
   pub more : switch.works < world.fabric.events
 
--- Of the desk and the papers of a worker, after a history: all that lies there fits what it has to ask for,
+-- Of the desk and the papers of a worker, after a history: all that lies there fits what it has to ask for.
 pub record IsUpTo (script : ScriptOf) (history : List Event) (desk : Desk) (papers : Papers) (next : Pending)
     : Type 0 where
   pub keeps_up : KeepsUp script (world_after script history) desk.s desk.power_on desk.switch.value next
-  pub prepared : IsPrepared (world_after script history) desk.s papers.done.value.note desk.tale next
+  pub prepared : IsPrepared (world_after script history) desk.s papers.parcel.value desk.tale next
 
--- or what its switch is to handle, before which it shows what is noted.
+-- Or it fits what its switch is to handle, before which it shows what is noted.
 pub record IsToHandle (script : ScriptOf) (history : List Event) (desk : Desk) (papers : Papers) (hand : Hand)
     : Type 0 where
-  pub has : HasInHand script (world_after script history) desk.s desk.power_on desk.switch.value papers.buffer
-      hand
-  pub note_is : papers.done.value.note ≡ note_of ((world_after script history).switches desk.s)
+  pub has : HasInHand script (world_after script history) desk.s desk.power_on desk.switch.value
+      papers.letter.value.buffer hand
+  pub note_is : papers.parcel.value.done.note ≡ note_of ((world_after script history).switches desk.s)
 
--- What is to be done with the work that a worker took: nothing, but to ask for what it has to ask for; to handle
--- what is in hand then; or to begin the next life, with whichever switch is started in it.
+-- What is to be done with the work that a worker took: nothing, but to ask for what it has to ask for; to
+-- handle what is in hand then; or to begin the next life, with whichever switch is started in it.
 abbrev pub IsToDo : ScriptOf → List Event → Desk → Papers → Work → Type 0
 IsToDo script history desk papers (work.Nothing reason) = IsUpTo script history desk papers desk.pending
 IsToDo script history desk papers (work.Clock now samples) =
@@ -120,7 +122,7 @@ IsToDo script history desk papers (work.Restart life) = (switch : KeptOf)
 abbrev pub IsNext : ScriptOf → List Event → Desk → Papers → Next → Type 0
 IsNext script history desk papers next.Ask = IsUpTo script history desk papers desk.pending
 IsNext script history desk papers next.Later = IsUpTo script history desk papers desk.pending
-IsNext script history desk papers (next.Do job) = IsToDo script history desk papers job
+IsNext script history desk papers next.Do = IsToDo script history desk papers papers.letter.value.work
 
 -- A caller has told of its events: its seat has all of them that are in what it has seen, and the account is
 -- of these.
@@ -128,8 +130,8 @@ pub record HasTold (script : ScriptOf) (view : View Event ScriptOf) (account : A
   pub own : own_entries owner_of view.seen view.number ≡ view.mine
   pub account_is : IsAccount (account_of script view.number view.seen) account
 
--- The worker of a seat: the seat's number is that of its place, what it is about fits the history that the seat
--- has seen, and it has told of its events.
+-- The worker of a seat: the seat's number is that of its place, what it is about fits the history that the
+-- seat has seen, and it has told of its events.
 pub record IsWorker (view : View Event ScriptOf) (desk : Desk) (Fits : ScriptOf → List Event → Type 0)
     : Type 0 where
   pub script : ScriptOf

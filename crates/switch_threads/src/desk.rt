@@ -23,7 +23,7 @@ use an_base::memory::OutOfMemory;
 use an_base::port::Note;
 use an_base::row::Row;
 use fabric_book::account::Account;
-use fabric_book::asking::{BookAsk, BookReply};
+use fabric_book::asking::{BookAsk, BookReply, Letter, Parcel, Sheet};
 use fabric_book::book::Book;
 use fabric_book::handling::handle;
 use fabric_book::lines::Lines;
@@ -31,28 +31,27 @@ use fabric_book::power::PowerOn;
 use fabric_book::telling::tell_losses;
 use fabric_state::hand::Hand;
 use fabric_state::station::write_note;
-use fabric_state::work::Work;
+use fabric_state::work::{Why, Work};
 use fabric_turn::{Seat, Turnstile};
-use fabric_world::ask::{Done, LoadReply};
+use fabric_world::ask::Done;
 use fabric_world::line::{Line, PlacedLine};
 use frame_region::buffer::FrameBuf;
 use net_script::script::Script;
 use std::alloc::Global;
-use std::mem::replace;
+use std::mem::{replace, swap};
 use std::sync::Wait;
 use switch_core::out::{FrameOut, Frames, Out};
 use switch_core::switch::{Switch, TableFor};
-use wire_set::side::Put;
 
 /// What a worker has to ask for next.
 #[derive(Drop)]
 pub(crate) enum Pending {
     /// For work.
     Work,
-    /// To put what came of what it had in hand.
-    Put(Out),
+    /// To put what came of what it had in hand, which lies in its papers.
+    Put,
     /// To load a table.
-    Load(TableFor),
+    Load(Box<Sheet>),
 }
 
 /// What a worker is to do next.
@@ -60,27 +59,27 @@ pub(crate) enum Pending {
 pub(crate) enum Next {
     /// To ask for what is to be asked for.
     Ask,
-    /// To ask for it in the next round.
+    /// To ask for it once the worker is called.
     Later,
-    /// To do the work that it took.
-    Do(Work),
+    /// To do the work that it took, which lies in its papers.
+    Do,
 }
 
 impl Next {
-    /// What there is to do at this turn of a round, which may be its first.
-    pub fn in_round(self, is_first: bool) -> Next
+    /// What there is to do at a turn, ahead of which the worker may have been called.
+    pub fn once_called(self, is_called: bool) -> Next
         ensures { (script : ScriptOf) (history : List Event) (desk : DeskOf) (papers : PapersOf)
             → IsNext script history desk papers self → IsNext script history desk papers result }
     {
         match self {
-            Next::Later if is_first => Next::Ask,
+            Next::Later if is_called => Next::Ask,
             next => next,
         }
     }
 
-    /// Whether there is something to do at this turn of a round, which may be its first.
-    pub fn is_in_round(&self, is_first: bool) -> bool {
-        is_first || !matches!(self, Next::Later)
+    /// Whether there is something to do at a turn, ahead of which the worker may have been called.
+    pub fn is_due(&self, is_called: bool) -> bool {
+        is_called || !matches!(self, Next::Later)
     }
 
     /// Whether there is something to ask for.
@@ -92,8 +91,6 @@ impl Next {
 /// What a worker tells.
 #[derive(Drop)]
 pub(crate) struct Tale {
-    /// Where it goes what becomes of each frame.
-    pub puts: Vec<Option<Put>>,
     /// What is told of what its switch handled last.
     pub lines: Lines,
     /// The rows of the table that is to be loaded.
@@ -108,23 +105,22 @@ impl Tale {
         ensures { IsAccount (record { lines = []; rows = [] }) result.account }
     {
         Tale {
-            puts: Vec::new(alloc),
             lines: Lines::new(alloc),
             rows: Vec::new(alloc),
             account: Account::new(alloc),
         }
     }
 
-    // Tells of what a switch handled, by the event at a place, with what became of its frames.
-    fn tell_handled(&mut self, s: u8, frames: &[FrameOut], puts: Vec<Option<Put>>, event: u32)
-        requires { length puts.items ≡ length frames.now }
-        ensures { (told : AccountOf) → IsAccount told self.old.account → IsAccount
-            (with_lines (placed event (self.old.lines ++ losses s frames.now puts.items)) told) self.new.account }
+    // Tells of what a switch handled, by its event, with what became of its frames.
+    fn tell_handled(&mut self, s: u8, parcel: &Parcel)
+        requires { length parcel.now.puts.items ≡ length parcel.now.done.frames }
+        ensures { (told : AccountOf) → IsAccount told self.old.account → IsAccount (with_lines
+            (placed parcel.now.event (self.old.lines ++ losses s parcel.now.done.frames parcel.now.puts.items)) told)
+            self.new.account }
     {
-        let told = tell_losses(s, frames, &puts, &mut self.lines);
-        self.puts = puts;
-        match told {
-            Ok(()) => self.account.tell_lines(event, &self.lines),
+        let frames = parcel.done.frames.as_slice();
+        match tell_losses(s, frames, &parcel.puts, &mut self.lines) {
+            Ok(()) => self.account.tell_lines(parcel.event, &self.lines),
             Err(OutOfMemory) => self.account.failed = true,
         }
     }
@@ -142,20 +138,30 @@ impl Tale {
 /// What a worker hands over when it asks, and gets back.
 #[derive(Drop)]
 pub(crate) struct Papers {
-    /// Where the bytes of a frame go.
-    pub buffer: FrameBuf,
-    /// Where what it puts lies while it is put. Its note is what the switch shows.
-    pub done: Box<Done>,
-    /// Room for another note, as while a table is loaded.
+    /// On which it is told its next work.
+    pub letter: Box<Letter>,
+    /// What it puts, until it has something else to put. The note in it is what the switch shows.
+    pub parcel: Box<Parcel>,
+    /// Room for another note.
     pub note: Box<Note>,
 }
 
 impl Papers {
+    /// The frames that were put last, until others are laid there.
+    pub fn sent(&self) -> &[FrameOut] {
+        self.parcel.done.frames.as_slice()
+    }
+
     // With what this switch shows.
     fn new(alloc: Global, switch: &Switch) -> Result<Papers, OutOfMemory>
         ensures { (x : SwitchOf) → StandsFor switch.now x
-            → IfOk result (λ papers. papers.done.value.note ≡ note_of x) }
+            → IfOk result (λ papers. papers.parcel.value.done.note ≡ note_of x) }
     {
+        let letter = Letter {
+            buffer: FrameBuf::new(alloc)?,
+            work: Work::Nothing { why: Why::Idle },
+            told: None,
+        };
         let note = Box::new(alloc, switch.note())?;
         let done = Done {
             frames: Frames::new(alloc),
@@ -163,11 +169,28 @@ impl Papers {
             note: note.copy(),
             spent: false,
         };
+        let parcel = Parcel {
+            done,
+            puts: Vec::new(alloc),
+            event: 0,
+        };
         Ok(Papers {
-            buffer: FrameBuf::new(alloc)?,
-            done: Box::new(alloc, done)?,
+            letter: Box::new(alloc, letter)?,
+            parcel: Box::new(alloc, parcel)?,
             note,
         })
+    }
+
+    // What there is to do after work was taken. Where there is none it is to be asked for once the worker is called.
+    fn after_take(&self) -> Next
+        ensures { (script : ScriptOf) (history : List Event) (desk : DeskOf)
+            → IsToDo script history desk self.now self.now.letter.value.work
+            → IsNext script history desk self.now result }
+    {
+        match self.letter.work {
+            Work::Nothing { why: _ } => Next::Later,
+            _ => Next::Do,
+        }
     }
 }
 
@@ -190,16 +213,18 @@ pub(crate) struct Desk {
     pub tale: Tale,
 }
 
-// The box with what came of what a switch had in hand, and with what the switch shows then.
-fn filled(switch: &Switch, out: Out, mut done: Box<Done>) -> Box<Done>
-    ensures { (x : SwitchOf) → StandsFor switch.now x → done.value.note ≡ note_of x
-        → result.value ≡ done_with out x }
+// What came of what a switch had in hand is laid into a parcel, beside the note of what it shows then, with room for
+// what becomes of each frame. The memory of the frames that lay there is kept for those that come.
+fn lay(switch: &Switch, out: &mut Out, parcel: &mut Parcel) -> Result<(), OutOfMemory>
+    ensures laid { (x : SwitchOf) → StandsFor switch.now x → parcel.old.done.note ≡ note_of x
+        → OnOk result (parcel.new.done ≡ done_with out.old x) }
+    ensures room { OnOk result (length parcel.new.puts.items ≡ length parcel.new.done.frames) }
 {
-    let Out { frames, noframe } = out;
-    done.frames = frames;
-    done.noframe = noframe;
-    done.spent = switch.is_spent();
-    done
+    parcel.puts.resize(out.frames.as_slice().len(), None)?;
+    swap(&mut out.frames, &mut parcel.done.frames);
+    parcel.done.noframe = out.noframe;
+    parcel.done.spent = switch.is_spent();
+    Ok(())
 }
 
 // A copy of rows.
@@ -229,17 +254,6 @@ fn load_line(s: u8, table: &TableFor) -> Line
     }
 }
 
-// What there is to do after work was taken. Where there is none it is to be asked for in the next round.
-fn after_take(work: Work) -> Next
-    ensures { (script : ScriptOf) (history : List Event) (desk : DeskOf) (papers : PapersOf)
-        → IsToDo script history desk papers work → IsNext script history desk papers result }
-{
-    match work {
-        Work::Nothing { why: _ } => Next::Later,
-        work => Next::Do(work),
-    }
-}
-
 impl Desk {
     /// The desk and the papers of a switch that begins its first life.
     pub fn new(alloc: Global, script: &Script, s: u8) -> Result<(Desk, Papers), OutOfMemory>
@@ -265,6 +279,11 @@ impl Desk {
         Ok((desk, papers))
     }
 
+    /// Whether it is to put what came of what it had in hand.
+    pub fn is_putting(&self) -> bool {
+        matches!(self.pending, Pending::Put)
+    }
+
     // A table is to be loaded next, where one is due and nothing else is to be asked for.
     fn due(&mut self, papers: &mut Papers) -> Result<(), OutOfMemory>
         ensures place { self.new.s ≡ self.old.s }
@@ -277,8 +296,9 @@ impl Desk {
             Pending::Work if self.switch.load_due() => {
                 let table = self.switch.load()?;
                 self.tale.rows = copied(self.alloc, table.table.as_slice())?;
-                self.switch.show(&mut papers.done.note);
-                self.pending = Pending::Load(table);
+                self.switch.show(&mut papers.parcel.done.note);
+                let note = papers.parcel.done.note.copy();
+                self.pending = Pending::Load(Box::new(self.alloc, Sheet { table, note })?);
                 Ok(())
             }
             _ => Ok(()),
@@ -300,7 +320,8 @@ impl Desk {
                 Ok(Next::Ask)
             }
             Next::Later => Ok(Next::Later),
-            Next::Do(work) => {
+            Next::Do => {
+                let work = papers.letter.work;
                 self.work(papers, &work)?;
                 self.due(papers)?;
                 Ok(Next::Ask)
@@ -308,7 +329,8 @@ impl Desk {
         }
     }
 
-    /// Asks for what is to be asked for. Answers its papers, and what there is to do next.
+    /// Asks for what is to be asked for. Where it put what came of what it had in hand it asks at once for work, if no
+    /// table is due: what the book has of its switch is near then. Answers its papers, and what there is to do next.
     pub fn ask<R: Wait>(
         &mut self,
         rt: &R,
@@ -321,11 +343,15 @@ impl Desk {
         ensures called { HasCalled seat.old seat.new }
         ensures step { IsInStep seat.new.1 self.new result.0 result.1 }
     {
-        match replace(&mut self.pending, Pending::Work) {
-            Pending::Work => self.take(rt, turnstile, seat, papers),
-            Pending::Put(out) => self.put_and_take(rt, turnstile, seat, papers, out),
-            Pending::Load(table) => self.load(rt, turnstile, seat, papers, table),
+        let papers = match replace(&mut self.pending, Pending::Work) {
+            Pending::Work => papers,
+            Pending::Put => self.put(rt, turnstile, seat, papers),
+            Pending::Load(sheet) => return self.load(rt, turnstile, seat, papers, sheet),
+        };
+        if self.switch.load_due() {
+            return (papers, Next::Ask);
         }
+        self.take(rt, turnstile, seat, papers)
     }
 
     // Asks for work.
@@ -344,17 +370,15 @@ impl Desk {
     {
         let ask = BookAsk::Take {
             s: self.s,
-            out: papers.buffer,
+            letter: papers.letter,
         };
-        let BookReply::Take { work, out, told } = turnstile.call(rt, seat, ask) else {
+        let BookReply::Take { letter } = turnstile.call(rt, seat, ask) else {
             unreachable!()
         };
-        self.tale.account.tell(told);
-        let papers = Papers {
-            buffer: out,
-            ..papers
-        };
-        (papers, after_take(work))
+        self.tale.account.tell(letter.told);
+        let papers = Papers { letter, ..papers };
+        let next = papers.after_take();
+        (papers, next)
     }
 
     // Does the work that it took.
@@ -387,7 +411,7 @@ impl Desk {
             → OnOk result (IsUpTo script history self.new papers.new self.new.pending) }
     {
         *self.switch = self.power_on.start(self.alloc, life)?;
-        self.switch.show(&mut papers.done.note);
+        self.switch.show(&mut papers.parcel.done.note);
         self.pending = Pending::Work;
         Ok(())
     }
@@ -405,76 +429,40 @@ impl Desk {
             &mut self.switch,
             self.s,
             hand,
-            papers.buffer.bytes(),
+            papers.letter.buffer.bytes(),
             &mut self.out,
-            &mut papers.done.note,
+            &mut papers.parcel.done.note,
             &mut papers.note,
             &mut self.tale.lines,
         )?;
-        let out = replace(&mut self.out, Out::new(self.alloc));
-        self.tale.puts.resize(out.frames.as_slice().len(), None)?;
-        self.pending = Pending::Put(out);
+        lay(&self.switch, &mut self.out, &mut papers.parcel)?;
+        self.pending = Pending::Put;
         Ok(())
     }
 
-    // Puts what came of what it had in hand, and asks at once for work, where no table is due: what the book has of
-    // its switch is near then.
-    fn put_and_take<R: Wait>(
-        &mut self,
-        rt: &R,
-        turnstile: &Turnstile<Book>,
-        seat: &mut Seat<Book>,
-        papers: Papers,
-        out: Out,
-    ) -> (Papers, Next)
-        requires turnstile { seat.old.0 ≡ turnstile_id turnstile.now }
-        requires pending { self.old.pending ≡ pending.Work }
-        requires step { IsAsking seat.old.1 self.old papers (pending.Put out) }
-        ensures called { HasCalled seat.old seat.new }
-        ensures step { IsInStep seat.new.1 self.new result.0 result.1 }
-    {
-        let papers = self.put(rt, turnstile, seat, papers, out);
-        if self.switch.load_due() {
-            return (papers, Next::Ask);
-        }
-        self.take(rt, turnstile, seat, papers)
-    }
-
-    // Puts what came of what it had in hand. The memory of the frames is kept for those that come.
+    // Puts what came of what it had in hand.
     fn put<R: Wait>(
         &mut self,
         rt: &R,
         turnstile: &Turnstile<Book>,
         seat: &mut Seat<Book>,
         papers: Papers,
-        out: Out,
     ) -> Papers
         requires turnstile { seat.old.0 ≡ turnstile_id turnstile.now }
-        requires step { IsAsking seat.old.1 self.old papers (pending.Put out) }
+        requires step { IsAsking seat.old.1 self.old papers pending.Put }
         ensures called { HasCalled seat.old seat.new }
         ensures pending { self.new.pending ≡ self.old.pending }
         ensures step { IsAsking seat.new.1 self.new result pending.Work }
     {
         let ask = BookAsk::Put {
             s: self.s,
-            done: filled(&self.switch, out, papers.done),
-            puts: replace(&mut self.tale.puts, Vec::new(self.alloc)),
+            parcel: papers.parcel,
         };
-        let BookReply::Put {
-            mut done,
-            puts,
-            event,
-        } = turnstile.call(rt, seat, ask)
-        else {
+        let BookReply::Put { parcel } = turnstile.call(rt, seat, ask) else {
             unreachable!()
         };
-        self.tale
-            .tell_handled(self.s, done.frames.as_slice(), puts, event);
-        self.out = Out {
-            frames: replace(&mut done.frames, Frames::new(self.alloc)),
-            noframe: false,
-        };
-        Papers { done, ..papers }
+        self.tale.tell_handled(self.s, &parcel);
+        Papers { parcel, ..papers }
     }
 
     // Asks for a table to be used.
@@ -484,35 +472,27 @@ impl Desk {
         turnstile: &Turnstile<Book>,
         seat: &mut Seat<Book>,
         papers: Papers,
-        table: TableFor,
+        sheet: Box<Sheet>,
     ) -> (Papers, Next)
         requires turnstile { seat.old.0 ≡ turnstile_id turnstile.now }
         requires pending { self.old.pending ≡ pending.Work }
-        requires step { IsAsking seat.old.1 self.old papers (pending.Load table) }
+        requires step { IsAsking seat.old.1 self.old papers (pending.Load sheet) }
         ensures called { HasCalled seat.old seat.new }
         ensures step { IsInStep seat.new.1 self.new result.0 result.1 }
     {
-        let line = load_line(self.s, &table);
-        let mut note = papers.note;
-        write_note(&mut note, &papers.done.note);
-        let ask = BookAsk::Load {
-            s: self.s,
-            table,
-            note,
-        };
-        let BookReply::Load { reply, note } = turnstile.call(rt, seat, ask) else {
-            unreachable!()
-        };
-        let papers = Papers { note, ..papers };
-        match reply {
-            LoadReply::Loaded { event } => {
+        let line = load_line(self.s, &sheet.table);
+        let mut sheet = sheet;
+        write_note(&mut sheet.note, &papers.parcel.done.note);
+        match turnstile.call(rt, seat, BookAsk::Load { s: self.s, sheet }) {
+            BookReply::Loaded { event } => {
                 self.tale.tell_load(self.alloc, event, line);
                 (papers, Next::Ask)
             }
-            LoadReply::NotNow(back) => {
-                self.pending = Pending::Load(back);
+            BookReply::NotNow { sheet } => {
+                self.pending = Pending::Load(sheet);
                 (papers, Next::Later)
             }
+            _ => unreachable!(),
         }
     }
 

@@ -9,7 +9,7 @@ ghost use Rattle.switch_threads.specs.Workers.{IsDriving};
 
 use an_base::memory::OutOfMemory;
 use fabric_book::account::Account;
-use fabric_book::asking::{BookAsk, BookReply};
+use fabric_book::asking::{BookAsk, BookReply, Slip};
 use fabric_book::book::Book;
 use fabric_state::ending::Ending;
 use fabric_state::work::Drive;
@@ -21,15 +21,18 @@ use std::sync::Wait;
 // The most steps in one round.
 const STEPS: u32 = 64;
 
-/// The driver: its seat, the end that it was told, if one has come, and what is told of its events.
+/// The driver: its seat, the end that it was told, if one has come, what is told of its events, and the slip on which
+/// it is told what it did, which is away while it asks.
 #[derive(Drop)]
 pub(crate) struct Driver {
     seat: Seat<Book>,
     end: Option<Ending>,
     account: Account,
+    slip: Option<Box<Slip>>,
 }
 
 impl Model for Driver {
+    ghost use Rattle.std.specs.Prelude.{◌≡◌, is_some, true};
     ghost use Rattle.switch_threads.specs.Runs.{DriverOf};
     ghost use Rattle.switch_threads.specs.Workers.{IsDriving};
 
@@ -37,21 +40,26 @@ impl Model for Driver {
 
     ghost view = { λ d. record { seat = d.seat; end = d.end } };
 
-    ghost invariant = { λ d. IsDriving d.seat.1 d.end d.account };
+    ghost invariant = { λ d. IsDriving d.seat.1 d.end d.account × (is_some d.slip ≡ true) };
 }
 
 impl Driver {
     /// The driver that has this seat, which was told no end yet.
-    pub fn new(alloc: Global, seat: Seat<Book>) -> Driver
+    pub fn new(alloc: Global, seat: Seat<Book>) -> Result<Driver, OutOfMemory>
         requires { (turnstile : TurnstileId) × (script : ScriptOf) × IsScript script
             × (seat ≡ driver_seat turnstile script) }
-        ensures { result ≡ record { seat = seat; end = None } }
+        ensures { IfOk result (λ driver. driver ≡ record { seat = seat; end = None }) }
     {
-        Driver {
+        let slip = Slip {
+            drive: Drive::Waits,
+            told: None,
+        };
+        Ok(Driver {
             seat,
             end: None,
             account: Account::new(alloc),
-        }
+            slip: Some(Box::new(alloc, slip)?),
+        })
     }
 
     /// The end that it was told.
@@ -83,11 +91,16 @@ impl Driver {
         requires { self.old.seat.0 ≡ turnstile_id turnstile.now }
         ensures { HasCalled self.old.seat self.new.seat }
     {
-        let BookReply::Drive { drive, told } = turnstile.call(rt, &mut self.seat, BookAsk::Drive)
-        else {
+        let Some(slip) = self.slip.take() else {
             unreachable!()
         };
-        self.account.tell(told);
+        let ask = BookAsk::Drive { slip };
+        let BookReply::Drive { slip } = turnstile.call(rt, &mut self.seat, ask) else {
+            unreachable!()
+        };
+        self.account.tell(slip.told);
+        let drive = slip.drive;
+        self.slip = Some(slip);
         match drive {
             Drive::Did(_event) => true,
             Drive::Waits => false,

@@ -7,6 +7,7 @@
 //! that a thread is served, that a turn comes, or that `run` returns.
 #![tactic(auto)]
 
+mod calls;
 mod desk;
 mod driver;
 mod gate;

@@ -10,6 +10,7 @@ ghost use Rattle.fabric_turn.specs.Seats.{HasAllNumbers};
 ghost use Rattle.switch_threads.specs.Runs.{AreToldBy, AreToldDown, AreWorkers, HasCalled, HasSeenMore, HaveCalled};
 ghost use Rattle.switch_threads.specs.Runs.{IsSeatOf, IsWhole, driver_seat, first_seat};
 
+use crate::calls::{Called, MOST_PARTIES};
 use crate::driver::Driver;
 use crate::gate::Gate;
 use crate::shift::Shift;
@@ -35,7 +36,7 @@ pub struct Told {
 }
 
 // The most workers that have a thread of their own.
-const FEW: usize = 4;
+const FEW: usize = MOST_PARTIES;
 
 // How many threads have the workers between them where there are more. The calls of the book follow one another, and
 // with fewer workers in each, threads wait for one another longer than they work.
@@ -43,9 +44,6 @@ const THREADS: usize = 2;
 
 // The most turns of a worker in one round.
 const TURNS: u32 = 64;
-
-// The most rounds that threads stay for: more than most runs have, since to begin a thread costs more than a round.
-const ROUNDS: u32 = 4_096;
 
 // A worker for each switch of a script, and the seat that is left.
 fn open(
@@ -71,11 +69,11 @@ fn open(
     Ok((seat, workers))
 }
 
-// The workers of a thread get ready for a turn each.
+// The workers of a thread get ready for a turn each, of whom these are called.
 fn prepare<R: Threads + Wait + Sync, G: Gate>(
     rt: &R,
     gate: &G,
-    is_first: bool,
+    called: Called,
     workers: &mut [Worker],
 )
     ensures { HaveCalled workers.old workers.new }
@@ -84,9 +82,9 @@ fn prepare<R: Threads + Wait + Sync, G: Gate>(
         rt,
         workers,
         1,
-        &|_: usize, worker: &mut Worker|
+        &|place: usize, worker: &mut Worker|
             ensures { HasCalled worker.entry.now worker.exit.now }
-        { worker.prepare(rt, gate, is_first) },
+        { worker.prepare(rt, gate, called.has(place)) },
     );
 }
 
@@ -107,7 +105,12 @@ fn ask<R: Threads + Wait + Sync>(rt: &R, turnstile: &Turnstile<Book>, workers: &
 }
 
 // And end it.
-fn finish<R: Threads + Wait + Sync, G: Gate>(rt: &R, gate: &G, workers: &mut [Worker])
+fn finish<R: Threads + Wait + Sync, G: Gate>(
+    rt: &R,
+    gate: &G,
+    shift: &Shift,
+    workers: &mut [Worker],
+)
     ensures { HaveCalled workers.old workers.new }
 {
     for_each_mut(
@@ -116,31 +119,33 @@ fn finish<R: Threads + Wait + Sync, G: Gate>(rt: &R, gate: &G, workers: &mut [Wo
         1,
         &|_: usize, worker: &mut Worker|
             ensures { HasCalled worker.entry.now worker.exit.now }
-        { worker.finish(rt, gate) },
+        { worker.finish(rt, gate, shift.calls()) },
     );
 }
 
-// The workers of a thread make their turns of a round: in turn, until none has something to ask for, or so many times.
-// What is large in the book comes to a processor once for all of them, since the other threads wait at the door.
+// The workers of a party make turns, until none has something to ask for, or so many times. What is large in the book
+// comes to a processor once for all of them, since the other threads wait at the door.
 fn work<R: Threads + Wait + Sync, G: Gate>(
     rt: &R,
     turnstile: &Turnstile<Book>,
     gate: &G,
     shift: &Shift,
+    party: usize,
     workers: &mut [Worker],
 )
     requires workers { All (λ worker. worker.0 ≡ turnstile_id turnstile.now) workers.old }
     ensures { HaveCalled workers.old workers.new }
 {
-    'turns: for turn in 0..TURNS {
-        prepare(rt, gate, turn == 0, workers);
+    'turns: for _ in 0..TURNS {
+        prepare(rt, gate, shift.take_called(party), workers);
         if !workers.iter().any(|worker| worker.is_asking()) {
             return;
         }
         let behind_the_door = shift.enter(rt);
         ask(rt, turnstile, workers);
         drop(behind_the_door);
-        finish(rt, gate, workers);
+        finish(rt, gate, shift, workers);
+        shift.wake();
     }
 }
 
@@ -149,29 +154,31 @@ fn have_failed(workers: &[Worker]) -> bool {
     workers.iter().any(|worker| worker.failed())
 }
 
-// The workers of a thread make the rounds of a shift. That in which memory was wanting to one is the last one.
+// The workers of a party without the driver make the turns of a shift. It is over once memory was wanting to one.
 fn stay<R: Threads + Wait + Sync, G: Gate>(
     rt: &R,
     turnstile: &Turnstile<Book>,
     gate: &G,
     shift: &Shift,
+    party: usize,
     workers: &mut [Worker],
 )
     requires { All (λ worker. worker.0 ≡ turnstile_id turnstile.now) workers.old }
     ensures { HaveCalled workers.old workers.new }
 {
-    'rounds: for round in 0..shift.begin() {
-        work(rt, turnstile, gate, shift, workers);
+    let are_beside = shift.begin();
+    'turns: for _ in rt.forever() {
+        work(rt, turnstile, gate, shift, party, workers);
         if have_failed(workers) {
-            shift.end_with(round);
+            shift.end();
         }
-        if !shift.end_round(rt, round) {
+        if !are_beside || !shift.rest(rt, party) {
             return;
         }
     }
 }
 
-// All workers make the rounds of a shift, so many in each thread.
+// All workers make the turns of a shift, so many in each thread.
 fn work_all<R: Threads + Wait + Sync, G: Gate>(
     rt: &R,
     turnstile: &Turnstile<Book>,
@@ -188,14 +195,14 @@ fn work_all<R: Threads + Wait + Sync, G: Gate>(
         rt,
         workers,
         each,
-        &|_: usize, part: &mut [Worker]|
+        &|place: usize, part: &mut [Worker]|
             requires { All (λ worker. worker.0 ≡ turnstile_id turnstile.now) part.now }
             ensures { HaveCalled part.entry.now part.exit.now }
-        { stay(rt, turnstile, gate, shift, part) },
+        { stay(rt, turnstile, gate, shift, shift.party_behind(place), part) },
     );
 }
 
-// The driver makes its steps of a round.
+// The driver makes its steps of a round, and all workers are called.
 fn drive<R: Wait>(rt: &R, turnstile: &Turnstile<Book>, shift: &Shift, driver: &mut Driver)
     requires { driver.old.seat.0 ≡ turnstile_id turnstile.now }
     ensures { HasCalled driver.old.seat driver.new.seat }
@@ -203,10 +210,30 @@ fn drive<R: Wait>(rt: &R, turnstile: &Turnstile<Book>, shift: &Shift, driver: &m
     let behind_the_door = shift.enter(rt);
     driver.steps(rt, turnstile);
     drop(behind_the_door);
+    shift.call_all();
 }
 
-// The driver and the workers of its thread make the rounds of a shift, the driver first. That in which it is told an
-// end, or memory was wanting to one of them, is the last one.
+// The workers of the driver's party make their turns of a round: until none of them is called, and all others rest.
+fn work_first<R: Threads + Wait + Sync, G: Gate>(
+    rt: &R,
+    turnstile: &Turnstile<Book>,
+    gate: &G,
+    shift: &Shift,
+    workers: &mut [Worker],
+)
+    requires workers { All (λ worker. worker.0 ≡ turnstile_id turnstile.now) workers.old }
+    ensures { HaveCalled workers.old workers.new }
+{
+    'turns: for _ in 0..TURNS {
+        work(rt, turnstile, gate, shift, 0, workers);
+        if !shift.rest_first(rt) {
+            return;
+        }
+    }
+}
+
+// The driver and the workers of its party make the rounds of a shift, the driver first. It is over once the driver is
+// told an end, or memory was wanting to somebody.
 fn lead<R: Threads + Wait + Sync, G: Gate>(
     rt: &R,
     turnstile: &Turnstile<Book>,
@@ -220,13 +247,14 @@ fn lead<R: Threads + Wait + Sync, G: Gate>(
     ensures driver { HasCalled driver.old.seat driver.new.seat }
     ensures workers { HaveCalled workers.old workers.new }
 {
-    'rounds: for round in 0..shift.begin() {
+    let are_beside = shift.begin();
+    'rounds: for _ in rt.forever() {
         drive(rt, turnstile, shift, driver);
-        work(rt, turnstile, gate, shift, workers);
+        work_first(rt, turnstile, gate, shift, workers);
         if driver.end().is_some() || driver.failed() || have_failed(workers) {
-            shift.end_with(round);
+            shift.end();
         }
-        if !shift.end_round(rt, round) {
+        if !are_beside || shift.is_over() {
             return;
         }
     }
@@ -260,7 +288,7 @@ fn make_beside<R: Threads + Wait + Sync, G: Gate>(
     ensures first { HaveCalled first.old first.new }
     ensures others { HaveCalled others.old others.new }
 {
-    let shift = Shift::new(ROUNDS, others.len().div_ceil(each).saturating_add(1));
+    let shift = Shift::new(others.len().div_ceil(each).saturating_add(1), each);
     let shift = &shift;
     join_mut(
         rt,
@@ -406,7 +434,7 @@ fn run_with<R: Threads + Wait + Sync, G: Gate>(
     ensures script { OnOk result (IsScript script.now) }
 {
     let (seat, mut workers) = open(alloc, script, turnstile, seat)?;
-    let mut driver = Driver::new(alloc, seat);
+    let mut driver = Driver::new(alloc, seat)?;
     let end = shifts(rt, turnstile, gate, &mut driver, workers.as_mut_slice())?;
     let (seat, accounts) = joined(alloc, script, turnstile, driver, workers)?;
     Ok((seat, end, accounts))

@@ -1,23 +1,25 @@
-//! The rounds that threads make together.
+//! The shift that threads make together.
 //!
-//! To begin a thread costs more than what there is to do in a round. So the threads of a shift stay for many rounds, at
-//! the end of each of which they wait for one another. That needs a thread for each of them: where one lacks others,
-//! all make a single round.
+//! To begin a thread costs more than what there is to do in a round. So the threads of a shift stay until it is over,
+//! and whoever finds nothing to do rests until one of its workers is called (`calls`). A round begins with the driver,
+//! behind whose steps all workers are called, and it ends where nobody is called and all other parties rest. That needs
+//! a thread for each of them: where one lacks others, all make a single round.
 //!
-//! Within a round one party at a time asks: the driver, or all workers of a thread one after the other. A book
-//! that goes from one processor to another at each turn costs more than the turn. That is the door.
+//! One party at a time asks: the driver, or all workers of a thread one after the other. A book that goes from one
+//! processor to another at each turn costs more than the turn. That is the door.
 
+use crate::calls::{Called, Calls};
 use std::hint::spin_loop;
-use std::sync::atomic::{AtomicU64, Ordering};
+use std::sync::atomic::{AtomicBool, AtomicU64, Ordering};
 use std::sync::{Mutex, MutexGuard, Wait};
 use std::thread::yield_now;
 
 // How often a party looks whether all others have begun.
 const LOOKS: u32 = 2_000;
 
-// How often one that has made a round looks whether all others have, before it sleeps. To be woken takes longer than
+// How often one that has nothing to do looks whether it is called, before it sleeps. To be woken takes longer than
 // all of these looks, where a processor has nothing else to do.
-const ROUND_LOOKS: u32 = 4_000;
+const REST_LOOKS: u32 = 4_000;
 
 // How often one that stands at the door looks whether it is open before it sleeps, how often before it gives way, and how
 // long it waits for a look then.
@@ -27,8 +29,8 @@ const NEAR_LOOKS: u32 = 16;
 
 const SPINS: u32 = 32;
 
-// The number of no round.
-const NO_ROUND: u32 = u32::MAX;
+// The party of the driver.
+const FIRST: usize = 0;
 
 // What is known of whether all parties run beside each other: nothing yet, that they do, or that they do not.
 const OPEN: u64 = 0;
@@ -48,34 +50,36 @@ fn stand(looks: u32) {
     }
 }
 
-/// Rounds that so many parties make, each where it can in a thread of its own.
+/// The rounds that so many parties make, each where it can in a thread of its own.
 #[derive(Drop)]
 pub(crate) struct Shift {
-    rounds: u32,
     parties: u64,
     begun: AtomicU64,
     known: AtomicU64,
-    // How many parties have made the round that is being made.
-    come: AtomicU64,
-    // How many rounds all parties have made.
-    made: AtomicU64,
-    // The number of the round that is the last one, though there were to be more.
-    last: AtomicU64,
+    calls: Calls,
+    // How many parties rest, of those without the driver.
+    resting: AtomicU64,
+    // Whether there is no further round.
+    is_over: AtomicBool,
+    // How many parties sleep or are about to, and how often they were woken.
+    sleepers: AtomicU64,
+    woken: AtomicU64,
     // Behind it is one party at a time.
     door: Mutex<()>,
 }
 
 impl Shift {
-    /// A shift of so many rounds that nobody has begun.
-    pub fn new(rounds: u32, parties: usize) -> Shift {
+    /// A shift that nobody has begun, of parties of so many workers, all of which are called.
+    pub fn new(parties: usize, each: usize) -> Shift {
         Shift {
-            rounds,
             parties: parties as u64,
             begun: AtomicU64::new(0),
             known: AtomicU64::new(OPEN),
-            come: AtomicU64::new(0),
-            made: AtomicU64::new(0),
-            last: AtomicU64::new(u64::from(NO_ROUND)),
+            calls: Calls::new(parties, each),
+            resting: AtomicU64::new(0),
+            is_over: AtomicBool::new(false),
+            sleepers: AtomicU64::new(0),
+            woken: AtomicU64::new(0),
             door: Mutex::new(()),
         }
     }
@@ -92,15 +96,11 @@ impl Shift {
         }
     }
 
-    /// How many rounds a party that begins is to make.
-    pub fn begin(&self) -> u32 {
+    /// A party begins. Answers whether all run beside each other.
+    pub fn begin(&self) -> bool {
         let begun = self.begun.fetch_add(1, Ordering::SeqCst).wrapping_add(1);
         if begun == self.parties {
-            return if self.are_beside(BESIDE) {
-                self.rounds
-            } else {
-                1
-            };
+            return self.are_beside(BESIDE);
         }
         for _ in 0..LOOKS {
             if self.known.load(Ordering::SeqCst) != OPEN {
@@ -108,25 +108,100 @@ impl Shift {
             }
             yield_now();
         }
-        if self.are_beside(APART) {
-            self.rounds
-        } else {
-            1
+        self.are_beside(APART)
+    }
+
+    /// The party that has the worker at a place behind those of the first party.
+    pub fn party_behind(&self, worker: usize) -> usize {
+        self.calls.party_of(worker).saturating_add(1)
+    }
+
+    /// The workers of a party that are called, none of which is called then any more.
+    pub fn take_called(&self, party: usize) -> Called {
+        self.calls.take(party)
+    }
+
+    /// Which workers are called.
+    pub fn calls(&self) -> &Calls {
+        &self.calls
+    }
+
+    /// Calls all workers.
+    pub fn call_all(&self) {
+        self.calls.call_all();
+        self.wake();
+    }
+
+    /// There is no further round.
+    pub fn end(&self) {
+        self.is_over.store(true, Ordering::SeqCst);
+        self.wake();
+    }
+
+    /// Whether there is no further round.
+    pub fn is_over(&self) -> bool {
+        self.is_over.load(Ordering::SeqCst)
+    }
+
+    // Whether all parties without the driver rest, and nobody is called.
+    fn all_rest(&self) -> bool {
+        !self.calls.has_any() && self.resting.load(Ordering::SeqCst).wrapping_add(1) == self.parties
+    }
+
+    // Whether a party is to go on: a worker of it is called, or none will be in this round.
+    fn is_to_go_on(&self, party: usize) -> bool {
+        self.calls.has(party) || self.is_over() || (party == FIRST && self.all_rest())
+    }
+
+    // Waits until a party is to go on. Answers whether a worker of it is called.
+    fn wait<R: Wait>(&self, rt: &R, party: usize) -> bool {
+        let mut looks = 0u32;
+        for _ in rt.forever() {
+            if self.is_to_go_on(party) {
+                return self.calls.has(party);
+            }
+            if looks < REST_LOOKS {
+                looks += 1;
+                yield_now();
+            } else {
+                self.sleep(rt, party);
+            }
+        }
+        unreachable!()
+    }
+
+    // Sleeps, unless a party is to go on, until it is woken, or for a shorter time.
+    fn sleep<R: Wait>(&self, rt: &R, party: usize) {
+        let woken = self.woken.load(Ordering::SeqCst);
+        self.sleepers.fetch_add(1, Ordering::SeqCst);
+        if !self.is_to_go_on(party) {
+            self.woken.park(rt, (woken % (1 << 32)) as u32);
+        }
+        self.sleepers.fetch_sub(1, Ordering::SeqCst);
+    }
+
+    /// Wakes those who sleep, after something on which they wait has come.
+    pub fn wake(&self) {
+        if self.sleepers.load(Ordering::SeqCst) > 0 {
+            self.woken.fetch_add(1, Ordering::SeqCst);
+            self.woken.wake_all();
         }
     }
 
-    /// The round with this number, which a party is making, is the last one.
-    pub fn end_with(&self, round: u32) {
-        self.last.store(u64::from(round), Ordering::SeqCst);
+    /// The party of the driver has nothing to do: waits until a worker of it is called, or all others rest too.
+    /// Answers whether one is called.
+    pub fn rest_first<R: Wait>(&self, rt: &R) -> bool {
+        self.known.load(Ordering::SeqCst) == BESIDE && self.wait(rt, FIRST)
     }
 
-    /// Ends the round with this number of a party that has begun: it waits for the others, where they run beside
-    /// it. Answers whether there is another one.
-    pub fn end_round<R: Wait>(&self, rt: &R, round: u32) -> bool {
-        if self.known.load(Ordering::SeqCst) == BESIDE {
-            self.meet(rt);
-        }
-        u64::from(round) < self.last.load(Ordering::SeqCst)
+    /// A party without the driver has nothing to do: rests until a worker of it is called, or the shift is over. Answers
+    /// whether it is not over.
+    pub fn rest<R: Wait>(&self, rt: &R, party: usize) -> bool {
+        self.resting.fetch_add(1, Ordering::SeqCst);
+        self.wake();
+        self.wait(rt, party);
+        self.resting.fetch_sub(1, Ordering::SeqCst);
+        !self.is_over()
     }
 
     /// Waits until no party is behind the door. It stays closed behind this one as long as the guard is kept.
@@ -138,33 +213,5 @@ impl Shift {
             stand(looks);
         }
         self.door.lock(rt)
-    }
-
-    // Waits until all parties have come. The last one to come lets them all go on.
-    fn meet<R: Wait>(&self, rt: &R) {
-        let made = self.made.load(Ordering::SeqCst);
-        if self.come.fetch_add(1, Ordering::SeqCst).wrapping_add(1) == self.parties {
-            self.come.store(0, Ordering::SeqCst);
-            self.made.fetch_add(1, Ordering::SeqCst);
-            self.made.wake_all();
-            return;
-        }
-        for _ in 0..ROUND_LOOKS {
-            if self.made.load(Ordering::SeqCst) != made {
-                return;
-            }
-            yield_now();
-        }
-        self.sleep(rt, made);
-    }
-
-    // Sleeps until there are more rounds than so many that all have made.
-    fn sleep<R: Wait>(&self, rt: &R, made: u64) {
-        for _ in rt.forever() {
-            if self.made.load(Ordering::SeqCst) != made {
-                return;
-            }
-            self.made.park(rt, (made % (1 << 32)) as u32);
-        }
     }
 }

@@ -4,6 +4,7 @@ ghost use Rattle.std.specs.Prelude.{◌≡◌, ◌+◌, ◌<◌, [], length, IfO
 ghost use Rattle.fabric_turn.specs.Names.{turnstile_id};
 ghost use Rattle.switch_threads.specs.Runs.{HasCalled, IsToldAt};
 
+use crate::calls::{Calls, Neighbours};
 use crate::desk::{Desk, Next, Papers};
 use crate::gate::Gate;
 use an_base::memory::OutOfMemory;
@@ -15,15 +16,18 @@ use std::alloc::Global;
 use std::marker::Model;
 use std::sync::Wait;
 
-/// The worker of a switch: its number, its seat, how many turns it made, whether it makes one, what it works with,
-/// and what it is to do next. Contracts see its seat. While it asks it has no papers, and after want of memory it
-/// has none any more: its switch and the book have parted then.
+/// The worker of a switch: its number, its seat, how many turns it made, whether it makes one, and whether it puts
+/// something in it, the switches at its links, what it works with, and what it is to do next. Contracts see its seat.
+/// While it asks it has no papers, and after want of memory it has none any more: its switch and the book have parted
+/// then.
 #[derive(Drop)]
 pub(crate) struct Worker {
     number: u8,
     seat: Seat<Book>,
     turns: u64,
     is_asking: bool,
+    is_putting: bool,
+    neighbours: Neighbours,
     desk: Desk,
     papers: Option<Papers>,
     next: Next,
@@ -62,6 +66,8 @@ impl Worker {
             seat,
             turns: 0,
             is_asking: false,
+            is_putting: false,
+            neighbours: Neighbours::of(script, s),
             desk,
             papers: Some(papers),
             next: Next::Ask,
@@ -95,23 +101,36 @@ impl Worker {
         self.is_asking
     }
 
-    /// Gets ready for a turn, if there is to be one in this round. Whether it is the first of the round.
-    pub fn prepare<R: Wait, G: Gate>(&mut self, rt: &R, gate: &G, is_first: bool)
+    /// Gets ready for a turn, if there is to be one: one that found nothing to do makes none until it is called.
+    pub fn prepare<R: Wait, G: Gate>(&mut self, rt: &R, gate: &G, is_called: bool)
         ensures { HasCalled self.old self.new }
     {
-        if !self.next.is_in_round(is_first) {
+        if !self.next.is_due(is_called) {
             return;
         }
         let Some(mut papers) = self.papers.take() else {
             return;
         };
-        let Ok(next) = self.desk.ready(&mut papers, self.next.in_round(is_first)) else {
+        let Ok(next) = self
+            .desk
+            .ready(&mut papers, self.next.once_called(is_called))
+        else {
             return;
         };
         self.next = next;
         self.is_asking = self.next.is_ask();
         self.papers = Some(papers);
         self.begin(rt, gate);
+    }
+
+    // Calls those to whom it sent frames.
+    fn call_neighbours(&self, calls: &Calls) {
+        let Some(papers) = &self.papers else {
+            return;
+        };
+        'frames: for frame in papers.sent() {
+            self.neighbours.call_at(frame.port(), calls);
+        }
     }
 
     // Begins the turn, if there is to be one.
@@ -135,6 +154,7 @@ impl Worker {
         let Next::Ask = self.next else {
             return;
         };
+        self.is_putting = self.desk.is_putting();
         if let Some(papers) = self.papers.take() {
             let (papers, next) = self.desk.ask(rt, turnstile, &mut self.seat, papers);
             self.papers = Some(papers);
@@ -142,12 +162,15 @@ impl Worker {
         }
     }
 
-    /// Ends the turn that it made.
-    pub fn finish<R: Wait, G: Gate>(&mut self, rt: &R, gate: &G)
+    /// Ends the turn that it made, and calls those to whom it sent frames in it.
+    pub fn finish<R: Wait, G: Gate>(&mut self, rt: &R, gate: &G, calls: &Calls)
         ensures { HasCalled self.old self.new }
     {
         if self.is_asking {
             self.is_asking = false;
+            if self.is_putting {
+                self.call_neighbours(calls);
+            }
             gate.after(rt, self.number, self.turns);
         }
     }

@@ -16,7 +16,7 @@ pub record IsLink (entries : List EntryOf) (place : ℕ) (lower : Bool) (link : 
   pub far : far_of entries place port ≡ Some (link.place, link.by)
   pub which : is_up_end entries place link.place ≡ lower
 
--- the links of that sort at the ports of a place below end
+-- the links of that sort at the ports of a place below `end`
 pub record AreThose (entries : List EntryOf) (place end : ℕ) (lower : Bool) (links : List Link) : Type 0 where
   pub each : (index : ℕ) → index < length links → IsLink entries place lower (link_at links index)
   pub whole :
@@ -24,12 +24,12 @@ pub record AreThose (entries : List EntryOf) (place end : ℕ) (lower : Bool) (l
       → is_up_end entries place next ≡ lower
       → (index : ℕ) × (index < length links) × (link_at links index ≡ record { place = next; by = came })
 
--- all links at the ports of a place below end
+-- all links at the ports of a place below `end`
 pub record AreLinksBelow (entries : List EntryOf) (place end : ℕ) (links : Links) : Type 0 where
   pub lower : AreThose entries place end true links.lower.items
   pub upper : AreThose entries place end false links.upper.items
 
--- those of the members below end
+-- those of the members below `end`
 pub record AreLinks (entries : List EntryOf) (end : ℕ) (links : List Links) : Type 0 where
   pub count : length links ≡ end
   pub each :

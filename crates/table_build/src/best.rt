@@ -246,8 +246,8 @@ fn climbs_of(
     Ok(bests)
 }
 
-// The best ways that may lead downward, from the highest place to the lowest, and where they may
-// lead upward first from those that lead upward alone.
+// The best ways that may lead downward, from the highest place to the lowest (those downward alone from where they
+// begin), and where they may lead upward first from those that lead upward alone.
 fn falls_of(
     alloc: Global,
     graph: &Graph,
@@ -289,7 +289,7 @@ impl Model for Bests {
 }
 
 impl Bests {
-    /// The best ways from the member at a place, over the places from the highest to the lowest.
+    /// The best ways from the member at a place.
     pub fn from(
         alloc: Global,
         graph: &Graph,

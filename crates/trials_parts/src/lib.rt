@@ -3,7 +3,8 @@
 //!
 //! Each file has the tests of one crate, which its first line names; `sample` has the entries and small
 //! networks that several share. `skeptic`, `connectivity`, `port_monitor` and `tree_position` have none: they
-//! take no memory, and their contracts say all that they answer. Nothing stands on this crate.
+//! take no memory, and their contracts say all that they answer. `dep_check`, `flow_channels` and `table_report`
+//! have none either: the cases of `tests/` call them. Nothing stands on this crate.
 #![tactic(auto)]
 
 #[cfg(test)]

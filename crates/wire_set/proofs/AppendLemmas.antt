@@ -3,18 +3,18 @@ use Rattle.std.proofs.lemmas.Bool.{cases_eq, cases_lt}
 use Rattle.std.proofs.lemmas.List.{ext_get_or, get_or-set_other, get_or-set_same, get_or_default, get_or_past, get_or_append_left, get_or_at, get_or-replicate, length-set, length-map, length-append, length-replicate}
 use Rattle.std.proofs.Math.ListN.{get_or-map}
 use Rattle.std.proofs.lemmas.List.FromFn.{fill_by_all}
-use Rattle.frame_region.specs.Blocks.{block}
+use Rattle.frame_region.specs.Blocks.{after, block}
 use Rattle.frame_region.proofs.ChainLemmas.{block_next, block_kept}
 use Rattle.wire_set.specs.declared.queue.Queue.{Queue}
 use Rattle.wire_set.specs.Queues.{QueuesOf, queue_at, IsNew, with_queue, empty, walk, queue_of, item, shown, IsLinked}
 use Rattle.wire_set.proofs.QueueLemmas.{IsSeen, seen, set_queue, set_others, shown_set}
 
 -- What is known where a slip is put at the end of a queue: the queue that was read, the place after which it follows, the queue then.
-pub record Appends (v : QueuesOf) (slips : List (Option ℕ)) (next : List ℕ) (queues : List Queue) (q x before : ℕ) (r new : Queue) : Type 0 where
-  pub linked : IsLinked slips next queues
-  pub view : shown next queues ≡ v
+pub record Appends (v : QueuesOf) (slips : List (Option ℕ)) (next : List ℕ) (queues : List Queue) (q x before : ℕ) (r new : Queue) (limit : ℕ) : Type 0 where
+  pub linked : IsLinked slips next queues limit
+  pub view : shown next queues limit ≡ v
   pub below : q < length v.queues
-  pub place : x < v.places
+  pub there : x < length next
   pub room : length (queue_at v q) < v.places
   pub fresh : IsNew x v
   pub read : r ≡ slice_index_or queues q r
@@ -26,21 +26,21 @@ pub record Appends (v : QueuesOf) (slips : List (Option ℕ)) (next : List ℕ) 
   pub count : new.count ≡ r.count + 1
 
 -- and what follows of the chains then
-record Chains (slips : List (Option ℕ)) (next : List ℕ) (queues : List Queue) (q x before : ℕ) (r new : Queue) : Type 0 where
+record Chains (slips : List (Option ℕ)) (next : List ℕ) (queues : List Queue) (q x before : ℕ) (r new : Queue) (limit : ℕ) : Type 0 where
   pub below : q < length queues
   pub read : r ≡ queue_of queues q
   pub here : x < length next
-  pub room : r.count < length next
+  pub room : r.count < limit
   pub before_below : before < length next
   pub fresh : (a k : ℕ) → k < (queue_of queues a).count → item next queues a k ≡ x → ⊥
   pub others : (a k : ℕ) → a ≢ q → k < (queue_of queues a).count → item (slice_set next before x) queues a k ≡ item next queues a k
   pub same : (k : ℕ) → k < r.count → block (slice_set next before x) new.first k ≡ item next queues q k
   pub end : block (slice_set next before x) new.first r.count ≡ x
 
-chains : (v : QueuesOf) (slips : List (Option ℕ)) (next : List ℕ) (queues : List Queue) (q x before : ℕ) (r new : Queue) → Appends v slips next queues q x before r new → Chains slips next queues q x before r new
-chains v slips next queues q x before r new p = by r.count refl
+chains : {limit : ℕ} (v : QueuesOf) (slips : List (Option ℕ)) (next : List ℕ) (queues : List Queue) (q x before : ℕ) (r new : Queue) → Appends v slips next queues q x before r new limit → Chains slips next queues q x before r new limit
+chains {limit} v slips next queues q x before r new p = by r.count refl
   where
-    s : IsSeen v next queues
+    s : IsSeen v next queues limit
     s = seen v next queues p.view
 
     below : q < length queues
@@ -55,19 +55,16 @@ chains v slips next queues q x before r new p = by r.count refl
     follow : List ℕ
     follow = slice_set next before x
 
-    here : x < length next
-    here = omega (arith, p.place, s.places)
-
     fresh : (a k : ℕ) → k < (queue_of queues a).count → item next queues a k ≡ x → ⊥
     fresh a k few same = p.fresh a k (omega (arith, few, s.len a)) (s.at a k few ∙ same)
 
-    by : (n : ℕ) → r.count ≡ n → Chains slips next queues q x before r new
+    by : (n : ℕ) → r.count ≡ n → Chains slips next queues q x before r new limit
     by zero is = record {
       below = below;
       read = read;
-      here = here;
-      room = omega (arith, here, is);
-      before_below = omega (arith, p.none is, here);
+      here = p.there;
+      room = omega (arith, p.there, p.linked.reached, is);
+      before_below = omega (arith, p.none is, p.there);
       fresh = fresh;
       others = λ a k other few. block_kept next before x k (queue_of queues a).first (λ j small same. fresh a j (omega (arith, small, few)) (same ∙ p.none is));
       same = λ k few. absurd (omega (arith, few, is));
@@ -86,7 +83,7 @@ chains v slips next queues q x before r new p = by r.count refl
         record {
           below = below;
           read = read;
-          here = here;
+          here = p.there;
           room = omega (arith, p.room, s.len q, s.places, count);
           before_below = below_before;
           fresh = fresh;
@@ -94,8 +91,8 @@ chains v slips next queues q x before r new p = by r.count refl
           same = same;
           end = ap (block follow new.first) {x = r.count} {y = n + 1} (omega (arith, is))
               ∙ sym (block_next follow new.first n)
-              ∙ ap (λ b. slice_index_or follow b 0) (same n (omega (arith, is)) ∙ sym before_is)
-              ∙ get_or-set_same next before x 0 below_before;
+              ∙ ap (after follow) (same n (omega (arith, is)) ∙ sym before_is)
+              ∙ get_or-set_same next before x (before + 1) below_before;
         }
 
 -- slip number k of queue a is one that was there, or the new one
@@ -103,7 +100,7 @@ record WasThere (next follow : List ℕ) (queues : List Queue) (q x : ℕ) (r ne
   pub cases : ((k < (queue_of queues a).count) × (item follow (slice_set queues q new) a k ≡ item next queues a k))
       ⊎ ((a ≡ q) × (k ≡ r.count) × (item follow (slice_set queues q new) a k ≡ x))
 
-was_there : (v : QueuesOf) (slips : List (Option ℕ)) (next : List ℕ) (queues : List Queue) (q x before : ℕ) (r new : Queue) (a k : ℕ) → Appends v slips next queues q x before r new → Chains slips next queues q x before r new → k < (queue_of (slice_set queues q new) a).count
+was_there : {limit : ℕ} (v : QueuesOf) (slips : List (Option ℕ)) (next : List ℕ) (queues : List Queue) (q x before : ℕ) (r new : Queue) (a k : ℕ) → Appends v slips next queues q x before r new limit → Chains slips next queues q x before r new limit → k < (queue_of (slice_set queues q new) a).count
     → WasThere next (slice_set next before x) queues q x r new a k
 was_there v slips next queues q x before r new a k p h few = by (cases_eq a q)
   where
@@ -126,12 +123,13 @@ was_there v slips next queues q x before r new a k p h few = by (cases_eq a q)
         let few' : k < (queue_of queues a).count = omega (arith, few, ap (λ (y : Queue). y.count) rec_is) in
         record { cases = inl (few', ap (λ (y : Queue). block follow y.first k) rec_is ∙ h.others a k other few') }
 
-pub append_linked : (v : QueuesOf) (slips : List (Option ℕ)) (next : List ℕ) (queues : List Queue) (q x before : ℕ) (r new : Queue) → Appends v slips next queues q x before r new
-    → IsLinked (slice_set slips x (Some x)) (slice_set next before x) (slice_set queues q new)
-append_linked v slips next queues q x before r new p =
+pub append_linked : {limit : ℕ} (v : QueuesOf) (slips : List (Option ℕ)) (next : List ℕ) (queues : List Queue) (q x before : ℕ) (r new : Queue) → Appends v slips next queues q x before r new limit
+    → IsLinked (slice_set slips x (Some x)) (slice_set next before x) (slice_set queues q new) limit
+append_linked {limit} v slips next queues q x before r new p =
     record {
       size = length-set slips x (Some x) ∙ p.linked.size ∙ sym long;
-      most = omega (arith, p.linked.most, long);
+      reached = omega (arith, p.linked.reached, long);
+      most = p.linked.most;
       few = λ a. few_by a (cases_eq a q);
       within = λ a k few. within_by a k (was_there v slips next queues q x before r new a k p h few).cases;
       apart = λ a b i j few_i few_j same. apart_by a b i j same (was_there v slips next queues q x before r new a i p h few_i).cases (was_there v slips next queues q x before r new b j p h few_j).cases;
@@ -139,7 +137,7 @@ append_linked v slips next queues q x before r new p =
       last = λ a some. last_by a some (cases_eq a q);
     }
   where
-    h : Chains slips next queues q x before r new
+    h : Chains slips next queues q x before r new limit
     h = chains v slips next queues q x before r new p
 
     follow : List ℕ
@@ -151,9 +149,9 @@ append_linked v slips next queues q x before r new p =
     long : length follow ≡ length next
     long = length-set next before x
 
-    few_by : (a : ℕ) → (a ≡ q) ⊎ (a ≡ q → ⊥) → (queue_of queues' a).count ≤ length follow
-    few_by a (inl same) = omega (arith, ap (λ (b : ℕ). (queue_of queues' b).count) same, ap (λ (y : Queue). y.count) (set_queue queues q new h.below), p.count, h.room, long)
-    few_by a (inr other) = omega (arith, ap (λ (y : Queue). y.count) (set_others queues q a new other), p.linked.few a, long)
+    few_by : (a : ℕ) → (a ≡ q) ⊎ (a ≡ q → ⊥) → (queue_of queues' a).count ≤ limit
+    few_by a (inl same) = omega (arith, ap (λ (b : ℕ). (queue_of queues' b).count) same, ap (λ (y : Queue). y.count) (set_queue queues q new h.below), p.count, h.room)
+    few_by a (inr other) = omega (arith, ap (λ (y : Queue). y.count) (set_others queues q a new other), p.linked.few a)
 
     within_by : (a k : ℕ) → ((k < (queue_of queues a).count) × (item follow queues' a k ≡ item next queues a k)) ⊎ ((a ≡ q) × (k ≡ r.count) × (item follow queues' a k ≡ x)) → item follow queues' a k < length follow
     within_by a k (inl at) = omega (arith, at.1, p.linked.within a k at.0, long)
@@ -188,17 +186,17 @@ append_linked v slips next queues q x before r new p =
         let some' : 1 ≤ (queue_of queues a).count = omega (arith, some, ap (λ (y : Queue). y.count) rec_is) in
         ap (λ (y : Queue). y.last) rec_is ∙ p.linked.last a some' ∙ sym (h.others a ((queue_of queues a).count - 1) other (omega (arith, some'))) ∙ sym (ap (λ (y : Queue). block follow y.first (y.count - 1)) rec_is)
 
-pub append_shown : (v : QueuesOf) (slips : List (Option ℕ)) (next : List ℕ) (queues : List Queue) (q x before : ℕ) (r new : Queue) → Appends v slips next queues q x before r new
-    → shown (slice_set next before x) (slice_set queues q new) ≡ with_queue q (queue_at v q ++ x ∷ []) v
-append_shown v slips next queues q x before r new p =
-    shown_set v next follow queues q new (queue_at v q ++ x ∷ []) s h.below (length-set next before x)
+pub append_shown : {limit : ℕ} (v : QueuesOf) (slips : List (Option ℕ)) (next : List ℕ) (queues : List Queue) (q x before : ℕ) (r new : Queue) → Appends v slips next queues q x before r new limit
+    → shown (slice_set next before x) (slice_set queues q new) limit ≡ with_queue q (queue_at v q ++ x ∷ []) v
+append_shown {limit} v slips next queues q x before r new p =
+    shown_set v next follow queues q new (queue_at v q ++ x ∷ []) s h.below
     (sym (fill_by_all (λ k. block follow new.first k) (queue_at v q ++ x ∷ []) new.count 0 (omega (arith, length-append (queue_at v q) (x ∷ []), s.len q, count, p.count)) (λ k few. by k few (cases_lt k r.count))))
     h.others
   where
-    h : Chains slips next queues q x before r new
+    h : Chains slips next queues q x before r new limit
     h = chains v slips next queues q x before r new p
 
-    s : IsSeen v next queues
+    s : IsSeen v next queues limit
     s = seen v next queues p.view
 
     follow : List ℕ
@@ -221,10 +219,11 @@ none_there n a = by (cases_lt a n)
     by (inl below) = get_or-replicate n a empty empty below
     by (inr past) = get_or_past (replicate n empty) a empty (omega (arith, past, length-replicate {A = Queue} n empty))
 
-pub start_linked : (slips : List (Option ℕ)) (next : List ℕ) (queues : List Queue) (n places : ℕ) → length slips ≡ places → length next ≡ places → places ≤ 1048576 → queues ≡ replicate n empty → IsLinked slips next queues
-start_linked slips next queues n places size count most is = subst (λ (l : List Queue). IsLinked slips next l) (sym is) (record {
-  size = size ∙ sym count;
-  most = omega (arith, count, most);
+pub start_linked : (slips : List (Option ℕ)) (next : List ℕ) (queues : List Queue) (n places : ℕ) → slips ≡ [] → next ≡ [] → places ≤ 1048576 → queues ≡ replicate n empty → IsLinked slips next queues places
+start_linked slips next queues n places no_slips no_next most is = subst (λ (l : List Queue). IsLinked slips next l places) (sym is) (record {
+  size = ap length no_slips ∙ sym (ap length no_next);
+  reached = omega (arith, ap length no_next);
+  most = most;
   few = λ a. omega (arith, ap (λ (y : Queue). y.count) (none_there n a));
   within = λ a k few. absurd (omega (arith, few, ap (λ (y : Queue). y.count) (none_there n a)));
   apart = λ a b i j few_i few_j same. absurd (omega (arith, few_i, ap (λ (y : Queue). y.count) (none_there n a)));
@@ -232,11 +231,10 @@ start_linked slips next queues n places size count most is = subst (λ (l : List
   last = λ a some. absurd (omega (arith, some, ap (λ (y : Queue). y.count) (none_there n a)));
 })
 
-pub start_shown : (next : List ℕ) (queues : List Queue) (n places : ℕ) → length next ≡ places → queues ≡ replicate n empty → shown next queues ≡ record { queues = replicate n []; places = places }
-start_shown next queues n places count is =
-    ap (λ (l : List Queue). shown next l) is
-    ∙ ap (λ (l : List (List ℕ)). let w : QueuesOf = record { queues = l; places = length next } in w) lists
-    ∙ ap (λ (m : ℕ). let w : QueuesOf = record { queues = replicate n []; places = m } in w) count
+pub start_shown : (next : List ℕ) (queues : List Queue) (n places : ℕ) → queues ≡ replicate n empty → shown next queues places ≡ record { queues = replicate n []; places = places }
+start_shown next queues n places is =
+    ap (λ (l : List Queue). shown next l places) is
+    ∙ ap (λ (l : List (List ℕ)). let w : QueuesOf = record { queues = l; places = places } in w) lists
   where
     lists : map (walk next) (replicate n empty) ≡ replicate n []
     lists = ext_get_or [] (map (walk next) (replicate n empty)) (replicate n []) (length-map (replicate n empty) (walk next) ∙ length-replicate {A = Queue} n empty ∙ sym (length-replicate {A = List ℕ} n []))

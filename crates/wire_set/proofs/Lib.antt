@@ -1,4 +1,5 @@
 pub mod QueueLemmas
+pub mod ReachLemmas
 pub mod PopLemmas
 pub mod AppendLemmas
 pub mod FrameLemmas

@@ -3,42 +3,42 @@ use Rattle.std.proofs.lemmas.Bool.{cases_eq, cases_lt}
 use Rattle.std.proofs.lemmas.List.{ext_get_or, get_or-set_other, get_or-set_same, get_or_default, get_or_past, get_or-take, get_or-drop, get_or_append_left, get_or-append_right, length-set, length-map, length-append, length-take, length-drop}
 use Rattle.std.proofs.Math.ListN.{get_or-map}
 use Rattle.std.proofs.lemmas.List.FromFn.{length-map-range_with_len, get_or-map-range_with_len, fill_by_all}
-use Rattle.frame_region.specs.Blocks.{block}
+use Rattle.frame_region.specs.Blocks.{after, block}
 use Rattle.frame_region.proofs.ChainLemmas.{block_kept}
 use Rattle.wire_set.specs.declared.queue.Queue.{Queue}
 use Rattle.wire_set.specs.Queues.{QueuesOf, queue_at, slot, IsApart, with_queue, empty, walk, queue_of, item, shown, IsLinked}
 
 -- what is shown of a queue is its walk
-pub shown_at : (next : List ℕ) (queues : List Queue) (a : ℕ) → queue_at (shown next queues) a ≡ walk next (queue_of queues a)
-shown_at next queues a = get_or-map (walk next) queues a empty
+pub shown_at : (next : List ℕ) (queues : List Queue) (limit a : ℕ) → queue_at (shown next queues limit) a ≡ walk next (queue_of queues a)
+shown_at next queues limit a = get_or-map (walk next) queues a empty
 
-walk_length : (next : List ℕ) (q : Queue) → length (walk next q) ≡ q.count
+pub walk_length : (next : List ℕ) (q : Queue) → length (walk next q) ≡ q.count
 walk_length next q = length-map-range_with_len (λ k. block next q.first k) 0 q.count
 
-walk_at : (next : List ℕ) (q : Queue) (k : ℕ) → k < q.count → slice_index_or (walk next q) k 0 ≡ block next q.first k
+pub walk_at : (next : List ℕ) (q : Queue) (k : ℕ) → k < q.count → slice_index_or (walk next q) k 0 ≡ block next q.first k
 walk_at next q k below = get_or-map-range_with_len (λ j. block next q.first j) 0 q.count k k 0 below (omega arith)
 
 -- a value of queues, in the places
-pub record IsSeen (v : QueuesOf) (next : List ℕ) (queues : List Queue) : Type 0 where
+pub record IsSeen (v : QueuesOf) (next : List ℕ) (queues : List Queue) (limit : ℕ) : Type 0 where
   pub list : (a : ℕ) → queue_at v a ≡ walk next (queue_of queues a)
   pub len : (a : ℕ) → length (queue_at v a) ≡ (queue_of queues a).count
   pub at : (a k : ℕ) → k < (queue_of queues a).count → slot v a k ≡ item next queues a k
   pub queues_len : length v.queues ≡ length queues
-  pub places : v.places ≡ length next
+  pub places : v.places ≡ limit
 
-seen_shown : (next : List ℕ) (queues : List Queue) → IsSeen (shown next queues) next queues
-seen_shown next queues = record {
-  list = shown_at next queues;
-  len = λ a. ap length (shown_at next queues a) ∙ walk_length next (queue_of queues a);
-  at = λ a k below. ap (λ (l : List ℕ). slice_index_or l k 0) (shown_at next queues a) ∙ walk_at next (queue_of queues a) k below;
+seen_shown : (next : List ℕ) (queues : List Queue) (limit : ℕ) → IsSeen (shown next queues limit) next queues limit
+seen_shown next queues limit = record {
+  list = shown_at next queues limit;
+  len = λ a. ap length (shown_at next queues limit a) ∙ walk_length next (queue_of queues a);
+  at = λ a k below. ap (λ (l : List ℕ). slice_index_or l k 0) (shown_at next queues limit a) ∙ walk_at next (queue_of queues a) k below;
   queues_len = length-map queues (walk next);
   places = refl;
 }
 
-pub seen : (v : QueuesOf) (next : List ℕ) (queues : List Queue) → shown next queues ≡ v → IsSeen v next queues
-seen v next queues view = subst (λ (w : QueuesOf). IsSeen w next queues) view (seen_shown next queues)
+pub seen : {limit : ℕ} (v : QueuesOf) (next : List ℕ) (queues : List Queue) → shown next queues limit ≡ v → IsSeen v next queues limit
+seen {limit} v next queues view = subst (λ (w : QueuesOf). IsSeen w next queues limit) view (seen_shown next queues limit)
 
-pub seen_apart : (v : QueuesOf) (slips : List (Option ℕ)) (next : List ℕ) (queues : List Queue) → IsLinked slips next queues → IsSeen v next queues → IsApart v
+pub seen_apart : {limit : ℕ} (v : QueuesOf) (slips : List (Option ℕ)) (next : List ℕ) (queues : List Queue) → IsLinked slips next queues limit → IsSeen v next queues limit → IsApart v
 seen_apart v slips next queues linked s a b i j below_i below_j same =
     let few_i : i < (queue_of queues a).count = omega (arith, below_i, s.len a) in
     let few_j : j < (queue_of queues b).count = omega (arith, below_j, s.len b) in
@@ -52,13 +52,13 @@ pub set_others : (queues : List Queue) (q a : ℕ) (r : Queue) → a ≢ q → q
 set_others queues q a r other = get_or-set_other queues q a r empty other
 
 -- What is shown after one queue changed: the others go as before, and that one is another list
-pub shown_set : (v : QueuesOf) (next follow : List ℕ) (queues : List Queue) (q : ℕ) (r : Queue) (slips : List ℕ) → IsSeen v next queues → q < length queues → length follow ≡ length next
+pub shown_set : {limit : ℕ} (v : QueuesOf) (next follow : List ℕ) (queues : List Queue) (q : ℕ) (r : Queue) (slips : List ℕ) → IsSeen v next queues limit → q < length queues
     → walk follow r ≡ slips
     → ((a k : ℕ) → a ≢ q → k < (queue_of queues a).count → item follow queues a k ≡ item next queues a k)
-    → shown follow (slice_set queues q r) ≡ with_queue q slips v
-shown_set v next follow queues q r slips s below same_places here others =
-    ap (λ (l : List (List ℕ)). let w : QueuesOf = record { queues = l; places = length follow } in w) lists
-    ∙ ap (λ (n : ℕ). let w : QueuesOf = record { queues = slice_set v.queues q slips; places = n } in w) (same_places ∙ sym s.places)
+    → shown follow (slice_set queues q r) limit ≡ with_queue q slips v
+shown_set {limit} v next follow queues q r slips s below here others =
+    ap (λ (l : List (List ℕ)). let w : QueuesOf = record { queues = l; places = limit } in w) lists
+    ∙ ap (λ (n : ℕ). let w : QueuesOf = record { queues = slice_set v.queues q slips; places = n } in w) (sym s.places)
   where
     lists : map (walk follow) (slice_set queues q r) ≡ slice_set v.queues q slips
     lists =
@@ -111,12 +111,13 @@ was_there next follow queues q r shift gone a k n few = by (cases_eq a q)
         let few' : k < (queue_of queues a).count = omega (arith, few, ap (λ (x : Queue). x.count) rec_is) in
         record { cases = inr (other, few', ap (λ (x : Queue). block follow x.first k) rec_is ∙ n.others a k other few') }
 
-pub narrow_linked : (slips : List (Option ℕ)) (next follow : List ℕ) (queues : List Queue) (q : ℕ) (r : Queue) (shift : ℕ → ℕ) (gone x : ℕ) → IsLinked slips next queues → Narrows next follow queues q r shift gone → x ≡ item next queues q gone
-    → IsLinked (slice_set slips x None) follow (slice_set queues q r)
-narrow_linked slips next follow queues q r shift gone x linked n x_is =
+pub narrow_linked : {limit : ℕ} (slips : List (Option ℕ)) (next follow : List ℕ) (queues : List Queue) (q : ℕ) (r : Queue) (shift : ℕ → ℕ) (gone x : ℕ) → IsLinked slips next queues limit → Narrows next follow queues q r shift gone → x ≡ item next queues q gone
+    → IsLinked (slice_set slips x None) follow (slice_set queues q r) limit
+narrow_linked {limit} slips next follow queues q r shift gone x linked n x_is =
     record {
       size = length-set slips x None ∙ linked.size ∙ sym n.places;
-      most = omega (arith, linked.most, n.places);
+      reached = omega (arith, linked.reached, n.places);
+      most = linked.most;
       few = λ a. few_by a (cases_eq a q);
       within = λ a k few. within_by a k (was_there next follow queues q r shift gone a k n few).cases;
       apart = λ a b i j few_i few_j same. apart_by a b i j same (was_there next follow queues q r shift gone a i n few_i).cases (was_there next follow queues q r shift gone b j n few_j).cases;
@@ -127,9 +128,9 @@ narrow_linked slips next follow queues q r shift gone x linked n x_is =
     queues' : List Queue
     queues' = slice_set queues q r
 
-    few_by : (a : ℕ) → (a ≡ q) ⊎ (a ≡ q → ⊥) → (queue_of queues' a).count ≤ length follow
-    few_by a (inl same) = omega (arith, ap (λ (b : ℕ). (queue_of queues' b).count) same, ap (λ (y : Queue). y.count) (set_queue queues q r n.below), n.fewer, linked.few q, n.places)
-    few_by a (inr other) = omega (arith, ap (λ (y : Queue). y.count) (set_others queues q a r other), linked.few a, n.places)
+    few_by : (a : ℕ) → (a ≡ q) ⊎ (a ≡ q → ⊥) → (queue_of queues' a).count ≤ limit
+    few_by a (inl same) = omega (arith, ap (λ (b : ℕ). (queue_of queues' b).count) same, ap (λ (y : Queue). y.count) (set_queue queues q r n.below), n.fewer, linked.few q)
+    few_by a (inr other) = omega (arith, ap (λ (y : Queue). y.count) (set_others queues q a r other), linked.few a)
 
     within_by : (a k : ℕ) → ((a ≡ q) × (k < r.count) × (item follow queues' a k ≡ item next queues q (shift k))) ⊎ ((a ≢ q) × (k < (queue_of queues a).count) × (item follow queues' a k ≡ item next queues a k)) → item follow queues' a k < length follow
     within_by a k (inl at) = omega (arith, at.2, linked.within q (shift k) (n.less k at.1), n.places)
@@ -166,11 +167,11 @@ narrow_linked slips next follow queues q r shift gone x linked n x_is =
         ap (λ (y : Queue). y.last) rec_is ∙ linked.last a some' ∙ sym (n.others a ((queue_of queues a).count - 1) other (omega (arith, some'))) ∙ sym (ap (λ (y : Queue). block follow y.first (y.count - 1)) rec_is)
 
 -- what is shown then, where the list that is left is the one of the kept places
-pub narrow_shown : (v : QueuesOf) (next follow : List ℕ) (queues : List Queue) (q : ℕ) (r : Queue) (shift : ℕ → ℕ) (gone : ℕ) (rest : List ℕ) → IsSeen v next queues → Narrows next follow queues q r shift gone
+pub narrow_shown : {limit : ℕ} (v : QueuesOf) (next follow : List ℕ) (queues : List Queue) (q : ℕ) (r : Queue) (shift : ℕ → ℕ) (gone : ℕ) (rest : List ℕ) → IsSeen v next queues limit → Narrows next follow queues q r shift gone
     → length rest ≡ r.count → ((k : ℕ) → k < r.count → slice_index_or rest k 0 ≡ slot v q (shift k))
-    → shown follow (slice_set queues q r) ≡ with_queue q rest v
+    → shown follow (slice_set queues q r) limit ≡ with_queue q rest v
 narrow_shown v next follow queues q r shift gone rest s n long kept =
-    shown_set v next follow queues q r rest s n.below n.places
+    shown_set v next follow queues q r rest s n.below
     (sym (fill_by_all (λ k. block follow r.first k) rest r.count 0 long (λ k few. kept k few ∙ s.at q (shift k) (n.less k few) ∙ sym (n.here k few))))
     n.others
 
@@ -182,9 +183,13 @@ queue_below queues q some = by (cases_lt q (length queues))
     by (inl below) = below
     by (inr past) = absurd (omega (arith, some, ap (λ (y : Queue). y.count) (get_or_past queues q empty past)))
 
+-- what follows a block that is there, as it was read
+pub read_after : (next : List ℕ) (b x c : ℕ) → b < length next → x ≡ slice_index_or next b x → b ≡ c → x ≡ after next c
+read_after next b x c below read same = read ∙ get_or_default next b x (b + 1) below ∙ ap (after next) same
+
 -- the first slip is taken
-pub pop_narrows : (slips : List (Option ℕ)) (next : List ℕ) (queues : List Queue) (q : ℕ) (r : Queue) → IsLinked slips next queues → 1 ≤ (queue_of queues q).count
-    → r.first ≡ slice_index_or next (queue_of queues q).first 0 → r.last ≡ (queue_of queues q).last → r.count + 1 ≡ (queue_of queues q).count
+pub pop_narrows : {limit : ℕ} (slips : List (Option ℕ)) (next : List ℕ) (queues : List Queue) (q : ℕ) (r : Queue) → IsLinked slips next queues limit → 1 ≤ (queue_of queues q).count
+    → r.first ≡ after next (queue_of queues q).first → r.last ≡ (queue_of queues q).last → r.count + 1 ≡ (queue_of queues q).count
     → Narrows next next queues q r (λ k. suc k) 0
 pop_narrows slips next queues q r linked some first last count = record {
   below = queue_below queues q some;
@@ -232,8 +237,8 @@ shift_second_less zero n m few is some = omega (arith, few, is)
 shift_second_less (suc k) n m few is some = omega (arith, few, is)
 
 -- the second slip is taken
-pub second_narrows : (slips : List (Option ℕ)) (next : List ℕ) (queues : List Queue) (q second third : ℕ) (r : Queue) → IsLinked slips next queues → 2 ≤ (queue_of queues q).count
-    → second ≡ slice_index_or next (queue_of queues q).first 0 → third ≡ slice_index_or next second 0
+pub second_narrows : {limit : ℕ} (slips : List (Option ℕ)) (next : List ℕ) (queues : List Queue) (q second third : ℕ) (r : Queue) → IsLinked slips next queues limit → 2 ≤ (queue_of queues q).count
+    → second ≡ after next (queue_of queues q).first → third ≡ after next second
     → r.first ≡ (queue_of queues q).first → (second ≡ (queue_of queues q).last → r.last ≡ (queue_of queues q).first) → (second ≢ (queue_of queues q).last → r.last ≡ (queue_of queues q).last) → r.count + 1 ≡ (queue_of queues q).count
     → Narrows next (slice_set next (queue_of queues q).first third) queues q r shift_second 1
 second_narrows slips next queues q second third r linked two second_is third_is first only last count =
@@ -257,13 +262,13 @@ second_narrows slips next queues q second third r linked two second_is third_is 
     follow = slice_set next head third
 
     third_is_item : third ≡ item next queues q 2
-    third_is_item = third_is ∙ ap (λ b. slice_index_or next b 0) second_is
+    third_is_item = third_is ∙ ap (after next) second_is
 
     here_by : (k : ℕ) → k < r.count → block follow r.first k ≡ item next queues q (shift_second k)
     here_by zero few = first ∙ ap (item next queues q) (sym shift_second_zero)
     here_by (suc k) few =
         ap (λ b. block follow b (suc k)) first
-        ∙ ap (λ b. block follow b k) (get_or-set_same next head third 0 (linked.within q 0 (omega (arith, two))))
+        ∙ ap (λ b. block follow b k) (get_or-set_same next head third (head + 1) (linked.within q 0 (omega (arith, two))))
         ∙ block_kept next head third k third (λ j small same.
         let two_on : item next queues q (suc (suc j)) ≡ item next queues q 0 = ap (λ b. block next b j) (sym third_is_item) ∙ same in
         let e = (linked.apart q q (suc (suc j)) 0 (omega (arith, small, few, count)) (omega (arith, two)) two_on).1 in omega (arith, e))
@@ -292,7 +297,7 @@ pub record HasRead (slips : List (Option ℕ)) (next : List ℕ) (queues : List 
   pub is : r ≡ queue_of queues q
   pub some : n ≤ (queue_of queues q).count
 
-pub has_read : (v : QueuesOf) (slips : List (Option ℕ)) (next : List ℕ) (queues : List Queue) (q n : ℕ) (r : Queue) → shown next queues ≡ v → n ≤ length (queue_at v q) → 1 ≤ n → r ≡ slice_index_or queues q r → HasRead slips next queues q n r
+pub has_read : {limit : ℕ} (v : QueuesOf) (slips : List (Option ℕ)) (next : List ℕ) (queues : List Queue) (q n : ℕ) (r : Queue) → shown next queues limit ≡ v → n ≤ length (queue_at v q) → 1 ≤ n → r ≡ slice_index_or queues q r → HasRead slips next queues q n r
 has_read v slips next queues q n r view some one read =
     let s = seen v next queues view in
     let some' : n ≤ (queue_of queues q).count = omega (arith, some, s.len q) in
@@ -300,7 +305,7 @@ has_read v slips next queues q n r view some one read =
     record { below = below; is = read ∙ get_or_default queues q r empty below; some = some' }
 
 -- the slip in the place of an item
-pub slip_there : (slips : List (Option ℕ)) (next : List ℕ) (queues : List Queue) (q k x : ℕ) (d : Option ℕ) → IsLinked slips next queues → k < (queue_of queues q).count → x ≡ item next queues q k → d ≡ slice_index_or slips x d → d ≡ Some x
+pub slip_there : {limit : ℕ} (slips : List (Option ℕ)) (next : List ℕ) (queues : List Queue) (q k x : ℕ) (d : Option ℕ) → IsLinked slips next queues limit → k < (queue_of queues q).count → x ≡ item next queues q k → d ≡ slice_index_or slips x d → d ≡ Some x
 slip_there slips next queues q k x d linked few x_is read =
     read
     ∙ get_or_default slips x d None (omega (arith, x_is, linked.within q k few, linked.size))

@@ -52,14 +52,16 @@ abbrev pub item : List ℕ → List Queue → ℕ → ℕ → ℕ
 item next queues number place = block next (queue_of queues number).first place
 
 -- what the places show
-abbrev pub shown : List ℕ → List Queue → QueuesOf
-shown next queues = record { queues = map (walk next) queues; places = length next }
+abbrev pub shown : List ℕ → List Queue → ℕ → QueuesOf
+shown next queues places = record { queues = map (walk next) queues; places = places }
 
--- The places are sound: each slip of a queue lies in the place of its number, and no place is in two queues.
-pub record IsLinked (slips : List (Option ℕ)) (next : List ℕ) (queues : List Queue) : Type 0 where
+-- The places that are there are sound: each slip of a queue lies in the place of its number, and no place
+-- is in two queues.
+pub record IsLinked (slips : List (Option ℕ)) (next : List ℕ) (queues : List Queue) (places : ℕ) : Type 0 where
   pub size : length slips ≡ length next
-  pub most : length next ≤ MOST_BLOCKS
-  pub few : (number : ℕ) → (queue_of queues number).count ≤ length next
+  pub reached : length next ≤ places
+  pub most : places ≤ MOST_BLOCKS
+  pub few : (number : ℕ) → (queue_of queues number).count ≤ places
   pub within :
       (number place : ℕ) → place < (queue_of queues number).count
       → item next queues number place < length next

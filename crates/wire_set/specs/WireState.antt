@@ -48,7 +48,7 @@ is_link None = false
 is_link (Some (Switch switch port)) = true
 is_link (Some (HostAt host)) = false
 
--- whether the wire into a port that has a link of two switch ports has a frame, by the place of the port
+-- a port has a link of two switch ports, and the wire into it a frame; by the place of the port
 abbrev pub has_frame_on : WiresOf → ℕ → Bool
 has_frame_on wires at = is_link (side_at wires at).far && nat_lt 0 (length (wire_at wires at))
 

@@ -1,6 +1,6 @@
 ghost use Rattle.std.specs.Prelude.{◌≡◌, ◌≢◌, ◌+◌, ◌-◌, ◌<◌, ◌≤◌, ◌++◌, ◌∷◌, [], ℕ, length, take, drop};
 ghost use Rattle.std.specs.Prelude.{replicate};
-ghost use Rattle.std.specs.Prelude.{None, Some, IfOk, slice_index_or};
+ghost use Rattle.std.specs.Prelude.{None, Some, IfOk, slice_index_or, vec_capacity};
 ghost use Rattle.frame_region.specs.declared.region.TheConstants.{MOST_BLOCKS};
 ghost use Rattle.wire_set.specs.Queues.{QueuesOf, IsApart, IsNew, empty, queue_at, slot, with_queue};
 
@@ -17,22 +17,27 @@ struct Queue {
     count: u32,
 }
 
-/// Queues of slips that share their places: the place of a slip is that of its number.
+/// Queues of slips that share their places: the place of a slip is that of its number. The memory for
+/// the places is taken at once; a place is there from when a slip of its number, or a higher one, is
+/// first put in a queue.
 #[derive(Debug, Drop)]
 pub struct Queues {
     slips: Vec<Option<Slip>>,
     next: Vec<u32>,
     queues: Vec<Queue>,
+    places: u32,
 }
 
 impl Model for Queues {
+    ghost use Rattle.std.specs.Prelude.{◌≤◌, vec_capacity};
     ghost use Rattle.wire_set.specs.Queues.{QueuesOf, shown, IsLinked};
 
     ghost Value = { QueuesOf };
 
-    ghost view = { λ q. shown q.next.items q.queues.items };
+    ghost view = { λ q. shown q.next.items q.queues.items q.places };
 
-    ghost invariant = { λ q. IsLinked q.slips.items q.next.items q.queues.items };
+    ghost invariant = { λ q. IsLinked q.slips.items q.next.items q.queues.items q.places
+        × (q.places ≤ vec_capacity q.slips) × (q.places ≤ vec_capacity q.next) };
 }
 
 // The queue with one more slip at its end.
@@ -96,15 +101,23 @@ fn empty_queues(alloc: Global, queues: usize) -> Result<Vec<Queue>, OutOfMemory>
     Ok(all)
 }
 
-// So many empty places.
-fn empty_places(alloc: Global, places: u32) -> Result<Vec<Option<Slip>>, OutOfMemory>
-    ensures { IfOk result (λ all. length all.items ≡ places) }
+// All places up to that of a number are there then, without taking memory.
+fn reach(slips: &mut Vec<Option<Slip>>, next: &mut Vec<u32>, number: u32)
+    requires size { length slips.old.items ≡ length next.old.items }
+    requires slips { number < vec_capacity slips.old }
+    requires next { number < vec_capacity next.old }
+    ensures there { (number < length slips.new.items) × (number < length next.new.items) }
+    ensures slips { slips.new.items
+        ≡ slips.old.items ++ replicate (number + 1 - length next.old.items) None }
+    ensures next { next.new.items
+        ≡ next.old.items ++ replicate (number + 1 - length next.old.items) 0 }
+    ensures room { (vec_capacity slips.new ≡ vec_capacity slips.old)
+        × (vec_capacity next.new ≡ vec_capacity next.old) }
 {
-    let mut all = Vec::with_capacity(alloc, places as usize)?;
-    'places: for _ in 0..places {
-        all.push(None)?;
+    'places: for _ in next.len()..number as usize + 1 {
+        slips.push_reserved(None);
+        next.push_reserved(0);
     }
-    Ok(all)
 }
 
 impl Queues {
@@ -114,9 +127,10 @@ impl Queues {
         ensures { IfOk result (λ all. all ≡ record { queues = replicate queues []; places = places }) }
     {
         Ok(Queues {
-            slips: empty_places(alloc, places)?,
-            next: vec![in alloc; 0u32; places as usize]?,
+            slips: Vec::with_capacity(alloc, places as usize)?,
+            next: Vec::with_capacity(alloc, places as usize)?,
             queues: empty_queues(alloc, queues)?,
+            places,
         })
     }
 
@@ -140,6 +154,7 @@ impl Queues {
     {
         let queue = self.queues[q];
         let number = slip.number();
+        reach(&mut self.slips, &mut self.next, number);
         self.next[place_before(queue, number) as usize] = number;
         self.slips[number as usize] = Some(slip);
         self.queues[q] = appended(queue, number);

@@ -172,8 +172,8 @@ impl WireSet {
         self.set_link(place_of(s, port), true);
     }
 
-    /// The side of a port: what is at its far side, whether its link is up, and what is told of the wire
-    /// into it. It answers for all values.
+    /// The side of a port, 0 to 12: what is at its far side, whether its link is up, and what is told of the wire
+    /// into it. It answers for all values, for a port above 12 of the place 13 s + port.
     pub fn side(&self, s: u8, port: u8) -> Side
         ensures { result ≡ side_at self.now (place s port) }
     {
@@ -224,13 +224,14 @@ impl WireSet {
         side.swap = side.swap.saturating_add(n);
     }
 
-    /// Whether the wire into a port of a switch has a frame. It answers for all values. Most wires have none, so that
-    /// is looked at first.
+    /// Whether a port of a switch, 0 to 12, has a link of two switch ports, and the wire into it a frame. It answers
+    /// for all values, for a port above 12 of the place 13 s + port.
     pub fn has_frame(&self, s: u8, port: u8) -> bool
         ensures { result ≡ has_frame_on self.now (place s port) }
     {
         let wire = place_of(s, port);
         match self.sides.get(wire) {
+            // Most wires have none, so that is looked at first.
             Some(side) => self.frames.len(wire) > 0 && is_link(side.far),
             None => false,
         }

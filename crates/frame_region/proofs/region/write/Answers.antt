@@ -2,6 +2,7 @@ use Rattle.std.proofs.Common.{ℕ, ◌≡◌, ◌≢◌, ◌∙◌, sym, ap, ◌
 use Rattle.std.proofs.lemmas.Bool.{cases_lt}
 use Rattle.std.proofs.lemmas.List.{get_or-take, get_or-drop, get_or_append_left, get_or-append_right, get_or_past, length-take, length-drop, length-append}
 use borrow.Rule.Slice.PartMut.{put_mid, post_of}
+use Rattle.frame_region.proofs.ShownLemmas.{zeros_more}
 use Rattle.frame_region.proofs.region.write.Goals as goal
 
 -- what stands where a piece was written into the bytes, and where it was not
@@ -55,10 +56,10 @@ returns-clause-piece c = λ m below.
     let old = c.deref_mut.result.now in
     let new = c.copy_from_slice.new.self in
     let many : length new ≡ k = ap length c.copy_from_slice.ensures.after ∙ omega arith in
-    let count : length old ≡ c.reach.new.bytes.len = c.deref_mut.ensures.len in
+    let count : length old ≡ c.reach.new.list.len = c.deref_mut.ensures.len in
     let within : a + 64 ≤ length old = omega (arith, c.reach.ensures.end, ap length c.deref_mut.ensures.value) in
     let most : k ≤ 64 = omega (arith, c.requires.most) in
-    reads a k c.reach.new.bytes.len (a + m) old new (drop (length (put_mid a k old new)) c.reach.new.bytes.items) many (omega (arith, within, most, count)) count (omega (arith, within, most, count, below))
+    reads a k c.reach.new.list.len (a + m) old new (drop (length (put_mid a k old new)) c.reach.new.list.items) many (omega (arith, within, most, count)) count (omega (arith, within, most, count, below))
     ∙ at_piece a k m old new many (omega (arith, within, most)) (omega (arith, below))
     ∙ ap (λ (l : List ℕ). slice_index_or l m 0) c.copy_from_slice.ensures.after
 
@@ -69,7 +70,8 @@ returns-clause-others c = λ b m small other.
     let old = c.deref_mut.result.now in
     let new = c.copy_from_slice.new.self in
     let many : length new ≡ k = ap length c.copy_from_slice.ensures.after ∙ omega arith in
-    let within : a + 64 ≤ c.reach.new.bytes.len = omega (arith, c.reach.ensures.end, ap length c.deref_mut.ensures.value, c.deref_mut.ensures.len) in
-    elsewhere c.args.block k c.reach.new.bytes.len b m old new (drop (length (put_mid a k old new)) c.reach.new.bytes.items) many (omega (arith, c.requires.most)) within c.deref_mut.ensures.len small other
+    let within : a + 64 ≤ c.reach.new.list.len = omega (arith, c.reach.ensures.end, ap length c.deref_mut.ensures.value, c.deref_mut.ensures.len) in
+    elsewhere c.args.block k c.reach.new.list.len b m old new (drop (length (put_mid a k old new)) c.reach.new.list.items) many (omega (arith, c.requires.most)) within c.deref_mut.ensures.len small other
     ∙ ap (λ (l : List ℕ). slice_index_or l (64 * b + m) 0) c.deref_mut.ensures.value
-    ∙ c.reach.ensures.shown (64 * b + m)
+    ∙ ap (λ (l : List ℕ). slice_index_or l (64 * b + m) 0) c.reach.ensures.items
+    ∙ zeros_more _ _ (64 * b + m)

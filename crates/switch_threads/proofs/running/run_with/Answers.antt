@@ -8,12 +8,12 @@ use Rattle.switch_threads.specs.Runs.{AreWorkers, DriverOf, HaveCalled, SeatOf}
 use Rattle.switch_threads.proofs.RunLemmas.{driver_one, given_back, one_stays, ones_have, ones_stay}
 use Rattle.switch_threads.proofs.running.run_with.Goals as goal
 
-pub new-driver-requires : goal.new-driver-requires
-new-driver-requires g c = (turnstile_id c.args.turnstile.now, c.args.script.now, c.in_ok-seat.ensures.script, c.in_ok-seat.ensures.seat)
+pub new-requires : goal.new-requires
+new-requires g c = (turnstile_id c.args.turnstile.now, c.args.script.now, c.in_ok-seat.ensures.script, c.in_ok-seat.ensures.seat)
 
 pub shifts-requires-clause-driver : goal.shifts-requires-clause-driver
 shifts-requires-clause-driver g c κs within =
-    ap (λ (d : DriverOf). d.seat.0) c.new-driver.ensures ∙ ap (λ (s : SeatOf). s.0) c.in_ok-seat.ensures.seat
+    ap (λ (d : DriverOf). d.seat.0) c.in_ok-driver.ensures ∙ ap (λ (s : SeatOf). s.0) c.in_ok-seat.ensures.seat
 
 pub shifts-requires-clause-workers : goal.shifts-requires-clause-workers
 shifts-requires-clause-workers g c κs within =
@@ -24,8 +24,8 @@ pub joined-requires-clause-driver : goal.joined-requires-clause-driver
 joined-requires-clause-driver g c =
     let id = turnstile_id c.args.turnstile.now in
     let script = c.args.script.now in
-    let first = ap (λ (d : DriverOf). d.seat) c.new-driver.ensures ∙ c.in_ok-seat.ensures.seat in
-    one_stays id script 0 c.new-driver.result.seat c.shifts.new.driver.seat c.in_ok-end.ensures.driver (driver_one id script c.new-driver.result.seat first)
+    let first = ap (λ (d : DriverOf). d.seat) c.in_ok-driver.ensures ∙ c.in_ok-seat.ensures.seat in
+    one_stays id script 0 c.in_ok-driver.driver.seat c.shifts.new.driver.seat c.in_ok-end.ensures.driver (driver_one id script c.in_ok-driver.driver.seat first)
 
 pub joined-requires-clause-workers : goal.joined-requires-clause-workers
 joined-requires-clause-workers g c =

@@ -3,5 +3,5 @@
 use Rattle.switch_threads.specs.Runs.{HaveCalled}
 use Rattle.switch_threads.proofs.running.stay.Given as goal
 
-abbrev pub invariant-rounds : goal.invariant-rounds
-invariant-rounds g l = HaveCalled l.fn.workers l.workers
+abbrev pub invariant-turns : goal.invariant-turns
+invariant-turns g l = HaveCalled l.fn.workers l.workers

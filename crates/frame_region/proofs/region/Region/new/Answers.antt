@@ -1,13 +1,14 @@
 use Rattle.std.proofs.Common.{arith}
-use Rattle.frame_region.proofs.StartLemmas.{start_kept, start_shown}
+use Rattle.frame_region.proofs.StartLemmas.{start_by}
 use Rattle.frame_region.proofs.region.Region.new.Goals as goal
 
 pub invariant_of-result : goal.invariant_of-result
 invariant_of-result c = (
-  start_kept _ _ _ _ c.requires c.in_ok-next.ensures.count c.in_ok-next.ensures.next
-      (c.in_ok-lens.ensures.items_if_clones_equal (λ y is. is)),
-  omega (arith, c.in_ok-next.ensures.count, c.in_ok-bytes.ensures.exact),
+  (start_by _ _ _ c.args.blocks c.requires c.in_ok-with_capacity.ensures.items c.in_ok-with_capacity-2.ensures.items c.in_ok-with_capacity-3.ensures.items).0,
+  omega (arith, c.in_ok-with_capacity.ensures.exact),
+  omega (arith, c.in_ok-with_capacity-2.ensures.exact),
+  omega (arith, c.in_ok-with_capacity-3.ensures.exact),
 )
 
 pub returns : goal.returns
-returns c = start_shown c.in_ok-bytes.bytes.items c.in_ok-next.next.items c.in_ok-lens.lens.items c.args.blocks (c.in_ok-lens.ensures.items_if_clones_equal (λ y is. is))
+returns c = (start_by _ _ _ c.args.blocks c.requires c.in_ok-with_capacity.ensures.items c.in_ok-with_capacity-2.ensures.items c.in_ok-with_capacity-3.ensures.items).1

@@ -5,11 +5,8 @@ use Rattle.switch_threads.specs.declared.desk.Pending.TheVariants as pending
 use Rattle.switch_threads.proofs.TurnLemmas.{in_hand}
 use Rattle.switch_threads.proofs.desk.Desk.ask.Goals as goal
 
-pub take-requires-clause-step : goal.take-requires-clause-step
-take-requires-clause-step g c = in_hand c.args.seat.now.1 c.args.self.now c.args.papers pending.Work c.replace.new.dest (sym c.replace.ensures.value ∙ c.in-Work.is) c.requires.step
-
-pub put_and_take-requires-clause-step : goal.put_and_take-requires-clause-step
-put_and_take-requires-clause-step g c = in_hand c.args.seat.now.1 c.args.self.now c.args.papers (pending.Put c.in-Put.out) c.replace.new.dest (sym c.replace.ensures.value ∙ c.in-Put.is) c.requires.step
+pub put-papers-requires-clause-step : goal.put-papers-requires-clause-step
+put-papers-requires-clause-step g c = in_hand c.args.seat.now.1 c.args.self.now c.args.papers pending.Put c.replace.new.dest (sym c.replace.ensures.value ∙ c.in-Put.is) c.requires.step
 
 pub load-requires-clause-step : goal.load-requires-clause-step
-load-requires-clause-step g c = in_hand c.args.seat.now.1 c.args.self.now c.args.papers (pending.Load c.in-Load.table) c.replace.new.dest (sym c.replace.ensures.value ∙ c.in-Load.is) c.requires.step
+load-requires-clause-step g c = in_hand c.args.seat.now.1 c.args.self.now c.args.papers (pending.Load c.in-Load.sheet) c.replace.new.dest (sym c.replace.ensures.value ∙ c.in-Load.is) c.requires.step

@@ -1,20 +1,19 @@
 -- What was in hand was handled.
 
-use Rattle.std.proofs.Common.{◌≡◌, ◌∙◌, ◌+◌, ◌++◌, ◌<◌, ◌^◌, List, ℕ, ap, length, subst, sym}
-use Rattle.switch_core.specs.Bytes.{BytesOut, OutOf}
+use Rattle.std.proofs.Common.{◌≡◌, ◌∙◌, ◌+◌, ◌++◌, ◌<◌, ◌^◌, List, ℕ, ap, subst, sym}
 use Rattle.switch_core.specs.Kept.{IsWorking, KeptOf, StandsFor}
-use Rattle.switch_core.specs.Steps.{Step}
 use Rattle.switch_core.specs.Switch.{note_of}
 use Rattle.fabric_state.specs.Fabric.{is_empty}
 use Rattle.fabric_state.specs.Fits.{IsHandPort}
 use Rattle.fabric_world.proofs.NextLemmas.{handle_is_lawful}
 use Rattle.fabric_world.specs.World.{handles, world_after}
-use Rattle.fabric_world.specs.declared.ask.Done.{Done}
 use Rattle.fabric_world.specs.declared.line.Line.{Line}
 use Rattle.fabric_book.specs.Nets.{IsHandled}
 use Rattle.fabric_book.specs.Told.{hand_lines}
-use Rattle.fabric_book.proofs.HandLemmas.{hand_filled, hand_port, hand_working, hand_works, lines_at, step_is}
-use Rattle.switch_threads.proofs.TurnLemmas.{handled_fits}
+use Rattle.fabric_book.specs.declared.asking.Letter.{Letter}
+use Rattle.fabric_book.specs.declared.asking.Parcel.{Parcel}
+use Rattle.fabric_book.proofs.HandLemmas.{hand_filled, hand_port, hand_working, hand_works, lines_at}
+use Rattle.switch_threads.proofs.TurnLemmas.{handled_done, handled_fits}
 use Rattle.switch_threads.proofs.desk.Desk.handle.Goals as goal
 
 pub handle-requires-clause-full : goal.handle-requires-clause-full
@@ -40,7 +39,7 @@ handle-requires-clause-works c =
     let script = c.requires.0 in
     let history = c.requires.1 in
     let is = c.requires.2.has in
-    let works = hand_works script is.powered.kept history desk.s (handle_is_lawful script history desk.s is.powered.within is.full) desk.switch.value papers.buffer is.kept in
+    let works = hand_works script is.powered.kept history desk.s (handle_is_lawful script history desk.s is.powered.within is.full) desk.switch.value papers.letter.value.buffer is.kept in
     subst (λ (k : KeptOf). k.works < 2 ^ 28) (sym c.deref_mut.ensures.value) works
 
 pub handle-requires-clause-working : goal.handle-requires-clause-working
@@ -50,7 +49,7 @@ handle-requires-clause-working c =
     let script = c.requires.0 in
     let history = c.requires.1 in
     let is = c.requires.2.has in
-    let working = hand_working script is.powered.kept history desk.s (handle_is_lawful script history desk.s is.powered.within is.full) desk.switch.value papers.buffer is.kept in
+    let working = hand_working script is.powered.kept history desk.s (handle_is_lawful script history desk.s is.powered.within is.full) desk.switch.value papers.letter.value.buffer is.kept in
     subst IsWorking (sym c.deref_mut.ensures.value) working
 
 pub returns-clause-done : goal.returns-clause-done
@@ -62,20 +61,21 @@ returns-clause-done c script history is =
     let hand = c.args.hand in
     let same = c.deref_mut.ensures.value in
     let stood = subst (λ (k : KeptOf). StandsFor k x) (sym same) is.has.kept.stands in
-    let noted = ap (λ (d : Done). d.note) c.deref_mut-2.ensures.value ∙ is.note_is in
-    let does = subst (λ (xs : List ℕ). IsHandled x hand xs c.handle.new.switch c.handle.new.out) c.bytes.ensures.all (c.in_ok-handle.ensures.handled x stood) in
-    let shown = subst (λ (xs : List ℕ). c.handle.new.note ≡ note_of (handles hand xs x).switch) c.bytes.ensures.all (c.in_ok-handle.ensures.note x stood noted) in
+    let noted = ap (λ (p : Parcel). p.done.note) c.deref_mut-2.ensures.value ∙ is.note_is in
+    let bytes = c.bytes.ensures.all ∙ ap (λ (l : Letter). l.buffer) c.deref.ensures in
+    let does = subst (λ (xs : List ℕ). IsHandled x hand xs c.handle.new.switch c.handle.new.out) bytes (c.in_ok-handle.ensures.handled x stood) in
+    let shown = subst (λ (xs : List ℕ). c.handle.new.note ≡ note_of (handles hand xs x).switch) bytes (c.in_ok-handle.ensures.note x stood noted) in
     let none = c.clear.ensures in
-    let told = subst (λ (xs : List ℕ). c.handle.new.lines ≡ hand_lines desk.s hand xs x (handles hand xs x).switch) c.bytes.ensures.all
+    let told = subst (λ (xs : List ℕ). c.handle.new.lines ≡ hand_lines desk.s hand xs x (handles hand xs x).switch) bytes
     (c.in_ok-handle.ensures.told x stood noted ∙ ap (λ (ls : List Line). ls ++ hand_lines desk.s hand c.bytes.result.now x (handles hand c.bytes.result.now x).switch) none) in
-    let frames = c.as_slice.ensures.all ∙ ap (λ (o : OutOf). o.frames) c.out.view_is in
+    let y = (handles hand papers.letter.value.buffer x).switch in
+    let laid = c.in_ok-lay.ensures.laid y (subst (λ (k : KeptOf). StandsFor k y) (sym c.deref-2.ensures) does.stands) (ap (λ (p : Parcel). p.done.note) c.deref_mut-4.ensures.value ∙ shown) in
     record {
-      keeps_up = handled_fits script history desk.s desk.power_on desk.switch.value c.handle.new.switch papers.buffer hand c.replace-out.result is.has
-          (c.handle.ensures.start ∙ ap (λ (k : KeptOf). k.start) same) (c.handle.ensures.works ∙ ap (λ (k : KeptOf). k.works + 1) same)
-          (subst (IsHandled x hand papers.buffer c.handle.new.switch) (sym c.replace-out.ensures.value) does);
+      keeps_up = handled_fits script history desk.s desk.power_on desk.switch.value c.handle.new.switch papers.letter.value.buffer hand c.handle.new.out is.has does
+          (c.handle.ensures.start ∙ ap (λ (k : KeptOf). k.start) same) (c.handle.ensures.works ∙ ap (λ (k : KeptOf). k.works + 1) same);
       prepared = (
-        shown ∙ ap (λ (t : Step). note_of t.switch) (step_is w desk.s hand papers.buffer is.has.hand_is is.has.kept.frame),
-        told ∙ lines_at w desk.s hand papers.buffer is.has.hand_is is.has.kept.frame,
-        sym c.resize.new.self.ok.0 ∙ c.in_ok-resize.ensures.len ∙ ap (length {A = BytesOut}) frames,
+        handled_done script history desk.s desk.power_on desk.switch.value c.handle.new.switch papers.letter.value.buffer hand c.handle.new.out is.has does c.lay.new.parcel.done laid,
+        told ∙ lines_at w desk.s hand papers.letter.value.buffer is.has.hand_is is.has.kept.frame,
+        c.in_ok-lay.ensures.room,
       );
     }
