@@ -59,27 +59,27 @@ pub(crate) enum Pending {
 pub(crate) enum Next {
     /// To ask for what is to be asked for.
     Ask,
-    /// To ask for it once the worker is called.
+    /// To ask for it once the worker is roused.
     Later,
     /// To do the work that it took, which lies in its papers.
     Do,
 }
 
 impl Next {
-    /// What there is to do at a turn, ahead of which the worker may have been called.
-    pub fn once_called(self, is_called: bool) -> Next
+    /// What there is to do at a turn, ahead of which the worker may have been roused.
+    pub fn once_roused(self, is_roused: bool) -> Next
         ensures { (script : ScriptOf) (history : List Event) (desk : DeskOf) (papers : PapersOf)
             → IsNext script history desk papers self → IsNext script history desk papers result }
     {
         match self {
-            Next::Later if is_called => Next::Ask,
+            Next::Later if is_roused => Next::Ask,
             next => next,
         }
     }
 
-    /// Whether there is something to do at a turn, ahead of which the worker may have been called.
-    pub fn is_due(&self, is_called: bool) -> bool {
-        is_called || !matches!(self, Next::Later)
+    /// Whether there is something to do at a turn, ahead of which the worker may have been roused.
+    pub fn is_due(&self, is_roused: bool) -> bool {
+        is_roused || !matches!(self, Next::Later)
     }
 
     /// Whether there is something to ask for.
@@ -135,7 +135,7 @@ impl Tale {
     }
 }
 
-/// What a worker hands over when it asks, and gets back.
+/// What a worker hands over when it asks, and gets back, and room for a note.
 #[derive(Drop)]
 pub(crate) struct Papers {
     /// On which it is told its next work.
@@ -181,7 +181,7 @@ impl Papers {
         })
     }
 
-    // What there is to do after work was taken. Where there is none it is to be asked for once the worker is called.
+    // What there is to do after work was taken. Where there is none it is to be asked for once the worker is roused.
     fn after_take(&self) -> Next
         ensures { (script : ScriptOf) (history : List Event) (desk : DeskOf)
             → IsToDo script history desk self.now self.now.letter.value.work

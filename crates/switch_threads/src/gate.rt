@@ -8,7 +8,7 @@ pub trait Gate: Sync {
     /// Called ahead of a turn.
     fn before<R: Wait>(&self, rt: &R, worker: u8, turn: u64);
 
-    /// Called behind it.
+    /// Called behind it, once those to whom the workers of its thread sent frames are roused.
     fn after<R: Wait>(&self, rt: &R, worker: u8, turn: u64);
 }
 

@@ -7,10 +7,10 @@
 //! that a thread is served, that a turn comes, or that `run` returns.
 #![tactic(auto)]
 
-mod calls;
 mod desk;
 mod driver;
 mod gate;
+mod rousing;
 mod running;
 mod shift;
 mod worker;

@@ -10,10 +10,10 @@ ghost use Rattle.fabric_turn.specs.Seats.{HasAllNumbers};
 ghost use Rattle.switch_threads.specs.Runs.{AreToldBy, AreToldDown, AreWorkers, HasCalled, HasSeenMore, HaveCalled};
 ghost use Rattle.switch_threads.specs.Runs.{IsSeatOf, IsWhole, driver_seat, first_seat};
 
-use crate::calls::{Called, MOST_PARTIES};
 use crate::driver::Driver;
 use crate::gate::Gate;
-use crate::shift::Shift;
+use crate::rousing::{MOST_PARTIES, Roused};
+use crate::shift::{FIRST, Shift};
 use crate::worker::Worker;
 use an_base::memory::OutOfMemory;
 use fabric_book::account::Account;
@@ -24,7 +24,7 @@ use fabric_turn::{Seat, Turnstile};
 use net_script::script::Script;
 use std::alloc::Global;
 use std::sync::Wait;
-use std::thread::{Threads, for_each_chunk_mut, for_each_mut, join_mut};
+use std::thread::{Threads, for_each_chunk_mut, join_mut};
 
 /// A run, with what is told of the events of each caller.
 #[derive(Drop)]
@@ -42,7 +42,8 @@ const FEW: usize = MOST_PARTIES;
 // with fewer workers in each, threads wait for one another longer than they work.
 const THREADS: usize = 2;
 
-// The most turns of a worker in one round.
+// How often at most the workers of a party make turns before it is looked at whether the party is to rest, and how often
+// at most that of the driver does so in one round.
 const TURNS: u32 = 64;
 
 // A worker for each switch of a script, and the seat that is left.
@@ -69,63 +70,55 @@ fn open(
     Ok((seat, workers))
 }
 
-// The workers of a thread get ready for a turn each, of whom these are called.
-fn prepare<R: Threads + Wait + Sync, G: Gate>(
-    rt: &R,
-    gate: &G,
-    called: Called,
-    workers: &mut [Worker],
-)
+// The workers of a thread get ready for a turn each, of whom these are roused.
+fn prepare<R: Wait, G: Gate>(rt: &R, gate: &G, roused: Roused, workers: &mut [Worker])
     ensures { HaveCalled workers.old workers.new }
 {
-    for_each_mut(
-        rt,
-        workers,
-        1,
-        &|place: usize, worker: &mut Worker|
-            ensures { HasCalled worker.entry.now worker.exit.now }
-        { worker.prepare(rt, gate, called.has(place)) },
-    );
+    'workers: for (place, worker) in workers.iter_mut().enumerate() {
+        worker.prepare(rt, gate, roused.has(place));
+    }
 }
 
 // Those that are to make a turn make it, one after the other.
-fn ask<R: Threads + Wait + Sync>(rt: &R, turnstile: &Turnstile<Book>, workers: &mut [Worker])
+fn ask<R: Wait>(rt: &R, turnstile: &Turnstile<Book>, workers: &mut [Worker])
     requires workers { All (λ worker. worker.0 ≡ turnstile_id turnstile.now) workers.old }
     ensures { HaveCalled workers.old workers.new }
 {
-    for_each_mut(
-        rt,
-        workers,
-        1,
-        &|_: usize, worker: &mut Worker|
-            requires { worker.now.0 ≡ turnstile_id turnstile.now }
-            ensures { HasCalled worker.entry.now worker.exit.now }
-        { worker.turn(rt, turnstile) },
-    );
+    'workers: for worker in workers.iter_mut() {
+        worker.turn(rt, turnstile);
+    }
 }
 
-// And end it.
-fn finish<R: Threads + Wait + Sync, G: Gate>(
-    rt: &R,
-    gate: &G,
-    shift: &Shift,
-    workers: &mut [Worker],
-)
+// Those that sent frames in their turns rouse those to whom they sent them, and who sleeps is woken.
+fn rouse(shift: &Shift, workers: &[Worker]) {
+    'workers: for worker in workers {
+        worker.rouse_neighbours(shift.rousing());
+    }
+    shift.wake();
+}
+
+// Those that made a turn end it.
+fn finish<R: Wait, G: Gate>(rt: &R, gate: &G, workers: &mut [Worker])
     ensures { HaveCalled workers.old workers.new }
 {
-    for_each_mut(
-        rt,
-        workers,
-        1,
-        &|_: usize, worker: &mut Worker|
-            ensures { HasCalled worker.entry.now worker.exit.now }
-        { worker.finish(rt, gate, shift.calls()) },
-    );
+    'workers: for worker in workers.iter_mut() {
+        worker.finish(rt, gate);
+    }
+}
+
+// Whether some of these workers are to make a turn.
+fn are_asking(workers: &[Worker]) -> bool {
+    'workers: for worker in workers {
+        if worker.is_asking() {
+            return true;
+        }
+    }
+    false
 }
 
 // The workers of a party make turns, until none has something to ask for, or so many times. What is large in the book
 // comes to a processor once for all of them, since the other threads wait at the door.
-fn work<R: Threads + Wait + Sync, G: Gate>(
+fn work<R: Wait, G: Gate>(
     rt: &R,
     turnstile: &Turnstile<Book>,
     gate: &G,
@@ -137,25 +130,30 @@ fn work<R: Threads + Wait + Sync, G: Gate>(
     ensures { HaveCalled workers.old workers.new }
 {
     'turns: for _ in 0..TURNS {
-        prepare(rt, gate, shift.take_called(party), workers);
-        if !workers.iter().any(|worker| worker.is_asking()) {
+        prepare(rt, gate, shift.take_roused(party), workers);
+        if !are_asking(workers) {
             return;
         }
         let behind_the_door = shift.enter(rt);
         ask(rt, turnstile, workers);
         drop(behind_the_door);
-        finish(rt, gate, shift, workers);
-        shift.wake();
+        rouse(shift, workers);
+        finish(rt, gate, workers);
     }
 }
 
 // Whether memory was wanting to some of these workers.
 fn have_failed(workers: &[Worker]) -> bool {
-    workers.iter().any(|worker| worker.failed())
+    'workers: for worker in workers {
+        if worker.failed() {
+            return true;
+        }
+    }
+    false
 }
 
 // The workers of a party without the driver make the turns of a shift. It is over once memory was wanting to one.
-fn stay<R: Threads + Wait + Sync, G: Gate>(
+fn stay<R: Wait, G: Gate>(
     rt: &R,
     turnstile: &Turnstile<Book>,
     gate: &G,
@@ -202,7 +200,7 @@ fn work_all<R: Threads + Wait + Sync, G: Gate>(
     );
 }
 
-// The driver makes its steps of a round, and all workers are called.
+// The driver makes its steps of a round, and all workers are roused.
 fn drive<R: Wait>(rt: &R, turnstile: &Turnstile<Book>, shift: &Shift, driver: &mut Driver)
     requires { driver.old.seat.0 ≡ turnstile_id turnstile.now }
     ensures { HasCalled driver.old.seat driver.new.seat }
@@ -210,11 +208,12 @@ fn drive<R: Wait>(rt: &R, turnstile: &Turnstile<Book>, shift: &Shift, driver: &m
     let behind_the_door = shift.enter(rt);
     driver.steps(rt, turnstile);
     drop(behind_the_door);
-    shift.call_all();
+    shift.rouse_all();
 }
 
-// The workers of the driver's party make their turns of a round: until none of them is called, and all others rest.
-fn work_first<R: Threads + Wait + Sync, G: Gate>(
+// The workers of the driver's party make their turns of a round: until none of them is roused, and all others rest, or
+// so many times; once where parties do not run beside each other.
+fn work_first<R: Wait, G: Gate>(
     rt: &R,
     turnstile: &Turnstile<Book>,
     gate: &G,
@@ -225,7 +224,7 @@ fn work_first<R: Threads + Wait + Sync, G: Gate>(
     ensures { HaveCalled workers.old workers.new }
 {
     'turns: for _ in 0..TURNS {
-        work(rt, turnstile, gate, shift, 0, workers);
+        work(rt, turnstile, gate, shift, FIRST, workers);
         if !shift.rest_first(rt) {
             return;
         }
@@ -234,7 +233,7 @@ fn work_first<R: Threads + Wait + Sync, G: Gate>(
 
 // The driver and the workers of its party make the rounds of a shift, the driver first. It is over once the driver is
 // told an end, or memory was wanting to somebody.
-fn lead<R: Threads + Wait + Sync, G: Gate>(
+fn lead<R: Wait, G: Gate>(
     rt: &R,
     turnstile: &Turnstile<Book>,
     gate: &G,

@@ -1,14 +1,14 @@
 //! The shift that threads make together.
 //!
 //! To begin a thread costs more than what there is to do in a round. So the threads of a shift stay until it is over,
-//! and whoever finds nothing to do rests until one of its workers is called (`calls`). A round begins with the driver,
-//! behind whose steps all workers are called, and it ends where nobody is called and all other parties rest. That needs
-//! a thread for each of them: where one lacks others, all make a single round.
+//! and whoever finds nothing to do rests until one of its workers is roused (`rousing`). A round begins with the driver,
+//! behind whose steps all workers are roused, and it ends where nobody is roused and all other parties rest, or the party
+//! of the driver has gone on many times. That needs a thread for each party: where one is lacking, all make a single round.
 //!
 //! One party at a time asks: the driver, or all workers of a thread one after the other. A book that goes from one
 //! processor to another at each turn costs more than the turn. That is the door.
 
-use crate::calls::{Called, Calls};
+use crate::rousing::{Roused, Rousing};
 use std::hint::spin_loop;
 use std::sync::atomic::{AtomicBool, AtomicU64, Ordering};
 use std::sync::{Mutex, MutexGuard, Wait};
@@ -17,20 +17,20 @@ use std::thread::yield_now;
 // How often a party looks whether all others have begun.
 const LOOKS: u32 = 2_000;
 
-// How often one that has nothing to do looks whether it is called, before it sleeps. To be woken takes longer than
-// all of these looks, where a processor has nothing else to do.
+// How often one that rests looks whether it is roused, before it sleeps: for some milliseconds, so that it is mostly
+// found awake, and need not be woken.
 const REST_LOOKS: u32 = 4_000;
 
-// How often one that stands at the door looks whether it is open before it sleeps, how often before it gives way, and how
-// long it waits for a look then.
+// How often one that stands at the door looks whether it is open before it sleeps, how often of these before it gives
+// way at each look, and for how many pauses it waits between two looks until then.
 const DOOR_LOOKS: u32 = 1_000;
 
 const NEAR_LOOKS: u32 = 16;
 
 const SPINS: u32 = 32;
 
-// The party of the driver.
-const FIRST: usize = 0;
+/// The party of the driver.
+pub(crate) const FIRST: usize = 0;
 
 // What is known of whether all parties run beside each other: nothing yet, that they do, or that they do not.
 const OPEN: u64 = 0;
@@ -56,7 +56,7 @@ pub(crate) struct Shift {
     parties: u64,
     begun: AtomicU64,
     known: AtomicU64,
-    calls: Calls,
+    rousing: Rousing,
     // How many parties rest, of those without the driver.
     resting: AtomicU64,
     // Whether there is no further round.
@@ -69,13 +69,13 @@ pub(crate) struct Shift {
 }
 
 impl Shift {
-    /// A shift that nobody has begun, of parties of so many workers, all of which are called.
+    /// A shift that nobody has begun, of parties of so many workers, all of which are roused.
     pub fn new(parties: usize, each: usize) -> Shift {
         Shift {
             parties: parties as u64,
             begun: AtomicU64::new(0),
             known: AtomicU64::new(OPEN),
-            calls: Calls::new(parties, each),
+            rousing: Rousing::new(parties, each),
             resting: AtomicU64::new(0),
             is_over: AtomicBool::new(false),
             sleepers: AtomicU64::new(0),
@@ -113,22 +113,22 @@ impl Shift {
 
     /// The party that has the worker at a place behind those of the first party.
     pub fn party_behind(&self, worker: usize) -> usize {
-        self.calls.party_of(worker).saturating_add(1)
+        self.rousing.party_of(worker).saturating_add(1)
     }
 
-    /// The workers of a party that are called, none of which is called then any more.
-    pub fn take_called(&self, party: usize) -> Called {
-        self.calls.take(party)
+    /// The workers of a party that are roused, none of which is roused then any more.
+    pub fn take_roused(&self, party: usize) -> Roused {
+        self.rousing.take(party)
     }
 
-    /// Which workers are called.
-    pub fn calls(&self) -> &Calls {
-        &self.calls
+    /// Which workers are roused.
+    pub fn rousing(&self) -> &Rousing {
+        &self.rousing
     }
 
-    /// Calls all workers.
-    pub fn call_all(&self) {
-        self.calls.call_all();
+    /// Rouses all workers.
+    pub fn rouse_all(&self) {
+        self.rousing.rouse_all();
         self.wake();
     }
 
@@ -143,22 +143,24 @@ impl Shift {
         self.is_over.load(Ordering::SeqCst)
     }
 
-    // Whether all parties without the driver rest, and nobody is called.
+    // Whether all parties without the driver rest, and nobody is roused, as far as one look at each word tells: one that
+    // was roused meanwhile works beside the driver then.
     fn all_rest(&self) -> bool {
-        !self.calls.has_any() && self.resting.load(Ordering::SeqCst).wrapping_add(1) == self.parties
+        !self.rousing.has_any()
+            && self.resting.load(Ordering::SeqCst).wrapping_add(1) == self.parties
     }
 
-    // Whether a party is to go on: a worker of it is called, or none will be in this round.
+    // Whether a party is to go on: a worker of it is roused, or none will be in this round.
     fn is_to_go_on(&self, party: usize) -> bool {
-        self.calls.has(party) || self.is_over() || (party == FIRST && self.all_rest())
+        self.rousing.has(party) || self.is_over() || (party == FIRST && self.all_rest())
     }
 
-    // Waits until a party is to go on. Answers whether a worker of it is called.
+    // Waits until a party is to go on. Answers whether a worker of it is roused.
     fn wait<R: Wait>(&self, rt: &R, party: usize) -> bool {
         let mut looks = 0u32;
         for _ in rt.forever() {
             if self.is_to_go_on(party) {
-                return self.calls.has(party);
+                return self.rousing.has(party);
             }
             if looks < REST_LOOKS {
                 looks += 1;
@@ -188,14 +190,14 @@ impl Shift {
         }
     }
 
-    /// The party of the driver has nothing to do: waits until a worker of it is called, or all others rest too.
-    /// Answers whether one is called.
+    /// The party of the driver has nothing to do, or made turns enough: where all run beside each other, waits until a
+    /// worker of it is roused, all others rest too, or the shift is over. Answers whether one is roused.
     pub fn rest_first<R: Wait>(&self, rt: &R) -> bool {
         self.known.load(Ordering::SeqCst) == BESIDE && self.wait(rt, FIRST)
     }
 
-    /// A party without the driver has nothing to do: rests until a worker of it is called, or the shift is over. Answers
-    /// whether it is not over.
+    /// A party without the driver has nothing to do, or made turns enough: rests until a worker of it is roused, or the
+    /// shift is over. Answers whether it is not over.
     pub fn rest<R: Wait>(&self, rt: &R, party: usize) -> bool {
         self.resting.fetch_add(1, Ordering::SeqCst);
         self.wake();

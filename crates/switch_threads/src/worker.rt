@@ -4,9 +4,9 @@ ghost use Rattle.std.specs.Prelude.{◌≡◌, ◌+◌, ◌<◌, [], length, IfO
 ghost use Rattle.fabric_turn.specs.Names.{turnstile_id};
 ghost use Rattle.switch_threads.specs.Runs.{HasCalled, IsToldAt};
 
-use crate::calls::{Calls, Neighbours};
 use crate::desk::{Desk, Next, Papers};
 use crate::gate::Gate;
+use crate::rousing::{Neighbours, Rousing};
 use an_base::memory::OutOfMemory;
 use fabric_book::account::Account;
 use fabric_book::book::Book;
@@ -18,8 +18,8 @@ use std::sync::Wait;
 
 /// The worker of a switch: its number, its seat, how many turns it made, whether it makes one, and whether it puts
 /// something in it, the switches at its links, what it works with, and what it is to do next. Contracts see its seat.
-/// While it asks it has no papers, and after want of memory it has none any more: its switch and the book have parted
-/// then.
+/// While it asks it has no papers, and where memory was wanting to get ready it has none any more: its switch and the book
+/// have parted then.
 #[derive(Drop)]
 pub(crate) struct Worker {
     number: u8,
@@ -101,11 +101,11 @@ impl Worker {
         self.is_asking
     }
 
-    /// Gets ready for a turn, if there is to be one: one that found nothing to do makes none until it is called.
-    pub fn prepare<R: Wait, G: Gate>(&mut self, rt: &R, gate: &G, is_called: bool)
+    /// Gets ready for a turn, if there is to be one: one that found nothing to do makes none until it is roused.
+    pub fn prepare<R: Wait, G: Gate>(&mut self, rt: &R, gate: &G, is_roused: bool)
         ensures { HasCalled self.old self.new }
     {
-        if !self.next.is_due(is_called) {
+        if !self.next.is_due(is_roused) {
             return;
         }
         let Some(mut papers) = self.papers.take() else {
@@ -113,7 +113,7 @@ impl Worker {
         };
         let Ok(next) = self
             .desk
-            .ready(&mut papers, self.next.once_called(is_called))
+            .ready(&mut papers, self.next.once_roused(is_roused))
         else {
             return;
         };
@@ -123,13 +123,16 @@ impl Worker {
         self.begin(rt, gate);
     }
 
-    // Calls those to whom it sent frames.
-    fn call_neighbours(&self, calls: &Calls) {
+    /// Rouses those to whom it sent frames in the turn that it made.
+    pub fn rouse_neighbours(&self, rousing: &Rousing) {
+        if !self.is_asking || !self.is_putting {
+            return;
+        }
         let Some(papers) = &self.papers else {
             return;
         };
         'frames: for frame in papers.sent() {
-            self.neighbours.call_at(frame.port(), calls);
+            self.neighbours.rouse_at(frame.port(), rousing);
         }
     }
 
@@ -162,15 +165,12 @@ impl Worker {
         }
     }
 
-    /// Ends the turn that it made, and calls those to whom it sent frames in it.
-    pub fn finish<R: Wait, G: Gate>(&mut self, rt: &R, gate: &G, calls: &Calls)
+    /// Ends the turn that it made.
+    pub fn finish<R: Wait, G: Gate>(&mut self, rt: &R, gate: &G)
         ensures { HasCalled self.old self.new }
     {
         if self.is_asking {
             self.is_asking = false;
-            if self.is_putting {
-                self.call_neighbours(calls);
-            }
             gate.after(rt, self.number, self.turns);
         }
     }

@@ -139,3 +139,32 @@ fn workers_run_beside_each_other(rt: HostRuntime) -> Result<(), Fail> {
     have_met(&rt, &gate);
     Ok(())
 }
+
+// How often a slow worker gives way: several times as often as one that rests looks before it sleeps.
+const PAUSES: u32 = 20_000;
+
+// One worker is so slow ahead of each eighth turn that the threads of the others sleep meanwhile.
+#[derive(Drop)]
+struct Slow {
+    worker: u8,
+}
+
+impl Gate for Slow {
+    fn before<R: Wait>(&self, _rt: &R, worker: u8, turn: u64) {
+        if worker == self.worker && turn % 8 == 0 {
+            for _ in 0..PAUSES {
+                yield_now();
+            }
+        }
+    }
+
+    fn after<R: Wait>(&self, _rt: &R, _worker: u8, _turn: u64) {}
+}
+
+#[test]
+fn threads_that_sleep_meanwhile_are_woken(rt: HostRuntime) -> Result<(), Fail> {
+    for worker in 1..=3 {
+        settled(&rt, rt.alloc(), &Slow { worker })?;
+    }
+    Ok(())
+}

@@ -10,7 +10,7 @@ ready-requires g c =
     let view = worker.seat.1 in
     let papers = c.in-Some.papers in
     let step = with_papers view worker.papers worker.desk papers worker.next (sym c.take.ensures.value ∙ c.in-Some.is) c.self.invariant in
-    (step.script, view.seen, c.once_called.ensures step.script view.seen worker.desk papers step.fits)
+    (step.script, view.seen, c.once_roused.ensures step.script view.seen worker.desk papers step.fits)
 
 pub invariant_of-self-2 : goal.invariant_of-self-2
 invariant_of-self-2 g c =
@@ -19,4 +19,4 @@ invariant_of-self-2 g c =
     let papers = c.in-Some.papers in
     let step = with_papers view worker.papers worker.desk papers worker.next (sym c.take.ensures.value ∙ c.in-Some.is) c.self.invariant in
     ready_step view worker.desk c.ready.new.self papers c.ready.new.papers worker.next c.in-Ok.next step c.ready.ensures.place c.ready.ensures.told
-    (c.in-Ok.ensures.up step.script view.seen (c.once_called.ensures step.script view.seen worker.desk papers step.fits))
+    (c.in-Ok.ensures.up step.script view.seen (c.once_roused.ensures step.script view.seen worker.desk papers step.fits))

@@ -1,8 +1,8 @@
-//! Which workers are called.
+//! Which workers are roused: told to look again whether there is something to do.
 //!
-//! A worker that found nothing to do looks again only once it is called: by one that sent it a frame, or by the driver.
-//! What is called is a guess and nothing rests on it: a worker that is called for nothing finds nothing again, and all
-//! are called again ahead of each round.
+//! A worker that found nothing to do looks again only once it is roused: by one that sent it a frame, or by the driver.
+//! Who is roused is a guess, and what a run gives does not rest on it: a worker that is roused for nothing finds nothing
+//! again, and all are roused again in each round, behind the driver's steps.
 
 use net_graph::wiring::Far;
 use net_script::script::Script;
@@ -17,9 +17,9 @@ const MOST_WORKERS: usize = 64;
 // How many ports a switch has, with port 0.
 const PORTS: usize = 13;
 
-/// Which workers of a party are called, by their places among them.
+/// Which workers of a party are roused, by their places among them.
 #[derive(Clone, Copy)]
-pub(crate) struct Called {
+pub(crate) struct Roused {
     bits: u64,
 }
 
@@ -28,21 +28,21 @@ fn bit(place: usize) -> u64 {
     1u64 << (place % MOST_WORKERS)
 }
 
-impl Called {
-    /// Whether the worker at a place is called.
+impl Roused {
+    /// Whether the worker at a place is roused.
     pub fn has(self, place: usize) -> bool {
         self.bits & bit(place) != 0
     }
 }
 
-/// Which workers are called, of each party.
+/// Which workers are roused, of each party.
 #[derive(Drop)]
-pub(crate) struct Calls {
-    // How many workers each party has, but for the last one, which may have less.
+pub(crate) struct Rousing {
+    // How many workers each party has, but for the last one, which may have fewer.
     each: usize,
     // How many parties there are.
     parties: usize,
-    called: [AtomicU64; MOST_PARTIES],
+    roused: [AtomicU64; MOST_PARTIES],
 }
 
 // All workers of a party, or none where there is no such party.
@@ -50,13 +50,13 @@ fn all_of(party: usize, parties: usize) -> u64 {
     if party < parties { u64::MAX } else { 0 }
 }
 
-impl Calls {
-    /// All are called, of so many parties of so many workers.
-    pub fn new(parties: usize, each: usize) -> Calls {
-        Calls {
+impl Rousing {
+    /// All are roused, of so many parties of so many workers.
+    pub fn new(parties: usize, each: usize) -> Rousing {
+        Rousing {
             each,
             parties,
-            called: [
+            roused: [
                 AtomicU64::new(all_of(0, parties)),
                 AtomicU64::new(all_of(1, parties)),
                 AtomicU64::new(all_of(2, parties)),
@@ -70,46 +70,47 @@ impl Calls {
         worker.checked_div(self.each).unwrap_or(0)
     }
 
-    /// Calls the worker at a place in the order of the script.
-    pub fn call(&self, worker: usize) {
-        let Some(called) = self.called.get(self.party_of(worker)) else {
+    /// Rouses the worker at a place in the order of the script, which is one of a party: no round would end any more
+    /// with one that nobody takes back.
+    pub fn rouse(&self, worker: usize) {
+        let Some(roused) = self.roused.get(self.party_of(worker)) else {
             return;
         };
         let bit = bit(worker.checked_rem(self.each).unwrap_or(0));
-        if called.load(Ordering::SeqCst) & bit == 0 {
-            called.fetch_or(bit, Ordering::SeqCst);
+        if roused.load(Ordering::SeqCst) & bit == 0 {
+            roused.fetch_or(bit, Ordering::SeqCst);
         }
     }
 
-    /// Calls all workers.
-    pub fn call_all(&self) {
-        'parties: for (party, called) in self.called.iter().enumerate() {
-            called.store(all_of(party, self.parties), Ordering::SeqCst);
+    /// Rouses all workers.
+    pub fn rouse_all(&self) {
+        'parties: for (party, roused) in self.roused.iter().enumerate() {
+            roused.store(all_of(party, self.parties), Ordering::SeqCst);
         }
     }
 
-    /// Whether a worker of a party is called.
+    /// Whether a worker of a party is roused.
     pub fn has(&self, party: usize) -> bool {
-        match self.called.get(party) {
-            Some(called) => called.load(Ordering::SeqCst) != 0,
+        match self.roused.get(party) {
+            Some(roused) => roused.load(Ordering::SeqCst) != 0,
             None => false,
         }
     }
 
-    /// Whether any worker is called.
+    /// Whether any worker is roused.
     pub fn has_any(&self) -> bool {
-        self.called
+        self.roused
             .iter()
-            .any(|called| called.load(Ordering::SeqCst) != 0)
+            .any(|roused| roused.load(Ordering::SeqCst) != 0)
     }
 
-    /// The workers of a party that are called, none of which is called then any more.
-    pub fn take(&self, party: usize) -> Called {
-        let bits = match self.called.get(party) {
-            Some(called) if called.load(Ordering::SeqCst) != 0 => called.swap(0, Ordering::SeqCst),
+    /// The workers of a party that are roused, none of which is roused then any more.
+    pub fn take(&self, party: usize) -> Roused {
+        let bits = match self.roused.get(party) {
+            Some(roused) if roused.load(Ordering::SeqCst) != 0 => roused.swap(0, Ordering::SeqCst),
             _ => 0,
         };
-        Called { bits }
+        Roused { bits }
     }
 }
 
@@ -131,10 +132,10 @@ impl Neighbours {
         Neighbours { switches }
     }
 
-    /// Calls the worker of the switch at the other end of a link.
-    pub fn call_at(&self, port: u8, calls: &Calls) {
+    /// Rouses the worker of the switch at the other end of a link.
+    pub fn rouse_at(&self, port: u8, rousing: &Rousing) {
         if let Some(Some(s)) = self.switches.get(usize::from(port)) {
-            calls.call(usize::from(*s));
+            rousing.rouse(usize::from(*s));
         }
     }
 }
