@@ -1,9 +1,10 @@
-"""What the hostile scripts of this folder share: the program, a library that is loaded before it and makes
+"""What the scripts of this folder in Python share: the program, a library that is loaded before it and makes
 calls of the C library fail, and one run of it with all that it wrote. They are no part of the gate.
 
 The program is out/autonet, or the one that the variable AUTONET names; with AUTONET none is built. Where it is
 built by `rt try` it has checks of its own, and a run takes longer."""
 
+import collections
 import functools
 import os
 import pathlib
@@ -23,8 +24,8 @@ CLOCK = 900
 # Of the calls of the C library by which memory is taken, bytes are read from standard input and bytes are written,
 # the one whose number is given fails: a growth, or with FAIL_GROWTHS_FROM each from that one on; a read or a write
 # with the error number FAILURE, and a write with FAILURE 0 takes nothing. SHORT has each move one byte at most. At
-# the end COUNTS is the file that gets how many there were of each. Only calls of the program FAULTY count, and only
-# those after it was loaded. STACK is how much of its stack it has from the beginning: where a limit on memory lets a
+# the end COUNTS is the file that gets how many there were of each, and of how many bytes the growths were. Only calls
+# of the program FAULTY count, and only those after it was loaded. STACK is how much of its stack it has from the beginning: where a limit on memory lets a
 # stack not grow, the system ends a program by a signal, which none can answer.
 FAULTS = r"""
 #define _GNU_SOURCE
@@ -44,7 +45,7 @@ static unsigned long wanted(const char *name) {
     return text ? strtoul(text, 0, 10) : 0;
 }
 
-static unsigned long growths, reads, writes;
+static unsigned long growths, reads, writes, bytes;
 static int begun;
 static unsigned long growth, reading, writing, is_short, growth_all;
 static int failure;
@@ -72,7 +73,7 @@ __attribute__((destructor)) static void end(void) {
     char *path = getenv("COUNTS"), line[100];
     int fd = begun && path ? open(path, O_WRONLY | O_CREAT | O_TRUNC, 0600) : -1;
     if (fd >= 0) {
-        int n = snprintf(line, sizeof line, "%lu %lu %lu", growths, reads, writes);
+        int n = snprintf(line, sizeof line, "%lu %lu %lu %lu", growths, reads, writes, bytes);
         syscall(SYS_write, fd, line, n);
         close(fd);
     }
@@ -84,7 +85,8 @@ void _exit(int status) {
     for (;;) syscall(SYS_exit_group, status);
 }
 
-static int refused(void) {
+static int refused(size_t n) {
+    if (begun) __atomic_add_fetch(&bytes, n, __ATOMIC_SEQ_CST);
     unsigned long at = begun ? __atomic_add_fetch(&growths, 1, __ATOMIC_SEQ_CST) : 0;
     if (at && (at == growth || (growth_all && at >= growth_all))) {
         errno = ENOMEM;
@@ -94,9 +96,9 @@ static int refused(void) {
 }
 
 extern void *__libc_malloc(size_t), *__libc_calloc(size_t, size_t), *__libc_realloc(void *, size_t);
-void *malloc(size_t n) { return refused() ? 0 : __libc_malloc(n); }
-void *calloc(size_t n, size_t m) { return refused() ? 0 : __libc_calloc(n, m); }
-void *realloc(void *p, size_t n) { return refused() ? 0 : __libc_realloc(p, n); }
+void *malloc(size_t n) { return refused(n) ? 0 : __libc_malloc(n); }
+void *calloc(size_t n, size_t m) { return refused(n * m) ? 0 : __libc_calloc(n, m); }
+void *realloc(void *p, size_t n) { return refused(n) ? 0 : __libc_realloc(p, n); }
 
 ssize_t read(int fd, void *buf, size_t n) {
     if (begun && fd == 0 && __atomic_add_fetch(&reads, 1, __ATOMIC_SEQ_CST) == reading) {
@@ -157,7 +159,7 @@ def program():
     """The program, which the wrapper builds where AUTONET names none."""
     if "AUTONET" in os.environ:
         return os.environ["AUTONET"]
-    subprocess.run([TOP / "autonet"], stdin=subprocess.DEVNULL, capture_output=True)
+    subprocess.run([TOP / "autonet", "run"], stdin=subprocess.DEVNULL, capture_output=True)
     return str(TOP / "out" / "autonet")
 
 
@@ -242,15 +244,18 @@ def run(words, text, library=None, memory=None, **faults_of):
     return PROCESSES[path].run(words, text, faulty(library, **faults_of) if library else {})
 
 
+Counts = collections.namedtuple("Counts", "growths reads writes bytes", defaults=(0, 0, 0, 0))
+
+
 def counted(words, text, library, **faults_of):
-    """A run, and how many growths, reads and writes it made."""
+    """A run, and how many growths, reads and writes it made, and of how many bytes the growths were."""
     with tempfile.NamedTemporaryFile() as counts:
         ran = run(words, text, library, COUNTS=counts.name, **faults_of)
-        return ran, [int(word) for word in counts.read().split()] or [0, 0, 0]
+        return ran, Counts(*map(int, counts.read().split()))
 
 
 def calls(words, text, library):
-    """How many growths, reads and writes a run makes."""
+    """What a run makes of these calls."""
     return counted(words, text, library)[1]
 
 

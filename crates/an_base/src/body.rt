@@ -9,7 +9,7 @@ use std::alloc::Global;
 use std::marker::Model;
 
 /// A life tells its position to a neighbour.
-#[derive(Clone, Copy, Debug, PartialEq, Eq)]
+#[derive(Clone, Copy, PartialEq, Eq)]
 pub struct PosBody {
     /// The version of the position, from 1.
     pub version: u32,
@@ -53,7 +53,7 @@ impl PosBody {
 }
 
 /// A life answers the position that a neighbour told it.
-#[derive(Clone, Copy, Debug, PartialEq, Eq)]
+#[derive(Clone, Copy, PartialEq, Eq)]
 pub struct AnswerBody {
     /// The version that was received, from 1.
     pub version: u32,
@@ -84,7 +84,7 @@ impl AnswerBody {
 }
 
 /// A topology goes down the tree: entries by rising life, and the number of each.
-#[derive(Debug, Drop)]
+#[derive(Drop)]
 pub struct TopoBody {
     /// The entries of the topology.
     pub entries: Entries,
@@ -140,7 +140,7 @@ impl TopoBody {
 }
 
 /// What two lives with a link between them tell each other within an epoch.
-#[derive(Debug, Drop)]
+#[derive(Drop)]
 pub enum Body {
     /// The sender's position changed.
     Pos(PosBody),

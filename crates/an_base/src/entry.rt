@@ -11,7 +11,7 @@ use std::marker::Model;
 
 /// What is known of one life: where it stands, the number that it proposes for itself, 1 to 126,
 /// and its links by rising port.
-#[derive(Debug, Drop)]
+#[derive(Drop)]
 pub struct Entry {
     /// The life of which this is known.
     pub life: Life,
@@ -63,7 +63,7 @@ impl Entry {
 }
 
 /// Entries of one topology by rising life, 1 to 126, which contracts see as a list.
-#[derive(Debug, Drop)]
+#[derive(Drop)]
 pub struct Entries {
     items: Vec<Entry>,
 }

@@ -2,7 +2,7 @@ use crate::items::Items;
 
 /// One event of a network. A switch `s` and a host are named by their places in the script, from 0;
 /// a port is one of a switch, 1 to 12.
-#[derive(Clone, Copy, Debug, PartialEq, Eq)]
+#[derive(Clone, Copy, PartialEq, Eq)]
 pub enum Event {
     /// The clock of the network goes on by one.
     Tick,

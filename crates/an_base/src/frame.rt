@@ -5,7 +5,7 @@ use crate::life::End;
 use std::marker::Model;
 
 /// A body on its way, with the session to which it belongs and its number there.
-#[derive(Debug, Drop)]
+#[derive(Drop)]
 pub struct CarryFrame {
     /// The epoch of the session.
     pub epoch: u64,
@@ -47,7 +47,7 @@ impl CarryFrame {
 }
 
 /// What goes over a wire between two switches.
-#[derive(Debug, Drop)]
+#[derive(Drop)]
 pub enum Frame {
     /// A body of a session.
     Carry(CarryFrame),

@@ -54,7 +54,7 @@ impl Life {
 }
 
 /// One end of a link: a life and an external port of it, 1 to 12.
-#[derive(Clone, Copy, Debug, PartialEq, Eq, PartialOrd, Ord)]
+#[derive(Clone, Copy, PartialEq, Eq, PartialOrd, Ord)]
 pub struct End {
     /// The life at this end.
     pub life: Life,

@@ -14,7 +14,7 @@ use std::marker::Model;
 
 /// A link as one of its ends names it: the own port, 1 to 12, and the other end.
 /// Such links are ordered by port, then by the other end.
-#[derive(Clone, Copy, Debug, PartialEq, Eq)]
+#[derive(Clone, Copy, PartialEq, Eq)]
 pub struct PortLink {
     // The parts of the other end stand here one by one, largest first: so a link takes 16 bytes, not 32.
     uid: u64,
@@ -107,7 +107,7 @@ impl PortLink {
 }
 
 /// The links of a life by rising port, at most twelve, which contracts see as a list.
-#[derive(Debug, Drop)]
+#[derive(Drop)]
 pub struct Links {
     items: [PortLink; PORTS],
     len: usize,

@@ -6,7 +6,7 @@ use std::marker::Model;
 
 /// The numbers of the entries of a topology, in the order of the entries: 1 to 126 of them, each 1
 /// to 126, all different. Contracts see them as a list.
-#[derive(Debug, Drop)]
+#[derive(Drop)]
 pub struct Numbers {
     items: Vec<u8>,
 }

@@ -8,7 +8,7 @@ use crate::limits::PORTS;
 use std::marker::Model;
 
 /// What a switch takes the other end of a port to be.
-#[derive(Clone, Copy, Debug, PartialEq, Eq)]
+#[derive(Clone, Copy, PartialEq, Eq)]
 pub enum PortState {
     /// There is no link, or it has failed.
     Dead,
@@ -25,7 +25,7 @@ pub enum PortState {
 }
 
 /// What the hardware says of a port at a clock.
-#[derive(Clone, Copy, Debug, PartialEq, Eq)]
+#[derive(Clone, Copy, PartialEq, Eq)]
 pub enum Sample {
     /// There is no link, or it is down.
     Down,
@@ -36,7 +36,7 @@ pub enum Sample {
 }
 
 /// The state of a port, with the other end where it is known.
-#[derive(Clone, Copy, Debug, PartialEq, Eq)]
+#[derive(Clone, Copy, PartialEq, Eq)]
 pub struct PortView {
     /// The state.
     pub state: PortState,
@@ -55,7 +55,7 @@ impl Model for PortView {
 }
 
 /// The twelve ports of a switch from port 1, which contracts see as a list.
-#[derive(Debug, Drop)]
+#[derive(Drop)]
 pub struct Ports {
     views: [PortView; PORTS],
 }
@@ -119,7 +119,7 @@ impl Ports {
 
 /// What a switch shows of itself: who it is, the epoch that it is in, its ports, whether it is to
 /// load a table, and whether a body that it sent is waiting or not yet acknowledged.
-#[derive(Debug, Drop)]
+#[derive(Drop)]
 pub struct Note {
     /// The switch's present life.
     pub life: Life,

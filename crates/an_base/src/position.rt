@@ -5,7 +5,7 @@ use crate::life::Life;
 use std::marker::Model;
 
 /// Where a life stands in its spanning tree. Positions are ordered by root, level, parent and port.
-#[derive(Clone, Copy, Debug, PartialEq, Eq, PartialOrd, Ord)]
+#[derive(Clone, Copy, PartialEq, Eq, PartialOrd, Ord)]
 pub struct Position {
     /// The root of the tree.
     pub root: Life,

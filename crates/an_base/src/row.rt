@@ -7,7 +7,7 @@ use crate::port_set::{lowest, without};
 use std::marker::Model;
 
 /// Ports, 1 to 12, rising, one after the other, to go over them. Contracts see a list.
-#[derive(Debug, Drop)]
+#[derive(Drop)]
 pub struct ExitList {
     ports: [u8; PORTS],
     len: u8,
@@ -79,7 +79,7 @@ fn ports_in(set: u16) -> ExitList
 }
 
 /// The ports, 1 to 12, by which a packet may leave, which contracts see as a list, rising.
-#[derive(Debug, Drop)]
+#[derive(Drop)]
 pub struct Exits {
     // Bit `p` says that port `p` is one.
     set: u16,
@@ -157,7 +157,7 @@ impl Exits {
 
 /// One row of a routing table: at a switch, for packets that came in at one entry and go to one
 /// number, the exits by which they may go on.
-#[derive(Debug, Drop)]
+#[derive(Drop)]
 pub struct Row {
     /// The switch: its number in the topology, or its place in the script, as the holder says.
     pub at: u8,

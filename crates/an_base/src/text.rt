@@ -20,7 +20,7 @@ pub fn push_decimal(alloc: Global, text: &mut Vec<u8>, number: u64) -> Result<()
 pub type Bytes = Items<u8>;
 
 /// A text, which contracts see as the list of its bytes.
-#[derive(Debug, Drop)]
+#[derive(Drop)]
 pub struct Word {
     bytes: Vec<u8>,
 }

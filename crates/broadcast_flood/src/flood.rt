@@ -49,7 +49,7 @@ fn hops_down(
 }
 
 /// How broadcasts go in a topology, whose spanning tree its positions are. Contracts see the entries.
-#[derive(Debug, Drop)]
+#[derive(Drop)]
 pub struct Flood<'a> {
     graph: &'a Graph,
     children: Vec<ExitList>,

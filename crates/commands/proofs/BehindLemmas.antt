@@ -19,15 +19,15 @@ use Rattle.journal.specs.Events.{events_text, first_words, journal_text, last_wo
 use Rattle.journal.specs.Texts.{IsJournal}
 use Rattle.fabric_world.specs.World.{world_after}
 use Rattle.replay.specs.Division.{behind_end, from_words, has_words, is_end_line}
-use Rattle.table_report.proofs.OwnTold.{lines_on}
-use Rattle.commands.specs.declared.status.Status.{Status}
-use Rattle.commands.specs.Answer.{Streams, IsAnswer, input_limit, refuses_nothing}
+use Rattle.check_text.proofs.OwnTold.{lines_on}
+use Rattle.answering.specs.declared.status.Status.{Status}
+use Rattle.answering.specs.Answer.{Streams, IsAnswer, input_limit, refuses_nothing}
 use Rattle.commands.specs.Complete.{gives_report_of, gives_text}
 use Rattle.commands.specs.Replay.{IsScriptWith}
 use Rattle.commands.specs.Reported.{IsReported, status_of_end}
 use Rattle.commands.specs.Run.{IsRun}
 use Rattle.commands.specs.Words.{IsReplayAnswer}
-use Rattle.commands.proofs.AllToldLemmas.{answered_as}
+use Rattle.answering.proofs.AllToldLemmas.{answered_as}
 use Rattle.commands.proofs.CompleteLemmas.{legal_is_replayed}
 
 -- THE LINES OF A SCRIPT

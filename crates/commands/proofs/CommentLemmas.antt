@@ -16,7 +16,7 @@ use Rattle.net_script.specs.Scripts.{ScriptOf}
 use Rattle.net_script.specs.Texts.{Adds, AddsWords, IsText, Leads}
 use Rattle.script_text.specs.Canonical.{canonical_text, forms_of}
 use Rattle.net_gen.specs.Summary.{IsComment}
-use Rattle.table_report.proofs.OwnTold.{LeadsBy-append, lines_on}
+use Rattle.check_text.proofs.OwnTold.{LeadsBy-append, lines_on}
 
 -- THE LINE
 

@@ -1,13 +1,10 @@
--- What commands answer to a source that tells a text.
+-- What commands answer to a source that tells a script and a legal journal.
 use Rattle.std.proofs.Common.{◌≡◌, subst, ℕ, ◌≤◌, List, length, Some, inl, inr}
 use Rattle.an_base.specs.declared.event.Event.{Event}
 use Rattle.net_script.specs.Scripts.{ScriptOf}
 use Rattle.net_script.specs.Texts.{IsFault, IsText}
 use Rattle.net_script.proofs.ScriptKept.{text_kept}
 use Rattle.net_script.proofs.TextLemmas.{no_fault, one_text}
-use Rattle.table_script.specs.Tables.{TablesOf}
-use Rattle.table_script.specs.TableTexts.{IsFaultWith, IsTextWith}
-use Rattle.table_script.proofs.TableLaws.{no_fault_with, one_text_with}
 use Rattle.journal.specs.declared.cause.JournalCause.{JournalCause}
 use Rattle.journal.specs.Texts.{IsJournal}
 use Rattle.journal.proofs.FaultLemmas.{no_fault as no_journal_fault}
@@ -16,37 +13,17 @@ use Rattle.fabric_state.specs.declared.ending.Ending.{Ending}
 use Rattle.fabric_world.specs.Histories.{IsLegal}
 use Rattle.replay.specs.Replays.{IsIllegal, IsNoReplay, no_journal, not_legal}
 use Rattle.replay.proofs.OneDivision.{one_division}
-use Rattle.table_report.specs.Check.{IsJudged}
 use Rattle.report.specs.Beliefs.{AreNames}
-use Rattle.commands.specs.declared.status.Status.{Status}
-use Rattle.commands.specs.declared.status.Status.TheVariants.{Ok, Usage, ScriptRefused, ReadFault, WriteFault, TablesRefused, Unsettled, EpochsSpent, JournalRefused, JournalFull, OutOfMemory}
-use Rattle.commands.specs.Answer.{Streams, IsAnswer, input_limit, refuses_nothing}
-use Rattle.commands.specs.Check.{gives_judged, refuses_tables}
-use Rattle.commands.specs.Complete.{gives_judged_of, gives_names_of, gives_report_of}
+use Rattle.answering.specs.declared.status.Status.{Status}
+use Rattle.answering.specs.declared.status.Status.TheVariants.{Ok, Usage, ScriptRefused, ReadFault, WriteFault, TablesRefused, Unsettled, EpochsSpent, JournalRefused, JournalFull, OutOfMemory}
+use Rattle.answering.specs.Answer.{Streams, IsAnswer, input_limit, refuses_nothing}
+use Rattle.commands.specs.Complete.{gives_names_of, gives_report_of}
 use Rattle.commands.specs.Names.{gives_names}
 use Rattle.commands.specs.Replay.{IfJournalRefused, IsJournaled, IsNoScript, IsScriptWith, IsUnreplayed, gives_replayed, refuses_journal}
 use Rattle.commands.specs.Reported.{IsReported}
-use Rattle.commands.specs.Scripted.{Says, gives_said, refuses_script}
-use Rattle.commands.specs.Words.{IsCheckAnswer, IsNamesAnswer, IsReplayAnswer}
-use Rattle.commands.proofs.AllToldLemmas.{answered_as, not_refused}
+use Rattle.commands.specs.Words.{IsNamesAnswer, IsReplayAnswer}
+use Rattle.answering.proofs.AllToldLemmas.{answered_as, not_refused}
 use Rattle.commands.proofs.RunLemmas.{never_illegal}
-
--- a command that reads a script alone
-pub text_is_said : (says : Says) (answer : ℕ) (bytes : List ℕ) (script : ScriptOf) (old new : Streams) → IsText bytes script → old.source.told ≡ Some bytes → length bytes ≤ input_limit → IsAnswer input_limit (gives_said says) refuses_script old new answer → IsAnswer input_limit (λ b status text. (status ≡ Ok) × says script text) refuses_nothing old new answer
-text_is_said says answer bytes script old new is_text told few is =
-    answered_as (gives_said says) (λ b status text. (status ≡ Ok) × says script text) refuses_script bytes old new told
-    (λ status text (ok, of). (ok, subst (λ (s : ScriptOf). says s text) (one_text bytes of.script script of.is_text is_text) of.said))
-    (λ status. not_refused status (IsFault bytes) (λ line cause fault. no_fault bytes script line cause is_text fault))
-    answer is
-
-pub text_is_judged : (answer : ℕ) (bytes : List ℕ) (script : ScriptOf) (tables : TablesOf) (old new : Streams) → IsTextWith bytes script tables → old.source.told ≡ Some bytes → length bytes ≤ input_limit → IsCheckAnswer old new answer → IsAnswer input_limit (gives_judged_of script tables) refuses_nothing old new answer
-text_is_judged answer bytes script tables old new is_text told few is =
-    answered_as gives_judged (gives_judged_of script tables) refuses_tables bytes old new told
-    (λ status text (passed, is_status, of).
-    let one = one_text_with bytes of.script script of.tables tables of.is_text is_text in
-    (passed, is_status, subst (λ (t : TablesOf). IsJudged script t passed text) one.1 (subst (λ (s : ScriptOf). IsJudged s of.tables passed text) one.0 of.judged)))
-    (λ status. not_refused status (IsFaultWith bytes) (λ line cause fault. no_fault_with bytes script tables line cause is_text fault))
-    answer is
 
 -- A SCRIPT AND A LEGAL JOURNAL
 

@@ -9,11 +9,11 @@ use Rattle.fabric_state.specs.declared.ending.Ending.TheVariants as ending
 use Rattle.fabric_world.specs.World.{world_after}
 use Rattle.fabric_settling.specs.Settling.{HasTime}
 use Rattle.fabric_settling.proofs.Whole.{ends_in_time}
-use Rattle.commands.specs.declared.status.Status.{Status}
-use Rattle.commands.specs.declared.status.Status.TheVariants.{Ok, Usage, ScriptRefused, ReadFault, WriteFault, TablesRefused, Unsettled, EpochsSpent, JournalRefused, JournalFull, OutOfMemory}
-use Rattle.commands.specs.Status.{code_of, line_of}
-use Rattle.commands.specs.Answer.{Gives, Refuses, Streams, IsAnswer, IsCause, IsGiven, IsStop, IsUnread, input_limit, given, cut, stopped, unread, refused, want, fault, over, wanting}
-use Rattle.commands.specs.Scripted.{refuses_script}
+use Rattle.answering.specs.declared.status.Status.{Status}
+use Rattle.answering.specs.declared.status.Status.TheVariants.{Ok, Usage, ScriptRefused, ReadFault, WriteFault, TablesRefused, Unsettled, EpochsSpent, JournalRefused, JournalFull, OutOfMemory}
+use Rattle.answering.specs.Status.{code_of, line_of}
+use Rattle.answering.specs.Answer.{Gives, Refuses, Streams, IsAnswer, IsCause, IsGiven, IsStop, IsUnread, input_limit, given, cut, stopped, unread, refused, want, fault, over, wanting}
+use Rattle.answering.specs.Scripted.{refuses_script}
 use Rattle.commands.specs.InTime.{IsUnsettledAnswer, gives_late_replay, gives_late_run}
 use Rattle.commands.specs.Replay.{gives_replayed, refuses_journal}
 use Rattle.commands.specs.Reported.{IsReported, status_of_end}

@@ -1,9 +1,3 @@
-pub mod AnswerLemmas
-pub mod PartLemmas
-pub mod WordLemmas
-pub mod AllToldLemmas
-pub mod OwnLemmas
-pub mod RoomLemmas
 pub mod GenLemmas
 pub mod ReplayLemmas
 pub mod TopLemmas

@@ -23,14 +23,14 @@ use Rattle.fabric_world.proofs.WorldLemmas.{world_after-event}
 use Rattle.replay.specs.Replays.{IsIllegal}
 use Rattle.replay.specs.declared.refusal.ReplayRefusal.TheVariants.{Illegal, OutOfMemory}
 use Rattle.replay.proofs.ReplayLemmas.{legal_is_not_refused}
-use Rattle.commands.specs.Answer.{Streams, IsAnswer, input_limit, refuses_nothing}
-use Rattle.commands.specs.Scripted.{refuses_script}
+use Rattle.answering.specs.Answer.{Streams, IsAnswer, input_limit, refuses_nothing}
+use Rattle.answering.specs.Scripted.{refuses_script}
 use Rattle.switch_threads.specs.declared.running.Told.{Told}
-use Rattle.commands.specs.declared.status.Status.{Status}
+use Rattle.answering.specs.declared.status.Status.{Status}
 use Rattle.commands.specs.Reported.{IsReported}
 use Rattle.commands.specs.Run.{IsRun, IsToldRun, gives_run, gives_run_of}
 use Rattle.commands.specs.Words.{IsRunAnswer}
-use Rattle.commands.proofs.AllToldLemmas.{answered_as, not_refused}
+use Rattle.answering.proofs.AllToldLemmas.{answered_as, not_refused}
 
 -- LAWFUL EVENTS CAN BE SPELLED
 

@@ -1,11 +1,15 @@
 -- The answer to words is that of the command that they name.
 use Rattle.std.proofs.Common.{◌≡◌, ◌≢◌, ◌∙◌, sym, ap, subst, ℕ, ◌+◌, ◌*◌, true, false, List, [], ◌∷◌, refl, eqb, eq-eqb, length, get_or}
 use Rattle.std.specs.Prelude.{codes}
-use Rattle.commands.specs.Answer.{Streams, IsUsageAnswer}
-use Rattle.commands.specs.Flow.{AreFlowWords}
+use Rattle.answering.specs.Answer.{Streams, IsUsageAnswer}
+use Rattle.file_commands.specs.Flow.{AreFlowWords}
 use Rattle.commands.specs.Gen.{AreGenWords, IsGenAnswerOn}
-use Rattle.commands.specs.Words.{IsAnswerTo, IsCheckAnswer, IsExpectAnswer, IsFloodAnswer, IsFlowAnswer, IsNamesAnswer, IsReplayAnswer, IsRunAnswer}
-use Rattle.commands.proofs.RoomLemmas.{one_room}
+use Rattle.commands.specs.Words.{IsAnswerTo, IsNamesAnswer, IsReplayAnswer, IsRunAnswer}
+use Rattle.file_commands.specs.Answers.{AreOthers, AreWordsOf, IsCheckAnswer, IsFileAnswer, IsFloodAnswer, IsFlowAnswer}
+use Rattle.file_commands.specs.declared.file.FileCommand.{FileCommand}
+use Rattle.file_commands.specs.declared.file.FileCommand.TheVariants.{Check, Expect, Flood, Flow}
+use Rattle.answering.specs.Expect.{IsExpectAnswer}
+use Rattle.file_commands.proofs.RoomLemmas.{one_room}
 use Rattle.commands.proofs.GenLemmas.{one_seed, one_count}
 
 -- how long the first word is, and its first letter: no two commands have the same
@@ -19,7 +23,7 @@ apart words a b one two differ =
     absurd (cc)
 
 module _ (words : List (List ℕ)) (old new : Streams) (answer : ℕ) where
-  pub answers_expect : words ≡ codes "expect" ∷ [] → IsExpectAnswer old new answer → IsAnswerTo words old new answer
+  answers_expect : words ≡ codes "expect" ∷ [] → IsExpectAnswer old new answer → IsAnswerTo words old new answer
   answers_expect are is = record {
     expect = λ e. is;
     check = λ e. absurd (apart words _ _ are e refl);
@@ -32,7 +36,7 @@ module _ (words : List (List ℕ)) (old new : Streams) (answer : ℕ) where
     usage = λ a b c d e n f g. absurd (a are);
   }
 
-  pub answers_check : words ≡ codes "check" ∷ [] → IsCheckAnswer old new answer → IsAnswerTo words old new answer
+  answers_check : words ≡ codes "check" ∷ [] → IsCheckAnswer old new answer → IsAnswerTo words old new answer
   answers_check are is = record {
     expect = λ e. absurd (apart words _ _ are e refl);
     check = λ e. is;
@@ -45,7 +49,7 @@ module _ (words : List (List ℕ)) (old new : Streams) (answer : ℕ) where
     usage = λ a b c d e n f g. absurd (b are);
   }
 
-  pub answers_flood : words ≡ codes "flood" ∷ [] → IsFloodAnswer old new answer → IsAnswerTo words old new answer
+  answers_flood : words ≡ codes "flood" ∷ [] → IsFloodAnswer old new answer → IsAnswerTo words old new answer
   answers_flood are is = record {
     expect = λ e. absurd (apart words _ _ are e refl);
     check = λ e. absurd (apart words _ _ are e refl);
@@ -97,7 +101,7 @@ module _ (words : List (List ℕ)) (old new : Streams) (answer : ℕ) where
     usage = λ a b c d e n f g. absurd (n are);
   }
 
-  pub answers_flow : (room : ℕ) → AreFlowWords words room → IsFlowAnswer room old new answer → IsAnswerTo words old new answer
+  answers_flow : (room : ℕ) → AreFlowWords words room → IsFlowAnswer room old new answer → IsAnswerTo words old new answer
   answers_flow room are is = record {
     expect = λ e. absurd (apart words _ _ are.words_are e refl);
     check = λ e. absurd (apart words _ _ are.words_are e refl);
@@ -126,12 +130,19 @@ module _ (words : List (List ℕ)) (old new : Streams) (answer : ℕ) where
     usage = λ a b c d e n f g. absurd (g seed count are);
   }
 
-  pub answers_usage : words ≢ codes "expect" ∷ [] → words ≢ codes "check" ∷ [] → words ≢ codes "flood" ∷ [] → words ≢ codes "run" ∷ [] → words ≢ codes "replay" ∷ [] → words ≢ codes "names" ∷ [] → ((room : ℕ) → ¬ AreFlowWords words room) → ((seed count : ℕ) → ¬ AreGenWords words seed count) → IsUsageAnswer old new answer → IsAnswerTo words old new answer
-  answers_usage a b c d e n f g is = record {
-    expect = λ are. absurd (a are);
-    check = λ are. absurd (b are);
-    flood = λ are. absurd (c are);
-    flow = λ room are. absurd (f room are);
+  -- the commands that need a network file alone, or with its tables
+  pub answers_file : (command : FileCommand) → AreWordsOf command words → IsFileAnswer command old new answer → IsAnswerTo words old new answer
+  answers_file Expect are is = answers_expect are is
+  answers_file Check are is = answers_check are is
+  answers_file Flood are is = answers_flood are is
+  answers_file (Flow room) are is = answers_flow room.packets are is
+
+  pub answers_usage : AreOthers words → words ≢ codes "run" ∷ [] → words ≢ codes "replay" ∷ [] → words ≢ codes "names" ∷ [] → ((seed count : ℕ) → ¬ AreGenWords words seed count) → IsUsageAnswer old new answer → IsAnswerTo words old new answer
+  answers_usage others d e n g is = record {
+    expect = λ are. absurd (others.expect are);
+    check = λ are. absurd (others.check are);
+    flood = λ are. absurd (others.flood are);
+    flow = λ room are. absurd (others.flow room are);
     run = λ are. absurd (d are);
     replay = λ are. absurd (e are);
     names = λ are. absurd (n are);

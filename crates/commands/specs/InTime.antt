@@ -3,10 +3,10 @@
 use Rattle.std.specs.Prelude.{ℕ, List}
 use Rattle.outside.specs.Told.{Gains}
 use Rattle.fabric_settling.specs.Settling.{HasTime}
-use Rattle.commands.specs.declared.status.Status.{Status}
-use Rattle.commands.specs.declared.status.Status.TheVariants.{Unsettled}
-use Rattle.commands.specs.Status.{line_of}
-use Rattle.commands.specs.Answer.{Gives, IsGiven, Streams, input_limit}
+use Rattle.answering.specs.declared.status.Status.{Status}
+use Rattle.answering.specs.declared.status.Status.TheVariants.{Unsettled}
+use Rattle.answering.specs.Status.{line_of}
+use Rattle.answering.specs.Answer.{Gives, IsGiven, Streams, input_limit}
 use Rattle.commands.specs.Replay.{IsReplayedOf}
 use Rattle.commands.specs.Run.{IsRunOf}
 

@@ -1,10 +1,3 @@
-pub mod Status
-pub mod Answer
-pub mod Scripted
-pub mod Expect
-pub mod Check
-pub mod Flood
-pub mod Flow
 pub mod Reported
 pub mod Replay
 pub mod Names

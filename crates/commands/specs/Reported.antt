@@ -7,10 +7,10 @@ use Rattle.journal.specs.Texts.{IsJournal}
 use Rattle.fabric_state.specs.declared.ending.Ending.{Ending}
 use Rattle.fabric_state.specs.declared.ending.Ending.TheVariants as ending
 use Rattle.fabric_world.specs.World.{world_after}
-use Rattle.table_report.specs.Names.{life_text}
+use Rattle.row_text.specs.Names.{life_text}
 use Rattle.report.specs.Events.{IsReport}
-use Rattle.commands.specs.declared.status.Status.{Status}
-use Rattle.commands.specs.declared.status.Status.TheVariants.{Ok, Unsettled, EpochsSpent, JournalFull}
+use Rattle.answering.specs.declared.status.Status.{Status}
+use Rattle.answering.specs.declared.status.Status.TheVariants.{Ok, Unsettled, EpochsSpent, JournalFull}
 
 -- the status of a journal with an end, at a tick
 abbrev pub status_of_end : ScriptOf → ℕ → Ending → Status

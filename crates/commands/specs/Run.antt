@@ -9,8 +9,8 @@ use Rattle.fabric_world.specs.Histories.{IsLegal}
 use Rattle.fabric_settling.specs.Claims.{HoldsAndSettles}
 use Rattle.fabric_book.specs.Accounts.{AreAccounts}
 use Rattle.switch_threads.specs.declared.running.Told.{Told}
-use Rattle.commands.specs.declared.status.Status.{Status}
-use Rattle.commands.specs.Answer.{Gives}
+use Rattle.answering.specs.declared.status.Status.{Status}
+use Rattle.answering.specs.Answer.{Gives}
 use Rattle.commands.specs.Reported.{IsReported}
 
 -- The run is legal, all that is claimed of a history holds of its journal, and these are its accounts.

@@ -1,32 +1,15 @@
 -- The answer of the program to the words of a call.
 
 use Rattle.std.specs.Prelude.{◌≡◌, ◌≢◌, ℕ, List, [], ◌∷◌, codes}
-use Rattle.commands.specs.Answer.{Streams, IsAnswer, IsUsageAnswer, input_limit}
-use Rattle.commands.specs.Expect.{gives_expected}
-use Rattle.commands.specs.Check.{gives_judged, refuses_tables}
-use Rattle.commands.specs.Flood.{gives_flooded}
-use Rattle.commands.specs.Flow.{AreFlowWords, gives_flow}
+use Rattle.answering.specs.Answer.{Streams, IsAnswer, IsUsageAnswer, input_limit}
+use Rattle.file_commands.specs.Flow.{AreFlowWords}
 use Rattle.commands.specs.Gen.{AreGenWords, IsGenAnswer}
 use Rattle.commands.specs.Names.{gives_names}
 use Rattle.commands.specs.Replay.{gives_replayed, refuses_journal}
 use Rattle.commands.specs.Run.{gives_run}
-use Rattle.commands.specs.Scripted.{refuses_script}
-
--- the answer to `expect`
-abbrev pub IsExpectAnswer : Streams → Streams → ℕ → Type 0
-IsExpectAnswer old new answer = IsAnswer input_limit gives_expected refuses_script old new answer
-
--- the answer to `check`
-abbrev pub IsCheckAnswer : Streams → Streams → ℕ → Type 0
-IsCheckAnswer old new answer = IsAnswer input_limit gives_judged refuses_tables old new answer
-
--- the answer to `flood`
-abbrev pub IsFloodAnswer : Streams → Streams → ℕ → Type 0
-IsFloodAnswer old new answer = IsAnswer input_limit gives_flooded refuses_script old new answer
-
--- the answer to `flow B`
-abbrev pub IsFlowAnswer : ℕ → Streams → Streams → ℕ → Type 0
-IsFlowAnswer room old new answer = IsAnswer input_limit (gives_flow room) refuses_script old new answer
+use Rattle.answering.specs.Scripted.{refuses_script}
+use Rattle.answering.specs.Expect.{IsExpectAnswer}
+use Rattle.file_commands.specs.Answers.{IsCheckAnswer, IsFloodAnswer, IsFlowAnswer}
 
 -- the answer to `replay`
 abbrev pub IsReplayAnswer : Streams → Streams → ℕ → Type 0

@@ -4,9 +4,9 @@ ghost use Rattle.net_script.specs.Texts.{IsText};
 ghost use Rattle.script_text.specs.Canonical.{canonical_text};
 ghost use Rattle.commands.specs.Gen.{AreGenWords, IsGenAnswerOn, IsGenCause, IsGenerated};
 
-use crate::status::{Status, finish};
 use an_base::memory::OutOfMemory;
 use an_base::text::Word;
+use answering::status::{Status, finish};
 use net_gen::script::script_of;
 use net_gen::summary::summary;
 use net_script::script::Script;
@@ -31,8 +31,8 @@ fn words_behind<'a>(words: &'a [Word], bytes: &[u8]) -> Option<(&'a Word, &'a Wo
     None
 }
 
-/// The seed and the number of switches, where the words are `gen SEED N` with N from 1 to 100.
-pub fn gen_words(words: &[Word]) -> Option<(u64, u8)>
+// The seed and the number of switches, where the words are `gen SEED N` with N from 1 to 100.
+pub(crate) fn gen_words(words: &[Word]) -> Option<(u64, u8)>
     ensures words { MatchOption result ((seed count : ℕ) → ¬ AreGenWords words.now seed count)
         (λ numbers. AreGenWords words.now numbers.0 numbers.1) }
     ensures least { IfSome result (λ numbers. 1 ≤ numbers.1) }

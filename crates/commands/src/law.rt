@@ -4,31 +4,16 @@ ghost use Rattle.std.specs.Prelude.{◌≡◌, ◌≤◌, ◌++◌, ◌∷◌, [
 ghost use Rattle.an_base.specs.declared.event.Event.{Event};
 ghost use Rattle.net_script.specs.Scripts.{ScriptOf};
 ghost use Rattle.net_script.specs.Texts.{IsText};
-ghost use Rattle.table_script.specs.Tables.{TablesOf};
-ghost use Rattle.table_script.specs.TableTexts.{IsTextWith};
 ghost use Rattle.journal.specs.Texts.{IsJournal};
 ghost use Rattle.fabric_state.specs.declared.ending.Ending.{Ending};
 ghost use Rattle.fabric_world.specs.Histories.{IsLegal};
-ghost use Rattle.commands.specs.Answer.{input_limit, refuses_nothing, IsAnswer, Streams};
-ghost use Rattle.commands.specs.Check.{gives_passing};
-ghost use Rattle.commands.specs.Complete.{gives_expected_of, gives_flooded_of, gives_flow_of, gives_judged_of, gives_names_of, gives_report_of, gives_text};
-ghost use Rattle.commands.specs.Expect.{IsExpectedOf};
+ghost use Rattle.answering.specs.Answer.{input_limit, refuses_nothing, IsAnswer, Streams};
+ghost use Rattle.commands.specs.Complete.{gives_names_of, gives_report_of, gives_text};
 ghost use Rattle.commands.specs.InTime.{IsUnsettledAnswer, gives_late_replay, gives_late_run};
 ghost use Rattle.commands.specs.Replay.{IsScriptWith};
 ghost use Rattle.commands.specs.Run.{IsRun, gives_run_of};
-ghost use Rattle.commands.specs.declared.status.Status.{Status};
-ghost use Rattle.commands.specs.Words.{IsCheckAnswer, IsExpectAnswer, IsFloodAnswer, IsFlowAnswer, IsNamesAnswer, IsReplayAnswer, IsRunAnswer};
-
-/// A source that tells its bytes has a network file whose last line is ended by a line feed (10), and
-/// behind it all that is expected of it, both together within the limit. Then `check` refuses neither
-/// the script nor its tables: out gains the text of tables that pass, a front of it where out fails, or
-/// nothing where the source fails or memory is wanting. Of a source that does not tell its bytes, as
-/// standard input, this says nothing.
-pub fn what_is_expected_passes_check()
-    ensures { (answer : ℕ) (bytes text : List ℕ) (old new : Streams) → IsExpectedOf text (bytes ++ 10 ∷ [])
-        → old.source.told ≡ Some (bytes ++ 10 ∷ text) → length (bytes ++ 10 ∷ text) ≤ input_limit
-        → IsCheckAnswer old new answer → IsAnswer input_limit gives_passing refuses_nothing old new answer }
-{}
+ghost use Rattle.answering.specs.declared.status.Status.{Status};
+ghost use Rattle.commands.specs.Words.{IsNamesAnswer, IsReplayAnswer, IsRunAnswer};
 
 /// A source that tells its bytes has the text of a script, within the limit. Then `run`, if it answers, does not
 /// refuse the script: out gains the text of a run of its network, a front of it where out fails, or nothing
@@ -39,27 +24,11 @@ pub fn a_script_is_run()
         → IsRunAnswer old new answer → IsAnswer input_limit (gives_run_of script) refuses_nothing old new answer }
 {}
 
-/// A source that tells its bytes has the text of a script, for `check` with tables, and for `replay` and
-/// `names` with a legal journal behind it, within the limit. Then the command does not refuse it: out gains
-/// the text that the definition gives for it, a front of it where out fails, or nothing where the source
-/// fails or memory is wanting; and with the text comes its own status, for `replay` that of the journal's end.
-pub fn a_text_is_answered()
-    ensures expect { (answer : ℕ) (bytes : List ℕ) (script : ScriptOf) (old new : Streams)
-        → IsText bytes script → old.source.told ≡ Some bytes → length bytes ≤ input_limit
-        → IsExpectAnswer old new answer
-        → IsAnswer input_limit (gives_expected_of script) refuses_nothing old new answer }
-    ensures flood { (answer : ℕ) (bytes : List ℕ) (script : ScriptOf) (old new : Streams)
-        → IsText bytes script → old.source.told ≡ Some bytes → length bytes ≤ input_limit
-        → IsFloodAnswer old new answer
-        → IsAnswer input_limit (gives_flooded_of script) refuses_nothing old new answer }
-    ensures flow { (answer room : ℕ) (bytes : List ℕ) (script : ScriptOf) (old new : Streams)
-        → IsText bytes script → old.source.told ≡ Some bytes → length bytes ≤ input_limit
-        → IsFlowAnswer room old new answer
-        → IsAnswer input_limit (gives_flow_of script room) refuses_nothing old new answer }
-    ensures check { (answer : ℕ) (bytes : List ℕ) (script : ScriptOf) (tables : TablesOf) (old new : Streams)
-        → IsTextWith bytes script tables → old.source.told ≡ Some bytes → length bytes ≤ input_limit
-        → IsCheckAnswer old new answer
-        → IsAnswer input_limit (gives_judged_of script tables) refuses_nothing old new answer }
+/// A source that tells its bytes has the text of a script with a legal journal behind it, within the limit. Then
+/// `replay` and `names` do not refuse it: out gains the text that the definition gives for it, a front of it where
+/// out fails, or nothing where the source fails or memory is wanting; and with the text comes its own status, for
+/// `replay` that of the journal's end.
+pub fn a_journal_is_answered()
     ensures replay { (answer : ℕ) (bytes behind : List ℕ) (script : ScriptOf) (journal : List Event)
         (end : Ending) (old new : Streams) → IsScriptWith bytes script behind
         → IsJournal script behind journal → IsLegal script journal end

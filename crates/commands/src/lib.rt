@@ -1,19 +1,13 @@
 //! The commands: the call that answers the words after the program's name, over any streams.
 //!
 //! It stands on all crates below. Its contract is the top call's: what each status means, what the source
-//! then has left, and what each sink gained.
+//! then has left, and what each sink gained. Of the calls of single commands only that of `run` may wait.
 #![tactic(auto)]
 
-mod check;
-mod command;
-mod generate;
-mod input;
+pub mod generate;
 pub mod law;
-mod names;
-mod replaying;
+pub mod names;
+pub mod replaying;
 mod reported;
-mod room;
-mod run;
-mod scripted;
-pub mod status;
+pub mod run;
 pub mod top;

@@ -1,20 +1,23 @@
 ghost use Rattle.std.specs.Prelude.{◌≤◌, length, IfErr, IfOk};
 ghost use Rattle.replay.specs.Replays.{IfIllegal, IsNoReplay};
 ghost use Rattle.report.specs.Beliefs.{AreNamesIn};
-ghost use Rattle.commands.specs.Answer.{input_limit};
+ghost use Rattle.answering.specs.Answer.{input_limit, streams};
 ghost use Rattle.commands.specs.Names.{gives_names};
+ghost use Rattle.commands.specs.Words.{IsNamesAnswer};
 ghost use Rattle.commands.specs.Replay.{refuses_journal};
 
-use crate::command::{Command, Given};
-use crate::replaying::{Journaled, read_first};
-use crate::status::Status;
+use crate::replaying::{Journaled, read_first, refused};
+use answering::command::{Command, Given, answer};
+use answering::status::Status;
+use outside::sink::Sink;
+use outside::source::Source;
 use replay::refusal::ReplayRefusal;
 use report::naming;
 use std::alloc::Global;
 
-/// The command `names`: for a script with a journal behind it, what hosts believe about where others are.
+// The command `names`: for a script with a journal behind it, what hosts believe about where others are.
 #[derive(Clone, Copy)]
-pub struct Names;
+struct Names;
 
 // What hosts believe in what stands behind a script.
 fn named(alloc: Global, input: Journaled) -> Result<Vec<u8>, ReplayRefusal>
@@ -33,10 +36,27 @@ impl Command for Names {
 
     fn given(&self, alloc: Global, bytes: &[u8]) -> Result<Given, Status> {
         let input = read_first(alloc, bytes)?;
-        let text = named(alloc, input)?;
-        Ok(Given {
-            status: Status::Ok,
-            text,
-        })
+        match named(alloc, input) {
+            Ok(text) => Ok(Given {
+                status: Status::Ok,
+                text,
+            }),
+            Err(refusal) => Err(refused(refusal)),
+        }
     }
+}
+
+/// Answers `names`: reads a script with a journal behind it from the source, and writes what hosts believe in it to
+/// out. The answer is the number of a status, whose line goes to err.
+pub fn autonet_names<S: Source, O: Sink, E: Sink>(
+    alloc: Global,
+    source: &mut S,
+    out: &mut O,
+    err: &mut E,
+) -> u8
+    ensures { IsNamesAnswer
+        (streams (S.seen source.old) (O.seen out.old) (E.seen err.old))
+        (streams (S.seen source.new) (O.seen out.new) (E.seen err.new)) result }
+{
+    answer(&Names, alloc, source, out, err)
 }

@@ -1,45 +1,47 @@
 ghost use Rattle.std.specs.Prelude.{◌≡◌, ◌⊎◌, ◌≤◌, length, IfErr, IfOk};
-ghost use Rattle.commands.specs.declared.status.Status.TheVariants as ended;
+ghost use Rattle.answering.specs.declared.status.Status.TheVariants as ended;
 ghost use Rattle.replay.specs.Replays.{IfIllegal, IsNoReplay};
-ghost use Rattle.commands.specs.Answer.{IsEnding, input_limit};
+ghost use Rattle.answering.specs.Answer.{IsEnding, input_limit, streams};
 ghost use Rattle.commands.specs.Replay.{IsScriptWith, gives_replayed, refuses_journal, replay_refused_as};
+ghost use Rattle.commands.specs.Words.{IsReplayAnswer};
 ghost use Rattle.commands.specs.Reported.{IsReportedText};
 
-use crate::command::{Command, Given};
 use crate::reported::told_text;
-use crate::status::Status;
+use answering::command::{Command, Given, answer};
+use answering::status::Status;
 use net_script::reader::read;
 use net_script::script::Script;
+use outside::sink::Sink;
+use outside::source::Source;
 use replay::division::divide;
 use replay::refusal::ReplayRefusal;
 use std::alloc::Global;
 
-/// The command `replay`: for a script with a journal behind it, the report of the journal.
+// The command `replay`: for a script with a journal behind it, the report of the journal.
 #[derive(Clone, Copy)]
-pub struct Replay;
+struct Replay;
 
-impl From<ReplayRefusal> for Status {
-    ghost from_gives = { λ refusal result. result ≡ replay_refused_as refusal };
-
-    fn from(refusal: ReplayRefusal) -> Self {
-        match refusal {
-            ReplayRefusal::Illegal { line, cause } => Status::JournalRefused { line, cause },
-            ReplayRefusal::OutOfMemory => Status::OutOfMemory,
-        }
+// The status of a text that is no journal, or whose journal is not legal.
+pub(crate) fn refused(refusal: ReplayRefusal) -> Status
+    ensures { result ≡ replay_refused_as refusal }
+{
+    match refusal {
+        ReplayRefusal::Illegal { line, cause } => Status::JournalRefused { line, cause },
+        ReplayRefusal::OutOfMemory => Status::OutOfMemory,
     }
 }
 
-/// A script, and the bytes that stand behind it.
+// A script, and the bytes that stand behind it.
 #[derive(Drop)]
-pub struct Journaled<'a> {
-    /// The script.
-    pub script: Script,
-    /// The bytes that are to begin with the text of a journal.
-    pub behind: &'a [u8],
+pub(crate) struct Journaled<'a> {
+    // The script.
+    pub(crate) script: Script,
+    // The bytes that are to begin with the text of a journal.
+    pub(crate) behind: &'a [u8],
 }
 
-/// The script with which an input begins, and what stands behind it.
-pub fn read_first(alloc: Global, bytes: &[u8]) -> Result<Journaled, Status>
+// The script with which an input begins, and what stands behind it.
+pub(crate) fn read_first(alloc: Global, bytes: &[u8]) -> Result<Journaled, Status>
     requires few { length bytes.now ≤ input_limit }
     ensures read { IfOk result (λ input. IsScriptWith bytes.now input.script input.behind.now) }
     ensures few { IfOk result (λ input. length input.behind.now ≤ input_limit) }
@@ -70,6 +72,24 @@ impl Command for Replay {
 
     fn given(&self, alloc: Global, bytes: &[u8]) -> Result<Given, Status> {
         let input = read_first(alloc, bytes)?;
-        Ok(replayed(alloc, input)?)
+        match replayed(alloc, input) {
+            Ok(given) => Ok(given),
+            Err(refusal) => Err(refused(refusal)),
+        }
     }
+}
+
+/// Answers `replay`: reads a script with a journal behind it from the source, and writes the report of the journal to
+/// out. The answer is the number of a status, whose line goes to err.
+pub fn autonet_replay<S: Source, O: Sink, E: Sink>(
+    alloc: Global,
+    source: &mut S,
+    out: &mut O,
+    err: &mut E,
+) -> u8
+    ensures { IsReplayAnswer
+        (streams (S.seen source.old) (O.seen out.old) (E.seen err.old))
+        (streams (S.seen source.new) (O.seen out.new) (E.seen err.new)) result }
+{
+    answer(&Replay, alloc, source, out, err)
 }

@@ -2,12 +2,12 @@
 
 ghost use Rattle.std.specs.Prelude.{◌≡◌, ◌≤◌, length, IfErr, IfOk};
 ghost use Rattle.replay.specs.Replays.{IfIllegal, IsNoReplay, IsRefusal};
-ghost use Rattle.commands.specs.Answer.{IsEnding, input_limit};
+ghost use Rattle.answering.specs.Answer.{IsEnding, input_limit};
 ghost use Rattle.commands.specs.Reported.{IsReported, IsReportedText, status_of_end};
 
-use crate::command::Given;
-use crate::status::Status;
 use an_base::memory::OutOfMemory;
+use answering::command::Given;
+use answering::status::Status;
 use fabric_state::ending::Ending;
 use net_script::script::Script;
 use replay::refusal::ReplayRefusal;

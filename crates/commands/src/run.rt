@@ -3,18 +3,18 @@
 ghost use Rattle.std.specs.Prelude.{◌≡◌, ◌⊎◌, ◌≤◌, All, length, IfErr, IfOk};
 ghost use Rattle.journal.specs.Events.{CanSpell, journal_text};
 ghost use Rattle.net_script.specs.Scripts.{IsScript};
-ghost use Rattle.commands.specs.declared.status.Status.TheVariants as ended;
-ghost use Rattle.commands.specs.Answer.{streams, IsCause, IsEnding, IsInput, IsStop, input_limit};
+ghost use Rattle.answering.specs.declared.status.Status.TheVariants as ended;
+ghost use Rattle.answering.specs.Answer.{streams, IsCause, IsEnding, IsInput, IsStop, input_limit};
 ghost use Rattle.commands.specs.Reported.{IsReported};
 ghost use Rattle.commands.specs.Run.{IsRun, IsToldRun, gives_run};
-ghost use Rattle.commands.specs.Scripted.{refuses_script};
+ghost use Rattle.answering.specs.Scripted.{refuses_script};
 ghost use Rattle.commands.specs.Words.{IsRunAnswer};
 
-use crate::command::Given;
-use crate::input::{INPUT_LIMIT, read_input};
 use crate::reported::given as given_of;
-use crate::status::{Status, finish};
 use an_base::memory::OutOfMemory;
+use answering::command::Given;
+use answering::input::{INPUT_LIMIT, read_input};
+use answering::status::{Status, finish};
 use journal::printer::print;
 use net_script::reader::read;
 use net_script::script::Script;
@@ -146,10 +146,10 @@ fn status_of<R: Threads + Wait + Sync, G: Gate, S: Source, O: Sink>(
     }
 }
 
-/// Answers `run`: reads a script from the source, runs its network with a worker for each switch, up to four
-/// at the same time in threads, and writes the journal of the run, and behind it its report, to out. `gate` is
-/// called round each turn of a worker. The answer is the number of a status, whose line goes to err. It may
-/// never answer, as `switch_threads::run` may never return.
+/// Answers `run`: reads a script from the source, runs its network with a worker for each switch, and writes the
+/// journal of the run, and after it its report, to out. Of up to four switches each worker has a thread of its own;
+/// of more, two threads have half of them each. `gate` is called round each turn of a worker. The answer is the
+/// number of a status, whose line goes to err. It may never answer, as `switch_threads::run` may never return.
 pub fn autonet_run<R: Threads + Wait + Sync, G: Gate, S: Source, O: Sink, E: Sink>(
     rt: &R,
     gate: &G,

@@ -1,7 +1,7 @@
 use an_base::life::End;
 
 /// What is known of the switch at the far end of a link.
-#[derive(Clone, Copy, Debug, PartialEq, Eq)]
+#[derive(Clone, Copy, PartialEq, Eq)]
 pub enum Conn {
     /// It is not known who is there.
     Who,

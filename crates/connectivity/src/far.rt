@@ -8,7 +8,7 @@ use skeptic::Skeptic;
 use std::marker::Model;
 
 /// What is known of the far end of a link between two switch ports.
-#[derive(Clone, Copy, Debug)]
+#[derive(Clone, Copy)]
 pub struct Connectivity {
     me: End,
     conn: Conn,

@@ -1,7 +1,7 @@
 use an_base::items::Items;
 
 /// A switch, by its number, and one of its ports. As a channel it is the link that leaves there.
-#[derive(Clone, Copy, Debug, PartialEq, Eq, PartialOrd, Ord)]
+#[derive(Clone, Copy, PartialEq, Eq, PartialOrd, Ord)]
 pub struct Channel {
     /// The number of the switch.
     pub at: u8,

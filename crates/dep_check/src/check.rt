@@ -24,7 +24,7 @@ use topo_graph::graph::Graph;
 
 /// The ranks of the channels, so that each is above all that it leads to. Contracts see them as a
 /// list over all switches and ports.
-#[derive(Debug, Drop)]
+#[derive(Drop)]
 pub struct Ranks {
     levels: Vec<Option<u16>>,
 }

@@ -11,7 +11,7 @@ use an_base::memory::OutOfMemory;
 use std::alloc::Global;
 
 /// A spot that a walk comes to, or that it leaves.
-#[derive(Clone, Copy, Debug)]
+#[derive(Clone, Copy)]
 pub struct Visit {
     /// The spot.
     pub spot: Channel,

@@ -20,7 +20,7 @@ use an_base::row::Row;
 use std::alloc::Global;
 
 /// A pair that is not joined, by numbers, and where packets get stuck between them.
-#[derive(Clone, Copy, Debug)]
+#[derive(Clone, Copy)]
 pub struct Gap {
     /// Where they start.
     pub from: u8,
@@ -33,7 +33,7 @@ pub struct Gap {
 }
 
 /// Two numbers.
-#[derive(Clone, Copy, Debug)]
+#[derive(Clone, Copy)]
 struct Pair {
     from: u8,
     to: u8,

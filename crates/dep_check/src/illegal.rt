@@ -24,7 +24,7 @@ use topo_graph::graph::Graph;
 use updown::route::is_up_end;
 
 /// An exit of a row.
-#[derive(Clone, Copy, Debug, PartialEq, Eq, PartialOrd, Ord)]
+#[derive(Clone, Copy, PartialEq, Eq, PartialOrd, Ord)]
 pub struct RowExit {
     /// The number of the row's switch.
     pub at: u8,

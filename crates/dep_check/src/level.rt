@@ -14,7 +14,7 @@ use an_base::port_set::{lowest, without};
 use std::alloc::Global;
 
 /// When a spot without a level gets one.
-#[derive(Clone, Copy, Debug)]
+#[derive(Clone, Copy)]
 pub enum Rule {
     /// When some step leads to one that has a level. The goal has the level 0.
     Nearest {

@@ -5,7 +5,7 @@ use crate::channel::Channels;
 use an_base::memory::OutOfMemory;
 
 /// Why rows are refused.
-#[derive(Debug, Drop)]
+#[derive(Drop)]
 pub enum CheckRefusal {
     /// Packets may wait for one another: each channel leads to the next, and the last to the first.
     /// The first is the least channel on any cycle, by number and then by port; the list is one of

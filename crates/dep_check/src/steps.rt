@@ -17,7 +17,7 @@ use std::alloc::Global;
 
 /// The steps over spots: from a channel to those that it leads to by the rows of all numbers, or of
 /// packets to one number by its rows, from where they come in to where they come in next.
-#[derive(Debug, Drop)]
+#[derive(Drop)]
 pub struct Steps {
     /// The far side of each spot.
     pub wires: Vec<Option<Channel>>,

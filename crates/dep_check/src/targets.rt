@@ -15,7 +15,7 @@ use std::alloc::Global;
 
 /// The exits of rows by their targets: for each number of a topology those of the rows towards it, as a
 /// table over all spots, and for each other number an empty table.
-#[derive(Debug, Drop)]
+#[derive(Drop)]
 pub struct ByTarget {
     /// For each number its table.
     pub tables: Vec<Vec<u16>>,

@@ -8,7 +8,7 @@ use an_base::position::Position;
 use std::marker::Model;
 
 /// What is fixed when a life joins an epoch.
-#[derive(Debug, Drop)]
+#[derive(Drop)]
 pub struct Card {
     me: Life,
     proposed: u8,

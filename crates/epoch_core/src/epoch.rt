@@ -32,7 +32,7 @@ pub const MOST_VERSION: u32 = 1_073_741_824;
 
 /// One epoch at one life. It keeps one offer for each link, what it last heard on each port and
 /// what follows from these; the list of the bodies that it accepted stands in contracts alone.
-#[derive(Debug, Drop)]
+#[derive(Drop)]
 pub struct Core {
     alloc: Global,
     card: Card,

@@ -16,7 +16,7 @@ use std::alloc::Global;
 use topo_report::report::Report;
 
 /// What is kept of the bodies accepted on one port, but for the last report.
-#[derive(Clone, Copy, Debug)]
+#[derive(Clone, Copy)]
 pub struct Heard {
     /// The version that the last answer names.
     pub answered: Option<u32>,
@@ -47,7 +47,7 @@ const NOTHING: Heard = Heard {
 };
 
 /// What is kept of the bodies accepted on each port, 0 to 12.
-#[derive(Debug, Drop)]
+#[derive(Drop)]
 pub struct Ports {
     /// What is kept on each port, but for the last report.
     pub heard: [Heard; 13],

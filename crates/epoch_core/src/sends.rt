@@ -3,7 +3,7 @@ use an_base::items::Items;
 use std::marker::Model;
 
 /// A body that goes out on a port.
-#[derive(Debug, Drop)]
+#[derive(Drop)]
 pub struct Outgoing {
     /// The own port, 1 to 12.
     pub port: u8,

@@ -59,13 +59,19 @@ lines_told (x ∷ xs) room =
     ap (λ b. b || list_any (is_lost_by is_told) xs) (line_told x parts.0)
     ∙ ap (λ b. is_lost_by is_either x || b) (lines_told xs parts.1)
 
+-- a command disturbs whatever it loses
+either_of : (command told either room : Bool) → (room ≡ false → told ≡ either) → (command ≡ false → room ≡ false) → (command || told) ≡ (command || either)
+either_of true told either room same none = refl
+either_of false told either room same none = ap (λ b. false || b) (same (none refl))
+
 abbrev NoneAlong : WorldOf → List Event → Type 0
-NoneAlong w es = (before later : List Event) (e : Event) → es ≡ before ++ e ∷ later → loses is_for_room (after_all before w) e ≡ false
+NoneAlong w es = (before later : List Event) (e : Event) → es ≡ before ++ e ∷ later → is_of_script e ≡ false → loses is_for_room (after_all before w) e ≡ false
 
 since_told : (c : ℕ) (w : WorldOf) (es : List Event) → NoneAlong w es → since (disturbs is_told) c w es ≡ since (disturbs is_either) c w es
 since_told c w [] room = refl
 since_told c w (e ∷ es) room =
-    ap (λ b. since (disturbs is_told) (cond (is_lawful w.fabric e && (is_of_script e || b)) w.fabric.tick c) (step w e) es) (lines_told (lines_of w e) (room [] es e refl))
+    ap (λ b. since (disturbs is_told) (cond (is_lawful w.fabric e && b) w.fabric.tick c) (step w e) es)
+    (either_of (is_of_script e) (loses is_told w e) (loses is_either w e) (loses is_for_room w e) (lines_told (lines_of w e)) (room [] es e refl))
     ∙ since_told (cond (disturbs is_either w e) w.fabric.tick c) (step w e) es (λ before later x is. room (e ∷ before) later x (ap (λ l. e ∷ l) is))
 
 told_is : (script : ScriptOf) (history : List Event) → NoneForRoom script history → last_told script history ≡ last_disturbance is_either script history

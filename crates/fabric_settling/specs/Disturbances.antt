@@ -76,7 +76,7 @@ last_disturbance test script history = since (disturbs test) 0 (begun script) hi
 abbrev pub last_loss : ScriptOf → List Event → ℕ
 last_loss script history = since loses_as_told 0 (begun script) history
 
--- no frame and no copy was lost for want of room
+-- No frame and no copy was lost for want of room. Noise may have been: it is all that a command puts on wires.
 abbrev pub NoneForRoom : ScriptOf → List Event → Type 0
 NoneForRoom script history = (before later : List Event) (event : Event) → history ≡ before ++ event ∷ later
-    → loses is_for_room (world_after script before) event ≡ false
+    → is_of_script event ≡ false → loses is_for_room (world_after script before) event ≡ false

@@ -75,7 +75,7 @@ pub fn each_link_is_cut()
 
 /// Without a pace, 259 ticks after the last disturbance the network agrees, no switch is spent, and no event
 /// but a disturbance changes a port. So more than 512 ticks after the last command done or told loss it
-/// agrees for good, where nothing was lost for want of room.
+/// agrees for good, where no frame and no copy was lost for want of room.
 pub fn the_ports_are_final()
     ensures fixed { (script : ScriptOf) → IsScript script → script.pace ≡ None → ArePortsFinal script }
     ensures settle { (script : ScriptOf) → IsScript script → (history : List Event) → IsLawful script history
@@ -83,18 +83,18 @@ pub fn the_ports_are_final()
 {}
 
 /// Without a pace, three ticks after the ports are final each body that was pushed is acknowledged, where
-/// nothing is left to do. So once all commands are done, and where nothing was lost for want of room, the clock is
-/// at most 1,024 ticks after the last command done or told loss, and there, where nothing is left to do, the
-/// history is settled.
+/// nothing is left to do. So once all commands are done, and where no frame and no copy was lost for want of room,
+/// the clock is at most 1,024 ticks after the last command done or told loss, and there, where nothing is left to
+/// do, the history is settled.
 pub fn all_settles()
     ensures through { (script : ScriptOf) → IsScript script → script.pace ≡ None → AreBodiesThrough script }
     ensures settles { (script : ScriptOf) → IsScript script → (history : List Event) → IsLawful script history
         → IfUndisturbed script Settles history }
 {}
 
-/// So no lawful history ends unsettled that had the time to settle: without a pace, without loss for want of
-/// room, and with a limit on ticks that is 1,024 or more above the times of all commands and the last told
-/// loss.
+/// So no lawful history ends unsettled that had the time to settle: without a pace, without a frame or a copy lost
+/// for want of room, and with a limit on ticks that is 1,024 or more above the times of all commands and the last
+/// told loss.
 pub fn none_with_time_ends_unsettled()
     ensures { (script : ScriptOf) → IsScript script → (history : List Event) → IsLawful script history
         → HasTime script history → end_of script history ≢ Some ending.Unsettled }

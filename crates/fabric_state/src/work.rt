@@ -6,7 +6,7 @@ use an_base::life::Life;
 use an_base::port::Sample;
 
 /// Why there is nothing to be done at a switch.
-#[derive(Clone, Copy, Debug, PartialEq, Eq)]
+#[derive(Clone, Copy, PartialEq, Eq)]
 pub enum Why {
     /// A switch is spent.
     Spent,
@@ -17,7 +17,7 @@ pub enum Why {
 }
 
 /// What a switch is to do next.
-#[derive(Clone, Copy, Debug)]
+#[derive(Clone, Copy)]
 pub enum Work {
     /// To begin its next life.
     Restart {
@@ -44,7 +44,7 @@ pub enum Work {
 }
 
 /// What the driver is to do next, or did.
-#[derive(Clone, Copy, Debug)]
+#[derive(Clone, Copy)]
 pub enum Drive {
     /// This event.
     Did(Event),

@@ -13,10 +13,8 @@ mod seat;
 mod staged;
 mod turnstile;
 mod view;
-mod waiting;
 
 pub use seat::Seat;
 pub use staged::Staged;
 pub use turnstile::Turnstile;
 pub use view::{Ended, Stage, View};
-pub use waiting::Patience;

@@ -9,14 +9,11 @@ ghost use Rattle.fabric_turn.specs.Seats.{HasAllNumbers, joined_view, new_view, 
 use crate::order::{Compare, Draw, Fork, Look, Merge, Opening, Order, Pass, Views};
 use crate::seat::Seat;
 use crate::staged::Staged;
-use crate::waiting::{Patience, Pause, USUAL, has_sleepers, low_bits};
 use an_base::memory::OutOfMemory;
 use atomic_table::{Refused, Table};
 use std::alloc::Global;
-use std::hint::spin_loop;
 use std::snapshot::Snapshot;
-use std::sync::Wait;
-use std::sync::atomic::{AtomicU64, Ordering};
+use std::sync::{Mutex, Wait};
 use std::thread::yield_now;
 
 type Place<B> = atomic_table::Seat<B, Views<B>>;
@@ -35,10 +32,8 @@ const SERVING: usize = 1;
 #[derive(Drop)]
 pub struct Turnstile<B: Staged> {
     table: Table<B, Views<B>, Opening<B>, Order<B>, Global>,
-    // How many callers sleep or are about to. A caller counts itself before it looks whether the
-    // turn was passed on since, and who passes it on looks at the count afterwards.
-    sleepers: AtomicU64,
-    patience: Patience,
+    // Who calls waits here for those before it, so that the ticket that it draws then is served at once.
+    queue: Mutex<()>,
     ghost sized: { (table.shared.table_id.words ≡ 2) × (table.shared.table_id.slots ≡ 1) },
 }
 
@@ -49,20 +44,6 @@ impl<B: Staged> Turnstile<B> {
     /// numbers 1 to `callers - 1`, and has seen an empty history. `callers` is at least 1, and
     /// `book` stands for the empty history. Where memory runs out `book` is dropped.
     pub fn new(alloc: Global, book: B, callers: u32) -> Result<(Turnstile<B>, Seat<B>), OutOfMemory>
-        requires callers { 0 < callers }
-        requires empty { B.history book ≡ [] }
-        ensures { IfOk result (λ t. t.1 ≡ (turnstile_id t.0, first_view callers (B.start book))) }
-    {
-        Turnstile::with_patience(alloc, book, callers, USUAL)
-    }
-
-    /// The same, with callers that look so often before they sleep. No clause says how a caller waits.
-    pub fn with_patience(
-        alloc: Global,
-        book: B,
-        callers: u32,
-        patience: Patience,
-    ) -> Result<(Turnstile<B>, Seat<B>), OutOfMemory>
         requires callers { 0 < callers }
         requires empty { B.history book ≡ [] }
         ensures { IfOk result (λ t. t.1 ≡ (turnstile_id t.0, first_view callers (B.start book))) }
@@ -83,8 +64,7 @@ impl<B: Staged> Turnstile<B> {
                 };
                 let turnstile = Turnstile {
                     table,
-                    sleepers: AtomicU64::new(0),
-                    patience,
+                    queue: Mutex::new(()),
                 };
                 Ok((turnstile, seat))
             }
@@ -101,35 +81,17 @@ impl<B: Staged> Turnstile<B> {
     {
         let shared = &self.table.shared;
         let ticket = shared.fetch_add::<Draw>(place, TICKETS, 1);
-        let mut looks = 0u32;
         for _ in rt.forever() {
             let serving = shared.load::<Look<B>>(place, SERVING);
             if serving == ticket {
                 return;
             }
-            self.pause(rt, serving, self.patience.pause_after(looks));
-            looks = looks.saturating_add(1);
+            yield_now();
         }
         unreachable!()
     }
 
-    // Pauses after a look in vain, which found that this number is served.
-    fn pause<R: Wait>(&self, rt: &R, serving: u64, pause: Pause) {
-        match pause {
-            Pause::Spin => spin_loop(),
-            Pause::Yield => yield_now(),
-            Pause::Sleep => self.sleep(rt, low_bits(serving)),
-        }
-    }
-
-    // Sleeps while the number that is served has these low bits, or for a shorter time.
-    fn sleep<R: Wait>(&self, rt: &R, low_bits: u32) {
-        self.sleepers.fetch_add(1, Ordering::SeqCst);
-        self.table.shared.park(rt, SERVING, low_bits);
-        self.sleepers.fetch_sub(1, Ordering::SeqCst);
-    }
-
-    // Gives the value back, passes the turn on, and wakes those who sleep.
+    // Gives the value back and passes the turn on.
     fn pass_turn(&self, place: &mut Place<B>)
         requires turnstile { place.old.table_id ≡ self.now.table.shared.table_id }
         requires turn { IsInTurn B.history B.start B.owner place.old.me }
@@ -138,9 +100,6 @@ impl<B: Staged> Turnstile<B> {
     {
         let shared = &self.table.shared;
         shared.fetch_add::<Pass<B>>(place, SERVING, 1);
-        if has_sleepers(self.sleepers.load(Ordering::SeqCst)) {
-            shared.wake_all(SERVING);
-        }
     }
 
     /// Waits for the caller's turn, runs one ask on the value in it, and passes the turn on. The
@@ -158,10 +117,12 @@ impl<B: Staged> Turnstile<B> {
         ensures turnstile { seat.new.0 ≡ seat.old.0 }
         ensures called { Called B.owner B.answers seat.old.1 ask result seat.new.1 }
     {
+        let others_wait = self.queue.lock(rt);
         self.wait_turn(rt, &mut seat.place);
         let book = seat.place.slot_mut(&self.table.shared, 0);
         let reply = book.act(seat.number, ask);
         self.pass_turn(&mut seat.place);
+        drop(others_wait);
         reply
     }
 
@@ -238,11 +199,7 @@ impl<B: Staged> Turnstile<B> {
             next: _,
             callers: _,
         } = seat;
-        let Turnstile {
-            table,
-            sleepers: _,
-            patience: _,
-        } = self;
+        let Turnstile { table, queue: _ } = self;
         let mut closed = table.close_with(place);
         let book = closed.take(0);
         closed.free();

@@ -10,7 +10,7 @@ use switch_core::switch::TableFor;
 use wire_set::side::Put;
 
 /// What came of what a switch had in hand.
-#[derive(Debug, Drop)]
+#[derive(Drop)]
 pub struct Done {
     /// The frames that go out.
     pub frames: Frames,
@@ -23,7 +23,7 @@ pub struct Done {
 }
 
 /// What becomes of a table that is to be loaded.
-#[derive(Debug, Drop)]
+#[derive(Drop)]
 pub enum LoadReply {
     /// It is in use.
     Loaded {
@@ -35,7 +35,7 @@ pub enum LoadReply {
 }
 
 /// What a caller asks.
-#[derive(Debug, Drop)]
+#[derive(Drop)]
 pub enum Ask {
     /// For the next work of a switch.
     Take {
@@ -67,7 +67,7 @@ pub enum Ask {
 }
 
 /// What is replied.
-#[derive(Debug, Drop)]
+#[derive(Drop)]
 pub enum Reply {
     /// To `Take`.
     Take {

@@ -6,7 +6,7 @@ use host_traffic::hop::DropCause;
 use wire_set::side::Loss;
 
 /// One thing that is told of an event.
-#[derive(Clone, Copy, Debug)]
+#[derive(Clone, Copy)]
 pub enum Line {
     /// A port changed its state.
     Port {
@@ -137,7 +137,7 @@ pub enum Line {
 }
 
 /// One thing that is told, with the place of its event in the history, from 1.
-#[derive(Clone, Copy, Debug)]
+#[derive(Clone, Copy)]
 pub struct PlacedLine {
     /// The place of the event.
     pub event: u32,

@@ -11,7 +11,7 @@ use std::alloc::Global;
 use std::marker::Model;
 
 /// A packet that is let go, and the port by which it goes.
-#[derive(Clone, Copy, Debug, PartialEq, Eq)]
+#[derive(Clone, Copy, PartialEq, Eq)]
 pub struct Grant {
     /// The packet.
     pub packet: u32,
@@ -20,14 +20,14 @@ pub struct Grant {
 }
 
 // A place for a request: the packet and the set of its ports, which is empty where nobody waits there.
-#[derive(Clone, Copy, Debug)]
+#[derive(Clone, Copy)]
 struct Slot {
     packet: u32,
     ports: u16,
 }
 
 /// The requests that wait at a switch, which contracts see as a list, oldest first.
-#[derive(Debug, Drop)]
+#[derive(Drop)]
 pub struct Router {
     // In the order of asking. The place of a request that was granted stays empty until the places end.
     slots: Vec<Slot>,

@@ -11,7 +11,7 @@ use std::marker::Model;
 /// places stands the union of its sets, so that the first place with one of some ports is found in as
 /// many steps as there are halvings. Only as many places are kept as were needed; those behind them
 /// have no port. Contracts see it as the list of all sets.
-#[derive(Debug, Drop)]
+#[derive(Drop)]
 pub struct PortTree {
     // The union of the kept places at 1, those of the two halves at 2 and 3, and so on; the sets last.
     unions: Vec<u16>,

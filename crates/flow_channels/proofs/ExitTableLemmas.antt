@@ -1,16 +1,18 @@
 -- The sets of an exit table are those of the rows of all members.
 use Rattle.std.proofs.Common.{◌≡◌, ◌≢◌, ◌∙◌, sym, ap, subst, refl, ℕ, zero, suc, ◌+◌, ◌*◌, ◌/◌, ◌%◌, ◌<◌, ◌≤◌, List, [], ◌∷◌, ◌++◌, Bool, true, false, arith, length, length-append, get_or, set, take, inl, inr, ◌⊎◌, ◌==◌, if◌then◌else◌}
-use Rattle.std.specs.Prelude.{All, Contains, replicate, slice_index, ◌↔◌}
+use Rattle.std.specs.Prelude.{All, Any, Contains, replicate, slice_index, ◌↔◌}
 use Rattle.std.specs.Int.{bit_at}
 use Rattle.std.specs.List.{flat_map, list_any, range_with_len}
 use Rattle.std.proofs.lemmas.Bool.{cases_eq, eq-eqb, eqb-true}
 use Rattle.std.proofs.lemmas.List.{get_or-append-add, get_or-replicate, get_or-set_same, get_or-set_other, get_or_append_left, get_or_default, get_or_push, length-replicate, length-set, length_push, take_more}
-use Rattle.std.proofs.lemmas.List.Elements.{All-contains, All-get_or, All-replicate, All-weaker}
+use Rattle.std.proofs.lemmas.List.Elements.{All-contains, All-get_or, All-push, All-replicate, All-weaker, Contains-push_cases}
+use Rattle.std.proofs.lemmas.List.Quantifiers.{Any-push}
 use Rattle.std.proofs.lemmas.List.FromFn.{get_or-map-range_with_len, length-map-range_with_len}
 use Rattle.std.proofs.lemmas.Nat.Bits.{bit_at-zero}
 use Rattle.an_base.specs.Numbers.{AreNumbers}
 use Rattle.an_base.specs.Rows.{ArePorts, RowOf}
 use Rattle.an_base.specs.Values.{EntryOf}
+use Rattle.an_base.proofs.ListLemmas.{Any-front}
 use Rattle.an_base.proofs.RangeLemmas.{kept_member, kept_range, range_rises, within_range}
 use Rattle.topo_graph.specs.Topology.{IsGraph, far_of}
 use Rattle.table_build.specs.declared.way.Way.{Way}
@@ -24,8 +26,8 @@ use Rattle.dep_check.specs.Laws.{AreTables}
 use Rattle.dep_check.specs.Tables.{IsSpot, place_of}
 use Rattle.dep_check.proofs.SpotLemmas.{one_spot, option_cases, place_low}
 use Rattle.flow_channels.specs.Board.{exit_set}
-use Rattle.flow_channels.specs.Exits.{AreExitsOf, AreSetsBelow, LeadsOut}
-use Rattle.flow_channels.specs.Sets.{AreSetsOf, AreStarts, AreStartsBelow, WaysHave, all_sets, sets_from}
+use Rattle.flow_channels.specs.Exits.{AreExitsOf, AreSets, AreSetsBelow, LeadsOut}
+use Rattle.flow_channels.specs.Sets.{AreInTurn, AreSetsOf, AreStarts, AreStartsBelow, WaysHave, all_sets, sets_from}
 use Rattle.flow_channels.specs.Layout.{exits_of, has_exit, layout_of, spot}
 use Rattle.flow_channels.proofs.ExitLemmas.{exit_has, has_named}
 
@@ -55,6 +57,13 @@ set_is starts sets came to are is below = let low = place_low came is in sets_re
 pub set_within : (starts sets : List ℕ) (came : Channel) → AreStarts starts sets → IsSpot came → get_or starts (place_of came) 0 + 127 ≤ length sets
 set_within starts sets came are is = All-get_or (λ (start : ℕ). start + 127 ≤ length sets) starts (place_of came) 0 (let low = place_low came is in omega (arith, are.count)) are.within
 
+-- what holds of an element of a list with one more
+any_push_cases : {X : Type 0} (P : X → Type 0) (xs : List X) (y : X) → Any P (xs ++ y ∷ []) → Any P xs ⊎ P y
+any_push_cases P xs y (k, x, low, is, p) = elim (Contains-push_cases xs y x (k, low, is)) [
+  | inl (at, inside, same) ↦ inl (at, x, inside, same, p)
+  | inr same ↦ inr (subst P (sym same) p)
+]
+
 -- THE SETS OF WAYS
 
 pub no_ways : (up : Bool) (sets : List ℕ) → sets ≡ replicate 127 0 → AreSetsOf [] up sets
@@ -79,21 +88,19 @@ pub more_ways : (ways : List Way) (up : Bool) (i : ℕ) (way : Way) (sets : List
     → AreSetsOf (take i ways) up sets → AreSetsOf (take (i + 1) ways) up (set sets number new)
 more_ways ways up i way sets number had exits new low is number_is within read told named are = rw (take_more ways i way low) (record { count = length-set sets number new ∙ are.count; each = each })
   where
+    Leads : ℕ → ℕ → Way → Type 0
+    Leads to port w = (w.number ≡ to) × Contains (if up then w.up else w.down) port
+
     earlier : (to port : ℕ) → WaysHave (take i ways) up to port → WaysHave (with_next ways i way) up to port
-    earlier to port (k, w, below, reads, has) = (k, w, (let n = length_push (take i ways) (get_or ways i way) in omega arith), get_or_append_left (take i ways) (get_or ways i way ∷ []) w k below ∙ reads, has)
+    earlier to port before = Any-front (Leads to port) (take i ways) (get_or ways i way ∷ []) before
 
-    last : (to port : ℕ) → way.number ≡ to → Contains (if up then way.up else way.down) port → WaysHave (with_next ways i way) up to port
-    last to port here has = (length (take i ways), way, (let n = length_push (take i ways) (get_or ways i way) in omega arith), get_or_push (take i ways) (get_or ways i way) way (length (take i ways)) refl ∙ sym is, (here, has))
+    last : (to port : ℕ) → Leads to port way → WaysHave (with_next ways i way) up to port
+    last to port leads = Any-push (Leads to port) (take i ways) (get_or ways i way) (subst (Leads to port) is leads)
 
-    split : (to port : ℕ) → WaysHave (with_next ways i way) up to port → WaysHave (take i ways) up to port ⊎ ((way.number ≡ to) × Contains (if up then way.up else way.down) port)
-    split to port (k, w, below, reads, has) = elim (cases_eq k (length (take i ways))) [
-      | inl end ↦ inr (
-          let same : way ≡ w = is ∙ sym (get_or_push (take i ways) (get_or ways i way) w k (sym end)) ∙ reads in
-          subst (λ (x : Way). (x.number ≡ to) × Contains (if up then x.up else x.down) port) (sym same) has)
-      | inr other ↦ (
-          let n = length_push (take i ways) (get_or ways i way) in
-          let before : k < length (take i ways) = omega arith in
-          inl (k, w, before, sym (get_or_append_left (take i ways) (get_or ways i way ∷ []) w k before) ∙ reads, has))
+    split : (to port : ℕ) → WaysHave (with_next ways i way) up to port → WaysHave (take i ways) up to port ⊎ Leads to port way
+    split to port has = elim (any_push_cases (Leads to port) (take i ways) (get_or ways i way) has) [
+      | inl before ↦ inl before
+      | inr own ↦ inr (subst (Leads to port) (sym is) own)
     ]
 
     each : (to port : ℕ) → to < 127 → ((bit_at (get_or (set sets number new) to 0) port ≡ 1) ↔ WaysHave (with_next ways i way) up to port)
@@ -103,7 +110,7 @@ more_ways ways up i way sets number had exits new low is number_is within read t
           let was : get_or sets to 0 ≡ had = ap (λ (k : ℕ). get_or sets k 0) same ∙ read in (
             λ bit. elim ((told port).0 (ap (λ (n : ℕ). bit_at n port) (sym got) ∙ bit)) [
               | inl before ↦ earlier to port ((are.each to port to_low).0 (ap (λ (n : ℕ). bit_at n port) was ∙ before))
-              | inr mine ↦ last to port (sym number_is ∙ sym same) ((named port).0 mine)
+              | inr mine ↦ last to port (sym number_is ∙ sym same, (named port).0 mine)
             ],
             λ has. ap (λ (n : ℕ). bit_at n port) got ∙ (told port).1 (elim (split to port has) [
               | inl before ↦ inl (ap (λ (n : ℕ). bit_at n port) (sym was) ∙ (are.each to port to_low).1 before)
@@ -390,6 +397,111 @@ module _ (starts sets : List ℕ) (starts_are : starts ≡ replicate 1651 0) (se
     λ bit. absurd (let zero = ap (λ (set : ℕ). bit_at set port) (first_set came to is inside) ∙ bit_at-zero port in omega arith),
     λ (place, early, leads). absurd (omega arith),
   )
+
+-- THE SETS OF ROWS
+
+-- the row has an exit for what came in at a spot and goes to a number
+abbrev HasTo : Channel → ℕ → ℕ → RowOf → Type 0
+HasTo came to port row = (row.at ≡ came.at) × (row.entry ≡ came.port) × (row.to ≡ to) × Contains row.exits port
+
+-- no rows have no exits
+pub no_rows : (n : ℕ) (sets : List ℕ) → n ≡ 209677 → sets ≡ replicate n 0 → AreExitsOf [] sets × (length sets ≡ n)
+no_rows n sets count is = (
+  record {
+    each = λ came to port spot low. (
+      λ bit. absurd (
+          let place = place_low came spot in
+          let none : exit_set sets came to ≡ 0 = ap (λ (xs : List ℕ). get_or xs (place_of came * 127 + to) 0) is ∙ get_or-replicate n (place_of came * 127 + to) 0 0 (omega (arith, place, low, count)) in
+          let zero = ap (λ (set : ℕ). bit_at set port) none ∙ bit_at-zero port in
+          omega (arith, zero, bit)),
+      λ (k, row, below, reads, has). absurd (omega arith),
+    );
+    ports = λ k row below. absurd (omega arith);
+  },
+  ap (λ (xs : List ℕ). length xs) is ∙ length-replicate {A = ℕ} n 0,
+)
+
+-- a row for what is no spot or no number
+pub row_beside : (rows : List RowOf) (row : RowOf) (sets : List ℕ) → ((came : Channel) → IsSpot came → row.at ≡ came.at → row.entry ≡ came.port → row.to < 127 → ⊥) → ArePorts row.exits → AreExitsOf rows sets → AreExitsOf (rows ++ row ∷ []) sets
+row_beside rows row sets beside ports are = record {
+  each = λ came to port spot low. (
+    λ bit. Any-front (HasTo came to port) rows (row ∷ []) ((are.each came to port spot low).0 bit),
+    λ has. elim (any_push_cases (HasTo came to port) rows row has) [
+      | inl before ↦ (are.each came to port spot low).1 before
+      | inr (at, entry, target, own) ↦ absurd (beside came spot at entry (omega (arith, target, low)))
+    ],
+  );
+  ports = All-push (λ (r : RowOf). ArePorts r.exits) rows row are.ports ports;
+}
+
+-- one row more, at its place
+module _ (rows : List RowOf) (row : RowOf) (sets : List ℕ) (place had exits new : ℕ) (spot : IsSpot (record { at = row.at; port = row.entry })) (target : row.to < 127) (long : length sets ≡ 209677) (place_is : place ≡ place_of (record { at = row.at; port = row.entry }) * 127 + row.to) (read : had ≡ get_or sets place had)
+    (told : (port : ℕ) → ((bit_at new port ≡ 1) ↔ ((bit_at had port ≡ 1) ⊎ (bit_at exits port ≡ 1)))) (named : (port : ℕ) → ((bit_at exits port ≡ 1) ↔ Contains row.exits port)) (ports : ArePorts row.exits) (are : AreExitsOf rows sets) where
+  abbrev own : Channel
+  own = record { at = row.at; port = row.entry }
+
+  within : place < length sets
+  within = let low = place_low own spot in omega (arith, low, target, long, place_is)
+
+  -- what came in there and goes there
+  here : (came : Channel) (to port : ℕ) → came ≡ own → to ≡ row.to → ((bit_at (exit_set (set sets place new) came to) port ≡ 1) ↔ HasExit (rows ++ row ∷ []) came.at came.port to port)
+  here came to port same number =
+      let at : place_of came * 127 + to ≡ place = ap (λ (c : Channel). place_of c * 127 + to) same ∙ ap (λ (n : ℕ). place_of own * 127 + n) number ∙ sym place_is in
+      let got : exit_set (set sets place new) came to ≡ new = ap (λ (k : ℕ). get_or (set sets place new) k 0) at ∙ get_or-set_same sets place new 0 within in
+      let was : exit_set sets came to ≡ had = ap (λ (k : ℕ). get_or sets k 0) at ∙ get_or_default sets place 0 had within ∙ sym read in
+      let spot_came : IsSpot came = subst IsSpot (sym same) spot in
+      let low : to < 127 = omega (arith, number, target) in
+      let earlier = are.each came to port spot_came low in (
+        λ bit. elim ((told port).0 (ap (λ (n : ℕ). bit_at n port) (sym got) ∙ bit)) [
+          | inl before ↦ Any-front (HasTo came to port) rows (row ∷ []) (earlier.0 (ap (λ (n : ℕ). bit_at n port) was ∙ before))
+          | inr mine ↦ Any-push (HasTo came to port) rows row (sym (ap (λ (c : Channel). c.at) same), sym (ap (λ (c : Channel). c.port) same), sym number, (named port).0 mine)
+        ],
+        λ has. ap (λ (n : ℕ). bit_at n port) got ∙ (told port).1 (elim (any_push_cases (HasTo came to port) rows row has) [
+          | inl before ↦ inl (ap (λ (n : ℕ). bit_at n port) (sym was) ∙ earlier.1 before)
+          | inr mine ↦ inr ((named port).1 mine.3)
+        ]),
+      )
+
+  -- and what did not
+  elsewhere : (came : Channel) (to port : ℕ) → IsSpot came → to < 127 → place_of came * 127 + to ≢ place → ((bit_at (exit_set (set sets place new) came to) port ≡ 1) ↔ HasExit (rows ++ row ∷ []) came.at came.port to port)
+  elsewhere came to port spot_came low other =
+      let still : exit_set (set sets place new) came to ≡ exit_set sets came to = get_or-set_other sets place (place_of came * 127 + to) new 0 other in
+      let earlier = are.each came to port spot_came low in (
+        λ bit. Any-front (HasTo came to port) rows (row ∷ []) (earlier.0 (ap (λ (n : ℕ). bit_at n port) (sym still) ∙ bit)),
+        λ has. elim (any_push_cases (HasTo came to port) rows row has) [
+          | inl before ↦ ap (λ (n : ℕ). bit_at n port) still ∙ earlier.1 before
+          | inr (at, entry, number, mine) ↦ absurd (other (
+              let there : place_of came ≡ place_of own = omega (arith, at, entry) in
+              omega (arith, there, number, place_is)))
+        ],
+      )
+
+  pub row_more : AreExitsOf (rows ++ row ∷ []) (set sets place new)
+  row_more = record {
+    each = λ came to port spot_came low. elim (cases_eq (place_of came * 127 + to) place) [
+      | inr other ↦ elsewhere came to port spot_came low other
+      | inl same ↦ here came to port (one_spot came own spot_came spot (omega (arith, same, place_is, low, target))) (omega (arith, same, place_is, low, target))
+    ];
+    ports = All-push (λ (r : RowOf). ArePorts r.exits) rows row are.ports ports;
+  }
+
+-- starts in turn lead to the sets as they stand
+pub starts_of_turn : (starts sets : List ℕ) → AreInTurn 1651 starts → length sets ≡ 209677 → AreStarts starts sets
+starts_of_turn starts sets turn long = record {
+  count = turn.count;
+  within = λ k d low. let start = get_or_default starts k 0 d low in let at = turn.each k (omega (arith, low, turn.count)) in omega (arith, start, at, low, turn.count, long);
+}
+
+pub turn_exits : (rows : List RowOf) (starts sets : List ℕ) → AreInTurn 1651 starts → length sets ≡ 209677 → AreExitsOf rows sets → AreExitsOf rows (all_sets starts sets)
+turn_exits rows starts sets turn long are = record {
+  each = λ came to port spot low.
+      let at = turn.each (place_of came) (place_low came spot) in
+      let same : exit_set (all_sets starts sets) came to ≡ exit_set sets came to = set_is starts sets came to (starts_of_turn starts sets turn long) spot low ∙ ap (λ (k : ℕ). get_or sets (k + to) 0) at in (
+        λ bit. (are.each came to port spot low).0 (ap (λ (n : ℕ). bit_at n port) (sym same) ∙ bit),
+        λ has. ap (λ (n : ℕ). bit_at n port) same ∙ (are.each came to port spot low).1 has,
+      );
+  ports = are.ports;
+}
 
 -- THE EXITS OF A LAYOUT
 

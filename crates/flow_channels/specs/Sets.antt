@@ -1,5 +1,5 @@
 -- The sets by number in which an exit table keeps exits, and where those of a spot start.
-use Rattle.std.specs.Prelude.{◌≡◌, ◌+◌, ◌<◌, ◌≤◌, ◌↔◌, ℕ, List, Bool, All, Any, Contains, length, map, slice_index, if◌then◌else◌}
+use Rattle.std.specs.Prelude.{◌≡◌, ◌+◌, ◌*◌, ◌<◌, ◌≤◌, ◌↔◌, ℕ, List, Bool, All, Any, Contains, length, map, slice_index, if◌then◌else◌}
 use Rattle.std.specs.Int.{bit_at}
 use Rattle.std.specs.List.{flat_map, range_with_len}
 use Rattle.an_base.specs.Values.{EntryOf}
@@ -20,6 +20,11 @@ all_sets starts sets = flat_map (sets_from sets) starts
 pub record AreStarts (starts sets : List ℕ) : Type 0 where
   pub count : length starts ≡ 1651
   pub within : All (λ start. start + 127 ≤ length sets) starts
+
+-- the sets of each of the first spots come after those of the one before
+pub record AreInTurn (end : ℕ) (starts : List ℕ) : Type 0 where
+  pub count : length starts ≡ end
+  pub each : (place : ℕ) → place < end → slice_index starts place ≡ place * 127
 
 -- one of the ways leads to a number by a port
 abbrev pub WaysHave : List Way → Bool → ℕ → ℕ → Type 0

@@ -19,7 +19,7 @@ use fcfc_router::router::Router;
 use std::alloc::Global;
 
 /// A packet that entered, and the number of the switch to which it goes.
-#[derive(Clone, Copy, Debug)]
+#[derive(Clone, Copy)]
 pub struct Packet {
     /// The packet.
     pub packet: u32,
@@ -28,7 +28,7 @@ pub struct Packet {
 }
 
 /// A packet that is at its target, the first one of a channel.
-#[derive(Clone, Copy, Debug)]
+#[derive(Clone, Copy)]
 pub struct Arrival {
     /// The channel.
     pub channel: Channel,
@@ -37,7 +37,7 @@ pub struct Arrival {
 }
 
 /// A packet that is let go, by its place among those that entered.
-#[derive(Clone, Copy, Debug)]
+#[derive(Clone, Copy)]
 pub struct Departure {
     /// The number of the switch.
     pub at: u8,
@@ -48,7 +48,7 @@ pub struct Departure {
 }
 
 /// What the first packet of a channel does at the far side.
-#[derive(Clone, Copy, Debug)]
+#[derive(Clone, Copy)]
 pub enum Ahead {
     /// There is no such packet, or no far side.
     Rests,
@@ -75,7 +75,7 @@ impl Ahead {
 }
 
 /// Where the packets are. Each has a place in the order in which they entered, its slot.
-#[derive(Debug, Drop)]
+#[derive(Drop)]
 pub struct Board {
     /// The packets that entered.
     pub packets: Vec<Packet>,

@@ -1,10 +1,15 @@
-ghost use Rattle.std.specs.Prelude.{◌≡◌, ◌<◌, ◌↔◌, ℕ, All, Contains, length, if◌then◌else◌};
+ghost use Rattle.std.specs.Prelude.{◌≡◌, ◌<◌, ◌↔◌, ◌++◌, ◌∷◌, ℕ, [], All, Contains, IfOk, List, length};
+ghost use Rattle.std.specs.Prelude.{if◌then◌else◌};
 ghost use Rattle.std.specs.Int.{bit_at};
 ghost use Rattle.table_build.specs.Exits.{may_go_up};
-ghost use Rattle.flow_channels.specs.Sets.{AreSetsOf, AreStartsBelow};
+ghost use Rattle.an_base.specs.Rows.{RowOf};
+ghost use Rattle.flow_channels.specs.Exits.{AreExitsOf};
+ghost use Rattle.flow_channels.specs.Sets.{AreInTurn, AreSetsOf, AreStartsBelow};
 
+use an_base::limits::{LAST_PORT, MOST_NUMBER};
 use an_base::memory::OutOfMemory;
 use an_base::numbers::Numbers;
+use an_base::row::Row;
 use dep_check::channel::Channel;
 use dep_check::ports::with;
 use dep_check::spot::{SPOTS, place_of};
@@ -18,12 +23,12 @@ use topo_graph::graph::Graph;
 /// How many places a table by number has: for the numbers 0 to 126.
 pub const NUMBERS: u8 = 127;
 
-/// For what came in at each spot and goes to each number, the set of the exits by which it may go on. What
-/// may go on alike has its sets in common. Contracts see all sets, by spot and then by number.
-#[derive(Debug, Drop)]
+/// For what came in at each spot and goes to each number, the set of the exits by which it may go on. Spots
+/// may have their sets in common. Contracts see all sets, by spot and then by number.
+#[derive(Drop)]
 pub struct ExitTable {
     // For each spot where its sets start.
-    starts: Vec<u16>,
+    starts: Vec<u32>,
     sets: Vec<u16>,
 }
 
@@ -63,7 +68,7 @@ fn sets_of(ways: &[Way], up: bool) -> [u16; 127]
 }
 
 // Where the sets of an entry start, of those of what may go on upward and of what may not.
-fn start_of(graph: &Graph, x: u8, entry: u8, up: u16, down: u16) -> u16
+fn start_of(graph: &Graph, x: u8, entry: u8, up: u32, down: u32) -> u32
     ensures { result ≡ (if may_go_up graph.now x entry then up else down) }
 {
     if may_go_up(graph, x, entry) {
@@ -73,7 +78,7 @@ fn start_of(graph: &Graph, x: u8, entry: u8, up: u16, down: u16) -> u16
 }
 
 // Writes where the sets of the entries of a member start.
-fn write_starts(starts: &mut Vec<u16>, graph: &Graph, x: u8, at: u8, up: u16, down: u16)
+fn write_starts(starts: &mut Vec<u32>, graph: &Graph, x: u8, at: u8, up: u32, down: u32)
     requires count { length starts.old.items ≡ 1651 }
     requires at { at < 127 }
     ensures { AreStartsBelow graph.now x at up down 13 starts.old.items starts.new.items }
@@ -84,6 +89,36 @@ fn write_starts(starts: &mut Vec<u16>, graph: &Graph, x: u8, at: u8, up: u16, do
             starts[place_of(came)] = start_of(graph, x, entry, up, down);
         }
     }
+}
+
+// Starts by which the sets of each spot come after those of the one before.
+fn starts_in_turn(alloc: Global) -> Result<Vec<u32>, OutOfMemory>
+    ensures { IfOk result (λ starts. AreInTurn 1651 starts.items) }
+{
+    let mut starts = Vec::with_capacity(alloc, usize::from(SPOTS))?;
+    'spots: for place in 0..u32::from(SPOTS) {
+        starts.push(place * 127)?;
+    }
+    Ok(starts)
+}
+
+// Adds the exits of a row to sets that stand by spot and then by number.
+fn add_row(sets: &mut Vec<u16>, row: &Row)
+    requires { length sets.old.items ≡ 209677 }
+    ensures count { length sets.new.items ≡ length sets.old.items }
+    ensures exits { (rows : List RowOf) → AreExitsOf rows sets.old.items
+        → AreExitsOf (rows ++ row.now ∷ []) sets.new.items }
+{
+    let exits = row.exits.as_set();
+    if row.at > MOST_NUMBER || row.entry > LAST_PORT || row.to > MOST_NUMBER {
+        return;
+    }
+    let came = Channel {
+        at: row.at,
+        port: row.entry,
+    };
+    let place = place_of(came) * 127 + usize::from(row.to);
+    sets[place] = with(sets[place], exits);
 }
 
 impl ExitTable {
@@ -107,16 +142,29 @@ impl ExitTable {
     {
         let routing = Routing::of(alloc, graph, numbers)?;
         let named = numbers.as_slice();
-        let mut starts = vec![in alloc; 0u16; usize::from(SPOTS)]?;
+        let mut starts = vec![in alloc; 0u32; usize::from(SPOTS)]?;
         let mut sets = Vec::with_capacity(alloc, 127 * (2 * usize::from(graph.count()) + 1))?;
         sets.extend_from_slice(&[0u16; 127])?;
         'members: for x in 0..graph.count() {
             let ways = ways_of(alloc, graph, numbers, &routing, x, any)?;
-            let up = sets.len() as u16;
+            let up = sets.len() as u32;
             sets.extend_from_slice(&sets_of(&ways, true))?;
-            let down = sets.len() as u16;
+            let down = sets.len() as u32;
             sets.extend_from_slice(&sets_of(&ways, false))?;
             write_starts(&mut starts, graph, x, named[usize::from(x)], up, down);
+        }
+        Ok(ExitTable { starts, sets })
+    }
+
+    /// The exits of rows in any order. Those of rows for one switch, entry and number count together, and a row
+    /// for what is no spot or no number, 0 to 126, has none.
+    pub fn of_rows(alloc: Global, rows: &[Row]) -> Result<Self, OutOfMemory>
+        ensures { IfOk result (AreExitsOf rows.now) }
+    {
+        let starts = starts_in_turn(alloc)?;
+        let mut sets = vec![in alloc; 0u16; 209_677]?;
+        'rows: for row in rows {
+            add_row(&mut sets, row);
         }
         Ok(ExitTable { starts, sets })
     }
@@ -127,7 +175,7 @@ impl ExitTable {
         requires to { to < 127 }
         ensures { result ≡ exit_set self.now came to }
     {
-        let start = usize::from(self.starts[place_of(came)]);
+        let start = self.starts[place_of(came)] as usize;
         self.sets[start + usize::from(to)]
     }
 }

@@ -26,7 +26,7 @@ use std::marker::Model;
 use topo_graph::graph::Graph;
 
 /// Packets on their way through a topology, whose channels hold a few packets each.
-#[derive(Debug, Drop)]
+#[derive(Drop)]
 pub struct Flow {
     tables: Tables,
     board: Board,

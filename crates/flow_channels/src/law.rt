@@ -41,6 +41,17 @@ pub fn some_packet_can_move()
         → left_of flow ≢ 0 → (move : Move) × IsPossible layout flow move }
 {}
 
+/// Over rows that pass, whatever entered and whichever turns were made: while a packet is on its way, some
+/// packet can move.
+pub fn rows_that_pass_never_lock_up()
+    ensures { (entries : List EntryOf) (numbers : List ℕ) (rows : List RowOf) (ranks : List (Option ℕ))
+        (most limit : ℕ) (acts : List Act) (flow : FlowOf)
+        → IsGraph entries → AreNumbers numbers → length numbers ≡ length entries
+        → Passes entries numbers rows ranks → 1 ≤ most
+        → Comes (layout_of entries numbers rows most) limit acts flow → left_of flow ≢ 0
+        → (move : Move) × IsPossible (layout_of entries numbers rows most) flow move }
+{}
+
 /// Each turn is fixed by the flow before it, and so are the turns until no packet is left.
 pub fn one_run()
     ensures turn { (layout : LayoutOf) (old new other : FlowOf) (went way : Went)

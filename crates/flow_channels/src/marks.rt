@@ -5,7 +5,7 @@ use std::marker::Model;
 
 /// A set of numbers below 2,048, be they places of channels or numbers of switches. Contracts see it as a list,
 /// which has 1 at each number that is in it and else 0.
-#[derive(Debug, Drop)]
+#[derive(Drop)]
 pub struct SpotMarks {
     // A bit for each place, 64 of them in a part; and the parts that have some.
     parts: [u64; 32],

@@ -7,7 +7,7 @@ use std::marker::Model;
 
 /// The packets in a channel, by the places in which they entered, the first one first. There is room for
 /// so many.
-#[derive(Debug, Drop)]
+#[derive(Drop)]
 pub struct Queue {
     slots: VecDeque<u32>,
     places: usize,

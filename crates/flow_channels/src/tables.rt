@@ -16,7 +16,7 @@ use std::alloc::Global;
 use topo_graph::graph::Graph;
 
 /// What never changes.
-#[derive(Debug, Drop)]
+#[derive(Drop)]
 pub struct Tables {
     /// The far side of each spot.
     pub wires: Vec<Option<Channel>>,

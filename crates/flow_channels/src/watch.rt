@@ -19,7 +19,7 @@ use fcfc_router::router::Grant;
 use std::alloc::Global;
 
 /// Where something may happen next.
-#[derive(Debug, Drop)]
+#[derive(Drop)]
 pub struct Watch {
     /// The places of the channels whose first packet is at its target: 1 for each.
     pub arriving: SpotMarks,

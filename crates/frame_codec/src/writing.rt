@@ -231,7 +231,7 @@ fn begin(out: &mut FrameBuf, kind: u8)
 }
 
 /// What stands before the body in the frame that carries it.
-#[derive(Clone, Copy, Debug)]
+#[derive(Clone, Copy)]
 pub struct CarryHead {
     /// The epoch of the session.
     pub epoch: u64,

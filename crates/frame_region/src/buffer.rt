@@ -9,7 +9,7 @@ use std::marker::Model;
 pub const MOST_FRAME: usize = 22_591;
 
 /// The bytes of one frame, at most 22,591, in memory that is taken once.
-#[derive(Debug, Drop)]
+#[derive(Drop)]
 pub struct FrameBuf {
     bytes: Vec<u8>,
 }

@@ -19,7 +19,7 @@ pub const MOST_BLOCKS: u32 = 1_048_576;
 
 /// What names bytes that were put in a region, 1 to 22,591 of them. It cannot be copied. The bytes
 /// that it names stay until it is given back; where it is dropped, until the region is dropped.
-#[derive(Debug, Drop)]
+#[derive(Drop)]
 pub struct Slip {
     first: u32,
 }
@@ -55,7 +55,7 @@ pub struct NoRoom {
 /// there before that block, or one of a higher number, is first used. Each names the next block of its
 /// chain, which is that of the next number as long as it names none, and the first block of a chain has
 /// the length of the byte string in it.
-#[derive(Debug, Drop)]
+#[derive(Drop)]
 pub struct Region {
     bytes: Vec<u8>,
     next: Vec<u32>,

@@ -14,7 +14,7 @@ pub const PLACES: usize = 16;
 pub const TICKS: u32 = 64;
 
 // A sender, the address that its last packet came from, and the tick at which that came.
-#[derive(Clone, Copy, Debug)]
+#[derive(Clone, Copy)]
 struct Heard {
     uid: u64,
     address: u16,
@@ -53,7 +53,7 @@ fn choice_by(last: Option<Heard>, now: u32) -> Choice
 
 /// What a host remembers of those that sent to it, which contracts see as a list of arrivals, the
 /// newest first: of each of at most 16 senders the last.
-#[derive(Debug, Drop)]
+#[derive(Drop)]
 pub struct Cache {
     heard: Vec<Heard>,
 }

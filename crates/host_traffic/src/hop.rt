@@ -1,7 +1,7 @@
 //! What becomes of a packet at one switch.
 
 /// Why a packet is dropped.
-#[derive(Clone, Copy, Debug, PartialEq, Eq)]
+#[derive(Clone, Copy, PartialEq, Eq)]
 pub enum DropCause {
     /// The link of the host that sends is down, or its port does not show a host.
     NoPort,
@@ -18,7 +18,7 @@ pub enum DropCause {
 }
 
 /// What becomes of a packet at one switch.
-#[derive(Clone, Copy, Debug, PartialEq, Eq)]
+#[derive(Clone, Copy, PartialEq, Eq)]
 pub enum Hop {
     /// It goes on by an exit.
     Went {

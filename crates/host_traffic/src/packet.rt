@@ -4,7 +4,7 @@ ghost use Rattle.host_traffic.specs.Packets.{moved_to, row_entry};
 use std::marker::Model;
 
 /// A packet under way.
-#[derive(Clone, Copy, Debug)]
+#[derive(Clone, Copy)]
 pub struct Packet {
     /// Its number.
     pub packet: u32,

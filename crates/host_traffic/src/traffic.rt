@@ -17,7 +17,7 @@ use std::collections::VecDeque;
 use std::marker::Model;
 
 // The number of a packet, and the key under which it is stored.
-#[derive(Clone, Copy, Debug)]
+#[derive(Clone, Copy)]
 struct Filed {
     packet: u32,
     key: usize,
@@ -26,7 +26,7 @@ struct Filed {
 /// The packets under way, with room for so many at most. They are stored in a slab. The keys stand by rising
 /// number of their packets, so the lowest is at the front: packets are numbered as they are sent, so that a
 /// new one comes last, and mostly it is the lowest one that goes.
-#[derive(Debug, Drop)]
+#[derive(Drop)]
 pub struct Traffic {
     most: u32,
     packets: Slab<Packet>,

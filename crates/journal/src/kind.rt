@@ -6,7 +6,7 @@ ghost use Rattle.journal.specs.Kinds.{switch_event, port_event};
 use an_base::event::Event;
 
 /// An event of a switch.
-#[derive(Clone, Copy, Debug, PartialEq, Eq)]
+#[derive(Clone, Copy, PartialEq, Eq)]
 pub enum SwitchEvent {
     /// It takes its clock in hand.
     Clock,
@@ -33,7 +33,7 @@ impl SwitchEvent {
 }
 
 /// An event at a port of a switch.
-#[derive(Clone, Copy, Debug, PartialEq, Eq)]
+#[derive(Clone, Copy, PartialEq, Eq)]
 pub enum PortEvent {
     /// The switch takes a frame in hand from the wire that comes in there.
     Take,

@@ -39,7 +39,7 @@ impl From<JournalCause> for Stop<JournalCause> {
 
 /// The text of a journal, whose events are read one by one. It keeps none of them. As the code is written, and by
 /// no clause, it takes no more memory than the words of one line need.
-#[derive(Debug, Drop)]
+#[derive(Drop)]
 pub struct Reader<'a> {
     script: &'a Script,
     rest: &'a [u8],

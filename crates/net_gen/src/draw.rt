@@ -6,7 +6,7 @@ ghost use Rattle.net_gen.specs.Drawn.{drawn, next_seed};
 use std::marker::Model;
 
 /// Numbers drawn in turn from a seed, which contracts see as the seed of the next one.
-#[derive(Clone, Copy, Debug, PartialEq, Eq)]
+#[derive(Clone, Copy, PartialEq, Eq)]
 pub struct Draw {
     seed: u64,
 }

@@ -68,7 +68,7 @@ fn push_count(
 }
 
 // How many packets came to their hosts, how many were dropped, and the tick at the end.
-#[derive(Clone, Copy, Debug)]
+#[derive(Clone, Copy)]
 struct Tally {
     delivered: usize,
     dropped: usize,

@@ -12,7 +12,7 @@ use std::marker::Model;
 pub const MOST_HOSTS: usize = 1000;
 
 /// A switch of a network.
-#[derive(Clone, Copy, Debug, PartialEq, Eq)]
+#[derive(Clone, Copy, PartialEq, Eq)]
 pub struct SwitchAt {
     /// Its identifier, below 2^48.
     pub uid: u64,
@@ -21,7 +21,7 @@ pub struct SwitchAt {
 }
 
 /// A link of two switch ports.
-#[derive(Clone, Copy, Debug, PartialEq, Eq)]
+#[derive(Clone, Copy, PartialEq, Eq)]
 pub struct LinkAt {
     /// The switch at one end, by its place.
     pub a: u8,
@@ -34,7 +34,7 @@ pub struct LinkAt {
 }
 
 /// A host of a network.
-#[derive(Clone, Copy, Debug, PartialEq, Eq)]
+#[derive(Clone, Copy, PartialEq, Eq)]
 pub struct HostOn {
     /// Its identifier, below 2^48.
     pub uid: u64,
@@ -45,7 +45,7 @@ pub struct HostOn {
 }
 
 /// What is at the far side of a switch's port.
-#[derive(Clone, Copy, Debug, PartialEq, Eq)]
+#[derive(Clone, Copy, PartialEq, Eq)]
 pub enum Far {
     /// A port of a switch, which may be the same switch.
     Switch {
@@ -76,7 +76,7 @@ fn is_host(hosts: &[HostOn], uid: u64) -> bool
 }
 
 // What is at the far side of each port of a switch; nothing is at port 0.
-#[derive(Clone, Copy, Debug)]
+#[derive(Clone, Copy)]
 struct PortRow {
     cells: [Option<Far>; 13],
 }
@@ -100,7 +100,7 @@ fn put(rows: &mut Vec<PortRow>, s: u8, port: u8, far: Far)
 
 /// Switches, the links between their ports, and the hosts on their ports. Identifiers are all
 /// different, and no port of a switch is used twice.
-#[derive(Debug, Drop)]
+#[derive(Drop)]
 pub struct Wiring {
     switches: Vec<SwitchAt>,
     links: Vec<LinkAt>,

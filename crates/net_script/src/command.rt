@@ -6,7 +6,7 @@ ghost use Rattle.net_script.specs.Commands.{link_event, most_count, wire_word, w
 use an_base::event::Event;
 
 /// An event of a script, and the tick from which it is due.
-#[derive(Clone, Copy, Debug, PartialEq, Eq)]
+#[derive(Clone, Copy, PartialEq, Eq)]
 pub struct Command {
     /// The tick, 0 to 1,000,000.
     pub time: u32,
@@ -15,7 +15,7 @@ pub struct Command {
 }
 
 /// A change of a link.
-#[derive(Clone, Copy, Debug, PartialEq, Eq)]
+#[derive(Clone, Copy, PartialEq, Eq)]
 pub enum LinkChange {
     /// It goes down.
     Fail,
@@ -36,7 +36,7 @@ impl LinkChange {
 }
 
 /// A change of what a wire does with the next frames.
-#[derive(Clone, Copy, Debug, PartialEq, Eq)]
+#[derive(Clone, Copy, PartialEq, Eq)]
 pub enum WireChange {
     /// Frames are lost.
     Lose,

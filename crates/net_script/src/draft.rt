@@ -8,7 +8,7 @@ use crate::setting::Came;
 use std::alloc::Global;
 
 /// What so many lines of a text say.
-#[derive(Debug, Drop)]
+#[derive(Drop)]
 pub struct Draft {
     /// The script so far.
     pub script: Script,
@@ -19,7 +19,7 @@ pub struct Draft {
 }
 
 /// A part of a text.
-#[derive(Clone, Copy, Debug, PartialEq, Eq)]
+#[derive(Clone, Copy, PartialEq, Eq)]
 pub enum Part {
     /// Up to the first line.
     Header,

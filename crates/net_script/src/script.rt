@@ -17,7 +17,7 @@ use text_lines::names::Names;
 
 /// A script: switches and hosts with their names, the links between their ports, commands in the
 /// order of their times, and settings.
-#[derive(Debug, Drop)]
+#[derive(Drop)]
 pub struct Script {
     wiring: Wiring,
     switch_names: Names,

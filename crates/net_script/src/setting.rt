@@ -4,7 +4,7 @@ ghost use Rattle.std.specs.Prelude.{◌≡◌};
 ghost use Rattle.net_script.specs.Settings.{least_of, most_of, has_come, with_come};
 
 /// A setting that is a number.
-#[derive(Clone, Copy, Debug, PartialEq, Eq)]
+#[derive(Clone, Copy, PartialEq, Eq)]
 pub enum Setting {
     /// The greatest tick.
     Ticks,
@@ -44,7 +44,7 @@ impl Setting {
 }
 
 /// The limits of a run.
-#[derive(Clone, Copy, Debug, PartialEq, Eq)]
+#[derive(Clone, Copy, PartialEq, Eq)]
 pub struct Limits {
     /// The greatest tick, 0 to 1,000,000.
     pub ticks: u32,
@@ -55,7 +55,7 @@ pub struct Limits {
 }
 
 /// Which settings had their line.
-#[derive(Clone, Copy, Debug, PartialEq, Eq)]
+#[derive(Clone, Copy, PartialEq, Eq)]
 pub struct Came {
     /// `limit ticks`.
     pub ticks: bool,

@@ -5,7 +5,7 @@ use an_base::body::Body;
 use std::marker::Model;
 
 /// A body that came before one with a lower number did.
-#[derive(Debug, Drop)]
+#[derive(Drop)]
 pub struct Early {
     /// Its number.
     pub k: u32,
@@ -14,7 +14,7 @@ pub struct Early {
 }
 
 /// What becomes of a body that comes.
-#[derive(Debug, Drop)]
+#[derive(Drop)]
 pub enum Verdict {
     /// It is the wanted one, and is accepted.
     Accepted(Body),
@@ -41,7 +41,7 @@ pub enum Verdict {
 
 /// The receiver of one direction of a session. It accepts bodies in the order of their numbers, from
 /// 1, and holds those that come up to seven numbers early.
-#[derive(Debug, Drop)]
+#[derive(Drop)]
 pub struct Receiver {
     last: u32,
     places: [Option<Early>; 8],

@@ -16,7 +16,7 @@ pub const PATIENCE: u32 = 4;
 /// The sender of one direction of a session. Bodies are numbered from 1 in the order in which they
 /// are pushed; at most eight are outstanding, which is sent and not acknowledged, and the others
 /// wait. Time is counted in ticks. It keeps the bodies that are not acknowledged, and no others.
-#[derive(Debug, Drop)]
+#[derive(Drop)]
 pub struct Sender {
     acked: u32,
     outstanding: usize,

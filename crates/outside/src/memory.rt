@@ -29,7 +29,7 @@ fn copy_front(buf: &mut [u8], bytes: &[u8], n: usize)
 /// A source over bytes in memory. The calls whose numbers, from 1, are listed fail, and no other.
 /// Contracts see the bytes that are left, the list, the numbers of calls and of faults, which stay
 /// once they are 2^64 - 1, and the most bytes that one read gives.
-#[derive(Debug, Drop)]
+#[derive(Drop)]
 pub struct MemorySource {
     bytes: Vec<u8>,
     at: usize,
@@ -99,7 +99,7 @@ impl Source for MemorySource {
 /// A sink in memory, with room for so many bytes. The calls whose numbers, from 1, are listed fail,
 /// those that find no room, and no other. Contracts see what was written, the room that is left, the
 /// list, and the numbers of calls and of faults, which stay once they are 2^64 - 1.
-#[derive(Debug, Drop)]
+#[derive(Drop)]
 pub struct MemorySink {
     written: Vec<u8>,
     room: usize,

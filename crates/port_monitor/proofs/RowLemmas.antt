@@ -192,7 +192,39 @@ up_peer Host is_host s p answers q is up none kept peer = absurd (none-some q (a
 up_peer Switch is_host s p answers q is up none kept peer =
     subst (HasAnswered q p.far) (sym up) (judged_peer p.far answers q none kept.row (ap (λ phase. peer_by phase (judged p.far).conn) (sym is) ∙ peer))
 
-pub peer_answered : (me q : EndId) (history : History) (s : Sample) → peer_of (port_after me history) ≡ None → peer_of (port_after me (Sampled s ∷ history)) ≡ Some q → HasAnswered q (port_after me history).far (answers me (Sampled s ∷ history))
+peer_answered : (me q : EndId) (history : History) (s : Sample) → peer_of (port_after me history) ≡ None → peer_of (port_after me (Sampled s ∷ history)) ≡ Some q → HasAnswered q (port_after me history).far (answers me (Sampled s ∷ history))
 peer_answered me q history sample.Down none peer = absurd (none-some q peer)
 peer_answered me q history sample.Host none peer = up_peer (port_after me history).phase true sample.Host (port_after me history) (answers me history) q refl refl none (history_kept me history) peer
 peer_answered me q history sample.Switch none peer = up_peer (port_after me history).phase false sample.Switch (port_after me history) (answers me history) q refl refl none (history_kept me history) peer
+
+-- a known peer is kept or lost
+held_peer : (peer : EndId) (far : ConnectivityOf) (answer : Option EndId) (q : EndId) → peer_by Switch (held_by peer answer far).conn ≡ Some q → peer_by Switch far.conn ≡ Some q
+held_peer peer far None q = by_choice (λ (z : ConnectivityOf). peer_by Switch z.conn ≡ Some q → peer_by Switch far.conn ≡ Some q) far.missed _ _ (λ _ h. absurd (none-some q h)) (λ _ h. h)
+held_peer peer far (Some from) q = by_choice (λ (z : ConnectivityOf). peer_by Switch z.conn ≡ Some q → peer_by Switch far.conn ≡ Some q) (is_same_end from peer) _ _ (λ _ h. h) (λ _ h. absurd (none-some q h))
+
+judged_stays : (far : ConnectivityOf) (conn : Conn) (peer q : EndId) → peer_by Switch conn ≡ Some peer → peer_by Switch (judged_as conn far).conn ≡ Some q → peer_by Switch far.conn ≡ Some q
+judged_stays far Who peer q known = absurd (none-some peer known)
+judged_stays far (Loop end) peer q known = held_peer end far far.answer q
+judged_stays far (Good end) peer q known = held_peer end far far.answer q
+
+up_stays : (phase : Phase) (is_host : Bool) (p : Port) (peer q : EndId) → p.phase ≡ phase → peer_by phase p.far.conn ≡ Some peer → peer_of (kept_up phase is_host p) ≡ Some q → peer_by phase p.far.conn ≡ Some q
+up_stays Dead is_host p peer q is known = absurd (none-some peer known)
+up_stays Checking is_host p peer q is known = absurd (none-some peer known)
+up_stays Host is_host p peer q is known = absurd (none-some peer known)
+up_stays Switch is_host p peer q is known = λ after. judged_stays p.far p.far.conn peer q known (ap (λ phase. peer_by phase (judged p.far).conn) (sym is) ∙ after)
+
+sampled_stays : (s : Sample) (p : Port) (peer q : EndId) → peer_of p ≡ Some peer → peer_of (sampled s p) ≡ Some q → peer_of p ≡ Some q
+sampled_stays sample.Down p peer q known after = absurd (none-some q after)
+sampled_stays sample.Host p peer q known after = up_stays p.phase true p peer q refl known after
+sampled_stays sample.Switch p peer q known after = up_stays p.phase false p peer q refl known after
+
+pub peer_stays : (me peer q : EndId) (history : History) (s : Sample) → peer_of (port_after me history) ≡ Some peer → peer_of (port_after me (Sampled s ∷ history)) ≡ Some q → q ≡ peer
+peer_stays me peer q history s known after = same_Some q peer (sym (sampled_stays s (port_after me history) peer q known after) ∙ known)
+
+-- who was not the peer before answered in a row
+pub new_peer_answered : (me q : EndId) (history : History) (s : Sample) → (peer_of (port_after me history) ≡ Some q → ⊥) → peer_of (port_after me (Sampled s ∷ history)) ≡ Some q → HasAnswered q (port_after me history).far (answers me (Sampled s ∷ history))
+new_peer_answered me q history s other after = by_peer (peer_of (port_after me history)) refl
+  where
+    by_peer : (o : Option EndId) → peer_of (port_after me history) ≡ o → HasAnswered q (port_after me history).far (answers me (Sampled s ∷ history))
+    by_peer None is = peer_answered me q history s is after
+    by_peer (Some peer) is = absurd (other (sampled_stays s (port_after me history) peer q is after))

@@ -1,4 +1,4 @@
-ghost use Rattle.std.specs.Prelude.{◌≡◌, ◌∷◌, ℕ, None, Some, replicate, take};
+ghost use Rattle.std.specs.Prelude.{◌≡◌, ◌≢◌, ◌∷◌, ℕ, Some, replicate, take};
 ghost use Rattle.an_base.specs.Values.{EndId};
 ghost use Rattle.an_base.specs.declared.port.Sample.{Sample};
 ghost use Rattle.skeptic.specs.Skeptics.{hold};
@@ -9,9 +9,16 @@ ghost use Rattle.port_monitor.specs.Histories.{History, Replied, Sampled, answer
 /// of the far end asks for, the last one among them, were answered by that end.
 pub fn a_peer_answered_in_a_row()
     ensures { (me q : EndId) (history : History) (sample : Sample)
-        → peer_of (port_after me history) ≡ None
+        → peer_of (port_after me history) ≢ Some q
         → peer_of (port_after me (Sampled sample ∷ history)) ≡ Some q
         → take (hold (port_after me history).far.skeptic) (answers me (Sampled sample ∷ history)) ≡ replicate (hold (port_after me history).far.skeptic) (Some q) }
+{}
+
+/// A peer that is known stays it or is lost at a clock: no other end takes its place there.
+pub fn a_known_peer_stays_or_is_lost()
+    ensures { (me peer q : EndId) (history : History) (sample : Sample)
+        → peer_of (port_after me history) ≡ Some peer
+        → peer_of (port_after me (Sampled sample ∷ history)) ≡ Some q → q ≡ peer }
 {}
 
 /// A reply changes neither the state of a port nor its peer: they follow at the next clock.

@@ -10,7 +10,7 @@ use an_base::links::{Links, PortLink};
 use an_base::port::{PortState, Sample};
 
 /// The twelve ports of a switch. A port is one of 1 to 12.
-#[derive(Debug, Drop)]
+#[derive(Drop)]
 pub struct Monitor {
     life: Life,
     ports: [Port; 12],

@@ -8,7 +8,7 @@ use connectivity::far::Connectivity;
 use skeptic::Skeptic;
 
 /// How far a port has come.
-#[derive(Clone, Copy, Debug, PartialEq, Eq)]
+#[derive(Clone, Copy, PartialEq, Eq)]
 pub enum Phase {
     /// It is down, or held back since it was.
     Dead,
@@ -21,7 +21,7 @@ pub enum Phase {
 }
 
 /// One port: its phase, how often it failed, and what is known of the far end.
-#[derive(Clone, Copy, Debug)]
+#[derive(Clone, Copy)]
 pub struct Port {
     /// How far it has come.
     pub phase: Phase,

@@ -22,7 +22,7 @@ use std::alloc::Global;
 use std::marker::Model;
 
 /// What a journal came to.
-#[derive(Debug, Drop)]
+#[derive(Drop)]
 pub struct World {
     end: Ending,
 }

@@ -25,9 +25,9 @@ use Rattle.fabric_world.specs.Lines.{lines_of}
 use Rattle.fabric_world.specs.Histories.{IsLegal, end_of}
 use Rattle.fabric_settling.specs.Claims.{HoldsAndSettles}
 use Rattle.journal.specs.Texts.{IsJournal}
-use Rattle.table_report.specs.Names.{life_text}
-use Rattle.table_report.specs.Rows.{row_form}
-use Rattle.table_report.specs.Expect.{table_text}
+use Rattle.row_text.specs.Names.{life_text}
+use Rattle.row_text.specs.Rows.{row_form}
+use Rattle.row_text.specs.TableForms.{table_text}
 
 -- each word behind a space
 abbrev pub spaced_word : List ℕ → List ℕ

@@ -1,6 +1,6 @@
 //! What is printed of a journal of a script's network.
 //!
-//! It stands on `table_report`, which spells lives and rows, on `fabric_book`, whose network makes the events, on
+//! It stands on `row_text`, which spells lives and rows, on `fabric_book`, whose network makes the events, on
 //! `journal`, which reads them, and on `replay`.
 //!
 //! Its contract: the report of a journal has the lines of its events in turn, each told in the network behind the

@@ -29,7 +29,7 @@ use text_lines::spelling::{decimal, push_line};
 
 // A packet that was sent: the place of the host that sent it, and the address from which it comes, once it has
 // moved.
-#[derive(Clone, Copy, Debug)]
+#[derive(Clone, Copy)]
 struct Traced {
     host: u16,
     source: Option<u16>,

@@ -12,7 +12,7 @@ ghost use Rattle.replay.specs.Replays.{HasMade, HasNoEnd, IfIllegal, IsNoReplay,
 ghost use Rattle.replay.specs.declared.refusal.ReplayRefusal.TheVariants as refusal;
 ghost use Rattle.report.specs.Events.{HasLegalEnd, IsReport, IsReportOf, course_of, event_text, line_of_end, report_text};
 ghost use Rattle.report.specs.Retellings.{HasCome};
-ghost use Rattle.table_report.specs.Names.{life_text};
+ghost use Rattle.row_text.specs.Names.{life_text};
 ghost use Rattle.report.specs.declared.reporter.ReportStop.TheVariants as stop;
 
 use crate::course::Course;
@@ -31,10 +31,10 @@ use outside::all::{WriteFault, write_all};
 use outside::sink::Sink;
 use replay::refusal::ReplayRefusal;
 use replay::world::{end_of, refused, step};
+use row_text::decimals::Decimals;
+use row_text::piece::life_word;
 use std::alloc::Global;
 use std::mem::replace;
-use table_report::decimals::Decimals;
-use table_report::piece::life_word;
 
 /// Why a report was not written.
 #[derive(Clone, Copy, Debug, PartialEq, Eq)]
@@ -62,7 +62,7 @@ impl From<WriteFault> for ReportStop {
 }
 
 /// A report, and what the journal came to.
-#[derive(Debug, Drop)]
+#[derive(Drop)]
 pub struct Report {
     /// The text.
     pub text: Vec<u8>,

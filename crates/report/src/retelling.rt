@@ -24,9 +24,9 @@ use fabric_book::account::Account;
 use fabric_state::ending::Ending;
 use fabric_world::line::{Line, PlacedLine};
 use net_script::script::Script;
+use row_text::decimals::Decimals;
 use std::alloc::Global;
 use std::marker::Model;
-use table_report::decimals::Decimals;
 
 // To whom an event belongs: the worker of a switch, from 1, or the driver, 0.
 fn owner_of(event: &Event) -> usize

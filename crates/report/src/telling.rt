@@ -4,7 +4,7 @@ ghost use Rattle.std.specs.Prelude.{◌≡◌, ◌==◌, ◌++◌, ◌∷◌, []
 ghost use Rattle.std.specs.Option.{option_map_or};
 ghost use Rattle.std.specs.List.{list_any};
 ghost use Rattle.std.specs.Fmt.{decimal};
-ghost use Rattle.table_report.specs.Names.{life_text};
+ghost use Rattle.row_text.specs.Names.{life_text};
 ghost use Rattle.report.specs.Events.{all_told, deliver_words, drop_word, ending_words, has_line, host_text};
 ghost use Rattle.report.specs.Events.{line_of_end, loss_words, packet_words, peer_words, place_words, rows_in_use};
 ghost use Rattle.report.specs.Events.{rows_text, spaced, state_word, switch_text, told_text, told_words};
@@ -22,10 +22,10 @@ use fabric_world::line::Line;
 use host_traffic::hop::DropCause;
 use itoa::Buffer;
 use net_script::script::Script;
+use row_text::decimals::Decimals;
+use row_text::piece::push_life;
+use row_text::row::push_row_line;
 use std::alloc::Global;
-use table_report::decimals::Decimals;
-use table_report::piece::push_life;
-use table_report::row::push_row_line;
 use wire_set::side::Loss;
 
 // Appends a word behind a space.

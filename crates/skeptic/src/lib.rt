@@ -16,7 +16,7 @@ pub const MOST_LEVEL: u8 = 7;
 pub const FORGIVE_AFTER: u8 = 64;
 
 /// A level, 0 to 7, and how many good samples came in a row.
-#[derive(Clone, Copy, Debug, PartialEq, Eq)]
+#[derive(Clone, Copy, PartialEq, Eq)]
 pub struct Skeptic {
     level: u8,
     run: u8,

@@ -32,7 +32,7 @@ use table_build::table::Table;
 use topo_graph::graph::Graph;
 
 /// What a switch keeps of what happened to it.
-#[derive(Debug, Drop)]
+#[derive(Drop)]
 pub struct Control {
     /// The allocator of what it makes.
     pub alloc: Global,
@@ -63,7 +63,7 @@ pub struct Control {
 }
 
 /// What a switch is started with.
-#[derive(Clone, Copy, Debug)]
+#[derive(Clone, Copy)]
 pub struct PowerOn {
     /// The life that it begins.
     pub life: Life,

@@ -8,7 +8,7 @@ use std::alloc::Global;
 use std::marker::Model;
 
 /// The bytes of a frame, and the port by which it goes out.
-#[derive(Debug, Drop)]
+#[derive(Drop)]
 pub struct FrameOut {
     port: u8,
     bytes: Vec<u8>,
@@ -60,7 +60,7 @@ impl FrameOut {
 
 /// The frames that go out, in their order, which contracts see as a list. Each is the spelling of a
 /// frame, and its port is 1 to 12. Once emptied it keeps its memory for the frames that come.
-#[derive(Debug, Drop)]
+#[derive(Drop)]
 pub struct Frames {
     alloc: Global,
     items: Vec<FrameOut>,
@@ -138,7 +138,7 @@ fn put_at(
 }
 
 /// What comes of a clock or a frame.
-#[derive(Debug, Drop)]
+#[derive(Drop)]
 pub struct Out {
     /// The frames that go out, in their order.
     pub frames: Frames,

@@ -16,7 +16,7 @@ use ordered_link::sender::Sender;
 use std::alloc::Global;
 
 /// What a switch keeps of the session at a port.
-#[derive(Debug, Drop)]
+#[derive(Drop)]
 struct Session {
     // What it sends.
     sender: Sender,
@@ -99,7 +99,7 @@ impl Session {
 }
 
 /// The sessions at the ports 1 to 12. Ticks are counted from the beginning of the run.
-#[derive(Debug, Drop)]
+#[derive(Drop)]
 pub struct Sessions {
     items: [Session; 12],
     // Of each port, whether some body that was pushed is not acknowledged.

@@ -21,7 +21,7 @@ use table_build::table::Table;
 pub const MOST_WORKS: u32 = 268_435_456;
 
 /// One life of a switch: what it keeps of what happened to it, and how many clocks and frames came.
-#[derive(Debug, Drop)]
+#[derive(Drop)]
 pub struct Switch {
     start: PowerOn,
     control: Control,
@@ -42,7 +42,7 @@ impl Model for Switch {
 }
 
 /// A table, and the epoch whose topology it is of.
-#[derive(Debug, Drop)]
+#[derive(Drop)]
 pub struct TableFor {
     /// The epoch.
     pub epoch: u64,

@@ -329,8 +329,7 @@ impl Desk {
         }
     }
 
-    /// Asks for what is to be asked for. Where it put what came of what it had in hand it asks at once for work, if no
-    /// table is due: what the book has of its switch is near then. Answers its papers, and what there is to do next.
+    /// Asks for what is to be asked for, by one call of the turnstile. Answers its papers, and what there is to do next.
     pub fn ask<R: Wait>(
         &mut self,
         rt: &R,
@@ -343,15 +342,11 @@ impl Desk {
         ensures called { HasCalled seat.old seat.new }
         ensures step { IsInStep seat.new.1 self.new result.0 result.1 }
     {
-        let papers = match replace(&mut self.pending, Pending::Work) {
-            Pending::Work => papers,
-            Pending::Put => self.put(rt, turnstile, seat, papers),
-            Pending::Load(sheet) => return self.load(rt, turnstile, seat, papers, sheet),
-        };
-        if self.switch.load_due() {
-            return (papers, Next::Ask);
+        match replace(&mut self.pending, Pending::Work) {
+            Pending::Work => self.take(rt, turnstile, seat, papers),
+            Pending::Put => (self.put(rt, turnstile, seat, papers), Next::Ask),
+            Pending::Load(sheet) => self.load(rt, turnstile, seat, papers, sheet),
         }
-        self.take(rt, turnstile, seat, papers)
     }
 
     // Asks for work.

@@ -74,6 +74,11 @@ impl Driver {
         self.account.failed
     }
 
+    /// Whether it is to make no steps any more: it was told an end, or memory was wanting.
+    pub fn has_ended(&self) -> bool {
+        self.end.is_some() || self.account.failed
+    }
+
     /// Its seat, and what is told of its events, unless memory was wanting.
     pub fn into_parts(self) -> Result<(Seat<Book>, Account), OutOfMemory>
         ensures seat { IfOk result (λ parts. parts.0 ≡ self.seat) }

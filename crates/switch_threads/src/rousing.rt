@@ -2,11 +2,12 @@
 //!
 //! A worker that found nothing to do looks again only once it is roused: by one that sent it a frame, or by the driver.
 //! Who is roused is a guess, and what a run gives does not rest on it: a worker that is roused for nothing finds nothing
-//! again, and all are roused again in each round, behind the driver's steps.
+//! again, and all are roused again in each round, after the driver's steps.
 
 use net_graph::wiring::Far;
 use net_script::script::Script;
-use std::sync::atomic::{AtomicU64, Ordering};
+use std::mem::replace;
+use switch_core::out::FrameOut;
 
 /// The most parties that share the workers between them.
 pub(crate) const MOST_PARTIES: usize = 4;
@@ -29,6 +30,11 @@ fn bit(place: usize) -> u64 {
 }
 
 impl Roused {
+    /// None is roused.
+    pub fn none() -> Roused {
+        Roused { bits: 0 }
+    }
+
     /// Whether the worker at a place is roused.
     pub fn has(self, place: usize) -> bool {
         self.bits & bit(place) != 0
@@ -42,7 +48,7 @@ pub(crate) struct Rousing {
     each: usize,
     // How many parties there are.
     parties: usize,
-    roused: [AtomicU64; MOST_PARTIES],
+    roused: [u64; MOST_PARTIES],
 }
 
 // All workers of a party, or none where there is no such party.
@@ -53,16 +59,13 @@ fn all_of(party: usize, parties: usize) -> u64 {
 impl Rousing {
     /// All are roused, of so many parties of so many workers.
     pub fn new(parties: usize, each: usize) -> Rousing {
-        Rousing {
+        let mut rousing = Rousing {
             each,
             parties,
-            roused: [
-                AtomicU64::new(all_of(0, parties)),
-                AtomicU64::new(all_of(1, parties)),
-                AtomicU64::new(all_of(2, parties)),
-                AtomicU64::new(all_of(3, parties)),
-            ],
-        }
+            roused: [0; MOST_PARTIES],
+        };
+        rousing.rouse_all();
+        rousing
     }
 
     /// The party that has the worker at a place in the order of the script.
@@ -72,43 +75,35 @@ impl Rousing {
 
     /// Rouses the worker at a place in the order of the script, which is one of a party: no round would end any more
     /// with one that nobody takes back.
-    pub fn rouse(&self, worker: usize) {
-        let Some(roused) = self.roused.get(self.party_of(worker)) else {
-            return;
-        };
-        let bit = bit(worker.checked_rem(self.each).unwrap_or(0));
-        if roused.load(Ordering::SeqCst) & bit == 0 {
-            roused.fetch_or(bit, Ordering::SeqCst);
+    pub fn rouse(&mut self, worker: usize) {
+        let party = self.party_of(worker);
+        if let Some(roused) = self.roused.get_mut(party) {
+            *roused |= bit(worker.checked_rem(self.each).unwrap_or(0));
         }
     }
 
     /// Rouses all workers.
-    pub fn rouse_all(&self) {
-        'parties: for (party, roused) in self.roused.iter().enumerate() {
-            roused.store(all_of(party, self.parties), Ordering::SeqCst);
+    pub fn rouse_all(&mut self) {
+        for (party, roused) in self.roused.iter_mut().enumerate() {
+            *roused = all_of(party, self.parties);
         }
     }
 
     /// Whether a worker of a party is roused.
     pub fn has(&self, party: usize) -> bool {
-        match self.roused.get(party) {
-            Some(roused) => roused.load(Ordering::SeqCst) != 0,
-            None => false,
-        }
+        self.roused.get(party).is_some_and(|roused| *roused != 0)
     }
 
     /// Whether any worker is roused.
     pub fn has_any(&self) -> bool {
-        self.roused
-            .iter()
-            .any(|roused| roused.load(Ordering::SeqCst) != 0)
+        self.roused.iter().any(|roused| *roused != 0)
     }
 
     /// The workers of a party that are roused, none of which is roused then any more.
-    pub fn take(&self, party: usize) -> Roused {
-        let bits = match self.roused.get(party) {
-            Some(roused) if roused.load(Ordering::SeqCst) != 0 => roused.swap(0, Ordering::SeqCst),
-            _ => 0,
+    pub fn take(&mut self, party: usize) -> Roused {
+        let bits = match self.roused.get_mut(party) {
+            Some(roused) => replace(roused, 0),
+            None => 0,
         };
         Roused { bits }
     }
@@ -132,10 +127,12 @@ impl Neighbours {
         Neighbours { switches }
     }
 
-    /// Rouses the worker of the switch at the other end of a link.
-    pub fn rouse_at(&self, port: u8, rousing: &Rousing) {
-        if let Some(Some(s)) = self.switches.get(usize::from(port)) {
-            rousing.rouse(usize::from(*s));
+    /// Rouses the workers of the switches at the other ends of the links on which frames were sent.
+    pub fn rouse(&self, frames: &[FrameOut], rousing: &mut Rousing) {
+        'frames: for frame in frames {
+            if let Some(Some(s)) = self.switches.get(usize::from(frame.port())) {
+                rousing.rouse(usize::from(*s));
+            }
         }
     }
 }

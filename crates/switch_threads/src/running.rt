@@ -13,7 +13,7 @@ ghost use Rattle.switch_threads.specs.Runs.{IsSeatOf, IsWhole, driver_seat, firs
 use crate::driver::Driver;
 use crate::gate::Gate;
 use crate::rousing::{MOST_PARTIES, Roused};
-use crate::shift::{FIRST, Shift};
+use crate::shift::{FIRST, Hall, Shift, Then, party_after};
 use crate::worker::Worker;
 use an_base::memory::OutOfMemory;
 use fabric_book::account::Account;
@@ -42,10 +42,6 @@ const FEW: usize = MOST_PARTIES;
 // with fewer workers in each, threads wait for one another longer than they work.
 const THREADS: usize = 2;
 
-// How often at most the workers of a party make turns before it is looked at whether the party is to rest, and how often
-// at most that of the driver does so in one round.
-const TURNS: u32 = 64;
-
 // A worker for each switch of a script, and the seat that is left.
 fn open(
     alloc: Global,
@@ -70,7 +66,7 @@ fn open(
     Ok((seat, workers))
 }
 
-// The workers of a thread get ready for a turn each, of whom these are roused.
+// The workers of a party get ready for a turn each, of whom these are roused.
 fn prepare<R: Wait, G: Gate>(rt: &R, gate: &G, roused: Roused, workers: &mut [Worker])
     ensures { HaveCalled workers.old workers.new }
 {
@@ -80,21 +76,13 @@ fn prepare<R: Wait, G: Gate>(rt: &R, gate: &G, roused: Roused, workers: &mut [Wo
 }
 
 // Those that are to make a turn make it, one after the other.
-fn ask<R: Wait>(rt: &R, turnstile: &Turnstile<Book>, workers: &mut [Worker])
+fn ask<R: Wait>(rt: &R, turnstile: &Turnstile<Book>, hall: &mut Hall, workers: &mut [Worker])
     requires workers { All (λ worker. worker.0 ≡ turnstile_id turnstile.now) workers.old }
     ensures { HaveCalled workers.old workers.new }
 {
     'workers: for worker in workers.iter_mut() {
-        worker.turn(rt, turnstile);
+        worker.turn(rt, turnstile, &mut hall.rousing);
     }
-}
-
-// Those that sent frames in their turns rouse those to whom they sent them, and who sleeps is woken.
-fn rouse(shift: &Shift, workers: &[Worker]) {
-    'workers: for worker in workers {
-        worker.rouse_neighbours(shift.rousing());
-    }
-    shift.wake();
 }
 
 // Those that made a turn end it.
@@ -116,32 +104,6 @@ fn are_asking(workers: &[Worker]) -> bool {
     false
 }
 
-// The workers of a party make turns, until none has something to ask for, or so many times. What is large in the book
-// comes to a processor once for all of them, since the other threads wait at the door.
-fn work<R: Wait, G: Gate>(
-    rt: &R,
-    turnstile: &Turnstile<Book>,
-    gate: &G,
-    shift: &Shift,
-    party: usize,
-    workers: &mut [Worker],
-)
-    requires workers { All (λ worker. worker.0 ≡ turnstile_id turnstile.now) workers.old }
-    ensures { HaveCalled workers.old workers.new }
-{
-    'turns: for _ in 0..TURNS {
-        prepare(rt, gate, shift.take_roused(party), workers);
-        if !are_asking(workers) {
-            return;
-        }
-        let behind_the_door = shift.enter(rt);
-        ask(rt, turnstile, workers);
-        drop(behind_the_door);
-        rouse(shift, workers);
-        finish(rt, gate, workers);
-    }
-}
-
 // Whether memory was wanting to some of these workers.
 fn have_failed(workers: &[Worker]) -> bool {
     'workers: for worker in workers {
@@ -152,7 +114,72 @@ fn have_failed(workers: &[Worker]) -> bool {
     false
 }
 
-// The workers of a party without the driver make the turns of a shift. It is over once memory was wanting to one.
+// The workers of a party ask where some have something to ask for, and rest where none has. What is large in the book
+// comes to a processor once for all of them, since the other threads wait at the door. Answers what the party is to do
+// next.
+fn ask_or_rest<R: Wait>(
+    rt: &R,
+    turnstile: &Turnstile<Book>,
+    shift: &Shift,
+    party: usize,
+    workers: &mut [Worker],
+) -> Then
+    requires workers { All (λ worker. worker.0 ≡ turnstile_id turnstile.now) workers.old }
+    ensures { HaveCalled workers.old workers.new }
+{
+    let mut hall = shift.enter(rt);
+    if !are_asking(workers) {
+        return shift.rest(rt, hall, party, have_failed(workers));
+    }
+    ask(rt, turnstile, &mut hall, workers);
+    Then::Turn(shift.take_roused(hall, party))
+}
+
+// The workers of a party make a turn each, of whom these are roused, or rest. Answers what the party is to do next.
+fn turn<R: Wait, G: Gate>(
+    rt: &R,
+    turnstile: &Turnstile<Book>,
+    gate: &G,
+    shift: &Shift,
+    party: usize,
+    roused: Roused,
+    workers: &mut [Worker],
+) -> Then
+    requires workers { All (λ worker. worker.0 ≡ turnstile_id turnstile.now) workers.old }
+    ensures { HaveCalled workers.old workers.new }
+{
+    prepare(rt, gate, roused, workers);
+    let then = ask_or_rest(rt, turnstile, shift, party, workers);
+    finish(rt, gate, workers);
+    then
+}
+
+// The workers of a party make turns, in the first of which these are roused, and rest, until the party is to do something
+// else. Answers whether the driver is to make its steps.
+fn work<R: Wait, G: Gate>(
+    rt: &R,
+    turnstile: &Turnstile<Book>,
+    gate: &G,
+    shift: &Shift,
+    party: usize,
+    roused: Roused,
+    workers: &mut [Worker],
+) -> bool
+    requires workers { All (λ worker. worker.0 ≡ turnstile_id turnstile.now) workers.old }
+    ensures { HaveCalled workers.old workers.new }
+{
+    let mut roused = roused;
+    'turns: for _ in rt.forever() {
+        match turn(rt, turnstile, gate, shift, party, roused, workers) {
+            Then::Turn(more) => roused = more,
+            Then::Drive => return true,
+            Then::End => return false,
+        }
+    }
+    unreachable!()
+}
+
+// The workers of a party without the driver make the turns of a shift.
 fn stay<R: Wait, G: Gate>(
     rt: &R,
     turnstile: &Turnstile<Book>,
@@ -164,16 +191,8 @@ fn stay<R: Wait, G: Gate>(
     requires { All (λ worker. worker.0 ≡ turnstile_id turnstile.now) workers.old }
     ensures { HaveCalled workers.old workers.new }
 {
-    let are_beside = shift.begin();
-    'turns: for _ in rt.forever() {
-        work(rt, turnstile, gate, shift, party, workers);
-        if have_failed(workers) {
-            shift.end();
-        }
-        if !are_beside || !shift.rest(rt, party) {
-            return;
-        }
-    }
+    shift.begin(rt);
+    work(rt, turnstile, gate, shift, party, Roused::none(), workers);
 }
 
 // All workers make the turns of a shift, so many in each thread.
@@ -196,43 +215,21 @@ fn work_all<R: Threads + Wait + Sync, G: Gate>(
         &|place: usize, part: &mut [Worker]|
             requires { All (λ worker. worker.0 ≡ turnstile_id turnstile.now) part.now }
             ensures { HaveCalled part.entry.now part.exit.now }
-        { stay(rt, turnstile, gate, shift, shift.party_behind(place), part) },
+        { stay(rt, turnstile, gate, shift, party_after(place, each), part) },
     );
 }
 
-// The driver makes its steps of a round, and all workers are roused.
-fn drive<R: Wait>(rt: &R, turnstile: &Turnstile<Book>, shift: &Shift, driver: &mut Driver)
+// The driver makes its steps, and all workers are roused. Answers which are, of those of its party.
+fn drive<R: Wait>(rt: &R, turnstile: &Turnstile<Book>, shift: &Shift, driver: &mut Driver) -> Roused
     requires { driver.old.seat.0 ≡ turnstile_id turnstile.now }
     ensures { HasCalled driver.old.seat driver.new.seat }
 {
-    let behind_the_door = shift.enter(rt);
+    let hall = shift.enter(rt);
     driver.steps(rt, turnstile);
-    drop(behind_the_door);
-    shift.rouse_all();
+    shift.rouse_all(hall, driver.has_ended())
 }
 
-// The workers of the driver's party make their turns of a round: until none of them is roused, and all others rest, or
-// so many times; once where parties do not run beside each other.
-fn work_first<R: Wait, G: Gate>(
-    rt: &R,
-    turnstile: &Turnstile<Book>,
-    gate: &G,
-    shift: &Shift,
-    workers: &mut [Worker],
-)
-    requires workers { All (λ worker. worker.0 ≡ turnstile_id turnstile.now) workers.old }
-    ensures { HaveCalled workers.old workers.new }
-{
-    'turns: for _ in 0..TURNS {
-        work(rt, turnstile, gate, shift, FIRST, workers);
-        if !shift.rest_first(rt) {
-            return;
-        }
-    }
-}
-
-// The driver and the workers of its party make the rounds of a shift, the driver first. It is over once the driver is
-// told an end, or memory was wanting to somebody.
+// The driver and the workers of its party make the rounds of a shift, the driver first.
 fn lead<R: Wait, G: Gate>(
     rt: &R,
     turnstile: &Turnstile<Book>,
@@ -246,14 +243,10 @@ fn lead<R: Wait, G: Gate>(
     ensures driver { HasCalled driver.old.seat driver.new.seat }
     ensures workers { HaveCalled workers.old workers.new }
 {
-    let are_beside = shift.begin();
+    shift.begin(rt);
     'rounds: for _ in rt.forever() {
-        drive(rt, turnstile, shift, driver);
-        work_first(rt, turnstile, gate, shift, workers);
-        if driver.end().is_some() || driver.failed() || have_failed(workers) {
-            shift.end();
-        }
-        if !are_beside || shift.is_over() {
+        let roused = drive(rt, turnstile, shift, driver);
+        if !work(rt, turnstile, gate, shift, FIRST, roused, workers) {
             return;
         }
     }

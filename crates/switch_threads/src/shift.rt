@@ -1,23 +1,31 @@
-//! The shift that threads make together.
+//! The shift that threads make together, and all that they wait for.
 //!
-//! To begin a thread costs more than what there is to do in a round. So the threads of a shift stay until it is over,
-//! and whoever finds nothing to do rests until one of its workers is roused (`rousing`). A round begins with the driver,
-//! behind whose steps all workers are roused, and it ends where nobody is roused and all other parties rest, or the party
-//! of the driver has gone on many times. That needs a thread for each party: where one is lacking, all make a single round.
+//! The workers stand in parties, each of which has a thread, and the driver goes with the first of them. One party at a
+//! time is behind the door: there the driver, or all workers of a party one after the other, ask. With the door closed
+//! behind it a party reads and changes what all have in common, the `Hall`, and nowhere else.
 //!
-//! One party at a time asks: the driver, or all workers of a thread one after the other. A book that goes from one
-//! processor to another at each turn costs more than the turn. That is the door.
+//! A party that has nothing to ask for rests, until one of its workers is roused. Where all rest and nobody is roused the
+//! first one goes on, with the driver, after whose steps all workers are roused. So as long as the shift is not over one
+//! party at least does not rest. It is over once the driver is told an end, or memory was wanting to a worker or the
+//! driver. Who rests looks for a while whether it is to go on, and then sleeps at a condition variable. A shift needs a
+//! thread for each party: where one does not begin soon, the shift is over at once, and each party makes what there is
+//! to do for it alone, in whatever order they come.
+//!
+//! `wakes.pml` beside the sources is a model of all this, and `tests/wakes` walks through its states.
 
-use crate::rousing::{Roused, Rousing};
+use crate::rousing::{MOST_PARTIES, Roused, Rousing};
 use std::hint::spin_loop;
-use std::sync::atomic::{AtomicBool, AtomicU64, Ordering};
-use std::sync::{Mutex, MutexGuard, Wait};
+use std::sync::atomic::{AtomicU64, Ordering};
+use std::sync::{Condvar, Mutex, MutexGuard, Wait};
 use std::thread::yield_now;
 
-// How often a party looks whether all others have begun.
-const LOOKS: u32 = 2_000;
+/// The party of the driver.
+pub(crate) const FIRST: usize = 0;
 
-// How often one that rests looks whether it is roused, before it sleeps: for some milliseconds, so that it is mostly
+// How often a party looks whether all others have begun.
+const BEGIN_LOOKS: u32 = 2_000;
+
+// How often one that rests looks whether it is to go on, before it sleeps: for some milliseconds, so that it is mostly
 // found awake, and need not be woken.
 const REST_LOOKS: u32 = 4_000;
 
@@ -28,16 +36,6 @@ const DOOR_LOOKS: u32 = 1_000;
 const NEAR_LOOKS: u32 = 16;
 
 const SPINS: u32 = 32;
-
-/// The party of the driver.
-pub(crate) const FIRST: usize = 0;
-
-// What is known of whether all parties run beside each other: nothing yet, that they do, or that they do not.
-const OPEN: u64 = 0;
-
-const BESIDE: u64 = 1;
-
-const APART: u64 = 2;
 
 // Waits a little at the door, after so many looks in vain.
 fn stand(looks: u32) {
@@ -50,170 +48,183 @@ fn stand(looks: u32) {
     }
 }
 
-/// The rounds that so many parties make, each where it can in a thread of its own.
+// The bit of a party.
+fn mark(party: usize) -> u64 {
+    1u64 << (party % MOST_PARTIES)
+}
+
+/// What a party is to do next.
+#[derive(Clone, Copy)]
+pub(crate) enum Then {
+    /// Its workers are to make turns, of whom these are roused.
+    Turn(Roused),
+    /// The driver is to make its steps: all rest.
+    Drive,
+    /// Nothing: the shift is over.
+    End,
+}
+
+/// What all parties have in common, behind the door.
+#[derive(Drop)]
+pub(crate) struct Hall {
+    /// Which workers are roused.
+    pub rousing: Rousing,
+    // How many parties there are, how many have begun, and how many rest.
+    parties: usize,
+    begun: usize,
+    resting: usize,
+    is_over: bool,
+}
+
+impl Hall {
+    // Whether all parties rest, and nobody is roused.
+    fn all_rest(&self) -> bool {
+        self.resting == self.parties && !self.rousing.has_any()
+    }
+
+    // Whether a party that rests is to go on.
+    fn is_to_go_on(&self, party: usize) -> bool {
+        self.rousing.has(party) || self.is_over || (party == FIRST && self.all_rest())
+    }
+
+    // The parties that are to go on where they rest, a bit for each.
+    fn called(&self) -> u64 {
+        let mut called = 0;
+        for party in 0..MOST_PARTIES {
+            if self.is_to_go_on(party) {
+                called |= mark(party);
+            }
+        }
+        called
+    }
+
+    // What a party that went on is to do.
+    fn then(&mut self, party: usize) -> Then {
+        if self.rousing.has(party) {
+            return Then::Turn(self.rousing.take(party));
+        }
+        if self.is_over { Then::End } else { Then::Drive }
+    }
+}
+
+/// A shift of so many parties, each where it can in a thread of its own.
 #[derive(Drop)]
 pub(crate) struct Shift {
-    parties: u64,
-    begun: AtomicU64,
-    known: AtomicU64,
-    rousing: Rousing,
-    // How many parties rest, of those without the driver.
-    resting: AtomicU64,
-    // Whether there is no further round.
-    is_over: AtomicBool,
-    // How many parties sleep or are about to, and how often they were woken.
-    sleepers: AtomicU64,
-    woken: AtomicU64,
-    // Behind it is one party at a time.
-    door: Mutex<()>,
+    door: Mutex<Hall>,
+    bell: Condvar,
+    // Which parties were called last. Who rests looks here before it sleeps, and nothing else rests on it.
+    called: AtomicU64,
 }
 
 impl Shift {
     /// A shift that nobody has begun, of parties of so many workers, all of which are roused.
     pub fn new(parties: usize, each: usize) -> Shift {
         Shift {
-            parties: parties as u64,
-            begun: AtomicU64::new(0),
-            known: AtomicU64::new(OPEN),
-            rousing: Rousing::new(parties, each),
-            resting: AtomicU64::new(0),
-            is_over: AtomicBool::new(false),
-            sleepers: AtomicU64::new(0),
-            woken: AtomicU64::new(0),
-            door: Mutex::new(()),
+            door: Mutex::new(Hall {
+                rousing: Rousing::new(parties, each),
+                parties,
+                begun: 0,
+                resting: 0,
+                is_over: false,
+            }),
+            bell: Condvar::new(),
+            called: AtomicU64::new(0),
         }
-    }
-
-    // Whether all parties run beside each other, as is known already or else would be known now. All are told
-    // the same.
-    fn are_beside(&self, now: u64) -> bool {
-        let was = self
-            .known
-            .compare_exchange(OPEN, now, Ordering::SeqCst, Ordering::SeqCst);
-        match was {
-            Ok(_open) => now == BESIDE,
-            Err(known) => known == BESIDE,
-        }
-    }
-
-    /// A party begins. Answers whether all run beside each other.
-    pub fn begin(&self) -> bool {
-        let begun = self.begun.fetch_add(1, Ordering::SeqCst).wrapping_add(1);
-        if begun == self.parties {
-            return self.are_beside(BESIDE);
-        }
-        for _ in 0..LOOKS {
-            if self.known.load(Ordering::SeqCst) != OPEN {
-                break;
-            }
-            yield_now();
-        }
-        self.are_beside(APART)
-    }
-
-    /// The party that has the worker at a place behind those of the first party.
-    pub fn party_behind(&self, worker: usize) -> usize {
-        self.rousing.party_of(worker).saturating_add(1)
-    }
-
-    /// The workers of a party that are roused, none of which is roused then any more.
-    pub fn take_roused(&self, party: usize) -> Roused {
-        self.rousing.take(party)
-    }
-
-    /// Which workers are roused.
-    pub fn rousing(&self) -> &Rousing {
-        &self.rousing
-    }
-
-    /// Rouses all workers.
-    pub fn rouse_all(&self) {
-        self.rousing.rouse_all();
-        self.wake();
-    }
-
-    /// There is no further round.
-    pub fn end(&self) {
-        self.is_over.store(true, Ordering::SeqCst);
-        self.wake();
-    }
-
-    /// Whether there is no further round.
-    pub fn is_over(&self) -> bool {
-        self.is_over.load(Ordering::SeqCst)
-    }
-
-    // Whether all parties without the driver rest, and nobody is roused, as far as one look at each word tells: one that
-    // was roused meanwhile works beside the driver then.
-    fn all_rest(&self) -> bool {
-        !self.rousing.has_any()
-            && self.resting.load(Ordering::SeqCst).wrapping_add(1) == self.parties
-    }
-
-    // Whether a party is to go on: a worker of it is roused, or none will be in this round.
-    fn is_to_go_on(&self, party: usize) -> bool {
-        self.rousing.has(party) || self.is_over() || (party == FIRST && self.all_rest())
-    }
-
-    // Waits until a party is to go on. Answers whether a worker of it is roused.
-    fn wait<R: Wait>(&self, rt: &R, party: usize) -> bool {
-        let mut looks = 0u32;
-        for _ in rt.forever() {
-            if self.is_to_go_on(party) {
-                return self.rousing.has(party);
-            }
-            if looks < REST_LOOKS {
-                looks += 1;
-                yield_now();
-            } else {
-                self.sleep(rt, party);
-            }
-        }
-        unreachable!()
-    }
-
-    // Sleeps, unless a party is to go on, until it is woken, or for a shorter time.
-    fn sleep<R: Wait>(&self, rt: &R, party: usize) {
-        let woken = self.woken.load(Ordering::SeqCst);
-        self.sleepers.fetch_add(1, Ordering::SeqCst);
-        if !self.is_to_go_on(party) {
-            self.woken.park(rt, (woken % (1 << 32)) as u32);
-        }
-        self.sleepers.fetch_sub(1, Ordering::SeqCst);
-    }
-
-    /// Wakes those who sleep, after something on which they wait has come.
-    pub fn wake(&self) {
-        if self.sleepers.load(Ordering::SeqCst) > 0 {
-            self.woken.fetch_add(1, Ordering::SeqCst);
-            self.woken.wake_all();
-        }
-    }
-
-    /// The party of the driver has nothing to do, or made turns enough: where all run beside each other, waits until a
-    /// worker of it is roused, all others rest too, or the shift is over. Answers whether one is roused.
-    pub fn rest_first<R: Wait>(&self, rt: &R) -> bool {
-        self.known.load(Ordering::SeqCst) == BESIDE && self.wait(rt, FIRST)
-    }
-
-    /// A party without the driver has nothing to do, or made turns enough: rests until a worker of it is roused, or the
-    /// shift is over. Answers whether it is not over.
-    pub fn rest<R: Wait>(&self, rt: &R, party: usize) -> bool {
-        self.resting.fetch_add(1, Ordering::SeqCst);
-        self.wake();
-        self.wait(rt, party);
-        self.resting.fetch_sub(1, Ordering::SeqCst);
-        !self.is_over()
     }
 
     /// Waits until no party is behind the door. It stays closed behind this one as long as the guard is kept.
-    pub fn enter<R: Wait>(&self, rt: &R) -> MutexGuard<'_, ()> {
+    pub fn enter<R: Wait>(&self, rt: &R) -> MutexGuard<'_, Hall> {
         for looks in 0..DOOR_LOOKS {
-            if let Some(guard) = self.door.try_lock() {
-                return guard;
+            if let Some(hall) = self.door.try_lock() {
+                return hall;
             }
             stand(looks);
         }
         self.door.lock(rt)
     }
+
+    // Opens the door, and calls those that are to go on.
+    fn leave(&self, hall: MutexGuard<'_, Hall>) {
+        let called = hall.called();
+        self.called.store(called, Ordering::SeqCst);
+        drop(hall);
+        if called != 0 {
+            self.bell.notify_all();
+        }
+    }
+
+    /// A party begins. The shift is over where others do not begin within a while.
+    pub fn begin<R: Wait>(&self, rt: &R) {
+        let mut hall = self.enter(rt);
+        hall.begun = hall.begun.saturating_add(1);
+        drop(hall);
+        for _ in 0..BEGIN_LOOKS {
+            let hall = self.enter(rt);
+            if hall.begun == hall.parties {
+                return;
+            }
+            drop(hall);
+            yield_now();
+        }
+        let mut hall = self.enter(rt);
+        if hall.begun < hall.parties {
+            hall.is_over = true;
+        }
+        self.leave(hall);
+    }
+
+    // Looks for a while whether a party is called.
+    fn look(&self, party: usize) {
+        for _ in 0..REST_LOOKS {
+            if self.called.load(Ordering::SeqCst) & mark(party) != 0 {
+                return;
+            }
+            yield_now();
+        }
+    }
+
+    /// A party that made its turns lets the others in. Answers which of its workers were roused meanwhile.
+    pub fn take_roused(&self, hall: MutexGuard<'_, Hall>, party: usize) -> Roused {
+        let mut hall = hall;
+        let roused = hall.rousing.take(party);
+        self.leave(hall);
+        roused
+    }
+
+    /// A party that has nothing to ask for rests until it is to go on. The shift is over where memory was wanting to one
+    /// of its workers. Answers what it is to do next.
+    pub fn rest<R: Wait>(
+        &self,
+        rt: &R,
+        hall: MutexGuard<'_, Hall>,
+        party: usize,
+        failed: bool,
+    ) -> Then {
+        let mut hall = hall;
+        hall.is_over = hall.is_over || failed;
+        hall.resting = hall.resting.saturating_add(1);
+        self.leave(hall);
+        self.look(party);
+        let mut hall = self
+            .bell
+            .wait_while(rt, self.enter(rt), |hall| !hall.is_to_go_on(party));
+        hall.resting = hall.resting.saturating_sub(1);
+        let then = hall.then(party);
+        self.leave(hall);
+        then
+    }
+
+    /// The driver made its steps: all workers are roused, and the shift is over where the driver has ended. Answers which
+    /// are roused, of those of its party.
+    pub fn rouse_all(&self, hall: MutexGuard<'_, Hall>, has_ended: bool) -> Roused {
+        let mut hall = hall;
+        hall.is_over = hall.is_over || has_ended;
+        hall.rousing.rouse_all();
+        self.take_roused(hall, FIRST)
+    }
+}
+
+/// The party that has the worker at a place after those of the first party, of parties of so many.
+pub(crate) fn party_after(worker: usize, each: usize) -> usize {
+    worker.checked_div(each).unwrap_or(0).saturating_add(1)
 }

@@ -16,8 +16,8 @@ use std::alloc::Global;
 use std::marker::Model;
 use std::sync::Wait;
 
-/// The worker of a switch: its number, its seat, how many turns it made, whether it makes one, and whether it puts
-/// something in it, the switches at its links, what it works with, and what it is to do next. Contracts see its seat.
+/// The worker of a switch: its number, its seat, how many turns it made, whether it makes one, the switches at its links,
+/// what it works with, and what it is to do next. Contracts see its seat.
 /// While it asks it has no papers, and where memory was wanting to get ready it has none any more: its switch and the book
 /// have parted then.
 #[derive(Drop)]
@@ -26,7 +26,6 @@ pub(crate) struct Worker {
     seat: Seat<Book>,
     turns: u64,
     is_asking: bool,
-    is_putting: bool,
     neighbours: Neighbours,
     desk: Desk,
     papers: Option<Papers>,
@@ -66,7 +65,6 @@ impl Worker {
             seat,
             turns: 0,
             is_asking: false,
-            is_putting: false,
             neighbours: Neighbours::of(script, s),
             desk,
             papers: Some(papers),
@@ -123,19 +121,6 @@ impl Worker {
         self.begin(rt, gate);
     }
 
-    /// Rouses those to whom it sent frames in the turn that it made.
-    pub fn rouse_neighbours(&self, rousing: &Rousing) {
-        if !self.is_asking || !self.is_putting {
-            return;
-        }
-        let Some(papers) = &self.papers else {
-            return;
-        };
-        'frames: for frame in papers.sent() {
-            self.neighbours.rouse_at(frame.port(), rousing);
-        }
-    }
-
     // Begins the turn, if there is to be one.
     fn begin<R: Wait, G: Gate>(&mut self, rt: &R, gate: &G)
         ensures { self.new ≡ self.old }
@@ -146,8 +131,8 @@ impl Worker {
         }
     }
 
-    /// Makes the turn, if there is to be one.
-    pub fn turn<R: Wait>(&mut self, rt: &R, turnstile: &Turnstile<Book>)
+    /// Makes the turn, if there is to be one, and rouses those to whom it sent frames in it.
+    pub fn turn<R: Wait>(&mut self, rt: &R, turnstile: &Turnstile<Book>, rousing: &mut Rousing)
         requires { self.old.0 ≡ turnstile_id turnstile.now }
         ensures { HasCalled self.old self.new }
     {
@@ -157,9 +142,12 @@ impl Worker {
         let Next::Ask = self.next else {
             return;
         };
-        self.is_putting = self.desk.is_putting();
+        let is_putting = self.desk.is_putting();
         if let Some(papers) = self.papers.take() {
             let (papers, next) = self.desk.ask(rt, turnstile, &mut self.seat, papers);
+            if is_putting {
+                self.neighbours.rouse(papers.sent(), rousing);
+            }
             self.papers = Some(papers);
             self.next = next;
         }

@@ -7,7 +7,7 @@ use hex::FromHexError;
 use std::alloc::Global;
 
 /// What happens to a switch.
-#[derive(Debug, Drop)]
+#[derive(Drop)]
 pub enum Happening {
     /// It is started.
     Start {

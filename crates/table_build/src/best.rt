@@ -15,7 +15,7 @@ use updown::order::Height;
 
 /// Of some ways from a member: what a cheapest one costs, and the ports by which cheapest ones
 /// begin.
-#[derive(Clone, Copy, Debug)]
+#[derive(Clone, Copy)]
 pub struct Best {
     /// What a cheapest one costs.
     pub cost: u8,
@@ -24,7 +24,7 @@ pub struct Best {
 }
 
 /// Which ways are sought. Each link costs 1, and where any way will do nothing.
-#[derive(Clone, Copy, Debug)]
+#[derive(Clone, Copy)]
 pub struct Search {
     /// The place where they begin.
     pub from: u8,
@@ -274,7 +274,7 @@ fn falls_of(
 }
 
 /// The best ways from one member to each place: legal ones, and those that lead downward alone.
-#[derive(Debug, Drop)]
+#[derive(Drop)]
 pub struct Bests {
     up: Vec<Option<Best>>,
     down: Vec<Option<Best>>,

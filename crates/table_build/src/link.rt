@@ -7,7 +7,7 @@ use topo_graph::graph::Graph;
 use updown::route::is_up_end;
 
 /// What a port of a member leads to.
-#[derive(Clone, Copy, Debug)]
+#[derive(Clone, Copy)]
 pub struct Link {
     /// The place of the far member.
     pub place: u8,
@@ -16,7 +16,7 @@ pub struct Link {
 }
 
 /// The links of a member.
-#[derive(Debug, Drop)]
+#[derive(Drop)]
 pub struct Links {
     /// Those of which it is the up end.
     pub lower: Vec<Link>,

@@ -24,7 +24,7 @@ fn places_of(numbers: &[u8]) -> [Option<u8>; 127]
 
 /// What the tables of all members of a topology share: the place of each number, the places from the
 /// highest to the lowest, and the links of each member.
-#[derive(Debug, Drop)]
+#[derive(Drop)]
 pub struct Routing {
     places: [Option<u8>; 127],
     descent: Descent,

@@ -87,7 +87,7 @@ fn rows_of(
 }
 
 /// The routing table of one member of a topology: its rows by rising entry, then by rising number.
-#[derive(Debug, Drop)]
+#[derive(Drop)]
 pub struct Table {
     number: u8,
     rows: Vec<Row>,

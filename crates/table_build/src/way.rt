@@ -15,7 +15,7 @@ use std::alloc::Global;
 use topo_graph::graph::Graph;
 
 /// The exits towards another member: of what may go on upward, and of what may not.
-#[derive(Debug, Drop)]
+#[derive(Drop)]
 pub struct Way {
     /// The number of the other member.
     pub number: u8,

@@ -15,7 +15,7 @@ use Rattle.text_lines.specs.Faults.{unless}
 use Rattle.net_script.specs.Rules.{place, known_cause, number_cause}
 use Rattle.net_script.specs.Scripts.{ScriptOf}
 use Rattle.table_script.specs.Tables.{IsRowOf, AreRowsApart, are_joined}
-use Rattle.table_script.specs.TableForms.{TableForm, ComponentLine, MemberLine, NumberLine, RowLine, EndLine}
+use Rattle.row_text.specs.TableForms.{TableForm, ComponentLine, MemberLine, NumberLine, RowLine, EndLine}
 use Rattle.table_script.specs.TableDrafts.{TableDraftOf, no_tables}
 use Rattle.table_script.specs.TableRules.{is_pair, are_pairs, rise_above, pair_number, row_of, entry_cause, is_numbered, is_number_taken, is_entered, are_numbered, number_line_cause, row_line_cause, table_cause, with_number, with_rows, with_table_form, AreNumbersApart, IsNumberAt, IsKept}
 use Rattle.net_script.specs.Steps.{ScriptStop}

@@ -4,7 +4,7 @@ use Rattle.std.proofs.lemmas.Bool.Decides.{Decides-eqb}
 use Rattle.std.proofs.lemmas.List.{take_rest}
 use Rattle.net_script.specs.declared.cause.ScriptCause.TheVariants.{UnknownWord}
 use Rattle.net_script.specs.Scripts.{ScriptOf}
-use Rattle.table_script.specs.TableForms.{TableForm, ComponentLine, MemberLine, NumberLine, RowLine, EndLine, table_words}
+use Rattle.row_text.specs.TableForms.{TableForm, ComponentLine, MemberLine, NumberLine, RowLine, EndLine, table_words}
 use Rattle.table_script.specs.TableDrafts.{TableDraftOf}
 use Rattle.table_script.specs.TableTexts.{AddsTableForm, IsFaultyTableForm}
 use Rattle.table_script.specs.TableSteps.{ReadsTable, IsWrongTable}

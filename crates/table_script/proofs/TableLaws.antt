@@ -8,7 +8,7 @@ use Rattle.text_lines.specs.Lines.{lines_of}
 use Rattle.net_script.specs.Scripts.{ScriptOf}
 use Rattle.net_script.specs.Texts.{bytes_cause}
 use Rattle.table_script.specs.Tables.{TablesOf}
-use Rattle.table_script.specs.TableForms.{table_words}
+use Rattle.row_text.specs.TableForms.{table_words}
 use Rattle.table_script.specs.TableDrafts.{TableDraftOf}
 use Rattle.table_script.specs.TableRules.{table_cause, with_table_form, tables_of}
 use Rattle.table_script.specs.TableTexts.{AddsTableWords, AddsTable, IsFaultyTableWords, IsFaultyTable, Told, none_told, AddsToldIn, AddsTold, IsFaultyToldIn, IsFaultyTold, AreEnded, IsTextWith, IsFaultWith}

@@ -1,5 +1,4 @@
 pub mod Tables
-pub mod TableForms
 pub mod TableDrafts
 pub mod TableRules
 pub mod TableTexts

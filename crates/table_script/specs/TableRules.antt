@@ -15,7 +15,7 @@ use Rattle.text_lines.specs.Faults.{unless, first_of}
 use Rattle.net_script.specs.Scripts.{ScriptOf}
 use Rattle.net_script.specs.Rules.{place, known_cause, number_cause}
 use Rattle.table_script.specs.Tables.{TablesOf, IsRowOf, AreRowsApart, are_joined}
-use Rattle.table_script.specs.TableForms.{TableForm, ComponentLine, MemberLine, NumberLine, RowLine, EndLine}
+use Rattle.row_text.specs.TableForms.{TableForm, ComponentLine, MemberLine, NumberLine, RowLine, EndLine}
 use Rattle.table_script.specs.TableDrafts.{TableDraftOf}
 
 -- What is wrong with the lines of tables, and what they add.

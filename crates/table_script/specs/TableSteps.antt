@@ -7,7 +7,7 @@ use Rattle.text_lines.specs.Stops.{IsRefusalBy, ReadsFormBy}
 use Rattle.net_script.specs.Steps.{ReadRefusal}
 use Rattle.net_script.specs.Scripts.{ScriptOf}
 use Rattle.table_script.specs.Tables.{AreLabels}
-use Rattle.table_script.specs.TableForms.{TableForm}
+use Rattle.row_text.specs.TableForms.{TableForm}
 use Rattle.table_script.specs.TableDrafts.{TableDraftOf, no_tables}
 use Rattle.table_script.specs.TableRules.{table_cause, with_table_form, IsKept}
 use Rattle.table_script.specs.TableTexts.{Told, IsFaultWith}

@@ -11,7 +11,7 @@ use Rattle.net_script.specs.Scripts.{ScriptOf}
 use Rattle.net_script.specs.Drafts.{start}
 use Rattle.net_script.specs.Texts.{Adds, IsFaulty, bytes_cause}
 use Rattle.table_script.specs.Tables.{TablesOf}
-use Rattle.table_script.specs.TableForms.{table_words}
+use Rattle.row_text.specs.TableForms.{table_words}
 use Rattle.table_script.specs.TableDrafts.{TableDraftOf, no_tables}
 use Rattle.table_script.specs.TableRules.{table_cause, with_table_form, tables_of}
 

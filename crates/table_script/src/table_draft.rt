@@ -10,7 +10,7 @@ use std::alloc::Global;
 use std::marker::Model;
 
 /// The number of a switch.
-#[derive(Clone, Copy, Debug, PartialEq, Eq)]
+#[derive(Clone, Copy, PartialEq, Eq)]
 pub struct NumberAt {
     /// The switch, by its place.
     pub s: u8,
@@ -19,7 +19,7 @@ pub struct NumberAt {
 }
 
 /// An entry of a switch.
-#[derive(Clone, Copy, Debug, PartialEq, Eq)]
+#[derive(Clone, Copy, PartialEq, Eq)]
 pub struct EntryAt {
     /// The switch, by its place.
     pub s: u8,
@@ -28,7 +28,7 @@ pub struct EntryAt {
 }
 
 /// What so many lines of tables say.
-#[derive(Debug, Drop)]
+#[derive(Drop)]
 pub struct TableDraft {
     numbers: Vec<NumberAt>,
     entries: Vec<EntryAt>,

@@ -9,7 +9,7 @@ ghost use Rattle.net_script.specs.Rules.{number_cause};
 ghost use Rattle.text_lines.specs.Words.{is_number, number_value};
 ghost use Rattle.text_lines.specs.Faults.{unless};
 ghost use Rattle.text_lines.specs.Lines.{parts_of};
-ghost use Rattle.table_script.specs.TableForms.{NumberLine, RowLine, EndLine};
+ghost use Rattle.row_text.specs.TableForms.{NumberLine, RowLine, EndLine};
 ghost use Rattle.table_script.specs.TableRules.{are_ports, port_words, is_colon, is_pair, are_pairs, row_of, entry_cause, is_numbered, IsKept};
 ghost use Rattle.table_script.specs.TableTexts.{AddsTableForm, IsFaultyTableForm};
 ghost use Rattle.table_script.specs.TableSteps.{IsNoRow, ReadsTable, IsWrongTable};

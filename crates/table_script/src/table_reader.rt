@@ -34,7 +34,7 @@ pub const MOST_TABLE_LINE: usize = 4_000;
 
 // What so many lines of a script and of tables say, and from the script's `end` on the labels of the
 // components.
-#[derive(Debug, Drop)]
+#[derive(Drop)]
 struct Reading {
     script: Draft,
     tables: TableDraft,

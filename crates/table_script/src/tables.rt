@@ -16,7 +16,7 @@ fn set_number(numbers: &[u8], row: &mut Row)
 /// A number for each switch, by the switch's place, and rows of routing tables, in which a switch stands
 /// as its place. Each number, and each number to which a row leads, is 1 to 126; entries are 0 to 12; and
 /// no two rows have the same switch, entry and number.
-#[derive(Debug, Drop)]
+#[derive(Drop)]
 pub struct Tables {
     numbers: Vec<u8>,
     rows: Vec<Row>,

@@ -11,7 +11,7 @@ use std::marker::Model;
 
 /// Names, all different, each at the place at which it was added, which contracts see as a list. The
 /// place of a name is looked up by a hash of it, and no list is walked.
-#[derive(Debug, Drop)]
+#[derive(Drop)]
 pub struct Names {
     texts: IndexSet<Vec<u8>>,
 }

@@ -17,7 +17,7 @@ use std::alloc::Global;
 use std::marker::Model;
 
 // The far place and port of each port; nothing is at port 0.
-#[derive(Clone, Copy, Debug)]
+#[derive(Clone, Copy)]
 struct PortRow {
     cells: [Option<(u8, u8)>; 13],
 }
@@ -111,7 +111,7 @@ fn is_at_root(place: &Position, root: Life) -> bool
 
 /// The entries of a topology and the links that both ends name. Contracts see it as the list of
 /// the entries. Inside, an entry is known by its place in that list.
-#[derive(Debug, Drop)]
+#[derive(Drop)]
 pub struct Graph {
     entries: Entries,
     rows: Vec<PortRow>,

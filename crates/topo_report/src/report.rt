@@ -82,7 +82,7 @@ fn merged<'a>(
 
 /// The least entry of each life of which a life has heard, by rising life: of more than 126 lives
 /// that life itself and the 125 least others.
-#[derive(Debug, Drop)]
+#[derive(Drop)]
 pub struct Report {
     me: Life,
     entries: Entries,

@@ -12,7 +12,7 @@ use std::marker::Model;
 const PLACES: usize = PORTS + 1;
 
 /// What a neighbour offers: its root, and its level.
-#[derive(Clone, Copy, Debug, PartialEq, Eq)]
+#[derive(Clone, Copy, PartialEq, Eq)]
 pub struct Offer {
     /// The neighbour's root.
     pub root: Life,
@@ -22,7 +22,7 @@ pub struct Offer {
 
 /// The last offer on each link of a life. It takes no memory. Contracts see the life, its links by
 /// rising port, and for each link the last offer, if there was one.
-#[derive(Debug, Drop)]
+#[derive(Drop)]
 pub struct Offers {
     me: Life,
     links: Links,

@@ -82,10 +82,12 @@ impl Watch {
     }
 }
 
-// Whether an event is one of a switch of which its worker makes at most one in a turn.
+// Whether an event is one that the worker of a switch makes.
 fn is_of(event: &Event, place: u8) -> bool {
     match event {
-        Event::Handle { s } | Event::Load { s } => *s == place,
+        Event::Clock { s } | Event::Take { s, .. } | Event::Handle { s } | Event::Load { s } => {
+            *s == place
+        }
         _ => false,
     }
 }

@@ -1,20 +1,16 @@
-//! Frames as bytes (`frame_codec`).
+//! The greatest frame as bytes (`frame_codec`).
 
-use an_base::body::{Body, PosBody};
-use an_base::frame::{CarryFrame, Frame};
-use an_base::life::{End, Life};
-use frame_codec::reading::{DecodeRefusal, decode};
+use frame_codec::reading::decode;
 use frame_codec::writing::encode;
 use frame_region::buffer::FrameBuf;
 use std::alloc::{AllocError, Global};
 use std::process::Abort;
-use std::test::*;
+use std::test::Fail;
 
-const PROBE: [u8; 20] = [3, 0, 0, 0, 0, 0, 1, 0, 0, 0, 1, 1, 0, 0, 0, 0, 0, 0, 0, 1];
-
-const CARRY: [u8; 52] = [
+// What stands before the body in a frame of port 1 of life 1.1 to port 1 of life 2.1.
+const HEAD: [u8; 35] = [
     1, 0, 0, 0, 0, 0, 0, 0, 2, 0, 0, 0, 0, 0, 1, 0, 0, 0, 1, 1, 0, 0, 0, 0, 0, 2, 0, 0, 0, 1, 1, 0,
-    0, 0, 1, 1, 0, 0, 0, 1, 0, 0, 0, 0, 0, 1, 0, 0, 0, 1, 0, 0,
+    0, 0, 1,
 ];
 
 // Bytes are read as a frame that is written as these bytes.
@@ -27,35 +23,6 @@ fn is_read<R: Abort + AllocGlobal>(rt: &R, bytes: &[u8], out: &mut FrameBuf) -> 
         }
         Err(_refusal) => Err("no frame".into()),
     }
-}
-
-// A frame is written as these bytes, and read from them.
-fn is_written<R: Abort + AllocGlobal>(rt: &R, frame: &Frame, bytes: &[u8]) -> Result<(), Fail> {
-    let mut out = FrameBuf::new(rt.alloc())?;
-    encode(frame, &mut out);
-    assert_eq!(rt; out.bytes(), bytes);
-    is_read(rt, bytes, &mut out)
-}
-
-#[test]
-fn a_probe_is_written_and_read(rt: HostRuntime) -> Result<(), Fail> {
-    let from = End::new(Life::new(1, 1), 1);
-    is_written(&rt, &Frame::Probe { from, nonce: 1 }, &PROBE)
-}
-
-#[test]
-fn a_front_of_a_probe_is_no_frame(rt: HostRuntime) {
-    let no_frame = decode(rt.alloc(), &PROBE[..19]);
-    assert!(rt; matches!(no_frame, Err(DecodeRefusal::NotAFrame)));
-}
-
-#[test]
-fn a_carried_position_is_written_and_read(rt: HostRuntime) -> Result<(), Fail> {
-    let from = End::new(Life::new(1, 1), 1);
-    let to = End::new(Life::new(2, 1), 1);
-    let body = Body::Pos(PosBody::new(1, Life::new(1, 1), 0, false));
-    let frame = Frame::Carry(CarryFrame::new(2, from, to, 1, body));
-    is_written(&rt, &frame, &CARRY)
 }
 
 // An entry of the deepest level, up to its links, of which there are twelve.
@@ -85,7 +52,7 @@ fn push_entries(bytes: &mut Vec<u8>, entries: u8) -> Result<(), AllocError> {
 
 // A topology of so many entries, and their numbers.
 fn push_topology(bytes: &mut Vec<u8>, entries: u8) -> Result<(), AllocError> {
-    bytes.extend_from_slice(&CARRY[..35])?;
+    bytes.extend_from_slice(&HEAD)?;
     bytes.extend_from_slice(&[4, entries])?;
     push_entries(bytes, entries)?;
     'numbers: for below in 0..entries {

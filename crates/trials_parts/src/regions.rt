@@ -1,7 +1,11 @@
 //! Regions of blocks, and buffers (`frame_region`).
 
+ghost use Rattle.std.specs.Prelude.{◌≡◌, ◌<◌, ◌≤◌, IfOk, None, length};
+ghost use Rattle.frame_region.specs.Regions.{held_at, with_put};
+ghost use Rattle.frame_region.specs.declared.buffer.TheConstants.{MOST_FRAME};
+
 use frame_region::buffer::FrameBuf;
-use frame_region::region::{NoRoom, Region};
+use frame_region::region::{NoRoom, Region, Slip};
 use std::process::Abort;
 use std::test::Fail;
 
@@ -36,4 +40,55 @@ fn the_largest_frame_needs_353_blocks(rt: HostRuntime) -> Result<(), Fail> {
     has_no_room(&rt, &frame)?;
     let mut region = Region::new(rt.alloc(), 353)?;
     is_full(&rt, &mut region, &mut FrameBuf::new(rt.alloc())?, &frame)
+}
+
+// Puts bytes for which there is room.
+fn put(region: &mut Region, bytes: &[u8]) -> Result<Slip, Fail>
+    requires least { 1 ≤ length bytes.now }
+    requires most { length bytes.now ≤ MOST_FRAME }
+    ensures put { IfOk result (λ slip. region.new ≡ with_put slip bytes.now region.old) }
+    ensures new { IfOk result (λ slip. (slip < length region.old.held) × (held_at region.old slip ≡ None)) }
+{
+    match region.put(bytes) {
+        Ok(slip) => Ok(slip),
+        Err(_no_room) => Err("no room".into()),
+    }
+}
+
+// There is no room for bytes.
+fn refuses(rt: &impl Abort, region: &mut Region, bytes: &[u8], no_room: NoRoom)
+    requires least { 1 ≤ length bytes.now }
+    requires most { length bytes.now ≤ MOST_FRAME }
+    ensures { region.new ≡ region.old }
+{
+    match region.put(bytes) {
+        Ok(_slip) => assert!(rt; false),
+        Err(why) => assert!(rt; why == no_room),
+    }
+}
+
+#[test]
+fn frames_share_the_blocks_of_a_region(rt: HostRuntime) -> Result<(), Fail> {
+    let mut out = FrameBuf::new(rt.alloc())?;
+    let mut region = Region::new(rt.alloc(), 2)?;
+    let first = put(&mut region, &[1; 64])?;
+    refuses(&rt, &mut region, &[2; 65], NoRoom { need: 2, free: 1 });
+    let _second = put(&mut region, &[3])?;
+    refuses(&rt, &mut region, &[4], NoRoom { need: 1, free: 0 });
+    region.take(first, &mut out);
+    assert!(rt; out.bytes() == [1; 64].as_slice());
+    assert!(rt; region.free_blocks() == 1);
+    Ok(())
+}
+
+#[test]
+fn two_blocks_serve_a_thousand_frames_in_turn(rt: HostRuntime) -> Result<(), Fail> {
+    let mut region = Region::new(rt.alloc(), 2)?;
+    let mut out = FrameBuf::new(rt.alloc())?;
+    for _ in 0..1000 {
+        let slip = region.put(&[5; 65]).ok().ok_or("no room")?;
+        region.take(slip, &mut out);
+        assert!(rt; region.free_blocks() == 2);
+    }
+    Ok(())
 }

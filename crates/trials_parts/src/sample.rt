@@ -1,7 +1,7 @@
 //! Entries and small networks, as tests write them.
 
 ghost use Rattle.std.specs.Prelude.{◌≡◌, ◌<◌, ◌≤◌, [], ◌∷◌, map, IfOk};
-ghost use Rattle.an_base.specs.declared.limits.TheConstants.{LAST_PORT, MOST_LEVEL, MOST_NUMBER};
+ghost use Rattle.an_base.specs.declared.limits.TheConstants.{LAST_PORT, MOST_LEVEL};
 
 use an_base::entry::{Entries, Entry};
 use an_base::life::{End, Life};
@@ -17,22 +17,6 @@ pub fn life_of(uid: u64) -> Life
     ensures { result ≡ record { uid = uid; boot = 1 } }
 {
     Life::new(uid, 1)
-}
-
-/// The entry of a life, at its own root, that proposes a number.
-pub fn entry_of(uid: u64, proposed: u8) -> Entry
-    requires uid { uid < 100 }
-    requires least { 1 ≤ proposed }
-    requires most { proposed ≤ MOST_NUMBER }
-    ensures { result.life ≡ record { uid = uid; boot = 1 } }
-{
-    let life = life_of(uid);
-    Entry {
-        life,
-        position: Position::new(life, 0, life, 0),
-        proposed,
-        links: Links::new(),
-    }
 }
 
 /// A link from a port to a port of this life.

@@ -15,12 +15,24 @@ fn push<R: Abort>(rt: &R, sender: &mut Sender, version: u32) -> Result<Option<u3
     Ok(sender.push(Body::Answer(AnswerBody::new(version, false)), 0)?)
 }
 
-#[test]
-fn eight_bodies_go_out_and_the_ninth_waits(rt: HostRuntime) -> Result<(), Fail> {
-    let mut sender = Sender::new(rt.alloc());
+// Nine bodies are pushed at tick 0: eight go out, and the ninth waits.
+fn push_nine<R: Abort>(rt: &R, sender: &mut Sender) -> Result<(), Fail> {
     for k in 1..9 {
-        assert!(rt; push(&rt, &mut sender, k)? == Some(k));
+        assert!(rt; push(rt, sender, k)? == Some(k));
     }
-    assert!(rt; push(&rt, &mut sender, 9)? == None);
+    assert!(rt; push(rt, sender, 9)? == None);
+    Ok(())
+}
+
+#[test]
+fn eight_bodies_are_outstanding_and_the_ninth_goes_out_after_an_acknowledgement(
+    rt: HostRuntime,
+) -> Result<(), Fail> {
+    let mut sender = Sender::new(rt.alloc());
+    push_nine(&rt, &mut sender)?;
+    assert!(rt; sender.due(3) == None);
+    assert!(rt; sender.due(4) == Some(1));
+    assert!(rt; sender.on_ack(3, 4) == Some(9));
+    assert!(rt; sender.more(4) == None);
     Ok(())
 }

@@ -1,6 +1,6 @@
 //! Whole runs in threads (`switch_threads`).
 
-use an_base::event::{Event, Journal};
+use an_base::event::Journal;
 use fabric_state::ending::Ending;
 use net_script::reader::read;
 use std::alloc::Global;
@@ -9,7 +9,7 @@ use std::sync::Wait;
 use std::sync::atomic::{AtomicU64, Ordering};
 use std::test::Fail;
 use std::thread::{Threads, yield_now};
-use switch_threads::{Gate, Open, run};
+use switch_threads::{Gate, run};
 
 // How many switches there are.
 const COUNT: u64 = 3;
@@ -88,22 +88,6 @@ fn settled<R: Threads + Wait + Sync + Abort, G: Gate>(
     Ok(run.run.journal)
 }
 
-// A journal has an event.
-fn has(rt: &impl Abort, journal: &Journal, wanted: &Event) {
-    assert!(rt; journal.as_slice().iter().any(|event| event == wanted));
-}
-
-#[test]
-fn all_workers_and_the_driver_make_events(rt: HostRuntime) -> Result<(), Fail> {
-    let journal = settled(&rt, rt.alloc(), &Open)?;
-    for s in 0..3u8 {
-        has(&rt, &journal, &Event::Load { s });
-    }
-    has(&rt, &journal, &Event::Restart { s: 1 });
-    has(&rt, &journal, &Event::Tick);
-    Ok(())
-}
-
 // Each worker made turns, and all were numbered from 1 on.
 fn are_numbered(rt: &impl Abort, turns: &Turns) {
     assert_eq!(rt; turns.wrong.load(Ordering::SeqCst), 0);
@@ -143,7 +127,7 @@ fn workers_run_beside_each_other(rt: HostRuntime) -> Result<(), Fail> {
 // How often a slow worker gives way: several times as often as one that rests looks before it sleeps.
 const PAUSES: u32 = 20_000;
 
-// One worker is so slow ahead of each eighth turn that the threads of the others sleep meanwhile.
+// One worker is so slow ahead of each sixteenth turn that the threads of the others sleep meanwhile.
 #[derive(Drop)]
 struct Slow {
     worker: u8,
@@ -151,7 +135,7 @@ struct Slow {
 
 impl Gate for Slow {
     fn before<R: Wait>(&self, _rt: &R, worker: u8, turn: u64) {
-        if worker == self.worker && turn % 8 == 0 {
+        if worker == self.worker && turn % 16 == 0 {
             for _ in 0..PAUSES {
                 yield_now();
             }

@@ -6,35 +6,37 @@ ghost use Rattle.fabric_turn.specs.Seats.{HasAllNumbers, HasOneNumber};
 ghost use Rattle.fabric_turn.specs.Calls.{DifferByCalls};
 
 use an_base::memory::OutOfMemory;
-use fabric_turn::{Patience, Seat, Staged, Turnstile};
+use fabric_turn::{Seat, Staged, Turnstile};
 use std::alloc::Global;
 use std::process::Abort;
 use std::sync::Wait;
 use std::test::Fail;
-use std::thread::{Threads, for_each_mut};
+use std::thread::{Threads, for_each_mut, yield_now};
 
 // How many calls each caller makes.
 const CALLS: u64 = 1000;
 
-#[derive(Clone, Copy, Debug)]
+#[derive(Clone, Copy)]
 struct Line {
     caller: u32,
     number: u64,
 }
 
-// Lines with the numbers below `limit`.
+// Lines with the numbers below `limit`, each of which takes so many pauses to write.
 #[derive(Drop)]
 struct Tally {
     limit: u64,
+    pauses: u32,
     lines: Vec<Line>,
 }
 
 impl Tally {
-    fn new(alloc: Global, limit: u64) -> Tally
+    fn new(alloc: Global, limit: u64, pauses: u32) -> Tally
         ensures { (result.limit ≡ limit) × (result.lines.items ≡ []) }
     {
         Tally {
             limit,
+            pauses,
             lines: Vec::new(alloc),
         }
     }
@@ -61,6 +63,9 @@ impl Staged for Tally {
     ghost answers = { λ _ before caller ask reply after. MatchOption reply (after ≡ before) (λ n. (n ≡ length before) × (after ≡ before ++ record { caller = caller; number = ask } ∷ [])) };
 
     fn act(&mut self, caller: u32, ask: u64) -> Option<usize> {
+        for _ in 0..self.pauses {
+            yield_now();
+        }
         let before = self.lines.len();
         let line = Line {
             caller,
@@ -152,18 +157,18 @@ fn joined(turnstile: &Turnstile<Tally>, callers: u32, mut seats: Vec<Seat<Tally>
     seat
 }
 
-// What a tally has after so many callers, who look so often before they sleep, made their calls, each in a
-// thread of its own.
+// What a tally, each line of which takes so many pauses, has after so many callers made their calls, each in a thread of
+// its own.
 fn tally_of<R: Threads + Wait + Sync>(
     rt: &R,
     alloc: Global,
     callers: u32,
-    patience: Patience,
+    pauses: u32,
 ) -> Result<Tally, OutOfMemory>
     requires { 0 < callers }
 {
-    let tally = Tally::new(alloc, CALLS);
-    let (turnstile, seat) = Turnstile::with_patience(alloc, tally, callers, patience)?;
+    let tally = Tally::new(alloc, CALLS, pauses);
+    let (turnstile, seat) = Turnstile::new(alloc, tally, callers)?;
     let mut all = seats(&turnstile, alloc, seat, callers - 1)?;
     work_all(rt, &turnstile, callers, all.as_mut_slice());
     let seat = joined(&turnstile, callers, all);
@@ -192,46 +197,20 @@ fn are_in_order(rt: &impl Abort, lines: &[Line], callers: u32) {
 
 #[test]
 fn threads_add_all_lines_in_order(rt: HostRuntime) -> Result<(), Fail> {
-    let looking = Patience {
-        spins: 100,
-        looks: 1000,
-    };
     for callers in [1u32, 2, 4, 16] {
-        let tally = tally_of(&rt, rt.alloc(), callers, looking)?;
+        let tally = tally_of(&rt, rt.alloc(), callers, 0)?;
         are_in_order(&rt, &tally.lines, callers);
     }
     Ok(())
 }
 
-// Each caller sleeps as soon as it looks in vain, so that a turn that is passed on and wakes nobody who waits
-// for it would keep this test from ending.
+// Each turn takes so long that those who wait for theirs sleep, so that a turn that ends and wakes nobody would keep this
+// test from ending.
 #[test]
-fn callers_that_sleep_at_once_are_woken(rt: HostRuntime) -> Result<(), Fail> {
-    let sleeping = Patience { spins: 0, looks: 0 };
+fn callers_that_sleep_meanwhile_are_woken(rt: HostRuntime) -> Result<(), Fail> {
     for callers in [2u32, 3, 8] {
-        let tally = tally_of(&rt, rt.alloc(), callers, sleeping)?;
+        let tally = tally_of(&rt, rt.alloc(), callers, 20)?;
         are_in_order(&rt, &tally.lines, callers);
-    }
-    Ok(())
-}
-
-#[test]
-fn calls_answer_in_one_thread(rt: HostRuntime) -> Result<(), Fail> {
-    let alloc = rt.alloc();
-    let (turnstile, mut first) = Turnstile::new(alloc, Tally::new(alloc, 9), 3)
-        .ok()
-        .ok_or("memory")?;
-    assert_eq!(rt; turnstile.call(&rt, &mut first, 7), Some(0));
-    let (first, mut second) = turnstile.split(first);
-    assert_eq!(rt; turnstile.call(&rt, &mut second, 8), Some(1));
-    let (mut first, third) = turnstile.split(first);
-    assert_eq!(rt; turnstile.call(&rt, &mut first, 5), Some(2));
-    let seat = turnstile.join(turnstile.join(second, third), first);
-    let tally = turnstile.close(seat);
-    let expected = [(0u32, 7u64), (1, 8), (0, 5)];
-    assert_eq!(rt; tally.lines.len(), expected.len());
-    for (line, (caller, number)) in tally.lines.iter().zip(expected) {
-        assert!(rt; line.caller == caller && line.number == number, "{line:?}");
     }
     Ok(())
 }

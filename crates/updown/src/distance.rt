@@ -8,7 +8,7 @@ use std::marker::Model;
 
 /// How far it is from each life of a graph to one of them, by legal routes and by routes with
 /// downward links alone.
-#[derive(Debug, Drop)]
+#[derive(Drop)]
 pub struct Distances {
     lives: Vec<Life>,
     lengths: Lengths,

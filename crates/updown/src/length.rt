@@ -112,7 +112,7 @@ fn up_lengths(
 
 /// The lengths of shortest routes from each place of a graph to one place: of legal routes, and of
 /// routes with downward links alone.
-#[derive(Debug, Drop)]
+#[derive(Drop)]
 pub struct Lengths {
     up: Vec<Option<u8>>,
     down: Vec<Option<u8>>,

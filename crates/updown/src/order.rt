@@ -8,7 +8,7 @@ use std::alloc::Global;
 use topo_graph::graph::Graph;
 
 /// How high the entry at a place stands: by level, then by place, the lesser the higher.
-#[derive(Clone, Copy, Debug, PartialEq, Eq, PartialOrd, Ord)]
+#[derive(Clone, Copy, PartialEq, Eq, PartialOrd, Ord)]
 pub struct Height {
     /// The level that the entry states.
     pub level: u8,

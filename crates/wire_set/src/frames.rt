@@ -14,7 +14,7 @@ use std::alloc::Global;
 use std::marker::Model;
 
 /// Queues of frames in the blocks of one region.
-#[derive(Debug, Drop)]
+#[derive(Drop)]
 pub struct Frames {
     region: Region,
     queues: Queues,

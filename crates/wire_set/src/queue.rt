@@ -10,7 +10,7 @@ use std::alloc::Global;
 use std::marker::Model;
 
 // The first and the last slip of a queue, by their numbers, and how many there are.
-#[derive(Clone, Copy, Debug)]
+#[derive(Clone, Copy)]
 struct Queue {
     first: u32,
     last: u32,
@@ -20,7 +20,7 @@ struct Queue {
 /// Queues of slips that share their places: the place of a slip is that of its number. The memory for
 /// the places is taken at once; a place is there from when a slip of its number, or a higher one, is
 /// first put in a queue.
-#[derive(Debug, Drop)]
+#[derive(Drop)]
 pub struct Queues {
     slips: Vec<Option<Slip>>,
     next: Vec<u32>,

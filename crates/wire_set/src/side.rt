@@ -4,7 +4,7 @@ ghost use Rattle.wire_set.specs.WireState.{is_link};
 use net_graph::wiring::Far;
 
 /// A port of a switch, with the wire into it.
-#[derive(Clone, Copy, Debug)]
+#[derive(Clone, Copy)]
 pub struct Side {
     /// What is at its far side.
     pub far: Option<Far>,
@@ -19,7 +19,7 @@ pub struct Side {
 }
 
 /// Why a frame is lost.
-#[derive(Clone, Copy, Debug, PartialEq, Eq)]
+#[derive(Clone, Copy, PartialEq, Eq)]
 pub enum Loss {
     /// The link is down.
     Down,
@@ -35,7 +35,7 @@ pub enum Loss {
 }
 
 /// What becomes of a frame that is put on a wire.
-#[derive(Clone, Copy, Debug, PartialEq, Eq)]
+#[derive(Clone, Copy, PartialEq, Eq)]
 pub enum Put {
     /// It is the last one on the wire.
     Kept,
@@ -47,7 +47,7 @@ pub enum Put {
 }
 
 /// How a frame was taken from a wire.
-#[derive(Clone, Copy, Debug, PartialEq, Eq)]
+#[derive(Clone, Copy, PartialEq, Eq)]
 pub struct Taken {
     /// Whether it was the second frame of the wire.
     pub second: bool,

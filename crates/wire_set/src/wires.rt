@@ -25,7 +25,7 @@ use std::alloc::Global;
 use std::marker::Model;
 
 /// The wires of a network, with the frame that each switch holds.
-#[derive(Debug, Drop)]
+#[derive(Drop)]
 pub struct WireSet {
     sides: Vec<Side>,
     frames: Frames,
@@ -235,6 +235,14 @@ impl WireSet {
             Some(side) => self.frames.len(wire) > 0 && is_link(side.far),
             None => false,
         }
+    }
+
+    /// How many frames are on the wire into a switch at a port that has a link of two switch ports.
+    pub fn len(&self, s: u8, port: u8) -> u32
+        requires { HasLink self.now s port }
+        ensures { result ≡ length (wire_at self.now (place s port)) }
+    {
+        self.frames.len(place_of(s, port))
     }
 
     /// How many blocks are free: those that no frame on a wire or held by a switch occupies.

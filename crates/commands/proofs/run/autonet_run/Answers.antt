@@ -1,7 +1,7 @@
-use Rattle.commands.specs.Answer.{input_limit, streams}
-use Rattle.commands.specs.Scripted.{refuses_script}
+use Rattle.answering.specs.Answer.{input_limit, streams}
+use Rattle.answering.specs.Scripted.{refuses_script}
 use Rattle.commands.specs.Run.{gives_run}
-use Rattle.commands.proofs.AnswerLemmas.{answered}
+use Rattle.answering.proofs.AnswerLemmas.{answered}
 use Rattle.commands.proofs.run.autonet_run.Goals as goal
 
 pub returns : goal.returns

@@ -1,13 +1,12 @@
 use Rattle.std.proofs.Common.{refl}
-use Rattle.std.proofs.lemmas.Result.{err_from_is_err_and}
 use Rattle.commands.proofs.ReplayLemmas.{unreplayed}
 use Rattle.commands.proofs.names.NamesCommand.given.Goals as goal
 
 -- of a legal journal it is told what hosts believe
-pub returns-clause-given : goal.returns-clause-given
-returns-clause-given c =
+pub returns-in-Ok-clause-given : goal.returns-in-Ok-clause-given
+returns-in-Ok-clause-given c =
     let input = c.in_ok-input.input in
-    let told = c.in_ok-text.ensures.names in (
+    let told = c.in-Ok.ensures.names in (
       refl,
       record {
         script = input.script;
@@ -18,8 +17,7 @@ returns-clause-given c =
     )
 
 -- a journal that is not legal is refused by its line
-pub returns-in_err-text-clause-stopped : goal.returns-in_err-text-clause-stopped
-returns-in_err-text-clause-stopped c =
+pub returns-in-Err-clause-stopped : goal.returns-in-Err-clause-stopped
+returns-in-Err-clause-stopped c =
     let input = c.in_ok-input.input in
-    let p = err_from_is_err_and c.from_residual-in_err-text.result c.from_residual-in_err-text.ensures.1 in
-    rw (p.1, p.2) (unreplayed c.args.bytes.now input.behind.now input.script c.in_err-text.field-0.0 c.in_ok-input.ensures.read c.in_err-text.ensures.refused)
+    rw c.refused.ensures (unreplayed c.args.bytes.now input.behind.now input.script c.in-Err.refusal c.in_ok-input.ensures.read c.in-Err.ensures.refused)

@@ -1,12 +1,11 @@
-use Rattle.std.proofs.lemmas.Result.{err_from_is_err_and}
 use Rattle.commands.proofs.ReplayLemmas.{unreplayed}
 use Rattle.commands.proofs.replaying.ReplayCommand.given.Goals as goal
 
 -- a legal journal is reported
-pub returns-clause-given : goal.returns-clause-given
-returns-clause-given c =
+pub returns-in-Ok-clause-given : goal.returns-in-Ok-clause-given
+returns-in-Ok-clause-given c =
     let input = c.in_ok-input.input in
-    let told = c.in_ok-replayed.ensures.reported in
+    let told = c.in-Ok.ensures.reported in
     record {
       script = input.script;
       journal = told.journal;
@@ -15,8 +14,7 @@ returns-clause-given c =
     }
 
 -- a journal that is not legal is refused by its line
-pub returns-in_err-replayed-clause-stopped : goal.returns-in_err-replayed-clause-stopped
-returns-in_err-replayed-clause-stopped c =
+pub returns-in-Err-clause-stopped : goal.returns-in-Err-clause-stopped
+returns-in-Err-clause-stopped c =
     let input = c.in_ok-input.input in
-    let p = err_from_is_err_and c.from_residual-in_err-replayed.result c.from_residual-in_err-replayed.ensures.1 in
-    rw (p.1, p.2) (unreplayed c.args.bytes.now input.behind.now input.script c.in_err-replayed.field-0.0 c.in_ok-input.ensures.read c.in_err-replayed.ensures.refused)
+    rw c.refused.ensures (unreplayed c.args.bytes.now input.behind.now input.script c.in-Err.refusal c.in_ok-input.ensures.read c.in-Err.ensures.refused)

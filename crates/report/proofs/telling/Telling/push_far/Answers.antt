@@ -1,7 +1,7 @@
 use Rattle.std.proofs.Common.{◌∙◌, ap}
 use Rattle.std.proofs.lemmas.Result.{IfOk-weaker}
 use Rattle.an_base.specs.Values.{EndId}
-use Rattle.table_report.specs.Names.{life_text}
+use Rattle.row_text.specs.Names.{life_text}
 use Rattle.report.proofs.ToldTexts.{goes_on, number_is, word_is}
 use Rattle.report.proofs.telling.Telling.push_far.Goals as goal
 

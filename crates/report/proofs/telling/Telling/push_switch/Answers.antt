@@ -1,7 +1,7 @@
 use Rattle.std.proofs.Common.{◌≡◌, ◌++◌, [], ◌∷◌, Option, OnOk, subst}
 use Rattle.std.specs.Option.{option_map_or}
 use Rattle.an_base.specs.Values.{LifeId}
-use Rattle.table_report.specs.Names.{life_text}
+use Rattle.row_text.specs.Names.{life_text}
 use Rattle.report.specs.Events.{spaced}
 use Rattle.report.proofs.telling.Telling.push_switch.Goals as goal
 

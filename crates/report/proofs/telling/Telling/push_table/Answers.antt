@@ -1,7 +1,7 @@
 use Rattle.std.proofs.Common.{◌∙◌, sym, refl}
-use Rattle.table_report.specs.Rows.{row_form}
+use Rattle.row_text.specs.Rows.{row_form}
 use Rattle.report.specs.Events.{has_line}
-use Rattle.table_report.proofs.TextLemmas.{entries_more, entries_same}
+use Rattle.row_text.proofs.RowLemmas.{entries_more, entries_same}
 use Rattle.report.proofs.telling.Telling.push_table.Goals as goal
 use Rattle.report.proofs.telling.Telling.push_table.Goals.{then-has_line+in_ok-push_row_line, else-has_line}
 

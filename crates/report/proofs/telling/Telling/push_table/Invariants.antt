@@ -1,9 +1,9 @@
 use Rattle.std.proofs.Common.{◌≡◌, ◌++◌, map}
 use Rattle.std.specs.Prelude.{filter}
 use Rattle.std.specs.List.{range_with_len}
-use Rattle.table_report.specs.Rows.{row_form}
+use Rattle.row_text.specs.Rows.{row_form}
 use Rattle.report.specs.Events.{has_line}
-use Rattle.table_report.specs.Expect.{table_text}
+use Rattle.row_text.specs.TableForms.{table_text}
 use Rattle.report.proofs.telling.Telling.push_table.Given as goal
 
 -- the entries so far

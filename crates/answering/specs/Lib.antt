@@ -1,0 +1,4 @@
+pub mod Status
+pub mod Answer
+pub mod Scripted
+pub mod Expect

@@ -1,0 +1,25 @@
+//! The program of `expect` alone, which is proved and built long before that of all commands.
+//!
+//! It has no contract of its own: what it prints, and its status, are those of the call.
+#![tactic(auto)]
+
+use an_base::memory::OutOfMemory;
+use answering::expect::autonet_expect;
+use answering::status::{Status, finish};
+use answering::words::{is_word, words_of_call};
+use outside::standard::{StdSink, StdSource};
+use std::process::ExitCode;
+
+fn main(rt: HostRuntime) -> ExitCode {
+    let mut source = StdSource::new(rt.stdin());
+    let mut out = StdSink::new(rt.stdout());
+    let mut err = StdSink::new(rt.stderr());
+    let code = match words_of_call(&rt) {
+        Ok(words) if is_word(&words, b"expect") => {
+            autonet_expect(rt.alloc(), &mut source, &mut out, &mut err)
+        }
+        Ok(_others) => finish(rt.alloc(), &mut err, Status::Usage),
+        Err(OutOfMemory) => finish(rt.alloc(), &mut err, Status::OutOfMemory),
+    };
+    ExitCode::from(code)
+}

@@ -1,0 +1,26 @@
+//! The program of the commands that need a network file alone, or with its tables, which is proved and built long
+//! before that of all commands.
+//!
+//! It has no contract of its own: what it prints, and its status, are those of the call.
+#![tactic(auto)]
+
+use an_base::memory::OutOfMemory;
+use answering::status::{Status, finish};
+use answering::words::words_of_call;
+use file_commands::file::{answer_file, command_of};
+use outside::standard::{StdSink, StdSource};
+use std::process::ExitCode;
+
+fn main(rt: HostRuntime) -> ExitCode {
+    let mut source = StdSource::new(rt.stdin());
+    let mut out = StdSink::new(rt.stdout());
+    let mut err = StdSink::new(rt.stderr());
+    let code = match words_of_call(&rt) {
+        Ok(words) => match command_of(&words) {
+            Some(command) => answer_file(command, rt.alloc(), &mut source, &mut out, &mut err),
+            None => finish(rt.alloc(), &mut err, Status::Usage),
+        },
+        Err(OutOfMemory) => finish(rt.alloc(), &mut err, Status::OutOfMemory),
+    };
+    ExitCode::from(code)
+}

@@ -1,0 +1,15 @@
+pub mod PieceLemmas
+pub mod RunLemmas
+pub mod CheckLemmas
+pub mod ComponentLemmas
+pub mod PartRows
+pub mod ArrivalLaws
+pub mod OwnForms
+pub mod OwnNames
+pub mod OwnChain
+pub mod OwnTold
+pub mod OwnLines
+pub mod OwnApart
+pub mod OwnPass
+pub mod OwnLaw
+pub mod OneJudgement

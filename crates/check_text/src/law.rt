@@ -1,0 +1,64 @@
+//! What follows from the judgement of tables, and what the judgement says of those that are expected.
+
+ghost use Rattle.std.specs.Prelude.{◌≡◌, ◌≤◌, ◌*◌, [], ◌∷◌, ◌++◌, Bool, Contains, length, List, ℕ, false};
+ghost use Rattle.an_base.specs.Numbers.{AreNumbers};
+ghost use Rattle.net_script.specs.Scripts.{IsScript, ScriptOf};
+ghost use Rattle.table_script.specs.Tables.{TablesOf};
+ghost use Rattle.table_script.specs.TableTexts.{IsTextWith};
+ghost use Rattle.net_script.specs.Texts.{IsText};
+ghost use Rattle.topo_graph.specs.Topology.{IsGraph, IsTree};
+ghost use Rattle.switch_numbering.specs.Numbering.{numbering};
+ghost use Rattle.dep_check.specs.Channels.{far_at, LeadsTo};
+ghost use Rattle.dep_check.specs.Cycles.{HasNoCycle, Walk};
+ghost use Rattle.dep_check.specs.Illegal.{AllAreLegal};
+ghost use Rattle.dep_check.specs.Laws.{GoesBetween};
+ghost use Rattle.dep_check.specs.Packets.{AllAreJoined, GoesOn};
+ghost use Rattle.dep_check.specs.declared.channel.Channel.{Channel};
+ghost use Rattle.check_text.specs.Check.{IsJudged};
+ghost use Rattle.expect_text.specs.Expect.{all_rows, IsExpectOf, Part};
+
+/// What is expected of a script, for each of its components. The entries are a graph, with each member
+/// at its place in the tree of shortest walks to the least life, and the numbers of the members are
+/// different ones of 1 to 126. Over the rows of all tables of the component no channel leads back to
+/// itself; who follows them from entry 0 of one member towards another, by whatever exits, comes before
+/// that one to no place where they have no exit, or one without a link; and no exit is illegal. A
+/// following has at most 12 links for each member; so who follows them comes to the other member, and
+/// from wherever one is then, some following goes on to there.
+pub fn what_is_expected_joins()
+    ensures tree { (s : ScriptOf) (text : List ℕ) (is : IsExpectOf s text) (p : Part) → IsScript s
+        → Contains is.parts p → IsGraph p.entries × IsTree p.entries }
+    ensures numbers { (s : ScriptOf) (text : List ℕ) (is : IsExpectOf s text) (p : Part) → IsScript s
+        → Contains is.parts p → AreNumbers (numbering p.entries) }
+    ensures no_cycle { (s : ScriptOf) (text : List ℕ) (is : IsExpectOf s text) (p : Part) → IsScript s
+        → Contains is.parts p → HasNoCycle (LeadsTo (far_at p.entries (numbering p.entries)) (all_rows p)) }
+    ensures joined { (s : ScriptOf) (text : List ℕ) (is : IsExpectOf s text) (p : Part) → IsScript s
+        → Contains is.parts p
+        → AllAreJoined (far_at p.entries (numbering p.entries)) (numbering p.entries) (all_rows p) }
+    ensures legal { (s : ScriptOf) (text : List ℕ) (is : IsExpectOf s text) (p : Part) → IsScript s
+        → Contains is.parts p → AllAreLegal p.entries (numbering p.entries) (all_rows p) }
+    ensures ends { (s : ScriptOf) (text : List ℕ) (is : IsExpectOf s text) (p : Part) (to links : ℕ)
+        (here there : Channel) → IsScript s → Contains is.parts p
+        → Walk (GoesOn (far_at p.entries (numbering p.entries)) (all_rows p) to) links here there
+        → links ≤ 12 * length p.entries }
+    ensures arrives { (s : ScriptOf) (text : List ℕ) (is : IsExpectOf s text) (p : Part) (from to links : ℕ)
+        (there : Channel) → IsScript s → Contains is.parts p → GoesBetween (numbering p.entries) from to
+        → Walk (GoesOn (far_at p.entries (numbering p.entries)) (all_rows p) to) links
+        (record { at = from; port = 0 }) there
+        → (more : ℕ) × (end : Channel)
+        × Walk (GoesOn (far_at p.entries (numbering p.entries)) (all_rows p) to) more there end
+        × (end.at ≡ to) }
+{}
+
+/// The text of a script, its last line ended by a line feed (10), with what is expected of the script
+/// behind it, is the text of that script with tables, and these are never refused.
+pub fn what_is_expected_passes()
+    ensures { (bytes : List ℕ) (s : ScriptOf) (text : List ℕ) → IsText (bytes ++ 10 ∷ []) s
+        → IsExpectOf s text
+        → (t : TablesOf) × IsTextWith (bytes ++ 10 ∷ text) s t × ((out : List ℕ) → ¬ IsJudged s t false out) }
+{}
+
+/// Tables have one judgement: whether they pass, and the text.
+pub fn one_judgement()
+    ensures { (s : ScriptOf) (t : TablesOf) (passed other : Bool) (text out : List ℕ) → IsScript s
+        → IsJudged s t passed text → IsJudged s t other out → (passed ≡ other) × (text ≡ out) }
+{}

@@ -1,5 +1,0 @@
-use Rattle.commands.proofs.OwnLemmas.{own_passes}
-use Rattle.commands.proofs.law.what_is_expected_passes_check.Goals as goal
-
-pub returns : goal.returns
-returns c = own_passes

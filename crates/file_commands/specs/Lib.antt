@@ -1,0 +1,5 @@
+pub mod Check
+pub mod Flood
+pub mod Flow
+pub mod Complete
+pub mod Answers

@@ -1,0 +1,2 @@
+pub mod FloodLemmas
+pub mod FloodLaws

@@ -1,0 +1,3 @@
+pub mod Sends
+pub mod Flows
+pub mod FlowRuns

@@ -1,0 +1,114 @@
+ghost use Rattle.std.specs.Prelude.{◌≡◌, ◌==◌, ◌+◌, ◌<◌, ◌≤◌, ◌++◌, length, position, OnOk, IfOk, IfSome, vec_capacity, vec_len};
+ghost use Rattle.row_text.specs.Names.{life_text, name_of, switch_name};
+
+use an_base::entry::Entry;
+use an_base::life::Life;
+use an_base::text::push_decimal;
+use net_graph::wiring::SwitchAt;
+use net_script::script::Script;
+use std::alloc::{AllocError, Global};
+use text_lines::names::Names;
+
+/// The place of the switch with this identifier.
+pub fn place_of(switches: &[SwitchAt], uid: u64) -> Option<usize>
+    ensures { result ≡ position (λ s. s.uid == uid) switches.now }
+{
+    switches.iter().position(|switch| switch.uid == uid)
+}
+
+// The name of the switch with this identifier.
+fn switch_name<'a>(names: &'a Names, switches: &[SwitchAt], uid: u64) -> &'a [u8]
+    ensures { result.now ≡ switch_name names.now switches.now uid }
+{
+    let Some(s) = place_of(switches, uid) else {
+        return &[];
+    };
+    if s >= names.len() {
+        return &[];
+    }
+    names.get(s)
+}
+
+/// Appends bytes where there is room for them.
+pub fn push_bytes(text: &mut Vec<u8>, bytes: &[u8])
+    requires { vec_len text.old + length bytes.now ≤ vec_capacity text.old }
+    ensures text { text.new.items ≡ text.old.items ++ bytes.now }
+    ensures len { vec_len text.new ≡ vec_len text.old + length bytes.now }
+    ensures capacity { vec_capacity text.new ≡ vec_capacity text.old }
+{
+    'bytes: for byte in bytes {
+        text.push_reserved(*byte);
+    }
+}
+
+/// Appends a life: the name of its switch, and a boot above 1.
+pub fn push_life(
+    alloc: Global,
+    text: &mut Vec<u8>,
+    script: &Script,
+    life: Life,
+) -> Result<(), AllocError>
+    ensures { OnOk result (text.new.items ≡ text.old.items ++ life_text script.now life) }
+{
+    let switches = script.wiring().switches();
+    text.extend_from_slice(switch_name(script.switch_names(), switches, life.uid))?;
+    if life.boot != 1 {
+        text.extend_from_slice(b".")?;
+        push_decimal(alloc, text, u64::from(life.boot))?;
+    }
+    Ok(())
+}
+
+// The place of a number.
+fn place_in(numbers: &[u8], number: u8) -> Option<usize>
+    ensures place { result ≡ position (λ other. other == number) numbers.now }
+    ensures range { IfSome result (λ place. place < length numbers.now) }
+{
+    numbers.iter().position(|other| *other == number)
+}
+
+/// Appends the name of the member that has a number, and nothing where none has. The members have these numbers.
+pub fn push_name(
+    alloc: Global,
+    text: &mut Vec<u8>,
+    script: &Script,
+    entries: &[Entry],
+    numbers: &[u8],
+    number: u8,
+) -> Result<(), AllocError>
+    requires { length numbers.now ≡ length entries.now }
+    ensures { OnOk result (text.new.items ≡ text.old.items ++ name_of script.now entries.now numbers.now number) }
+{
+    let Some(place) = place_in(numbers, number) else {
+        return Ok(());
+    };
+    let entry = &entries[place];
+    push_life(alloc, text, script, entry.life)
+}
+
+/// The word for a life.
+pub fn life_word(alloc: Global, script: &Script, life: Life) -> Result<Vec<u8>, AllocError>
+    ensures { IfOk result (λ word. word.items ≡ life_text script.now life) }
+{
+    let mut word = Vec::new(alloc);
+    push_life(alloc, &mut word, script, life)?;
+    Ok(word)
+}
+
+/// The lives of a script's switches as they are printed, and the memory that their words take.
+#[derive(Clone, Copy, Drop)]
+pub struct Lives<'a> {
+    /// The memory.
+    pub alloc: Global,
+    /// The script.
+    pub script: &'a Script,
+}
+
+impl Lives<'_> {
+    /// The word for a life.
+    pub fn word(&self, life: Life) -> Result<Vec<u8>, AllocError>
+        ensures { IfOk result (λ word. word.items ≡ life_text self.now.script.now life) }
+    {
+        life_word(self.alloc, self.script, life)
+    }
+}

@@ -1,6 +1,0 @@
-use Rattle.table_report.specs.Decimals.{AreDecimals}
-use Rattle.table_report.proofs.decimals.words_of.Given as goal
-
--- the numbers so far
-abbrev pub invariant-numbers : goal.invariant-numbers
-invariant-numbers l = AreDecimals l.n l.words.items

@@ -1,7 +1,0 @@
-use Rattle.std.proofs.Common.{◌≡◌, ◌++◌, map, take}
-use Rattle.table_report.specs.Expect.{member_form, table_text}
-use Rattle.table_report.proofs.expect.push_members.Given as goal
-
--- the members so far
-abbrev pub invariant-members : goal.invariant-members
-invariant-members l = l.text.items ≡ l.fn.text.items ++ table_text (map (member_form l.lives.script.now) (take l.entry-index l.entries))

@@ -1,5 +1,0 @@
-use Rattle.table_report.proofs.flow.begun.Given as goal
-
--- the rows of the layout
-abbrev pub ghost-new : goal.ghost-new
-ghost-new g a = g.layout.rows
