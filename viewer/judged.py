@@ -1,0 +1,109 @@
+"""What `fabric judge` prints: the cycle of channels, or that there is none, and the routes that are lost."""
+
+from .layout import Plan, by_grid, by_levels, by_ring
+from .story import Story, listed, plural
+from .tables import Tables
+from .texts import Fault
+
+MOST_DRAWN = 300
+
+
+class Judged(Story):
+    """A fabric. Where there is a cycle its switches stand on a ring, and no others are drawn."""
+
+    lines = 2
+    port_width = 22
+    channels = True
+    what = "fabric judge"
+
+    def __init__(self, files, layout=None):
+        self.judgement = files.judgement
+        self.cycle = self.judgement.cycle if self.judgement else []
+        super().__init__(files, layout)
+
+    def make_plan(self, layout):
+        """A ring for a cycle, else a grid where it is one, else levels above the switches that have hosts."""
+        shown = {**self.network.shown, **(self.judgement.names if self.judgement else {})}
+        plan = Plan(self.network, self.lines, {guid: short(name) for guid, name in shown.items()}, hosts=False)
+        if self.cycle:
+            by_ring(plan, list(dict.fromkeys(end[0] for end, _, _ in self.cycle)))
+        elif len(self.network.switches) > MOST_DRAWN:
+            raise Fault(self.files.names[0], 0, f"more than {MOST_DRAWN} switches, and no cycle to draw")
+        elif not by_grid(plan):
+            by_levels(plan, above_hosts(self.network))
+            plan.bands = []
+        return plan
+
+    def tell(self):
+        """Puts the links, and the cycle over them."""
+        for k in range(len(self.network.links)):
+            self.scene.put(f"link-{k}", "class", "wire")
+        for switch in self.plan.at:
+            self.put_switch(switch)
+        for place, (end, lid, source) in enumerate(self.cycle, 1):
+            self.put_red(end, f"{place}: LID {lid}")
+            self.note_channel(place, end, source, lid)
+        for cause, lid, source, at in self.judgement.lost if self.judgement else []:
+            self.scene.put(f"switch-{at}", "class", "switch red")
+            ends = self.plan.label(source), self.plan.label(at)
+            self.notes.append(f"Lost ({cause}): what {ends[0]} sends to LID {lid}, at {ends[1]}.")
+        self.headline = self.of_fabric()
+        if self.cycle:
+            red = "a channel of the cycle, with the LID of a route that takes it and the next"
+            self.legend.append(("wire red ahead", red))
+            self.legend.append(("wire", "another link between switches of the cycle"))
+        self.notes += self.judgement.facts if self.judgement else []
+        self.scene.begin()
+
+    def put_switch(self, switch):
+        """The box of a switch, and what is told of it when it is chosen."""
+        hosts = sum(end[0] == switch for end in self.network.hosts.values())
+        self.scene.put(f"switch-{switch}", "class", "switch")
+        self.scene.put(f"switch-{switch}", "title", f"switch {self.network.shown.get(switch, '')} {switch}")
+        self.scene.put(f"switch-{switch}-2", "text", plural(hosts, "end port") if hosts else "")
+        far = {end: self.network.far(*end) for end in self.network.link_at if end[0] == switch}
+        drawn = [end for end in far if far[end][0] in self.plan.at]
+        others = [end for end in [*far, *self.network.host_at] if end[0] == switch and end not in drawn]
+        for end in drawn:
+            self.put_port(end)
+        self.scene.put(f"rows-{switch}", "text", "\n".join(map(self.port_words, sorted(others))))
+
+    def note_channel(self, place, end, source, lid):
+        """A channel of the cycle in words."""
+        at, of = self.plan.label(end[0]), len(self.cycle)
+        route = f"a route that takes it and the next one goes to LID {lid} from {self.plan.label(source)}"
+        self.notes.append(f"Channel {place} of {of}: {at} by port {end[1]}; {route}.")
+
+    def of_fabric(self):
+        """What was judged, in sentences."""
+        net = self.network
+        switches, links = plural(len(net.switches), "switch"), plural(len(net.links), "link")
+        words = f"A fabric of {switches}, {links} between them and {plural(len(net.hosts), 'end port')}."
+        if not self.judgement:
+            return words
+        if self.cycle:
+            left = len(net.switches) - len(self.plan.at)
+            rest = f" {plural(left, 'switch')} that are not on it are not drawn." if left else ""
+            names = listed(self.plan.label(end[0]) for end, _, _ in self.cycle)
+            many = plural(len(self.cycle), "channel")
+            return f"{words} Its tables close a cycle of {many}: {names}, and round again.{rest}"
+        lost = " Some routes are lost." if self.judgement.lost else ""
+        return f"{words} Its tables close no cycle.{lost}"
+
+
+def short(name):
+    """The first words of a name, for a box."""
+    name = name.split(":")[0].split(";")[-1] if ";" in name else name
+    return name if len(name) <= 20 else name[:19] + "…"
+
+
+def above_hosts(network):
+    """Levels by how far a switch is from those with hosts, the furthest first."""
+    near, far = network.neighbours(), {}
+    front = {end[0] for end in network.hosts.values()} or set(list(network.switches)[:1])
+    while front:
+        far.update(dict.fromkeys(front, 1 + max(far.values(), default=-1)))
+        front = {other for switch in front for _, other, _ in near[switch] if other not in far}
+    tables, most = Tables(), max(far.values(), default=0)
+    tables.level = {switch: most - far.get(switch, most) for switch in network.switches}
+    return tables

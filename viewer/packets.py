@@ -1,0 +1,175 @@
+"""What `flow` and `flood` print: packets in channels, and the hops of a broadcast, step by step."""
+
+from .story import Story, listed, plural
+
+
+class Flow(Story):
+    """Packets that move through channels, each of which holds some, first in first out."""
+
+    what = "flow"
+    lines = 3
+    channels = True
+
+    def tell(self):
+        """Puts the network, and then each move."""
+        self.put_links()
+        self.put_switches()
+        self.where, self.waiting, self.held, self.targets = {}, {}, {}, {}
+        self.arrived = 0
+        for place, (sender, target) in enumerate(self.network.sends, 1):
+            self.wait(place, sender, target)
+        self.put_waiting()
+        self.tell_count()
+        self.note_tree()
+        self.legend.append(("wire hop ahead", "the packet that moved last"))
+        self.notes.append("▸ 3, 5 at a port: the channel that leaves there holds packets 3 and 5, and 3 goes first.")
+        self.scene.begin()
+        takers = {"local": self.local, "unjoined": self.unjoined, "move": self.move, "arrive": self.arrive}
+        for form, values, line in self.files.flow.told:
+            taker = takers.get(form.split()[0], self.end)
+            self.scene.step(taker(line, *values), form.split()[0], len(self.scene.steps) + 1)
+
+    def wait(self, packet, sender, target):
+        """A packet waits at the switch of its sender."""
+        self.where[packet] = None
+        self.waiting.setdefault(self.network.hosts[sender][0], []).append(packet)
+        self.targets[packet] = sender, target
+
+    def put_waiting(self):
+        """Who waits where to enter."""
+        for switch in self.network.switches:
+            words = f"waiting: {listed(self.waiting.get(switch, []), 4)}" if self.waiting.get(switch) else ""
+            self.scene.put(f"switch-{switch}-3", "text", words)
+
+    def packet(self, line, packet):
+        """Who sends the packet to whom."""
+        if packet not in self.targets:
+            raise line.fault("no such packet")
+        return "packet {} from {} to {}".format(packet, *self.targets[packet])
+
+    def leave(self, packet):
+        """The packet leaves the place where it was."""
+        end = self.where[packet]
+        if end is None:
+            for packets in self.waiting.values():
+                if packet in packets:
+                    packets.remove(packet)
+        else:
+            self.held[end].remove(packet)
+            self.put_channel(end)
+        self.put_waiting()
+
+    def put_channel(self, end):
+        """Which packets a channel holds."""
+        words = f"▸ {listed(self.held[end], 5)}" if self.held[end] else ""
+        self.scene.put(f"channel-{end[0]}-{end[1]}", "text", words)
+
+    def tell_count(self):
+        """How many are where."""
+        inside = sum(map(len, self.held.values()))
+        outside = plural(sum(map(len, self.waiting.values())), "packet")
+        words = f"{outside} not yet in, {inside} in channels, {self.arrived} arrived"
+        self.scene.put("count", "text", words)
+        self.headline = self.of_network() + f" {plural(len(self.network.sends), 'packet')} to send."
+
+    def move(self, line, packet, switch, port):
+        """A packet goes into a channel."""
+        words = self.packet(line, packet)
+        if (switch, port) not in self.network.link_at:
+            raise line.fault("no link")
+        self.leave(packet)
+        self.where[packet] = switch, port
+        self.held.setdefault((switch, port), []).append(packet)
+        self.put_channel((switch, port))
+        way = self.network.way((switch, port))
+        self.scene.flash(f"link-{self.network.link_at[switch, port]}", "class", f"wire hop {way}")
+        self.tell_count()
+        return f"{words} leaves {switch} by port {port}"
+
+    def arrive(self, line, packet, switch):
+        """A packet is at its target."""
+        words = self.packet(line, packet)
+        self.leave(packet)
+        self.arrived += 1
+        self.tell_count()
+        target = self.targets[packet][1]
+        self.scene.flash(f"host-{target}", "class", "host got")
+        return f"{words} arrives at {switch}"
+
+    def local(self, line, packet, switch):
+        """A packet that enters nowhere: both hosts are at one switch."""
+        words = self.packet(line, packet)
+        self.leave(packet)
+        self.tell_count()
+        return f"{words} enters nowhere: both are at {switch}"
+
+    def unjoined(self, line, packet):
+        """A packet that enters nowhere: its hosts are not joined."""
+        words = self.packet(line, packet)
+        self.leave(packet)
+        self.tell_count()
+        return f"{words} enters nowhere: no way joins the two"
+
+    def end(self, _line, moves, arrived, local, unjoined):
+        """All moves are done."""
+        words = f"{plural(moves, 'move')}, {arrived} arrived, {local} local, {unjoined} not joined"
+        self.headline = f"{self.of_network()} {plural(len(self.network.sends), 'packet')} to send: {words}."
+        return f"the end: {words}"
+
+
+class Flood(Story):
+    """Broadcasts, one behind the other: up the tree to its root, and from there down."""
+
+    what = "flood"
+    lines = 3
+
+    def tell(self):
+        """Puts the network, and then each hop."""
+        self.put_links()
+        self.put_switches()
+        self.headline = self.of_network() + " A broadcast from each switch goes up the tree to its root, and down."
+        self.note_tree()
+        self.legend.append(("wire hop ahead", "a hop of the broadcast"))
+        self.scene.begin()
+        self.gone = {}
+        for form, values, line in self.files.flood.told:
+            taker = {"flood": self.flood, "copies": self.copies, "end": self.end}.get(form.split()[0], self.hop)
+            self.scene.step(taker(line, *values), form.split()[0], len(self.scene.steps) + 1)
+
+    def flood(self, _line, switch):
+        """A broadcast begins."""
+        self.clear()
+        self.scene.put(f"switch-{switch}-3", "text", "broadcast")
+        self.sender = switch
+        return f"a broadcast from {switch}"
+
+    def clear(self):
+        """The last broadcast is gone."""
+        for k in self.gone:
+            self.scene.put(f"link-{k}", "class", f"wire {'tree' if k in self.tree else 'other'}")
+        for switch in self.network.switches:
+            self.scene.put(f"switch-{switch}-3", "text", "")
+        self.gone = {}
+
+    def hop(self, line, switch, port):
+        """The broadcast goes over a link."""
+        k = self.network.link_at.get((switch, port))
+        if k is None:
+            raise line.fault("no link")
+        way = self.network.way((switch, port))
+        self.gone[k] = f"{self.gone[k]} {way}" if k in self.gone else way
+        self.scene.put(f"link-{k}", "class", f"wire hop {self.gone[k]}")
+        far, _ = self.network.far(switch, port)
+        kind = line.words[0]
+        if kind == "down":
+            self.scene.put(f"switch-{switch}-3", "text", "copy")
+            self.scene.put(f"switch-{far}-3", "text", "copy")
+        return f"{kind} from {switch} by port {port} to {far}"
+
+    def copies(self, _line, many):
+        """All have their copies."""
+        return f"{plural(many, 'switch')} of the component {'has its copy' if many == 1 else 'have one copy each'}"
+
+    def end(self, _line):
+        """All broadcasts are told."""
+        return "the end"

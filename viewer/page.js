@@ -1,0 +1,228 @@
+"use strict";
+// Moves the picture from step to step, by the changes that the page holds; zooms; finds and chooses switches.
+
+const data = JSON.parse(document.getElementById("data").textContent);
+const byId = (id) => document.getElementById(id);
+const picture = byId("picture"), slider = byId("slider");
+const values = data.slots.map(([, , first]) => data.texts[first]);
+let now = 0, chosen = null, playing = null;
+
+// --- Slots and steps
+
+// Shows the value of a slot in its element, if it has one.
+function show(slot) {
+  const [id, what] = data.slots[slot], element = byId(id);
+  if (!element) return;
+  if (what === "class") element.setAttribute("class", values[slot]);
+  else if (what === "text") element.textContent = values[slot];
+  else retitle(element, values[slot]);
+}
+
+// Gives an element the words for those who hover over it or hear it.
+function retitle(element, words) {
+  element.querySelector("title").textContent = words;
+  if (element.hasAttribute("aria-label")) element.setAttribute("aria-label", words);
+}
+
+// Goes to the place after so many steps, forward or backward.
+function go(to) {
+  to = Math.max(0, Math.min(data.steps.length, to));
+  const touched = new Set();
+  const put = (slot, text) => { values[slot] = data.texts[text]; touched.add(slot); };
+  while (now < to) for (const [slot, , text] of data.steps[now++][4]) put(slot, text);
+  while (now > to) for (const [slot, text] of data.steps[--now][4]) put(slot, text);
+  touched.forEach(show);
+  tell();
+  mark();
+}
+
+// Says where the slider is, and what the step was.
+function tell() {
+  const [says, , place, tick] = now ? data.steps[now - 1] : ["Before the first step.", "", 0, null];
+  const event = data.strip && now ? ` · event ${place}` : "";
+  byId("says").textContent = says;
+  byId("where").textContent = `step ${now} of ${data.steps.length}${event}${tick === null ? "" : ` · tick ${tick}`}`;
+  slider.value = now;
+  slider.setAttribute("aria-valuetext", says);
+  if (!data.strip) return;
+  const x = data.strip[0] + data.strip[1] * place / data.strip[2];
+  byId("cursor").setAttribute("x1", x);
+  byId("cursor").setAttribute("x2", x);
+}
+
+// The kinds of steps that `change` goes to, for each word of the list.
+const KINDS = {
+  "any": ["join", "load", "fail", "repair", "restart", "spent", "packet", "lost", "flood", "arrive"],
+  "an epoch": ["join", "finish", "spent"],
+  "a table": ["load"],
+  "a cable or switch": ["fail", "repair", "restart"],
+  "a packet": ["packet", "move", "arrive", "local", "unjoined"],
+  "a frame lost": ["lost"],
+  "a port": ["port", "noframe"],
+  "a broadcast": ["flood"],
+};
+
+// Goes to the next step of the chosen kind, in a direction; at the end of them stays.
+function change(direction) {
+  const kinds = KINDS[byId("kind").value];
+  for (let k = now + direction; k >= 1 && k <= data.steps.length; k += direction)
+    if (kinds.includes(data.steps[k - 1][1])) return go(k);
+}
+
+function play() {
+  if (playing) { clearInterval(playing); playing = null; }
+  else {
+    if (now === data.steps.length) go(0);
+    playing = setInterval(() => { go(now + 1); if (now === data.steps.length) play(); }, 450);
+  }
+  byId("play").textContent = playing ? "■ stop" : "▶ play";
+}
+
+// --- Choosing and finding
+
+// Chooses a switch, or none: its links, ports and facts are shown.
+function choose(name) {
+  chosen = name;
+  mark();
+}
+
+// Shows what belongs to the chosen switch.
+function mark() {
+  document.querySelectorAll(".chosen").forEach((element) => element.classList.remove("chosen", "self"));
+  picture.classList.toggle("choosing", chosen !== null);
+  byId("chosen-words").textContent = "No switch is chosen.";
+  byId("chosen-facts").textContent = "";
+  if (chosen === null) return;
+  const add = (id) => byId(id) && byId(id).classList.add("chosen");
+  byId(`switch-${chosen}`).classList.add("chosen", "self");
+  data.links.forEach(([one, other], k) => {
+    if (one[0] !== chosen && other[0] !== chosen) return;
+    [`link-${k}`, `port-${one[0]}-${one[1]}`, `port-${other[0]}-${other[1]}`].forEach(add);
+    [one, other].forEach(([name]) => add(`switch-${name}`));
+  });
+  byId("chosen-words").textContent = byId(`switch-${chosen}`).getAttribute("aria-label");
+  byId("chosen-facts").textContent = facts(chosen);
+}
+
+// What is told of a switch: its ports, and its rows where they are known.
+function facts(name) {
+  const ports = [...picture.querySelectorAll(`[id^="port-${name}-"] > title`)].map((title) => title.textContent);
+  const number = (words) => Number(words.match(/\d+/)[0]);
+  const rows = data.slots.findIndex(([id]) => id === `rows-${name}`);
+  return [...ports.sort((a, b) => number(a) - number(b)), "", rows < 0 ? "" : values[rows]].join("\n").trim();
+}
+
+// Chooses the switch of this name, and brings it to the middle.
+function find(label) {
+  const name = data.switches[label];
+  if (name === undefined) return;
+  choose(name);
+  const box = byId(`switch-${name}`).getBBox(), side = Math.max(whole[2], whole[3]);
+  const share = Math.min(1, 900 / side);
+  look(box.x + box.width / 2 - whole[2] * share / 2, box.y + box.height / 2 - whole[3] * share / 2, share);
+}
+
+// --- Zoom
+
+const whole = picture.getAttribute("viewBox").split(" ").map(Number);
+let view = whole.slice();
+
+// Shows the part of the picture from this corner on, of this share of the whole.
+function look(x, y, share) {
+  view = [x, y, whole[2] * share, whole[3] * share];
+  picture.setAttribute("viewBox", view.join(" "));
+  const wide = picture.getBoundingClientRect().width || 1000;
+  picture.classList.toggle("near", Math.max(view[2] / wide, view[3] / (0.62 * wide)) < 1.3);
+}
+
+// Zooms by a factor about a point, which stays where it is.
+function zoom(factor, x = view[0] + view[2] / 2, y = view[1] + view[3] / 2) {
+  const share = Math.max(0.02, Math.min(2, (view[2] / whole[2]) * factor)), by = share * whole[2] / view[2];
+  look(x - (x - view[0]) * by, y - (y - view[1]) * by, share);
+}
+
+// The point of the picture under the pointer.
+function under(event) {
+  return new DOMPoint(event.clientX, event.clientY).matrixTransform(picture.getScreenCTM().inverse());
+}
+
+function drag(event) {
+  const from = under(event);
+  let moved = false;
+  const move = (next) => {
+    const to = under(next);
+    moved = moved || Math.hypot(to.x - from.x, to.y - from.y) > view[2] / 200;
+    if (moved) look(view[0] + from.x - to.x, view[1] + from.y - to.y, view[2] / whole[2]);
+  };
+  const end = () => {
+    picture.removeEventListener("pointermove", move);
+    if (!moved) choose(switchOf(event.target));
+  };
+  picture.addEventListener("pointermove", move);
+  window.addEventListener("pointerup", end, { once: true });
+}
+
+// The switch to which an element of the picture belongs, or null.
+function switchOf(element) {
+  const group = element.closest("[id^=switch-]");
+  return group && group.id.match(/^switch-(.+?)(-[23])?$/)[1];
+}
+
+// --- Keys and buttons
+
+const KEYS = {
+  ArrowRight: () => go(now + 1), ArrowLeft: () => go(now - 1), Home: () => go(0), End: () => go(data.steps.length),
+  n: () => change(1), p: () => change(-1), " ": play, "+": () => zoom(0.8), "-": () => zoom(1.25),
+  "0": () => look(whole[0], whole[1], 1), "/": () => byId("search").focus(),
+  Enter: () => choose(switchOf(document.activeElement)),
+};
+
+function key(event) {
+  const typed = event.target.closest("input:not([type=range]),select,button") && event.key !== "Escape";
+  if (typed || event.ctrlKey || event.metaKey || event.altKey || !KEYS[event.key]) return;
+  event.preventDefault();
+  KEYS[event.key]();
+}
+
+function listen() {
+  const click = { back: KEYS.ArrowLeft, on: KEYS.ArrowRight, play, "last-change": KEYS.p, "next-change": KEYS.n,
+    closer: KEYS["+"], wider: KEYS["-"], whole: KEYS["0"] };
+  for (const id in click) byId(id).addEventListener("click", click[id]);
+  document.addEventListener("keydown", key);
+  slider.addEventListener("input", () => go(Number(slider.value)));
+  byId("search").addEventListener("input", (event) => find(event.target.value));
+  picture.addEventListener("pointerdown", drag);
+  picture.addEventListener("wheel", (event) => {
+    event.preventDefault();
+    const { x, y } = under(event);
+    zoom(event.deltaY > 0 ? 1.15 : 0.87, x, y);
+  }, { passive: false });
+  window.addEventListener("hashchange", start);
+  if (data.strip) byId("strip").addEventListener("click", goToEvent);
+}
+
+// Goes to the last step that is told of an event up to the one under the pointer.
+function goToEvent(event) {
+  const strip = byId("strip"), [left, wide, last] = data.strip;
+  const { x } = new DOMPoint(event.clientX, event.clientY).matrixTransform(strip.getScreenCTM().inverse());
+  const place = (x - left) / wide * last;
+  go(data.steps.filter((step) => step[2] <= place).length);
+}
+
+// The list of kinds has those of which there is a step.
+function offerKinds() {
+  for (const word in KINDS)
+    if (data.steps.some(([, kind]) => KINDS[word].includes(kind))) byId("kind").add(new Option(word, word));
+}
+
+// `page.html#57` begins after 57 steps, `page.html#57,A` with the switch A chosen too.
+function start() {
+  const [step, name] = decodeURIComponent(location.hash.slice(1)).split(",");
+  if (name) find(name);
+  go(Number(step) || 0);
+}
+
+offerKinds();
+listen();
+look(whole[0], whole[1], 1);
+start();

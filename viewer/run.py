@@ -1,0 +1,309 @@
+"""A run, as `run` and `replay` print it: epochs, what ports show, tables, cables, packets, frames lost."""
+
+from .story import ROWS, Story, listed, plural
+
+SIGNS = {
+    "s.dead": ("✕", "dead"),
+    "s.checking": ("…", "checking"),
+    "s.host": ("h", "a host's"),
+    "s.switch.who": ("?", "a switch's, which one is asked"),
+    "s.switch.loop": ("↺", "a loop to this switch"),
+    "s.switch.good": ("✓", "good"),
+}
+TINTS = 5
+
+
+class Run(Story):
+    """A run, line by line of its report."""
+
+    what = "run"
+    lines = 3
+    port_width = 27
+
+    def tell(self):
+        """Puts what is there at first, and then each line."""
+        net = self.network
+        self.epoch = {switch: None for switch in net.switches}
+        self.table = {switch: None for switch in net.switches}
+        self.spent = set()
+        self.port = {end: ("s.dead", None) for end in [*net.link_at, *net.host_at]}
+        self.down = set()
+        self.lost, self.sent, self.delivered, self.dropped = {}, 0, 0, 0
+        self.here = {}
+        self.spans, self.place = {switch: [] for switch in net.switches}, 0
+        self.cables = []
+        for switch in net.switches:
+            self.put_switch(switch)
+            self.put_packets(switch)
+        for end in self.port:
+            self.put_port(end)
+        for k in range(len(net.links)):
+            self.put_link(k)
+        self.put_counts()
+        self.scene.begin()
+        self.tell_lines()
+        self.strip = self.spans
+        self.tell_words()
+
+    def tell_lines(self):
+        """A step for each line of the report, by the word that is its own."""
+        report = self.files.report
+        for k, (form, values, line) in enumerate(report.lines.told):
+            self.place, self.rows_now = report.places[k], report.rows.get(k, [])
+            words = form.split()
+            kind = words[1] if words[0] == "LIFE" else words[0]
+            self.scene.step(getattr(self, f"at_{kind}")(line, form, *values), kind, self.place)
+        self.end_spans()
+
+    def tell_words(self):
+        """The headline, and what signs mean."""
+        ended = " It ended {} at tick {} after {} events.".format(*self.files.report.end)
+        cables = f" {' '.join(self.cables[:3])}" if self.cables else ""
+        parts = plural(len(self.network.switches), "switch"), plural(len(self.network.links), "link")
+        self.headline = (
+            f"A run of {parts[0]} and {parts[1]}.{cables} {plural(self.sent, 'packet')} sent, "
+            f"{self.delivered} delivered; {plural(sum(self.lost.values()), 'frame')} lost.{ended}")
+        self.legend += [
+            ("wire good", "a link that is good at both ends"),
+            ("wire asked", "a link of which an end is not good (yet)"),
+            ("wire down", "a cable that failed"),
+            ("wire hop ahead", "the hop of a packet"),
+            ("wire lost ahead", "a frame that is lost"),
+        ]
+        self.notes += [
+            "An epoch is one agreement of the switches on how they are cabled. A switch whose links changed begins "
+            "the next epoch, and those that hear of it join it. To load is to bring the routes of an epoch into use.",
+            "Signs at ports: " + ", ".join(f"{sign} {words}" for sign, words in SIGNS.values()) + ".",
+            "A box has the switch, its epoch, and the table in use with the switch's own number in it; it is dashed "
+            "while no table is in use.",
+            "Switches stand by the levels of the tree with all links up; the tree of an epoch is not in the report.",
+        ]
+
+    # What is put
+
+    def put_switch(self, switch):
+        """The box of a switch."""
+        epoch, table = self.epoch[switch], self.table[switch]
+        tint = f" epoch-{(epoch - 1) % TINTS + 1}" if epoch else ""
+        kind = "switch" + tint + ("" if table else " no-table") + (" spent" if switch in self.spent else "")
+        second = f"epoch {epoch}" if epoch is not None else "in no epoch yet"
+        third = f"table {table[0]} · no. {table[1]}" if table else "no table"
+        third = "no epoch left" if switch in self.spent else third
+        self.scene.put(f"switch-{switch}", "class", kind)
+        self.scene.put(f"switch-{switch}-2", "text", second)
+        self.scene.put(f"switch-{switch}-3", "text", third)
+        self.scene.put(f"switch-{switch}", "title", f"switch {switch}: {second}, {third}")
+        rows = table[2] if table else []
+        self.scene.put(f"rows-{switch}", "text", "\n".join([ROWS, *rows]) if rows else "")
+
+    def port_state(self, switch, p):
+        """The state of a port in words."""
+        state, far = self.port[switch, p]
+        return SIGNS[state][1] + (f", at port {far[1]} of {far[0]}" if far else "")
+
+    def put_port(self, end):
+        """The sign of a port."""
+        switch, p = end
+        self.scene.put(f"port-{switch}-{p}-sign", "text", f"{p} {SIGNS[self.port[end][0]][0]}")
+        self.scene.put(f"port-{switch}-{p}", "class", "port")
+        self.scene.put(f"port-{switch}-{p}", "title", f"port {p} of {switch}: {self.port_state(switch, p)}")
+        host = self.network.host_at.get(end)
+        if host:
+            down = ", its cable has failed" if end in self.down else ""
+            self.scene.put(f"host-{host}", "class", "host")
+            self.scene.put(f"host-{host}", "title", f"host {host} at port {p} of {switch}{down}")
+
+    def put_link(self, k):
+        """A link."""
+        (s, p), (t, q) = self.network.links[k]
+        kind = self.link_kind(k)
+        words = {"good": "good at both ends", "asked": "not good at both ends", "down": "failed"}[kind]
+        self.scene.put(f"link-{k}", "class", f"wire {kind}")
+        self.scene.put(f"link-{k}", "title", f"link from port {p} of {s} to port {q} of {t}: {words}")
+
+    def link_kind(self, k):
+        """How a link is drawn."""
+        ends = self.network.links[k]
+        if self.down.intersection(ends):
+            return "down"
+        fine = ("s.switch.good", "s.switch.loop")
+        return "good" if all(self.port[end][0] in fine for end in ends) else "asked"
+
+    def put_counts(self):
+        """How many packets and frames there were."""
+        words = f"{plural(self.sent, 'packet')} sent, {self.delivered} delivered, {self.dropped} dropped"
+        where = listed(f"{many} from port {p} of {s}" for (s, p), many in sorted(self.lost.items()))
+        lost = plural(sum(self.lost.values()), "frame") + " lost" + (f" ({where})" if where else "")
+        self.scene.put("count", "text", f"{words}; {lost}")
+        epochs = {}
+        for switch, epoch in self.epoch.items():
+            epochs.setdefault(epoch, []).append(switch)
+        told = [f"epoch {epoch}: {listed(epochs[epoch], 6)}" for epoch in sorted(e for e in epochs if e is not None)]
+        none = [f"in no epoch yet: {listed(epochs[None], 6)}"] if None in epochs else []
+        self.scene.put("epochs", "text", "; ".join(told + none))
+
+    def put_packets(self, switch):
+        """Which packets are at a switch."""
+        packets = sorted(packet for packet, at in self.here.items() if at == switch)
+        self.scene.put(f"tag-{switch}", "text", f"✉ {listed(packets, 4)}" if packets else "")
+
+    # What the lines say: each gives its words
+
+    def at_port(self, line, _form, life, p, *what):
+        """A port changed its state: a good one has the other end in place of a state."""
+        end = self.end(line, life, p)
+        self.port[end] = (what[0], None) if len(what) == 1 else ("s.switch.good", (named(what[0]), what[1]))
+        self.put_port(end)
+        if end in self.network.link_at:
+            self.put_link(self.network.link_at[end])
+        return f"port {p} of {named(life)} is {self.port_state(*end)}"
+
+    def end(self, line, life, p):
+        """An end that has a link or a host."""
+        if (life[0], p) not in self.port:
+            raise line.fault("no link")
+        return life[0], p
+
+    def at_noframe(self, line, _form, life, p):
+        """Bytes came that are no frame."""
+        self.end(line, life, p)
+        self.scene.flash(f"port-{life[0]}-{p}", "class", "port red")
+        return f"what comes to port {p} of {named(life)} is no frame"
+
+    def at_join(self, _line, _form, life, epoch):
+        """A switch joined an epoch, and uses no table."""
+        switch = life[0]
+        self.epoch[switch], self.table[switch] = epoch, None
+        self.span(switch)
+        self.put_switch(switch)
+        self.put_counts()
+        return f"{named(life)} joins epoch {epoch}; its table goes out of use"
+
+    def at_spent(self, _line, _form, life):
+        """No epoch is left."""
+        self.spent.add(life[0])
+        self.put_switch(life[0])
+        return f"no epoch is left for {named(life)}"
+
+    def at_finish(self, _line, _form, life, epoch, root, members):
+        """A switch finished an epoch."""
+        return f"{named(life)} has finished epoch {epoch}: {plural(members, 'switch')} under the root {named(root)}"
+
+    def at_load(self, _line, _form, life, epoch, number):
+        """A table came into use."""
+        switch = life[0]
+        self.table[switch] = epoch, number, self.rows_now
+        self.span(switch)
+        self.put_switch(switch)
+        return f"{named(life)} loads the table of epoch {epoch}, in which it is number {number}"
+
+    def at_lost(self, line, form, life, p, *room):
+        """A frame was lost."""
+        end = self.end(line, life, p)
+        self.lost[end] = self.lost.get(end, 0) + 1
+        self.put_counts()
+        k = self.network.link_at.get(end)
+        if k is not None:
+            self.scene.flash(f"link-{k}", "class", f"wire lost {self.network.way(end)}")
+        why = {"down": "the link is down", "told": "the network file says so"}.get(form.split()[3])
+        why = why or "it needs {} blocks, and {} are free".format(*room)
+        return f"a frame from port {p} of {named(life)} is lost: {why}"
+
+    def at_fail(self, line, _form, life, p, dropped):
+        """A cable failed."""
+        self.cable(self.end(line, life, p), True)
+        self.cables.append(f"The cable at port {p} of {named(life)} fails at event {self.place}.")
+        return f"the cable at port {p} of {named(life)} fails; {plural(dropped, 'frame')} on it dropped"
+
+    def at_repair(self, line, _form, life, p):
+        """A cable is up again."""
+        self.cable(self.end(line, life, p), False)
+        self.cables.append(f"It is repaired at event {self.place}." if len(self.cables) == 1 else
+                           f"The cable at port {p} of {named(life)} is repaired at event {self.place}.")
+        return f"the cable at port {p} of {named(life)} is repaired"
+
+    def cable(self, end, is_down):
+        """The cable at an end goes down or up, at its other end too."""
+        ends = {end, self.network.far(*end)} - {None}
+        (self.down.update if is_down else self.down.difference_update)(ends)
+        if end in self.network.link_at:
+            self.put_link(self.network.link_at[end])
+        else:
+            self.put_port(end)
+
+    def at_restart(self, _line, _form, life):
+        """A switch is off and on again."""
+        switch = life[0]
+        self.epoch[switch], self.table[switch] = None, None
+        self.spent.discard(switch)
+        for end in self.port:
+            if end[0] == switch:
+                self.port[end] = "s.dead", None
+                self.put_port(end)
+                if end in self.network.link_at:
+                    self.put_link(self.network.link_at[end])
+        self.span(switch)
+        self.put_switch(switch)
+        self.put_counts()
+        return f"{switch} is switched off and on: it is {named(life)} now"
+
+    def at_packet(self, line, form, packet, sender, target, address):
+        """A host sends a packet."""
+        self.sent += 1
+        dropped = "drop" in form
+        self.dropped += dropped
+        self.scene.flash(f"host-{sender}", "class", "host got")
+        if not dropped:
+            self.here[packet] = self.network.hosts[sender][0]
+            self.put_packets(self.here[packet])
+        self.put_counts()
+        words = f"{sender} sends packet {packet} to {target}"
+        return f"{words}; it is dropped at once: {address}" if dropped else f"{words} by the address {address}"
+
+    def at_move(self, _line, form, packet, life, *more):
+        """A packet makes one hop."""
+        switch = life[0]
+        self.here.pop(packet, None)
+        if "drop" in form:
+            self.dropped += 1
+            words = f"packet {packet} is dropped at {named(life)}: {more[0]}"
+        else:
+            words = self.hop(packet, switch, *more)
+        self.put_packets(switch)
+        self.put_counts()
+        return words
+
+    def hop(self, packet, switch, epoch, came, gone, host=None):
+        """A packet goes out by a port, or to its host."""
+        if host:
+            self.delivered += 1
+            self.scene.flash(f"host-{host}", "class", "host got")
+            return f"packet {packet} comes to {switch} by port {came}, and is delivered to {host} by port {gone}"
+        k, far = self.network.link_at.get((switch, gone)), self.network.far(switch, gone)
+        to = f" to {far[0]}" if far else ""
+        if far:
+            self.here[packet] = far[0]
+            self.put_packets(far[0])
+            self.scene.flash(f"link-{k}", "class", f"wire hop {self.network.way((switch, gone))}")
+        words = f"packet {packet}, in by port {came}, goes from {switch} by port {gone}{to}"
+        return f"{words}, by the table of epoch {epoch}"
+
+    # The strip of epochs
+
+    def span(self, switch):
+        """From this place on the switch is in its epoch with its table."""
+        table = self.table[switch]
+        self.spans[switch].append([self.place, None, self.epoch[switch], table and table[0]])
+
+    def end_spans(self):
+        """Each span ends where the next one begins, and the last at the end of the run."""
+        self.last = self.files.report.end[2]
+        for spans in self.spans.values():
+            for one, following in zip(spans, spans[1:] + [[self.last]]):
+                one[1] = following[0]
+
+
+def named(life):
+    """A switch in one of its lives."""
+    switch, boot = life
+    return switch if boot == 1 else f"{switch}.{boot}"
