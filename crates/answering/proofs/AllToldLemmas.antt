@@ -2,9 +2,10 @@
 use Rattle.std.proofs.Common.{◌≡◌, ◌∙◌, sym, subst, ℕ, List, [], ◌++◌, append-nil, Some, None, IfSome}
 use Rattle.outside.specs.Told.{Told, Gave, IsAtEnd, with_front}
 use Rattle.net_script.specs.declared.cause.ScriptCause.{ScriptCause}
+use Rattle.calling.specs.Inputs.{IsInput}
 use Rattle.answering.specs.declared.status.Status.{Status}
 use Rattle.answering.specs.declared.status.Status.TheVariants.{Ok, Usage, ScriptRefused, ReadFault, WriteFault, TablesRefused, Unsettled, EpochsSpent, JournalRefused, JournalFull, OutOfMemory}
-use Rattle.answering.specs.Answer.{Gives, IfRefused, Refuses, Streams, IsAnswer, IsCause, IsInput, IsStop, input_limit, refuses_nothing, given, cut, stopped, unread, refused, want}
+use Rattle.answering.specs.Answer.{Gives, IfRefused, Refuses, Streams, IsAnswer, IsCause, IsStop, input_limit, refuses_nothing, given, cut, stopped, unread, refused, want}
 
 -- bytes that have no fault are not refused
 pub not_refused : (status : Status) (Holds : ℕ → ScriptCause → Type 0) → ((line : ℕ) (cause : ScriptCause) → Holds line cause → ⊥) → IfRefused status Holds → ⊥
@@ -48,7 +49,7 @@ module _ (gives wanted : Gives) (refuses : Refuses) (whole : List ℕ) (old new 
       }
 
   stop_wanted : (status : Status) → IsStop input_limit refuses old.source new.source status → IsStop input_limit refuses_nothing old.source new.source status
-  stop_wanted status (unread u) = unread u
+  stop_wanted status (unread why is u) = unread why is u
   stop_wanted status (refused input) = absurd (never status (subst (λ (b : List ℕ). refuses b status) (is_whole input.bytes input.gave input.end) input.holds))
   stop_wanted status (want is taken) = want is taken
 

@@ -1,5 +1,4 @@
-pub mod AnswerLemmas
-pub mod PartLemmas
 pub mod WordLemmas
+pub mod StopLemmas
 pub mod AllToldLemmas
 pub mod SaidLemmas

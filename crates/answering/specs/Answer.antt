@@ -1,11 +1,15 @@
 -- The answer of a command: a status that came about by its cause, and was told.
 
-use Rattle.std.specs.Prelude.{◌≡◌, ◌≢◌, ◌⊎◌, ℕ, ◌+◌, ◌<◌, ◌≤◌, ◌==◌, ◌^◌, List, length, take, count_by}
-use Rattle.outside.specs.Told.{Seen, Gave, GaveAtMost, IsAtEnd, Gains, GainsFront, IsKept, Failed}
+use Rattle.std.specs.Prelude.{◌≡◌, ℕ, ◌^◌, List}
+use Rattle.outside.specs.Told.{Seen, GaveAtMost, Gains, GainsFront, IsKept, Failed}
 use Rattle.net_script.specs.declared.cause.ScriptCause.{ScriptCause}
 use Rattle.net_script.specs.declared.cause.ScriptCause.TheVariants.{TooMany}
 use Rattle.net_script.specs.Steps.{ReadRefusal}
 use Rattle.text_lines.specs.declared.stop.Refusal.TheVariants as refusal
+use Rattle.calling.specs.declared.input.Unread.{Unread}
+use Rattle.calling.specs.declared.input.Unread.TheVariants as no_input
+use Rattle.calling.specs.Ended.{IsLineTold}
+use Rattle.calling.specs.Inputs.{IsInput, IsUnread, most_read}
 use Rattle.answering.specs.declared.status.Status.{Status}
 use Rattle.answering.specs.declared.status.Status.TheVariants.{Ok, Usage, ScriptRefused, ReadFault, WriteFault, TablesRefused, Unsettled, EpochsSpent, JournalFull, OutOfMemory}
 use Rattle.answering.specs.Status.{code_of, line_of}
@@ -31,36 +35,15 @@ Gives = List ℕ → Status → List ℕ → Type 0
 abbrev pub Refuses : Type 1
 Refuses = List ℕ → Status → Type 0
 
--- A source was read to its end, and the bytes that it gave are within the limit and have this property.
-pub record IsInput (limit : ℕ) (Holds : List ℕ → Type 0) (old new : Seen) : Type 0 where
-  pub bytes : List ℕ
-  pub gave : Gave old new bytes
-  pub end : IsAtEnd new
-  pub within : length bytes ≤ limit
-  pub holds : Holds bytes
-
--- the most bytes that are read: one piece more than the limit
-abbrev pub most_read : ℕ → ℕ
-most_read limit = limit + 4096
-
--- A source gave more bytes than the limit, and refused is the line of the first byte too many.
-pub record IsOverLimit (limit : ℕ) (old new : Seen) (status : Status) : Type 0 where
-  pub bytes : List ℕ
-  pub gave : Gave old new bytes
-  pub over : limit < length bytes
-  pub taken : GaveAtMost old new (most_read limit)
-  pub refused : status ≡ ScriptRefused (1 + count_by (λ byte. byte == 10) (take limit bytes)) TooMany
-
--- Why there is no input: a fault of the source, before which it gave no more than the limit; the limit; or
--- want of memory.
-pub data IsUnread (limit : ℕ) (old new : Seen) (status : Status) : Type 0 where
-  fault : status ≡ ReadFault → Failed old new → GaveAtMost old new limit → IsUnread limit old new status
-  over : IsOverLimit limit old new status → IsUnread limit old new status
-  wanting : status ≡ OutOfMemory → GaveAtMost old new (most_read limit) → IsUnread limit old new status
+-- the status of an input that was not read
+abbrev pub unread_as : Unread → Status
+unread_as no_input.Fault = ReadFault
+unread_as (no_input.TooLong line) = ScriptRefused line TooMany
+unread_as no_input.OutOfMemory = OutOfMemory
 
 -- why there is no text to be written: there is no input, it is refused, or memory is wanting
 pub data IsStop (limit : ℕ) (refuses : Refuses) (old new : Seen) (status : Status) : Type 0 where
-  unread : IsUnread limit old new status → IsStop limit refuses old new status
+  unread : (why : Unread) → status ≡ unread_as why → IsUnread limit old new why → IsStop limit refuses old new status
   refused : IsInput limit (λ bytes. refuses bytes status) old new → IsStop limit refuses old new status
   want : status ≡ OutOfMemory → GaveAtMost old new (most_read limit) → IsStop limit refuses old new status
 
@@ -99,18 +82,9 @@ pub data IsCause (limit : ℕ) (gives : Gives) (refuses : Refuses) (source sourc
   stopped : IsStop limit refuses source source' status → IsKept out out'
       → IsCause limit gives refuses source source' out out' status
 
--- Err gained the line of the status, whose number is the answer. Or err failed and gained a front of
--- the line, and the answer is the number of a write fault.
-abbrev pub IsTold : Seen → Seen → Status → ℕ → Type 0
-IsTold old new status answer =
-    ((answer ≡ code_of status) × Gains old new (line_of status))
-    ⊎ ((status ≢ Ok) × (answer ≡ code_of WriteFault) × Failed old new × GainsFront old new (line_of status))
-
--- the status was told, or in place of that of a refused script, that no memory was found for its line
-abbrev pub IsToldOrWant : Seen → Seen → Status → ℕ → Type 0
-IsToldOrWant old new (ScriptRefused line cause) answer =
-    IsTold old new (ScriptRefused line cause) answer ⊎ IsTold old new OutOfMemory answer
-IsToldOrWant old new status answer = IsTold old new status answer
+-- a status was told: the answer is its number, and err gained its line, unless err failed
+abbrev pub IsTold : (old new : Seen) → Status → (answer : ℕ) → Type 0
+IsTold old new status answer = IsLineTold old new (code_of status) (line_of status) answer
 
 -- the answer of a command that reads an input: a status came about by its cause, and was told
 pub record IsAnswer (limit : ℕ) (gives : Gives) (refuses : Refuses) (old new : Streams) (answer : ℕ)

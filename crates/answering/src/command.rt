@@ -2,11 +2,13 @@
 //! for it, the text is written, and the status is told.
 
 ghost use Rattle.std.specs.Prelude.{◌≡◌, ◌⊎◌, ◌≤◌, length, IfOk, IfErr};
+ghost use Rattle.calling.specs.Inputs.{IsInput};
 ghost use Rattle.answering.specs.declared.status.Status.TheVariants.{OutOfMemory};
-ghost use Rattle.answering.specs.Answer.{streams, Gives, Refuses, IsAnswer, IsCause, IsEnding, IsInput, IsStop, input_limit};
+ghost use Rattle.answering.specs.Answer.{streams, Gives, Refuses, IsAnswer, IsCause, IsEnding, IsStop, input_limit};
 
-use crate::input::{INPUT_LIMIT, read_input};
+use crate::input::INPUT_LIMIT;
 use crate::status::{Status, finish};
+use calling::input::read_input;
 use outside::all::write_all;
 use outside::sink::Sink;
 use outside::source::Source;
@@ -85,5 +87,5 @@ pub fn answer<C: Command, S: Source, O: Sink, E: Sink>(
         (streams (S.seen source.new) (O.seen out.new) (E.seen err.new)) result }
 {
     let status = status_of(command, alloc, source, out);
-    finish(alloc, err, status)
+    finish(err, status)
 }

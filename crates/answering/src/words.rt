@@ -2,11 +2,7 @@
 
 ghost use Rattle.std.specs.Prelude.{◌≡◌, ◌↔◌, [], ◌∷◌, IsTrue};
 
-use an_base::memory::OutOfMemory;
 use an_base::text::Word;
-use std::env;
-use std::io::ErrorKind;
-use std::rt::Env;
 
 /// Whether the words are one word, of these bytes.
 pub fn is_word(words: &[Word], bytes: &[u8]) -> bool
@@ -16,19 +12,4 @@ pub fn is_word(words: &[Word], bytes: &[u8]) -> bool
         [word] => word.as_bytes() == bytes,
         _ => false,
     }
-}
-
-/// The words after the program's name. Where they are no text they are taken for no words.
-pub fn words_of_call<R: Env + AllocGlobal>(rt: &R) -> Result<Vec<Word>, OutOfMemory> {
-    let mut words = Vec::new(rt.alloc());
-    let mut args = match env::args(rt) {
-        Ok(args) => args,
-        Err(error) if error.kind() == ErrorKind::OutOfMemory => return Err(OutOfMemory),
-        Err(_error) => return Ok(words),
-    };
-    let _program = args.next();
-    for arg in args {
-        words.push(Word::of(rt.alloc(), arg.as_bytes())?)?;
-    }
-    Ok(words)
 }

@@ -5,7 +5,7 @@
 
 use an_base::memory::OutOfMemory;
 use answering::status::{Status, finish};
-use answering::words::words_of_call;
+use calling::words::words_of_call;
 use commands::top::autonet;
 use outside::standard::{StdSink, StdSource};
 use std::process::ExitCode;
@@ -25,7 +25,7 @@ fn main(rt: HostRuntime) -> ExitCode {
             &mut out,
             &mut err,
         ),
-        Err(OutOfMemory) => finish(rt.alloc(), &mut err, Status::OutOfMemory),
+        Err(OutOfMemory) => finish(&mut err, Status::OutOfMemory),
     };
     ExitCode::from(code)
 }

@@ -6,7 +6,8 @@
 use an_base::memory::OutOfMemory;
 use answering::expect::autonet_expect;
 use answering::status::{Status, finish};
-use answering::words::{is_word, words_of_call};
+use answering::words::is_word;
+use calling::words::words_of_call;
 use outside::standard::{StdSink, StdSource};
 use std::process::ExitCode;
 
@@ -18,8 +19,8 @@ fn main(rt: HostRuntime) -> ExitCode {
         Ok(words) if is_word(&words, b"expect") => {
             autonet_expect(rt.alloc(), &mut source, &mut out, &mut err)
         }
-        Ok(_others) => finish(rt.alloc(), &mut err, Status::Usage),
-        Err(OutOfMemory) => finish(rt.alloc(), &mut err, Status::OutOfMemory),
+        Ok(_others) => finish(&mut err, Status::Usage),
+        Err(OutOfMemory) => finish(&mut err, Status::OutOfMemory),
     };
     ExitCode::from(code)
 }

@@ -6,7 +6,7 @@
 
 use an_base::memory::OutOfMemory;
 use answering::status::{Status, finish};
-use answering::words::words_of_call;
+use calling::words::words_of_call;
 use file_commands::file::{answer_file, command_of};
 use outside::standard::{StdSink, StdSource};
 use std::process::ExitCode;
@@ -18,9 +18,9 @@ fn main(rt: HostRuntime) -> ExitCode {
     let code = match words_of_call(&rt) {
         Ok(words) => match command_of(&words) {
             Some(command) => answer_file(command, rt.alloc(), &mut source, &mut out, &mut err),
-            None => finish(rt.alloc(), &mut err, Status::Usage),
+            None => finish(&mut err, Status::Usage),
         },
-        Err(OutOfMemory) => finish(rt.alloc(), &mut err, Status::OutOfMemory),
+        Err(OutOfMemory) => finish(&mut err, Status::OutOfMemory),
     };
     ExitCode::from(code)
 }

@@ -37,7 +37,8 @@ rows_printed fs printed = subst (All (All IsWord)) (sym (map-append table_words 
     (All-map (All IsWord) table_words fs (All-weaker IsPrintedForm (λ f. All IsWord (table_words f)) (λ f is. is.words) fs printed))
     (All-cons (All IsWord) (table_words EndLine) [] (words_cons (codes "end") [] (fixed_word (codes "end") refl (omega arith) (omega arith)) words_nil) (All-nil (All IsWord))))
 
--- the text of a script, ended by a line feed, with what is expected of it behind it, is that of the script with tables, which are not refused
+-- the text of a script, ended by a line feed, with what is expected of it behind it, is that of the script with
+-- tables, which are not refused
 pub own_tables_pass : (bytes : List ℕ) (s : ScriptOf) (text : List ℕ) → IsText (bytes ++ 10 ∷ []) s → IsExpectOf s text → (t : TablesOf) × IsTextWith (bytes ++ 10 ∷ text) s t × ((out : List ℕ) → ¬ IsJudged s t false out)
 unfolding expect_text
 own_tables_pass bytes s text from is =

@@ -1,3 +1,5 @@
+//! The judgement of tables, and its text.
+
 ghost use Rattle.std.specs.Prelude.{◌≡◌, ◌≢◌, ◌==◌, ◌++◌, [], ◌∷◌, length, map, filter, ℕ, IfOk, OnOk};
 ghost use Rattle.std.specs.List.{list_all, list_any};
 ghost use Rattle.an_base.specs.Numbers.{AreNumbers};

@@ -5,7 +5,7 @@ use Rattle.net_script.specs.Scripts.{ScriptOf}
 use Rattle.net_script.specs.Texts.{IsFault, IsText}
 use Rattle.net_script.proofs.ScriptKept.{text_kept}
 use Rattle.net_script.proofs.TextLemmas.{no_fault, one_text}
-use Rattle.journal.specs.declared.cause.JournalCause.{JournalCause}
+use Rattle.journal_cause.specs.declared.cause.JournalCause.{JournalCause}
 use Rattle.journal.specs.Texts.{IsJournal}
 use Rattle.journal.proofs.FaultLemmas.{no_fault as no_journal_fault}
 use Rattle.journal.proofs.JournalLemmas.{one_journal}

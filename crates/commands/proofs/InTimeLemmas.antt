@@ -9,10 +9,12 @@ use Rattle.fabric_state.specs.declared.ending.Ending.TheVariants as ending
 use Rattle.fabric_world.specs.World.{world_after}
 use Rattle.fabric_settling.specs.Settling.{HasTime}
 use Rattle.fabric_settling.proofs.Whole.{ends_in_time}
+use Rattle.calling.specs.declared.input.Unread.{Unread}
+use Rattle.calling.specs.declared.input.Unread.TheVariants as no_input
 use Rattle.answering.specs.declared.status.Status.{Status}
 use Rattle.answering.specs.declared.status.Status.TheVariants.{Ok, Usage, ScriptRefused, ReadFault, WriteFault, TablesRefused, Unsettled, EpochsSpent, JournalRefused, JournalFull, OutOfMemory}
 use Rattle.answering.specs.Status.{code_of, line_of}
-use Rattle.answering.specs.Answer.{Gives, Refuses, Streams, IsAnswer, IsCause, IsGiven, IsStop, IsUnread, input_limit, given, cut, stopped, unread, refused, want, fault, over, wanting}
+use Rattle.answering.specs.Answer.{Gives, Refuses, Streams, IsAnswer, IsCause, IsGiven, IsStop, input_limit, given, cut, stopped, unread, refused, unread_as, want}
 use Rattle.answering.specs.Scripted.{refuses_script}
 use Rattle.commands.specs.InTime.{IsUnsettledAnswer, gives_late_replay, gives_late_run}
 use Rattle.commands.specs.Replay.{gives_replayed, refuses_journal}
@@ -40,13 +42,13 @@ unsettled_is OutOfMemory one = absurd (omega (arith, one))
 module _ (gives wanted : Gives) (refuses : Refuses) (old new : Streams)
     (gives_it : (bytes : List ℕ) (tick : ℕ) (text : List ℕ) → gives bytes (Unsettled tick) text → wanted bytes (Unsettled tick) text)
     (never : (bytes : List ℕ) (tick : ℕ) → refuses bytes (Unsettled tick) → ⊥) where
-  not_unread : (tick : ℕ) → IsUnread input_limit old.source new.source (Unsettled tick) → ⊥
-  not_unread tick (fault is failed within) = absurd (cc)
-  not_unread tick (over o) = let is = o.refused in absurd (cc)
-  not_unread tick (wanting is taken) = absurd (cc)
+  not_unread : (why : Unread) (tick : ℕ) → Unsettled tick ≡ unread_as why → ⊥
+  not_unread no_input.Fault tick is = absurd (cc)
+  not_unread (no_input.TooLong line) tick is = absurd (cc)
+  not_unread no_input.OutOfMemory tick is = absurd (cc)
 
   not_stopped : (tick : ℕ) → IsStop input_limit refuses old.source new.source (Unsettled tick) → ⊥
-  not_stopped tick (unread u) = not_unread tick u
+  not_stopped tick (unread why is u) = not_unread why tick is
   not_stopped tick (refused input) = never input.bytes tick input.holds
   not_stopped tick (want is taken) = absurd (cc)
 

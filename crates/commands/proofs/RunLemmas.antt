@@ -1,4 +1,5 @@
--- What `run` needs of a legal journal: that it can be spelled, and is not refused; and what it answers to the text of a script.
+-- What `run` needs of a legal journal: that it can be spelled, and is not refused; and what it answers to the text
+-- of a script.
 use Rattle.std.proofs.Common.{◌≡◌, ◌∙◌, ap, sym, subst, ℕ, ◌≤◌, ◌==◌, List, [], ◌∷◌, ◌++◌, refl, length, Some, is_some, Bool, true, false, cond, eqb-true, true≢false, All, arith}
 use Rattle.std.proofs.lemmas.List.Elements.{All-cons, All-head, All-nil, All-tail}
 use Rattle.an_base.specs.declared.event.Event.{Event}
@@ -7,7 +8,7 @@ use Rattle.net_script.specs.Scripts.{ScriptOf, IsScript}
 use Rattle.net_script.specs.Texts.{IsFault, IsText}
 use Rattle.net_script.proofs.TextLemmas.{no_fault, one_text}
 use Rattle.journal.specs.Events.{CanSpell, journal_text}
-use Rattle.journal.specs.declared.cause.JournalCause.{JournalCause}
+use Rattle.journal_cause.specs.declared.cause.JournalCause.{JournalCause}
 use Rattle.host_traffic.specs.Packets.{PacketOf, packet_of}
 use Rattle.fabric_state.specs.declared.ending.Ending.{Ending}
 use Rattle.fabric_state.specs.Fits.{IsPacketSound}

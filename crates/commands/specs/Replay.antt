@@ -4,7 +4,7 @@ use Rattle.std.specs.Prelude.{◌⊎◌, ℕ, List}
 use Rattle.an_base.specs.declared.event.Event.{Event}
 use Rattle.net_script.specs.Scripts.{ScriptOf}
 use Rattle.net_script.specs.Texts.{IsText, IsFault}
-use Rattle.journal.specs.declared.cause.JournalCause.{JournalCause}
+use Rattle.journal_cause.specs.declared.cause.JournalCause.{JournalCause}
 use Rattle.journal.specs.Texts.{IsJournal}
 use Rattle.replay.specs.Division.{IsDivision}
 use Rattle.replay.specs.Replays.{IsNoReplay}

@@ -1,3 +1,5 @@
+//! The command `gen`: a network by a number, with a summary of it.
+
 ghost use Rattle.std.specs.Prelude.{◌≡◌, ◌≢◌, ◌≤◌, ◌++◌, ℕ, List, [], ◌∷◌, IfOk, IfSome, MatchOption, OnOk};
 ghost use Rattle.net_gen.specs.Summary.{IsComment, IsSummary};
 ghost use Rattle.net_script.specs.Texts.{IsText};
@@ -105,5 +107,5 @@ pub fn autonet_gen<O: Sink, E: Sink>(
         result }
 {
     let status = status_of(alloc, seed, count, out);
-    finish(alloc, err, status)
+    finish(err, status)
 }

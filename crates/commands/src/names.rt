@@ -1,3 +1,5 @@
+//! The command `names`: what the hosts believe after a journal.
+
 ghost use Rattle.std.specs.Prelude.{◌≤◌, length, IfErr, IfOk};
 ghost use Rattle.replay.specs.Replays.{IfIllegal, IsNoReplay};
 ghost use Rattle.report.specs.Beliefs.{AreNamesIn};

@@ -1,3 +1,5 @@
+//! The command `replay`: the report of a journal.
+
 ghost use Rattle.std.specs.Prelude.{◌≡◌, ◌⊎◌, ◌≤◌, length, IfErr, IfOk};
 ghost use Rattle.answering.specs.declared.status.Status.TheVariants as ended;
 ghost use Rattle.replay.specs.Replays.{IfIllegal, IsNoReplay};

@@ -3,8 +3,9 @@
 ghost use Rattle.std.specs.Prelude.{◌≡◌, ◌⊎◌, ◌≤◌, All, length, IfErr, IfOk};
 ghost use Rattle.journal.specs.Events.{CanSpell, journal_text};
 ghost use Rattle.net_script.specs.Scripts.{IsScript};
+ghost use Rattle.calling.specs.Inputs.{IsInput};
 ghost use Rattle.answering.specs.declared.status.Status.TheVariants as ended;
-ghost use Rattle.answering.specs.Answer.{streams, IsCause, IsEnding, IsInput, IsStop, input_limit};
+ghost use Rattle.answering.specs.Answer.{streams, IsCause, IsEnding, IsStop, input_limit};
 ghost use Rattle.commands.specs.Reported.{IsReported};
 ghost use Rattle.commands.specs.Run.{IsRun, IsToldRun, gives_run};
 ghost use Rattle.answering.specs.Scripted.{refuses_script};
@@ -13,8 +14,9 @@ ghost use Rattle.commands.specs.Words.{IsRunAnswer};
 use crate::reported::given as given_of;
 use an_base::memory::OutOfMemory;
 use answering::command::Given;
-use answering::input::{INPUT_LIMIT, read_input};
+use answering::input::INPUT_LIMIT;
 use answering::status::{Status, finish};
+use calling::input::read_input;
 use journal::printer::print;
 use net_script::reader::read;
 use net_script::script::Script;
@@ -163,5 +165,5 @@ pub fn autonet_run<R: Threads + Wait + Sync, G: Gate, S: Source, O: Sink, E: Sin
         (streams (S.seen source.new) (O.seen out.new) (E.seen err.new)) result }
 {
     let status = status_of(rt, gate, alloc, source, out);
-    finish(alloc, err, status)
+    finish(err, status)
 }

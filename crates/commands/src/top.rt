@@ -1,3 +1,5 @@
+//! The call that answers all words.
+
 ghost use Rattle.answering.specs.Answer.{streams};
 ghost use Rattle.commands.specs.Words.{IsAnswerTo};
 
@@ -48,5 +50,5 @@ pub fn autonet<R: Threads + Wait + Sync, S: Source, O: Sink, E: Sink, G: Gate>(
     if let Some((seed, count)) = gen_words(words) {
         return autonet_gen(alloc, seed, count, out, err);
     }
-    finish(alloc, err, Status::Usage)
+    finish(err, Status::Usage)
 }

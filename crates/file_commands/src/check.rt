@@ -1,3 +1,5 @@
+//! The command `check`: the judgement of a script with tables.
+
 ghost use Rattle.std.specs.Prelude.{◌≡◌, Bool, IfOk};
 ghost use Rattle.table_script.specs.Tables.{AreTablesOf};
 ghost use Rattle.check_text.specs.Check.{IsJudged};

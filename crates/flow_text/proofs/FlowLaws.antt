@@ -1,4 +1,5 @@
--- A script has one text of what becomes of its packets; all that enter arrive, and no channel ever has more than it holds.
+-- A script has one text of what becomes of its packets; all that enter arrive, and no channel ever has more than it
+-- holds.
 use Rattle.std.proofs.Common.{◌≡◌, ◌≢◌, ◌∙◌, sym, ap, subst, refl, ℕ, ◌≤◌, List, [], ◌∷◌, arith, length, get_or, map, All, AllPairs, Contains, inl, inr}
 use Rattle.std.specs.Prelude.{fold}
 use Rattle.std.proofs.lemmas.Simd.{map-map}

@@ -23,8 +23,8 @@ use Rattle.text_lines.proofs.ChoiceLemmas.{branch, mapped, word_is}
 use Rattle.net_script.proofs.FormOf.{wire_of, wire_is}
 use Rattle.an_base.proofs.ListLemmas.{some_is}
 use Rattle.text_lines.proofs.NameLemmas.{place_found}
-use Rattle.journal.specs.declared.cause.JournalCause.{JournalCause}
-use Rattle.journal.specs.declared.cause.JournalCause.TheVariants.{BadHeader, UnknownWord, BadNumber, NoSuchName, NoEnd}
+use Rattle.journal_cause.specs.declared.cause.JournalCause.{JournalCause}
+use Rattle.journal_cause.specs.declared.cause.JournalCause.TheVariants.{BadHeader, UnknownWord, BadNumber, NoSuchName, NoEnd}
 use Rattle.journal.specs.declared.kind.SwitchEvent.{SwitchEvent}
 use Rattle.journal.specs.declared.kind.SwitchEvent.TheVariants as switch
 use Rattle.journal.specs.declared.kind.PortEvent.{PortEvent}

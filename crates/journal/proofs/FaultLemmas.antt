@@ -12,8 +12,8 @@ use Rattle.text_lines.specs.Names.{place_of}
 use Rattle.net_script.specs.Commands.{IsPort}
 use Rattle.net_script.specs.Scripts.{ScriptOf, IsScript}
 use Rattle.text_lines.proofs.SpellLemmas.{IsLineByte, IsWord, decimal_good, line_bytes, line_short, nonempty, test_from_all}
-use Rattle.journal.specs.declared.cause.JournalCause.{JournalCause}
-use Rattle.journal.specs.declared.cause.JournalCause.TheVariants.{UnknownWord, BadNumber, NoSuchName}
+use Rattle.journal_cause.specs.declared.cause.JournalCause.{JournalCause}
+use Rattle.journal_cause.specs.declared.cause.JournalCause.TheVariants.{UnknownWord, BadNumber, NoSuchName}
 use Rattle.journal.specs.Words.{words_of, is_shaped, is_line_byte, has_words}
 use Rattle.text_lines.specs.Faults.{unless}
 use Rattle.text_lines.proofs.FaultLemmas.{first_good}

@@ -1,5 +1,4 @@
 pub mod Kinds
-pub mod Causes
 pub mod Words
 pub mod Lines
 pub mod Events

@@ -4,8 +4,8 @@ use Rattle.text_lines.specs.Words.{is_number_in}
 use Rattle.text_lines.specs.Names.{place_of}
 use Rattle.net_script.specs.Commands.{most_count}
 use Rattle.net_script.specs.Scripts.{ScriptOf}
-use Rattle.journal.specs.declared.cause.JournalCause.{JournalCause}
-use Rattle.journal.specs.declared.cause.JournalCause.TheVariants.{BadNumber, NoSuchName}
+use Rattle.journal_cause.specs.declared.cause.JournalCause.{JournalCause}
+use Rattle.journal_cause.specs.declared.cause.JournalCause.TheVariants.{BadNumber, NoSuchName}
 use Rattle.text_lines.specs.Faults.{unless}
 use Rattle.journal.specs.Lines.{Line, Ticks, Moves, OnSwitch, OnPort, OnWire, Sends}
 

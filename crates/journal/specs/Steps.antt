@@ -6,7 +6,7 @@ use Rattle.text_lines.specs.declared.stop.Stop.{Stop}
 use Rattle.text_lines.specs.declared.stop.Stop.TheVariants as stop
 use Rattle.text_lines.specs.declared.stop.Refusal.{Refusal}
 use Rattle.text_lines.specs.Stops.{IsRefusalBy}
-use Rattle.journal.specs.declared.cause.JournalCause.{JournalCause}
+use Rattle.journal_cause.specs.declared.cause.JournalCause.{JournalCause}
 use Rattle.journal.specs.Events.{CanSpell, event_words}
 use Rattle.journal.specs.Lines.{Line, line_words}
 use Rattle.journal.specs.Rules.{line_cause}

@@ -3,8 +3,8 @@ use Rattle.an_base.specs.declared.event.Event.{Event}
 use Rattle.text_lines.specs.Lines.{line_text}
 use Rattle.text_lines.specs.Grammar.{IsFaultyFormBy}
 use Rattle.net_script.specs.Scripts.{ScriptOf}
-use Rattle.journal.specs.declared.cause.JournalCause.{JournalCause}
-use Rattle.journal.specs.declared.cause.JournalCause.TheVariants.{BadHeader, UnknownWord, NoEnd}
+use Rattle.journal_cause.specs.declared.cause.JournalCause.{JournalCause}
+use Rattle.journal_cause.specs.declared.cause.JournalCause.TheVariants.{BadHeader, UnknownWord, NoEnd}
 use Rattle.journal.specs.Words.{words_of, is_shaped}
 use Rattle.journal.specs.Lines.{line_words}
 use Rattle.journal.specs.Events.{CanSpell, first_words, events_text, journal_text}

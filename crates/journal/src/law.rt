@@ -3,7 +3,7 @@
 ghost use Rattle.std.specs.Prelude.{◌≡◌, ◌⊎◌, ℕ, List, All};
 ghost use Rattle.an_base.specs.declared.event.Event.{Event};
 ghost use Rattle.net_script.specs.Scripts.{ScriptOf, IsScript};
-ghost use Rattle.journal.specs.declared.cause.JournalCause.{JournalCause};
+ghost use Rattle.journal_cause.specs.declared.cause.JournalCause.{JournalCause};
 ghost use Rattle.journal.specs.Events.{CanSpell, journal_text};
 ghost use Rattle.journal.specs.Texts.{IsJournal, IsFault};
 

@@ -5,7 +5,7 @@ ghost use Rattle.an_base.specs.declared.event.Event.{Event};
 ghost use Rattle.net_script.specs.Scripts.{ScriptOf};
 ghost use Rattle.text_lines.specs.Lines.{line_text};
 ghost use Rattle.text_lines.specs.declared.stop.Stop.TheVariants.{Fault};
-ghost use Rattle.journal.specs.declared.cause.JournalCause.TheVariants.{UnknownWord};
+ghost use Rattle.journal_cause.specs.declared.cause.JournalCause.TheVariants.{UnknownWord};
 ghost use Rattle.journal.specs.declared.line.TheConstants.{MOST_LINE};
 ghost use Rattle.journal.specs.Words.{words_of, is_shaped};
 ghost use Rattle.journal.specs.Events.{first_words};
@@ -13,10 +13,10 @@ ghost use Rattle.journal.specs.Texts.{IsJournal};
 ghost use Rattle.journal.specs.Steps.{ReadsLine, IsRefusal};
 ghost use Rattle.journal.specs.Reading.{BeginsJournal, HasRead, IsNext};
 
-use crate::cause::JournalCause;
 use crate::line::{MOST_LINE, are_line_bytes, first_line, have_bytes, set_words};
 use crate::words::read_words;
 use an_base::event::{Event, Journal};
+use journal_cause::cause::JournalCause;
 use net_script::script::Script;
 use std::alloc::Global;
 use std::marker::Model;
@@ -28,14 +28,6 @@ pub type JournalRefusal = Refusal<JournalCause>;
 
 /// Why a line was not read.
 pub type JournalStop = Stop<JournalCause>;
-
-impl From<JournalCause> for Stop<JournalCause> {
-    ghost from_gives = { λ cause stop. stop ≡ Fault cause };
-
-    fn from(cause: JournalCause) -> Stop<JournalCause> {
-        Stop::Fault(cause)
-    }
-}
 
 /// The text of a journal, whose events are read one by one. It keeps none of them. As the code is written, and by
 /// no clause, it takes no more memory than the words of one line need.

@@ -10,9 +10,9 @@ ghost use Rattle.journal.specs.Events.{IsSwitch, IsHost, switch_name, host_name}
 ghost use Rattle.journal.specs.Rules.{name_cause, number_cause};
 ghost use Rattle.journal.specs.Steps.{ReadsForm, ReadsWords};
 
-use crate::cause::JournalCause;
 use crate::kind::{PortEvent, SwitchEvent};
 use an_base::event::Event;
+use journal_cause::cause::JournalCause;
 use net_script::command::WireChange;
 use net_script::script::Script;
 use text_lines::word::{is, number_between};

@@ -4,7 +4,7 @@ use Rattle.std.proofs.lemmas.List.{take_more}
 use Rattle.an_base.specs.declared.event.Event.{Event}
 use Rattle.net_script.specs.Scripts.{IsScript, ScriptOf}
 use Rattle.text_lines.specs.declared.stop.Refusal.TheVariants as stopped
-use Rattle.journal.specs.declared.cause.JournalCause.{JournalCause}
+use Rattle.journal_cause.specs.declared.cause.JournalCause.{JournalCause}
 use Rattle.journal.specs.Reading.{BeginsJournal}
 use Rattle.journal.specs.Steps.{JournalRefusal, IsRefusal as IsUnread}
 use Rattle.journal.specs.Texts.{IsJournal}

@@ -3,8 +3,8 @@
 use Rattle.std.specs.Prelude.{◌≡◌, ◌+◌, ℕ, List, length, None, false, ⊤}
 use Rattle.an_base.specs.declared.event.Event.{Event}
 use Rattle.net_script.specs.Scripts.{ScriptOf}
-use Rattle.journal.specs.declared.cause.JournalCause.{JournalCause}
-use Rattle.journal.specs.declared.cause.JournalCause.TheVariants as cause
+use Rattle.journal_cause.specs.declared.cause.JournalCause.{JournalCause}
+use Rattle.journal_cause.specs.declared.cause.JournalCause.TheVariants as cause
 use Rattle.journal.specs.Steps.{JournalRefusal}
 use Rattle.journal.specs.Texts.{IsFault, IsJournal}
 use Rattle.text_lines.specs.declared.stop.Refusal.TheVariants as stopped

@@ -5,8 +5,8 @@ ghost use Rattle.replay.specs.Replays.{as_replayed};
 ghost use Rattle.replay.specs.declared.refusal.ReplayRefusal.TheVariants as refusal;
 
 use an_base::memory::OutOfMemory;
-use journal::cause::JournalCause;
 use journal::reader::JournalRefusal;
+use journal_cause::cause::JournalCause;
 
 /// Why a journal was not replayed.
 #[derive(Clone, Copy, Debug, PartialEq, Eq)]

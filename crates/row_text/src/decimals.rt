@@ -1,3 +1,5 @@
+//! The decimals of small numbers, made once.
+
 ghost use Rattle.std.specs.Prelude.{◌≡◌, ◌+◌, ◌≤◌, ◌++◌, IfOk, OnOk, vec_len, vec_capacity};
 ghost use Rattle.std.specs.Fmt.{decimal};
 ghost use Rattle.row_text.specs.Decimals.{AreDecimals};

@@ -1,3 +1,5 @@
+//! The names of switches and lives, appended to a text.
+
 ghost use Rattle.std.specs.Prelude.{◌≡◌, ◌==◌, ◌+◌, ◌<◌, ◌≤◌, ◌++◌, length, position, OnOk, IfOk, IfSome, vec_capacity, vec_len};
 ghost use Rattle.row_text.specs.Names.{life_text, name_of, switch_name};
 

@@ -329,7 +329,8 @@ impl Desk {
         }
     }
 
-    /// Asks for what is to be asked for, by one call of the turnstile. Answers its papers, and what there is to do next.
+    /// Asks for what is to be asked for, by one call of the turnstile. Answers its papers, and what there is to do
+    /// next.
     pub fn ask<R: Wait>(
         &mut self,
         rt: &R,

@@ -1,8 +1,8 @@
 //! Which workers are roused: told to look again whether there is something to do.
 //!
-//! A worker that found nothing to do looks again only once it is roused: by one that sent it a frame, or by the driver.
-//! Who is roused is a guess, and what a run gives does not rest on it: a worker that is roused for nothing finds nothing
-//! again, and all are roused again in each round, after the driver's steps.
+//! A worker that found nothing to do looks again only once it is roused: by one that sent it a frame, or by the
+//! driver. Who is roused is a guess, and what a run gives does not rest on it: a worker that is roused for nothing
+//! finds nothing again, and all are roused again in each round, after the driver's steps.
 
 use net_graph::wiring::Far;
 use net_script::script::Script;

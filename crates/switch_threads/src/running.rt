@@ -114,9 +114,9 @@ fn have_failed(workers: &[Worker]) -> bool {
     false
 }
 
-// The workers of a party ask where some have something to ask for, and rest where none has. What is large in the book
-// comes to a processor once for all of them, since the other threads wait at the door. Answers what the party is to do
-// next.
+// The workers of a party ask where some have something to ask for, and rest where none has. What is large in the
+// book comes to a processor once for all of them, since the other threads wait at the door. Answers what the party
+// is to do next.
 fn ask_or_rest<R: Wait>(
     rt: &R,
     turnstile: &Turnstile<Book>,
@@ -154,8 +154,8 @@ fn turn<R: Wait, G: Gate>(
     then
 }
 
-// The workers of a party make turns, in the first of which these are roused, and rest, until the party is to do something
-// else. Answers whether the driver is to make its steps.
+// The workers of a party make turns, in the first of which these are roused, and rest, until the party is to do
+// something else. Answers whether the driver is to make its steps.
 fn work<R: Wait, G: Gate>(
     rt: &R,
     turnstile: &Turnstile<Book>,
@@ -432,8 +432,8 @@ fn run_with<R: Threads + Wait + Sync, G: Gate>(
     Ok((seat, end, accounts))
 }
 
-/// A run of the network of a script: a worker for each switch and the driver, side by side, until the driver
-/// is told an end. `gate` is called round each turn of a worker. It gives a legal history and its end; and
+/// A run of the network of a script: a worker for each switch and the driver, in threads, until the driver is
+/// told an end. `gate` is called round each turn of a worker. It gives a legal history and its end; and
 /// all that is claimed of a lawful history holds of it, also how soon it settles. With it what each caller
 /// told of its events: the driver, and the workers in the order of the script.
 ///

@@ -157,8 +157,8 @@ fn joined(turnstile: &Turnstile<Tally>, callers: u32, mut seats: Vec<Seat<Tally>
     seat
 }
 
-// What a tally, each line of which takes so many pauses, has after so many callers made their calls, each in a thread of
-// its own.
+// What a tally, each line of which takes so many pauses, has after so many callers made their calls, each in a
+// thread of its own.
 fn tally_of<R: Threads + Wait + Sync>(
     rt: &R,
     alloc: Global,
@@ -204,8 +204,8 @@ fn threads_add_all_lines_in_order(rt: HostRuntime) -> Result<(), Fail> {
     Ok(())
 }
 
-// Each turn takes so long that those who wait for theirs sleep, so that a turn that ends and wakes nobody would keep this
-// test from ending.
+// Each turn takes so long that those who wait for theirs sleep, so that a turn that ends and wakes nobody would
+// keep this test from ending.
 #[test]
 fn callers_that_sleep_meanwhile_are_woken(rt: HostRuntime) -> Result<(), Fail> {
     for callers in [2u32, 3, 8] {

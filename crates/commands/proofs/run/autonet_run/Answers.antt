@@ -1,11 +1,4 @@
-use Rattle.answering.specs.Answer.{input_limit, streams}
-use Rattle.answering.specs.Scripted.{refuses_script}
-use Rattle.commands.specs.Run.{gives_run}
-use Rattle.answering.proofs.AnswerLemmas.{answered}
 use Rattle.commands.proofs.run.autonet_run.Goals as goal
 
 pub returns : goal.returns
-returns g c = answered input_limit gives_run refuses_script
-    (streams (g.S.Source.seen c.args.source.now) (g.O.Sink.seen c.args.out.now) (g.E.Sink.seen c.args.err.now))
-    (streams (g.S.Source.seen c.status_of-status.new.source) (g.O.Sink.seen c.status_of-status.new.out) (g.E.Sink.seen c.finish.new.err))
-    c.finish.result c.status_of-status.result c.status_of-status.ensures c.finish.ensures
+returns g c = record { status = c.status_of-status.result; cause = c.status_of-status.ensures; told = c.finish.ensures }

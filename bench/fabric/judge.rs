@@ -1,0 +1,1102 @@
+//! The judgement: dependencies of all routes, ranks or the least cycle, and the routes that do not arrive.
+use crate::lanes::Lanes;
+use crate::model::*;
+
+/// The channel dependency graph. A channel is a directed link from a switch to a switch on a lane; its node is
+/// (base[s] + p) * lanes + v. Each switch has a bit for each channel in and channel out.
+pub struct Graph {
+    pub lanes: usize,
+    pub wide: usize,
+    pub words: Vec<u64>,
+}
+
+impl Graph {
+    pub fn new(f: &Fabric, lanes: usize) -> Graph {
+        let most = f.switches.iter().map(|s| s.ports as usize).max().unwrap_or(0);
+        let wide = (most * lanes).div_ceil(64);
+        Graph { lanes, wide, words: vec![0; f.far.len() * lanes * wide] }
+    }
+    /// Channel `c` leads on to the bit of a port and lane: (port - 1) * lanes + lane.
+    #[inline]
+    pub fn set(&mut self, c: usize, bit: usize) {
+        self.words[c * self.wide + bit / 64] |= 1 << (bit % 64);
+    }
+    pub fn count(&self) -> usize {
+        self.words.iter().map(|w| w.count_ones() as usize).sum()
+    }
+}
+
+#[derive(Clone, Copy, PartialEq, Eq, Debug)]
+pub enum Kind {
+    Missing,
+    Dead,
+    Wrong,
+    Loop,
+}
+
+#[derive(Default, Debug)]
+pub struct Arrival {
+    pub lids: usize,
+    pub routes: u64,
+    pub arrived: u64,
+    pub missing: u64,
+    pub dead: u64,
+    pub wrong: u64,
+    pub looped: u64,
+    pub most_hops: u32,
+    /// the least route that does not arrive: LID, source GUID, switch of the place, kind
+    pub first: Option<(u16, u64, u32, Kind)>,
+}
+
+#[derive(Clone, Copy, PartialEq, Eq)]
+pub enum Traffic {
+    Hosts,
+    Lids,
+    All,
+}
+
+pub struct Sources {
+    pub count: Vec<u32>,
+    pub owner: Vec<Owner>,
+    pub traffic: Traffic,
+}
+#[derive(Clone, Copy, PartialEq, Eq)]
+pub enum Owner {
+    None,
+    Switch(u32),
+    Host(u32),
+}
+
+pub fn sources(f: &Fabric, traffic: Traffic) -> Sources {
+    let mut count = vec![0u32; f.switches.len()];
+    for h in &f.hosts {
+        count[h.at as usize] += 1;
+    }
+    if traffic == Traffic::All {
+        for c in &mut count {
+            *c += 1;
+        }
+    }
+    let mut owner = vec![Owner::None; f.most_lid + 1];
+    for (i, h) in f.hosts.iter().enumerate() {
+        for l in 0..1usize << h.lmc {
+            owner[h.lid as usize + l] = Owner::Host(i as u32);
+        }
+    }
+    if traffic != Traffic::Hosts {
+        for (i, s) in f.switches.iter().enumerate() {
+            for l in 0..1usize << s.lmc {
+                owner[s.lid as usize + l] = Owner::Switch(i as u32);
+            }
+        }
+    }
+    owner[0] = Owner::None;
+    Sources { count, owner, traffic }
+}
+
+impl Sources {
+    /// How many end ports at a switch send to an owner.
+    pub fn at(&self, f: &Fabric, s: usize, owner: Owner) -> u32 {
+        let own = match owner {
+            Owner::Host(h) => f.hosts[h as usize].at as usize == s,
+            Owner::Switch(t) => t as usize == s && self.traffic == Traffic::All,
+            Owner::None => false,
+        };
+        self.count[s] - own as u32
+    }
+}
+
+const OK: u32 = 1;
+fn kind_of(code: u32) -> Kind {
+    [Kind::Missing, Kind::Dead, Kind::Wrong, Kind::Loop][code as usize - 2]
+}
+
+/// What one entry says: the next switch and the port by which it is entered, or how the route ends.
+enum Next {
+    Goes(usize, u8),
+    Ends(u32),
+}
+
+#[inline]
+fn next(f: &Fabric, s: usize, p: u8, owner: Owner) -> Next {
+    if p == 0 {
+        return Next::Ends(if owner == Owner::Switch(s as u32) { OK } else { 4 });
+    }
+    if p == NO_PORT {
+        return Next::Ends(2);
+    }
+    match f.far(s, p) {
+        Far::Switch(t, j) => Next::Goes(t as usize, j),
+        Far::None => Next::Ends(3),
+        Far::Host(h) => Next::Ends(if owner == Owner::Host(h) { OK } else { 4 }),
+    }
+}
+
+pub const BLOCK: usize = 64;
+
+/// Calls the function with each LID that has an owner and the column of the tables for it, in rising order.
+pub fn columns<F: FnMut(usize, Owner, &[u8])>(f: &Fabric, src: &Sources, mut each: F) {
+    let n = f.switches.len();
+    let w = f.most_lid + 1;
+    let mut cols = vec![0u8; BLOCK * n];
+    let mut d0 = 0;
+    while d0 < w {
+        let many = BLOCK.min(w - d0);
+        if (d0..d0 + many).any(|d| src.owner[d] != Owner::None) {
+            for s in 0..n {
+                let row = &f.lft[s * w + d0..s * w + d0 + many];
+                for (i, b) in row.iter().enumerate() {
+                    cols[i * n + s] = *b;
+                }
+            }
+            for i in 0..many {
+                if src.owner[d0 + i] != Owner::None {
+                    each(d0 + i, src.owner[d0 + i], &cols[i * n..(i + 1) * n]);
+                }
+            }
+        }
+        d0 += many;
+    }
+}
+
+/// What stands behind each port of each switch, packed: a switch and the port by which it is entered, a host, or nothing.
+pub struct Packed {
+    side: Vec<u32>,
+    base: Vec<u32>,
+    ports: Vec<u8>,
+}
+const END: u32 = 0x8000_0000;
+const HOST: u32 = 0x4000_0000;
+impl Packed {
+    pub fn new(f: &Fabric) -> Packed {
+        let side = f
+            .far
+            .iter()
+            .map(|x| match x {
+                Far::None => END | 3,
+                Far::Switch(t, j) => t << 8 | *j as u32,
+                Far::Host(h) => END | HOST | h,
+            })
+            .collect();
+        Packed { side, base: f.base.clone(), ports: f.switches.iter().map(|s| s.ports).collect() }
+    }
+    /// Of a column of the tables, where each switch sends: a switch and its port in, or END with a code.
+    pub fn nexts(&self, col: &[u8], owner: Owner, to: &mut [u32]) {
+        let host = match owner {
+            Owner::Host(h) => END | HOST | h,
+            _ => u32::MAX,
+        };
+        let own = match owner {
+            Owner::Switch(t) => t as usize,
+            _ => usize::MAX,
+        };
+        for s in 0..col.len() {
+            let p = col[s];
+            to[s] = if p <= self.ports[s] {
+                let x = self.side[self.base[s] as usize + p as usize];
+                if x & END == 0 {
+                    x
+                } else if p == 0 {
+                    END | if s == own { OK } else { 4 }
+                } else if x & HOST != 0 {
+                    END | if x == host { OK } else { 4 }
+                } else {
+                    x
+                }
+            } else {
+                END | if p == NO_PORT { 2 } else { 3 }
+            };
+        }
+    }
+}
+
+/// Dependencies of all routes without lanes, and how the routes end.
+pub fn walk_all(f: &Fabric, src: &Sources, graph: &mut Graph) -> Arrival {
+    let n = f.switches.len();
+    let packed = Packed::new(f);
+    let mut a = Arrival::default();
+    // for each switch: 0 not yet seen, else the code with the hops above it
+    let mut state = vec![0u32; n];
+    let mut to = vec![0u32; n];
+    let mut path: Vec<u32> = Vec::new();
+    let starts: Vec<usize> = (0..n).filter(|&s| src.count[s] > 0).collect();
+    columns(f, src, |d, owner, col| {
+        a.lids += 1;
+        packed.nexts(col, owner, &mut to);
+        state.fill(0);
+        let mut lost = [0u64; 8];
+        for &s0 in &starts {
+            if src.at(f, s0, owner) == 0 {
+                continue;
+            }
+            let mut s = s0;
+            let mut st;
+            loop {
+                st = state[s];
+                if st != 0 {
+                    if st == 7 {
+                        st = 5;
+                    }
+                    break;
+                }
+                state[s] = 7;
+                path.push(s as u32);
+                let x = to[s];
+                if x & END != 0 {
+                    st = x & 7;
+                    break;
+                }
+                let t = (x >> 8) as usize;
+                if to[t] & END == 0 {
+                    graph.set(f.base[s] as usize + col[s] as usize, col[t] as usize - 1);
+                }
+                s = t;
+            }
+            while let Some(p) = path.pop() {
+                st += 8;
+                state[p as usize] = st;
+            }
+            let many = src.at(f, s0, owner) as u64;
+            lost[(st & 7) as usize] += many;
+            if st & 7 == OK && many > 0 {
+                a.most_hops = a.most_hops.max(state[s0] >> 3);
+            }
+        }
+        let all: u64 = lost.iter().sum();
+        a.routes += all;
+        a.arrived += lost[1];
+        a.missing += lost[2];
+        a.dead += lost[3];
+        a.wrong += lost[4];
+        a.looped += lost[5];
+        if lost[1] < all && a.first.is_none() {
+            a.first = Some(least_failing(f, src, d, owner, col));
+        }
+    });
+    a
+}
+
+/// The same dependencies by waves: 64 LIDs at a time, a bit for each at each switch that one of their routes comes to.
+/// Answers how many routes there are, and how many entries stop one before its target. Where no dependencies lead round,
+/// no route does, and so all routes arrive if no entry stops one.
+pub fn waves(f: &Fabric, src: &Sources, graph: &mut Graph) -> (usize, u64, u64) {
+    let n = f.switches.len();
+    let w = f.most_lid + 1;
+    let packed = Packed::new(f);
+    let sends: u64 = src.count.iter().map(|&c| c as u64).sum();
+    let starts: Vec<usize> = (0..n).filter(|&s| src.count[s] > 0).collect();
+    let (mut lids, mut routes, mut stops) = (0, 0u64, 0u64);
+    let mut come = vec![0u64; n];
+    let mut fresh = vec![0u64; n];
+    let mut block = vec![NO_PORT; n * 64];
+    let mut queue: Vec<u32> = Vec::with_capacity(n);
+    let mut d0 = 0;
+    while d0 < w {
+        let many = 64.min(w - d0);
+        let mut all = 0u64;
+        let mut target = [u32::MAX; 64];
+        let mut at = [usize::MAX; 64];
+        for i in 0..many {
+            match src.owner[d0 + i] {
+                Owner::None => continue,
+                Owner::Host(h) => {
+                    target[i] = END | HOST | h;
+                    at[i] = f.hosts[h as usize].at as usize;
+                    routes += sends - 1;
+                }
+                Owner::Switch(t) => {
+                    at[i] = t as usize;
+                    target[i] = END | 0x2000_0000 | t;
+                    routes += sends - (src.traffic == Traffic::All) as u64;
+                }
+            }
+            all |= 1 << i;
+            lids += 1;
+        }
+        if all == 0 {
+            d0 += 64;
+            continue;
+        }
+        // the columns of the block, together: else each read is of another page
+        for s in 0..n {
+            block[s * 64..s * 64 + many].copy_from_slice(&f.lft[s * w + d0..s * w + d0 + many]);
+        }
+        come.fill(0);
+        queue.clear();
+        for &s in &starts {
+            fresh[s] = all;
+        }
+        for i in 0..many {
+            // who alone at its switch sends does not send to itself
+            if all >> i & 1 == 1
+                && at[i] != usize::MAX
+                && src.count[at[i]] > 0
+                && src.at(f, at[i], src.owner[d0 + i]) == 0
+            {
+                fresh[at[i]] &= !(1 << i);
+            }
+        }
+        for &s in &starts {
+            if fresh[s] != 0 {
+                queue.push(s as u32);
+            }
+        }
+        let mut k = 0;
+        while k < queue.len() {
+            let s = queue[k] as usize;
+            k += 1;
+            let mut bits = fresh[s];
+            fresh[s] = 0;
+            come[s] |= bits;
+            let row: &[u8; 64] = block[s * 64..s * 64 + 64].try_into().unwrap();
+            let first = packed.base[s] as usize;
+            let ports = packed.ports[s];
+            while bits != 0 {
+                let i = bits.trailing_zeros() as usize;
+                bits &= bits - 1;
+                let p = row[i];
+                if p == 0 {
+                    if target[i] != END | 0x2000_0000 | s as u32 {
+                        stops += 1;
+                    }
+                    continue;
+                }
+                if p > ports {
+                    stops += 1;
+                    continue;
+                }
+                let x = packed.side[first + p as usize];
+                if x & END != 0 {
+                    if x != target[i] {
+                        stops += 1;
+                    }
+                    continue;
+                }
+                let t = (x >> 8) as usize;
+                let q = block[t * 64 + i];
+                if q != 0 && q <= packed.ports[t] {
+                    graph.set(first + p as usize, q as usize - 1);
+                }
+                let bit = 1u64 << i;
+                if (come[t] | fresh[t]) & bit == 0 {
+                    if fresh[t] == 0 {
+                        queue.push(t as u32);
+                    }
+                    fresh[t] |= bit;
+                }
+            }
+            if k > 4096 && k * 2 > queue.len() {
+                queue.drain(..k);
+                k = 0;
+            }
+        }
+        d0 += 64;
+    }
+    // what leads to no switch is no channel
+    let mut mask = vec![0u64; graph.wide * n];
+    for s in 0..n {
+        for p in 1..=packed.ports[s] as usize {
+            if packed.side[packed.base[s] as usize + p] & END == 0 {
+                mask[s * graph.wide + (p - 1) / 64] |= 1 << ((p - 1) % 64);
+            }
+        }
+    }
+    for s in 0..n {
+        for p in 1..=packed.ports[s] as usize {
+            let x = packed.side[packed.base[s] as usize + p];
+            if x & END == 0 {
+                let t = (x >> 8) as usize;
+                for k in 0..graph.wide {
+                    graph.words[(packed.base[s] as usize + p) * graph.wide + k] &= mask[t * graph.wide + k];
+                }
+            }
+        }
+    }
+    (lids, routes, stops)
+}
+
+/// Of one LID the source of least GUID whose route does not arrive.
+fn least_failing(f: &Fabric, src: &Sources, d: usize, owner: Owner, col: &[u8]) -> (u16, u64, u32, Kind) {
+    let mut best: Option<(u64, u32, Kind)> = None;
+    let mut try_one = |guid: u64, at: usize| {
+        if best.is_some_and(|b| b.0 <= guid) {
+            return;
+        }
+        let (mut s, mut steps) = (at, 0);
+        let mut least = at;
+        loop {
+            match next(f, s, col[s], owner) {
+                Next::Ends(OK) => return,
+                Next::Ends(c) => {
+                    best = Some((guid, s as u32, kind_of(c)));
+                    return;
+                }
+                Next::Goes(t, _) => {
+                    s = t;
+                    steps += 1;
+                }
+            }
+            if steps > col.len() {
+                if steps == col.len() + 1 {
+                    least = s;
+                }
+                least = least.min(s);
+            }
+            if steps > 2 * col.len() + 1 {
+                best = Some((guid, least as u32, Kind::Loop));
+                return;
+            }
+        }
+    };
+    for (i, h) in f.hosts.iter().enumerate() {
+        if owner != Owner::Host(i as u32) {
+            try_one(h.guid, h.at as usize);
+        }
+    }
+    if src.traffic == Traffic::All {
+        for (i, s) in f.switches.iter().enumerate() {
+            if owner != Owner::Switch(i as u32) {
+                try_one(s.guid, i);
+            }
+        }
+    }
+    let (g, p, k) = best.unwrap();
+    (d as u16, g, p, k)
+}
+
+/// Dependencies of all routes with lanes. Of each switch and LID `lanes.start` gives the classes of service levels
+/// with which its end ports send.
+pub fn walk_lanes(f: &Fabric, src: &Sources, lanes: &Lanes, graph: &mut Graph) -> u64 {
+    let n = f.switches.len();
+    let classes = lanes.classes;
+    let packed = Packed::new(f);
+    let starting = lanes.starting(f);
+    let mut at_switch: Vec<Vec<u32>> = vec![Vec::new(); n];
+    for (i, h) in f.hosts.iter().enumerate() {
+        at_switch[h.at as usize].push(i as u32);
+    }
+    let mut to = vec![0u32; n];
+    let mut seen = vec![false; n];
+    let mut used: Vec<u32> = Vec::new();
+    let mut many = vec![0u32; n];
+    let mut mask = vec![0u16; n];
+    // the lanes of the channel by which s sends, for each class
+    let mut out = vec![0u16; n * classes];
+    let mut ready: Vec<u32> = Vec::new();
+    let mut discards = 0u64;
+    columns(f, src, |d, owner, col| {
+        packed.nexts(col, owner, &mut to);
+        for &s in &used {
+            seen[s as usize] = false;
+            mask[s as usize] = 0;
+            many[s as usize] = 0;
+            for o in &mut out[s as usize * classes..(s as usize + 1) * classes] {
+                *o = 0;
+            }
+        }
+        used.clear();
+        for s0 in 0..n {
+            if src.count[s0] == 0 || src.at(f, s0, owner) == 0 {
+                continue;
+            }
+            let m = lanes.start(f, s0, d, owner);
+            mask[s0] |= m;
+            if to[s0] & END == 0 {
+                let mut left = m;
+                while left != 0 {
+                    let c = left.trailing_zeros() as usize;
+                    left &= left - 1;
+                    let mut set = starting[(f.base[s0] as usize + col[s0] as usize) * classes + c];
+                    if set >> 15 & 1 == 1 {
+                        discards += 1;
+                        set &= 0x7fff;
+                    }
+                    out[s0 * classes + c] |= set;
+                }
+            }
+            if let crate::lanes::Start::Pairs(level) = &lanes.by {
+                if to[s0] & END == 0 {
+                    for &h in &at_switch[s0] {
+                        if owner == Owner::Host(h) {
+                            continue;
+                        }
+                        let c = level[h as usize][d] as usize;
+                        if c > 15 {
+                            continue;
+                        }
+                        let w = lanes.lane(f, s0, f.hosts[h as usize].port, col[s0], c);
+                        if w == 15 {
+                            discards += 1;
+                            continue;
+                        }
+                        mask[s0] |= 1 << c;
+                        out[s0 * classes + c] |= 1 << w;
+                    }
+                }
+            }
+            let mut s = s0;
+            while !seen[s] {
+                seen[s] = true;
+                used.push(s as u32);
+                if to[s] & END != 0 {
+                    break;
+                }
+                s = (to[s] >> 8) as usize;
+                many[s] += 1;
+            }
+        }
+        let mut push = |s: usize, graph: &mut Graph| -> bool {
+            let x = to[s];
+            if x & END != 0 {
+                return false;
+            }
+            let (t, j) = ((x >> 8) as usize, (x & 255) as usize);
+            mask[t] |= mask[s];
+            if to[t] & END != 0 {
+                return false;
+            }
+            let q = col[t] as usize;
+            let mut changed = false;
+            let side = f.switches[t].ports as usize + 1;
+            let row = &lanes.table[t][(j * side + q) * classes..][..classes];
+            let mut left = mask[s];
+            while left != 0 {
+                let c = left.trailing_zeros() as usize;
+                left &= left - 1;
+                let mut vs = out[s * classes + c];
+                let w = row[c];
+                if w == 15 || vs == 0 {
+                    continue;
+                }
+                while vs != 0 {
+                    let v = vs.trailing_zeros() as usize;
+                    vs &= vs - 1;
+                    graph.set(
+                        (f.base[s] as usize + col[s] as usize) * graph.lanes + v,
+                        (q - 1) * graph.lanes + w as usize,
+                    );
+                }
+                let o = &mut out[t * classes + c];
+                if *o >> w & 1 == 0 {
+                    *o |= 1 << w;
+                    changed = true;
+                }
+            }
+            changed
+        };
+        ready.clear();
+        ready.extend(used.iter().copied().filter(|&s| many[s as usize] == 0));
+        let mut done = 0;
+        while let Some(s) = ready.pop() {
+            done += 1;
+            push(s as usize, graph);
+            let x = to[s as usize];
+            if x & END == 0 {
+                let t = (x >> 8) as usize;
+                many[t] -= 1;
+                if many[t] == 0 {
+                    ready.push(t as u32);
+                }
+            }
+        }
+        if done < used.len() {
+            // a route that goes round: once more until nothing changes
+            loop {
+                let mut changed = false;
+                for &s in &used {
+                    changed |= push(s as usize, graph);
+                }
+                if !changed {
+                    break;
+                }
+            }
+        }
+    });
+    discards
+}
+
+/// The same dependencies by waves: of each class 64 LIDs at a time, at each switch apart for each group of ports in that
+/// have the same lanes.
+pub fn waves_lanes(f: &Fabric, src: &Sources, lanes: &Lanes, graph: &mut Graph) -> usize {
+    let n = f.switches.len();
+    let w = f.most_lid + 1;
+    let packed = Packed::new(f);
+    let classes = lanes.classes;
+    // groups
+    let mut first_group = Vec::new();
+    let mut group = vec![0u32; f.far.len()];
+    let mut shown: Vec<(u32, u8)> = Vec::new(); // switch and a port in of each group
+    for s in 0..n {
+        let here = shown.len();
+        first_group.push(here as u32);
+        let side = f.switches[s].ports as usize + 1;
+        let row = |j: usize| &lanes.table[s][j * side * classes..(j + 1) * side * classes];
+        for j in 0..side {
+            let found = (here..shown.len()).find(|&g| row(shown[g].1 as usize) == row(j));
+            let g = found.unwrap_or_else(|| {
+                shown.push((s as u32, j as u8));
+                shown.len() - 1
+            });
+            group[f.base[s] as usize + j] = g as u32;
+        }
+    }
+    let nodes = shown.len();
+    let mut block = vec![NO_PORT; n * 64];
+    let mut begins: Vec<Vec<u64>> = vec![vec![0; nodes]; classes];
+    let mut come = vec![0u64; nodes];
+    let mut fresh = vec![0u64; nodes];
+    let mut queue: Vec<u32> = Vec::new();
+    let mut at_switch: Vec<Vec<u32>> = vec![Vec::new(); n];
+    for (i, h) in f.hosts.iter().enumerate() {
+        at_switch[h.at as usize].push(i as u32);
+    }
+    let v = graph.lanes;
+    let mut d0 = 0;
+    while d0 < w {
+        let many = 64.min(w - d0);
+        if (0..many).all(|i| src.owner[d0 + i] == Owner::None) {
+            d0 += 64;
+            continue;
+        }
+        for s in 0..n {
+            block[s * 64..s * 64 + many].copy_from_slice(&f.lft[s * w + d0..s * w + d0 + many]);
+        }
+        for b in &mut begins {
+            b.fill(0);
+        }
+        for i in 0..many {
+            let owner = src.owner[d0 + i];
+            if owner == Owner::None {
+                continue;
+            }
+            for s in 0..n {
+                if let crate::lanes::Start::Pairs(level) = &lanes.by {
+                    for &h in &at_switch[s] {
+                        let c = level[h as usize][d0 + i] as usize;
+                        if owner != Owner::Host(h) && c < 16 {
+                            begins[c]
+                                [group[f.base[s] as usize + f.hosts[h as usize].port as usize] as usize] |=
+                                1 << i;
+                        }
+                    }
+                    continue;
+                }
+                if src.count[s] == 0 || src.at(f, s, owner) == 0 {
+                    continue;
+                }
+                let mut m = lanes.start(f, s, d0 + i, owner);
+                while m != 0 {
+                    let c = m.trailing_zeros() as usize;
+                    m &= m - 1;
+                    // as in the plain form each end port at the switch, and port 0
+                    begins[c][group[f.base[s] as usize] as usize] |= 1 << i;
+                    for &h in &at_switch[s] {
+                        begins[c][group[f.base[s] as usize + f.hosts[h as usize].port as usize] as usize] |=
+                            1 << i;
+                    }
+                }
+            }
+        }
+        for c in 0..classes {
+            come.fill(0);
+            queue.clear();
+            for g in 0..nodes {
+                fresh[g] = begins[c][g];
+                if fresh[g] != 0 {
+                    queue.push(g as u32);
+                }
+            }
+            let mut k = 0;
+            while k < queue.len() {
+                let g = queue[k] as usize;
+                k += 1;
+                let mut bits = fresh[g];
+                fresh[g] = 0;
+                come[g] |= bits;
+                let (s, j0) = (shown[g].0 as usize, shown[g].1 as usize);
+                let side = f.switches[s].ports as usize + 1;
+                let own = &lanes.table[s];
+                let base = packed.base[s] as usize;
+                while bits != 0 {
+                    let i = bits.trailing_zeros() as usize;
+                    bits &= bits - 1;
+                    let p = block[s * 64 + i] as usize;
+                    if p == 0 || p >= side {
+                        continue;
+                    }
+                    let x = packed.side[base + p];
+                    if x & END != 0 {
+                        continue;
+                    }
+                    let lane = own[(j0 * side + p) * classes + c];
+                    if lane == 15 {
+                        continue;
+                    }
+                    let (t, j) = ((x >> 8) as usize, (x & 255) as usize);
+                    let q = block[t * 64 + i] as usize;
+                    let there = f.switches[t].ports as usize + 1;
+                    if q != 0 && q < there && packed.side[packed.base[t] as usize + q] & END == 0 {
+                        let next = lanes.table[t][(j * there + q) * classes + c];
+                        if next != 15 {
+                            graph.set((base + p) * v + lane as usize, (q - 1) * v + next as usize);
+                        }
+                    }
+                    let to = group[packed.base[t] as usize + j] as usize;
+                    let bit = 1u64 << i;
+                    if (come[to] | fresh[to]) & bit == 0 {
+                        if fresh[to] == 0 {
+                            queue.push(to as u32);
+                        }
+                        fresh[to] |= bit;
+                    }
+                }
+            }
+        }
+        d0 += 64;
+    }
+    nodes
+}
+
+// ---------------------------------------------------------------- the graph
+
+pub struct View<'a> {
+    pub f: &'a Fabric,
+    pub g: &'a Graph,
+    pub at: Vec<u32>,
+}
+
+impl<'a> View<'a> {
+    pub fn new(f: &'a Fabric, g: &'a Graph) -> View<'a> {
+        let mut at = vec![0u32; f.far.len()];
+        for s in 0..f.switches.len() {
+            for p in 0..=f.switches[s].ports as usize {
+                at[f.base[s] as usize + p] = s as u32;
+            }
+        }
+        View { f, g, at }
+    }
+    pub fn nodes(&self) -> usize {
+        self.f.far.len() * self.g.lanes
+    }
+    pub fn is_channel(&self, c: usize) -> bool {
+        matches!(self.f.far[c / self.g.lanes], Far::Switch(..))
+    }
+    /// The first word of the row of a channel, how many there are, and the node of its bit 0.
+    #[inline]
+    pub fn row(&self, c: usize) -> (usize, usize, usize) {
+        match self.f.far[c / self.g.lanes] {
+            Far::Switch(t, _) => {
+                (c * self.g.wide, self.g.wide, (self.f.base[t as usize] as usize + 1) * self.g.lanes)
+            }
+            _ => (0, 0, 0),
+        }
+    }
+    pub fn each<F: FnMut(usize)>(&self, c: usize, mut do_it: F) {
+        let (i, wide, b) = self.row(c);
+        for k in 0..wide {
+            let mut w = self.g.words[i + k];
+            while w != 0 {
+                do_it(b + k * 64 + w.trailing_zeros() as usize);
+                w &= w - 1;
+            }
+        }
+    }
+    pub fn has(&self, c: usize, d: usize) -> bool {
+        let mut y = false;
+        self.each(c, |x| y |= x == d);
+        y
+    }
+}
+
+/// Ranks: 0 where a channel leads nowhere, else one more than the greatest rank to which it leads; or a channel on a cycle.
+pub fn ranks(v: &View) -> Result<Vec<u32>, usize> {
+    const NEW: u32 = u32::MAX;
+    const OPEN: u32 = u32::MAX - 1;
+    let n = v.nodes();
+    let mut rank = vec![NEW; n];
+    let mut stack: Vec<(u32, u32, u64, u32)> = Vec::new(); // node, word, bits left, rank so far
+    for c in 0..n {
+        if rank[c] != NEW || !v.is_channel(c) {
+            continue;
+        }
+        rank[c] = OPEN;
+        let (i, wide, _) = v.row(c);
+        stack.push((c as u32, 0, if wide > 0 { v.g.words[i] } else { 0 }, 0));
+        while let Some(&mut (x, ref mut k, ref mut bits, ref mut own)) = stack.last_mut() {
+            let (i, wide, b) = v.row(x as usize);
+            let mut into = None;
+            loop {
+                if *bits == 0 {
+                    *k += 1;
+                    if *k as usize >= wide {
+                        break;
+                    }
+                    *bits = v.g.words[i + *k as usize];
+                    continue;
+                }
+                let y = b + *k as usize * 64 + bits.trailing_zeros() as usize;
+                match rank[y] {
+                    NEW => {
+                        into = Some(y);
+                        break;
+                    }
+                    OPEN => return Err(y),
+                    r => {
+                        *own = (*own).max(r + 1);
+                        *bits &= *bits - 1;
+                    }
+                }
+            }
+            match into {
+                Some(y) => {
+                    rank[y] = OPEN;
+                    let (i, wide, _) = v.row(y);
+                    stack.push((y as u32, 0, if wide > 0 { v.g.words[i] } else { 0 }, 0));
+                }
+                None => {
+                    rank[x as usize] = *own;
+                    stack.pop();
+                }
+            }
+        }
+    }
+    Ok(rank)
+}
+
+/// One pass over all dependencies: whether each goes to a lower rank and the ranks are the least.
+pub fn verify(v: &View, rank: &[u32]) -> bool {
+    for c in 0..v.nodes() {
+        if !v.is_channel(c) {
+            continue;
+        }
+        let mut best = 0;
+        let mut fine = true;
+        v.each(c, |d| {
+            fine &= rank[d] < rank[c];
+            best = best.max(rank[d].wrapping_add(1));
+        });
+        if !fine || best != rank[c] {
+            return false;
+        }
+    }
+    true
+}
+
+/// Tiers: the strongly connected components, by Tarjan. Answers the component of each channel.
+pub fn components(v: &View) -> Vec<u32> {
+    let n = v.nodes();
+    let mut num = vec![0u32; n];
+    let mut low = vec![0u32; n];
+    let mut comp = vec![u32::MAX; n];
+    let mut open: Vec<u32> = Vec::new();
+    let mut stack: Vec<(u32, u32, u64)> = Vec::new();
+    let (mut count, mut many) = (0u32, 0u32);
+    for c in 0..n {
+        if num[c] != 0 || !v.is_channel(c) {
+            continue;
+        }
+        count += 1;
+        num[c] = count;
+        low[c] = count;
+        open.push(c as u32);
+        let (i, wide, _) = v.row(c);
+        stack.push((c as u32, 0, if wide > 0 { v.g.words[i] } else { 0 }));
+        while let Some(&mut (x, ref mut k, ref mut bits)) = stack.last_mut() {
+            let xs = x as usize;
+            let (i, wide, b) = v.row(xs);
+            let mut into = None;
+            loop {
+                if *bits == 0 {
+                    *k += 1;
+                    if *k as usize >= wide {
+                        break;
+                    }
+                    *bits = v.g.words[i + *k as usize];
+                    continue;
+                }
+                let y = b + *k as usize * 64 + bits.trailing_zeros() as usize;
+                if num[y] == 0 {
+                    into = Some(y);
+                    break;
+                }
+                if comp[y] == u32::MAX {
+                    low[xs] = low[xs].min(low[y].min(num[y]));
+                }
+                *bits &= *bits - 1;
+            }
+            match into {
+                Some(y) => {
+                    count += 1;
+                    num[y] = count;
+                    low[y] = count;
+                    open.push(y as u32);
+                    let (i, wide, _) = v.row(y);
+                    stack.push((y as u32, 0, if wide > 0 { v.g.words[i] } else { 0 }));
+                }
+                None => {
+                    if low[xs] == num[xs] {
+                        loop {
+                            let y = open.pop().unwrap();
+                            comp[y as usize] = many;
+                            if y == x {
+                                break;
+                            }
+                        }
+                        many += 1;
+                    }
+                    stack.pop();
+                }
+            }
+        }
+    }
+    comp
+}
+
+/// The least cycle: from the least channel on any cycle, a shortest, and of these the least as a list.
+pub fn least_cycle(v: &View, comp: &[u32]) -> Option<Vec<usize>> {
+    let n = v.nodes();
+    let start = (0..n).find(|&c| {
+        v.is_channel(c) && {
+            let mut y = false;
+            v.each(c, |d| y |= comp[d] == comp[c]);
+            y
+        }
+    })?;
+    // levels towards the start, by the steps backward within its component, a round for each level
+    let mut level = vec![u32::MAX; n];
+    level[start] = 0;
+    let members: Vec<u32> =
+        (0..n).filter(|&c| comp[c] == comp[start] && v.is_channel(c)).map(|c| c as u32).collect();
+    // who leads to whom, backward, in one list
+    let mut first = vec![0u32; n + 1];
+    for &c in &members {
+        v.each(c as usize, |d| first[d + 1] += 1);
+    }
+    for c in 0..n {
+        first[c + 1] += first[c];
+    }
+    let mut back = vec![0u32; first[n] as usize];
+    let mut fill = first.clone();
+    for &c in &members {
+        v.each(c as usize, |d| {
+            back[fill[d] as usize] = c;
+            fill[d] += 1;
+        });
+    }
+    let mut queue = std::collections::VecDeque::from([start]);
+    'all: while let Some(x) = queue.pop_front() {
+        for &y in &back[first[x] as usize..first[x + 1] as usize] {
+            if y as usize == start {
+                break 'all;
+            }
+            if level[y as usize] == u32::MAX {
+                level[y as usize] = level[x] + 1;
+                queue.push_back(y as usize);
+            }
+        }
+    }
+    let mut cycle = vec![start];
+    let mut c = start;
+    let mut want = None;
+    loop {
+        let mut best: Option<(u32, usize)> = None;
+        v.each(c, |d| {
+            if comp[d] == comp[start] && level[d] != u32::MAX {
+                let l = level[d];
+                let better = match want {
+                    None => best.is_none_or(|b| l < b.0),
+                    Some(w) => l == w && best.is_none(),
+                };
+                if better {
+                    best = Some((l, d));
+                }
+            }
+        });
+        let (l, d) = best.unwrap();
+        if l == 0 {
+            return Some(cycle);
+        }
+        cycle.push(d);
+        c = d;
+        want = Some(l - 1);
+    }
+}
+
+/// For each dependency of a cycle without lanes, the least LID and the least source whose route has it.
+pub fn witnesses(f: &Fabric, src: &Sources, cycle: &[usize], at: &[u32]) -> Vec<(u16, u64)> {
+    let k = cycle.len();
+    let ends: Vec<(usize, u8, usize, u8)> = (0..k)
+        .map(|i| {
+            let (c, d) = (cycle[i], cycle[(i + 1) % k]);
+            let (s, t) = (at[c] as usize, at[d] as usize);
+            (s, (c - f.base[s] as usize) as u8, t, (d - f.base[t] as usize) as u8)
+        })
+        .collect();
+    let mut found: Vec<Option<(u16, u64)>> = vec![None; k];
+    columns(f, src, |d, owner, col| {
+        for i in 0..k {
+            let (s, p, t, q) = ends[i];
+            if found[i].is_some() || col[s] != p || col[t] != q {
+                continue;
+            }
+            // which switches lead by s
+            let n = col.len();
+            let mut by = vec![0u8; n]; // 0 new, 1 no, 2 yes, 3 open
+            let mut path = Vec::new();
+            let mut least: Option<u64> = None;
+            by[s] = 2;
+            let mut leads = |x0: usize, by: &mut Vec<u8>| -> bool {
+                let mut x = x0;
+                let code;
+                loop {
+                    match by[x] {
+                        1 | 3 => {
+                            code = 1;
+                            break;
+                        }
+                        2 => {
+                            code = 2;
+                            break;
+                        }
+                        _ => {}
+                    }
+                    by[x] = 3;
+                    path.push(x);
+                    match next(f, x, col[x], owner) {
+                        Next::Goes(y, _) => x = y,
+                        Next::Ends(_) => {
+                            code = 1;
+                            break;
+                        }
+                    }
+                }
+                while let Some(y) = path.pop() {
+                    by[y] = code;
+                }
+                by[x0] == 2
+            };
+            for (h, host) in f.hosts.iter().enumerate() {
+                if owner != Owner::Host(h as u32)
+                    && least.is_none_or(|l| host.guid < l)
+                    && leads(host.at as usize, &mut by)
+                {
+                    least = Some(host.guid);
+                }
+            }
+            if src.traffic == Traffic::All {
+                for (x, sw) in f.switches.iter().enumerate() {
+                    if owner != Owner::Switch(x as u32)
+                        && least.is_none_or(|l| sw.guid < l)
+                        && leads(x, &mut by)
+                    {
+                        least = Some(sw.guid);
+                    }
+                }
+            }
+            if let Some(l) = least {
+                found[i] = Some((d as u16, l));
+            }
+        }
+    });
+    found.into_iter().map(|x| x.unwrap()).collect()
+}

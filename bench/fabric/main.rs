@@ -1,0 +1,280 @@
+//! The yardstick of `fabric`: an unverified program with the answers of `fabric judge`, which also makes fabrics. README.md
+//! has its words.
+
+#![forbid(unsafe_code)]
+
+mod gen;
+mod judge;
+mod lanes;
+mod model;
+mod text;
+use judge::*;
+use model::*;
+use std::fs::File;
+use std::io::{BufReader, BufWriter, Write};
+
+/// Seconds of processor so far.
+fn cpu() -> f64 {
+    let t = std::fs::read_to_string("/proc/self/schedstat").unwrap();
+    t.split_whitespace().next().unwrap().parse::<f64>().unwrap() / 1e9
+}
+#[derive(Clone, Copy)]
+struct Instant(f64);
+impl Instant {
+    fn now() -> Instant {
+        Instant(cpu())
+    }
+    fn elapsed(self) -> Span {
+        Span(cpu() - self.0)
+    }
+}
+struct Span(f64);
+impl Span {
+    fn as_secs_f64(&self) -> f64 {
+        self.0
+    }
+}
+impl std::ops::Sub for Instant {
+    type Output = Span;
+    fn sub(self, o: Instant) -> Span {
+        Span(self.0 - o.0)
+    }
+}
+fn peak() -> f64 {
+    let t = std::fs::read_to_string("/proc/self/status").unwrap();
+    t.lines()
+        .find(|l| l.starts_with("VmHWM"))
+        .unwrap()
+        .split_whitespace()
+        .nth(1)
+        .unwrap()
+        .parse::<f64>()
+        .unwrap()
+        / 1024.0
+}
+fn name(f: &Fabric, at: &[u32], c: usize, lanes: usize) -> String {
+    let s = at[c / lanes] as usize;
+    let p = c / lanes - f.base[s] as usize;
+    if lanes == 1 {
+        format!("0x{:016x}[{}]", f.switches[s].guid, p)
+    } else {
+        format!("0x{:016x}[{}]vl{}", f.switches[s].guid, p, c % lanes)
+    }
+}
+
+fn judge_it(f: &Fabric, traffic: Traffic, lane: Option<lanes::Lanes>, cert: Option<&str>) -> i32 {
+    let src = sources(f, traffic);
+    let n_lanes = lane.as_ref().map_or(1, |l| l.lanes);
+    let t0 = Instant::now();
+    let mut gw = Graph::new(f, 1);
+    let (wl, wr, ws) = waves(f, &src, &mut gw);
+    eprintln!("# waves {:.2} s, stops {ws}", t0.elapsed().as_secs_f64());
+    let t0 = Instant::now();
+    let mut g = Graph::new(f, 1);
+    let a = walk_all(f, &src, &mut g);
+    let t1 = Instant::now();
+    eprintln!("# walk {:.2} s", (t1 - t0).as_secs_f64());
+    assert!(
+        gw.words == g.words
+            && wl == a.lids
+            && wr == a.routes
+            && (ws == 0) == (a.missing + a.dead + a.wrong == 0)
+    );
+    if let Some(l) = &lane {
+        let tw = Instant::now();
+        let mut gl = Graph::new(f, n_lanes);
+        let groups = waves_lanes(f, &src, l, &mut gl);
+        eprintln!("# waves with lanes {:.2} s, groups {groups}", tw.elapsed().as_secs_f64());
+        g = Graph::new(f, n_lanes);
+        let d = walk_lanes(f, &src, l, &mut g);
+        eprintln!("# walk with lanes {:.2} s, discards {d}", t1.elapsed().as_secs_f64());
+        assert!(gl.words == g.words);
+    }
+    let v = View::new(f, &g);
+    let channels = (0..v.nodes()).filter(|&c| v.is_channel(c)).count();
+    let links = channels / n_lanes / 2;
+    println!("fabric 1");
+    println!("switches {} hosts {} links {} lids {}", f.switches.len(), f.hosts.len(), links, a.lids);
+    println!("routes {} arrived {} hops {}", a.routes, a.arrived, a.most_hops);
+    println!("channels {} dependencies {}", channels, g.count());
+    let mut status = 0;
+    let t2 = Instant::now();
+    match ranks(&v) {
+        Ok(r) => {
+            let t3 = Instant::now();
+            assert!(verify(&v, &r));
+            eprintln!(
+                "# ranks {:.3} s, verified {:.3} s",
+                (t3 - t2).as_secs_f64(),
+                t3.elapsed().as_secs_f64()
+            );
+            let top = (0..v.nodes()).filter(|&c| v.is_channel(c)).map(|c| r[c]).max().unwrap_or(0);
+            println!("cycle none ranks {}", top + 1);
+            if let Some(path) = cert {
+                let mut w = BufWriter::new(File::create(path).unwrap());
+                for c in 0..v.nodes() {
+                    if v.is_channel(c) {
+                        writeln!(w, "rank {} {}", name(f, &v.at, c, n_lanes), r[c]).unwrap();
+                    }
+                }
+            }
+        }
+        Err(_) => {
+            let t3 = Instant::now();
+            let comp = components(&v);
+            let t4 = Instant::now();
+            let cycle = least_cycle(&v, &comp).unwrap();
+            let t5 = Instant::now();
+            for i in 0..cycle.len() {
+                assert!(v.has(cycle[i], cycle[(i + 1) % cycle.len()]));
+            }
+            println!("cycle {}", cycle.len());
+            if n_lanes == 1 {
+                let wit = witnesses(f, &src, &cycle, &v.at);
+                for (i, (d, s)) in wit.iter().enumerate() {
+                    println!("channel {} lid {} from 0x{:016x}", name(f, &v.at, cycle[i], n_lanes), d, s);
+                }
+            } else {
+                for &c in &cycle {
+                    println!("channel {}", name(f, &v.at, c, n_lanes));
+                }
+            }
+            let mut sizes = std::collections::HashMap::new();
+            for c in &comp {
+                if *c != u32::MAX {
+                    *sizes.entry(*c).or_insert(0usize) += 1;
+                }
+            }
+            eprintln!("# rank try {:.3} s, components {:.3} s, cycle {:.3} s, witnesses {:.2} s; largest component {}", (t3 - t2).as_secs_f64(), (t4 - t3).as_secs_f64(), (t5 - t4).as_secs_f64(), t5.elapsed().as_secs_f64(), sizes.values().max().unwrap());
+            status = 8;
+        }
+    }
+    if a.arrived < a.routes {
+        println!(
+            "lost {} missing {} dead {} wrong {} loop {}",
+            a.routes - a.arrived,
+            a.missing,
+            a.dead,
+            a.wrong,
+            a.looped
+        );
+        let (d, g, s, k) = a.first.unwrap();
+        println!("first lid {} from 0x{:016x} at 0x{:016x} {:?}", d, g, f.switches[s as usize].guid, k);
+        status = 8;
+    }
+    eprintln!("# all {:.2} s, peak {:.0} MiB", t0.elapsed().as_secs_f64(), peak());
+    status
+}
+
+fn main() {
+    let words: Vec<String> = std::env::args().skip(1).collect();
+    let w: Vec<&str> = words.iter().map(|s| s.as_str()).collect();
+    let traffic = |x: &str| match x {
+        "hosts" => Traffic::Hosts,
+        "all" => Traffic::All,
+        _ => Traffic::Lids,
+    };
+    match w[0] {
+        // bench TRAFFIC LANES KIND NUMBERS..: makes the fabric in memory and judges it
+        "bench" => {
+            let t = Instant::now();
+            let f = gen::by_words(&w[3..]);
+            eprintln!(
+                "# made {:.2} s: {} switches, {} hosts, tables of {:.1} MiB",
+                t.elapsed().as_secs_f64(),
+                f.switches.len(),
+                f.hosts.len(),
+                f.lft.len() as f64 / 1048576.0
+            );
+            let dims = || [w[4].parse().unwrap(), w[5].parse().unwrap(), w[6].parse().unwrap()];
+            let lane = match w[2] {
+                "-" => None,
+                "torus" => Some(lanes::torus(&f, dims(), false)),
+                "torus-all" => Some(lanes::torus(&f, dims(), true)),
+                x => {
+                    let k: usize = x.parse().unwrap();
+                    Some(lanes::equal(&f, k, ((1u32 << k) - 1) as u16))
+                }
+            };
+            std::process::exit(judge_it(&f, traffic(w[1]), lane, None));
+        }
+        // gen short|long PREFIX KIND NUMBERS..: writes PREFIX.topo and PREFIX.lfts
+        "gen" => {
+            let f = gen::by_words(&w[3..]);
+            let mut t = BufWriter::with_capacity(1 << 20, File::create(format!("{}.topo", w[2])).unwrap());
+            text::write_topology(&f, &mut t).unwrap();
+            let mut t = BufWriter::with_capacity(1 << 20, File::create(format!("{}.lfts", w[2])).unwrap());
+            text::write_tables(&f, &mut t, w[1] == "long").unwrap();
+        }
+        // judge TOPOLOGY LFTS [hosts|lids|all [CERTIFICATE]]
+        "judge" => {
+            let t = Instant::now();
+            let mut f = text::read_topology(BufReader::new(File::open(w[1]).unwrap()));
+            let t1 = Instant::now();
+            match text::read_tables(&mut f, File::open(w[2]).unwrap(), true) {
+                Ok(r) => {
+                    let s = t1.elapsed().as_secs_f64();
+                    eprintln!(
+                        "# topology {:.2} s; tables {:.2} s, {} bytes, {} lines, {} entries, {:.0} MB/s",
+                        (t1 - t).as_secs_f64(),
+                        s,
+                        r.bytes,
+                        r.lines,
+                        r.entries,
+                        r.bytes as f64 / s / 1e6
+                    );
+                }
+                Err(e) => {
+                    eprintln!("fabric: {e}");
+                    std::process::exit(3);
+                }
+            }
+            std::process::exit(judge_it(
+                &f,
+                traffic(w.get(3).copied().unwrap_or("lids")),
+                None,
+                w.get(4).copied(),
+            ));
+        }
+        // dumps TRAFFIC FOLDER [lanes|all-levels]: the files that opensm dumps
+        "dumps" => {
+            let open = |x: &str| File::open(format!("{}/{x}", w[2]));
+            let mut f = match open("ibnetdiscover.txt") {
+                Ok(t) if w.get(3) == Some(&"net") => text::read_topology(BufReader::new(t)),
+                _ => text::read_subnet(BufReader::new(open("opensm-subnet.lst").unwrap())),
+            };
+            if let Err(e) = text::read_tables(&mut f, open("opensm-lfts.dump").unwrap(), true) {
+                eprintln!("fabric: {e}");
+                std::process::exit(3);
+            }
+            let lane = match w.get(3).copied() {
+                Some("lanes") => Some(text::read_lanes(
+                    &f,
+                    BufReader::new(open("opensm-sl2vl.dump").unwrap()),
+                    Some(BufReader::new(open("path-sl.dump").unwrap())),
+                )),
+                Some("all-levels") => Some(text::read_lanes(
+                    &f,
+                    BufReader::new(open("opensm-sl2vl.dump").unwrap()),
+                    None::<BufReader<File>>,
+                )),
+                _ => None,
+            };
+            std::process::exit(judge_it(&f, traffic(w[1]), lane, None));
+        }
+        // parse TOPOLOGY LFTS: reads alone; lines LFTS: counts lines
+        "parse" => {
+            let mut f = text::read_topology(BufReader::new(File::open(w[1]).unwrap()));
+            let t1 = Instant::now();
+            let r = text::read_tables(&mut f, File::open(w[2]).unwrap(), false).unwrap();
+            let s = t1.elapsed().as_secs_f64();
+            println!("{} entries {:.2} s {:.0} MB/s", r.entries, s, r.bytes as f64 / s / 1e6);
+        }
+        "lines" => {
+            let t1 = Instant::now();
+            let n = text::count_lines(File::open(w[1]).unwrap());
+            println!("{n} lines {:.2} s", t1.elapsed().as_secs_f64());
+        }
+        _ => panic!("words"),
+    }
+}

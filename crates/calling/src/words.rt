@@ -1,0 +1,22 @@
+//! The words of a call.
+
+use an_base::memory::OutOfMemory;
+use an_base::text::Word;
+use std::env;
+use std::io::ErrorKind;
+use std::rt::Env;
+
+/// The words after the program's name. Where they are no text they are taken for no words.
+pub fn words_of_call<R: Env + AllocGlobal>(rt: &R) -> Result<Vec<Word>, OutOfMemory> {
+    let mut words = Vec::new(rt.alloc());
+    let mut args = match env::args(rt) {
+        Ok(args) => args,
+        Err(error) if error.kind() == ErrorKind::OutOfMemory => return Err(OutOfMemory),
+        Err(_error) => return Ok(words),
+    };
+    let _program = args.next();
+    for arg in args {
+        words.push(Word::of(rt.alloc(), arg.as_bytes())?)?;
+    }
+    Ok(words)
+}

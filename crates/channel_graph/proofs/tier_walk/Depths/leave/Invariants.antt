@@ -1,0 +1,9 @@
+use Rattle.std.proofs.Common.{length}
+use Rattle.std.specs.Prelude.{⊤}
+use Rattle.channel_graph.proofs.tier_walk.Depths.leave.Given as goal
+
+abbrev pub invariant-open : goal.invariant-open
+invariant-open l = ⊤
+
+abbrev pub decreases-open : goal.decreases-open
+decreases-open l = length l.self.open.items

@@ -1,0 +1,5 @@
+pub mod Graph
+pub mod Rows
+pub mod Cycles
+pub mod Search
+pub mod Verdict

@@ -1,0 +1,103 @@
+use crate::graph::Graph;
+use crate::table::{filled, put};
+use an_base::memory::OutOfMemory;
+use std::alloc::Global;
+
+// What stands for a rank where no walk has come to the node, and where one is on its way from it.
+const FRESH: u32 = u32::MAX;
+
+const OPEN: u32 = u32::MAX - 1;
+
+// A node on the path of a walk in depth, the number from which on it has still to look at what the
+// node leads to, and the rank of the node by what comes before.
+#[derive(Clone, Copy)]
+struct Visit {
+    node: usize,
+    from: usize,
+    rank: u32,
+}
+
+// What a node leads to.
+#[derive(Clone, Copy)]
+enum Ahead {
+    // A node that no walk has come to.
+    Fresh(usize),
+    // One that is on the path.
+    Open,
+    // Nodes that have their ranks.
+    Ranked,
+}
+
+impl Visit {
+    fn at(node: usize) -> Visit {
+        Visit {
+            node,
+            from: 0,
+            rank: 0,
+        }
+    }
+
+    // Looks on at what the node leads to, as far as this has ranks.
+    fn look_on(&mut self, graph: &Graph, ranks: &[u32]) -> Ahead {
+        let node = self.node;
+        let mut rank = self.rank;
+        let mut ahead = Ahead::Ranked;
+        let mut cursor = graph.cursor(node, self.from);
+        'steps: while let Some(next) = graph.advance(node, &mut cursor) {
+            let lower = ranks.get(next).copied().unwrap_or(0);
+            if lower >= OPEN {
+                self.from = next;
+                ahead = if lower == OPEN {
+                    Ahead::Open
+                } else {
+                    Ahead::Fresh(next)
+                };
+                break;
+            }
+            rank = rank.max(lower + 1);
+        }
+        self.rank = rank;
+        ahead
+    }
+}
+
+// Walks in depth from a node. Answers whether no step led back to the path.
+fn walk(
+    graph: &Graph,
+    ranks: &mut Vec<u32>,
+    path: &mut Vec<Visit>,
+    start: usize,
+) -> Result<bool, OutOfMemory> {
+    path.push(Visit::at(start))?;
+    put(ranks, start, OPEN);
+    'visits: for _ in 0..u64::MAX {
+        let Some(mut visit) = path.pop() else {
+            return Ok(true);
+        };
+        match visit.look_on(graph, ranks) {
+            Ahead::Ranked => put(ranks, visit.node, visit.rank),
+            Ahead::Open => return Ok(false),
+            Ahead::Fresh(next) => {
+                path.push(visit)?;
+                path.push(Visit::at(next))?;
+                put(ranks, next, OPEN);
+            }
+        }
+    }
+    Ok(true)
+}
+
+/// The ranks of all nodes, if no steps lead round, by walks in depth from all nodes; None where a
+/// step was found that leads back. No contract speaks of it: what is made of it is checked. It looks
+/// once or twice at each step.
+pub fn guess_ranks(alloc: Global, graph: &Graph) -> Result<Option<Vec<u32>>, OutOfMemory> {
+    let count = graph.count();
+    let mut ranks = filled(alloc, count, FRESH)?;
+    let mut path = Vec::new(alloc);
+    'nodes: for node in 0..count {
+        if ranks.get(node).copied() == Some(FRESH) && !walk(graph, &mut ranks, &mut path, node)? {
+            return Ok(None);
+        }
+    }
+    Ok(Some(ranks))
+}

@@ -1,0 +1,23 @@
+ghost use Rattle.std.specs.Prelude.{IfOk};
+ghost use Rattle.channel_graph.specs.Cycles.{HasNoCycle};
+ghost use Rattle.channel_graph.specs.Graph.{LeadsTo};
+ghost use Rattle.channel_graph.specs.Verdict.{AreAllRanks};
+
+use crate::graph::Graph;
+use crate::ranks::first_rise;
+use crate::table::{filled, value_of};
+use an_base::memory::OutOfMemory;
+use std::alloc::Global;
+
+/// The ranks of all nodes of a graph in which no steps lead round: each that is too low is raised
+/// until none is. It can take as many passes over all steps as there are nodes, and more.
+pub fn exact_ranks(alloc: Global, graph: &Graph) -> Result<Vec<u32>, OutOfMemory>
+    requires { HasNoCycle (LeadsTo graph.now) }
+    ensures { IfOk result (λ ranks. AreAllRanks graph.now ranks.items) }
+{
+    let mut ranks = filled(alloc, graph.count(), 0)?;
+    'rises: while let Some(step) = first_rise(graph, &ranks) {
+        ranks[step.node] = value_of(&ranks, step.next) + 1;
+    }
+    Ok(ranks)
+}

@@ -1,0 +1,73 @@
+ghost use Rattle.std.specs.Prelude.{◌≡◌, ◌<◌, ◌↔◌, IsTrue, IfOk, replicate, MatchOption, length};
+ghost use Rattle.channel_graph.specs.Graph.{value_at};
+ghost use Rattle.channel_graph.specs.Search.{FallsTo, HasPeer, Holds, HoldsFrom};
+
+use crate::graph::{Graph, Step};
+use an_base::memory::OutOfMemory;
+use std::alloc::Global;
+
+/// A table with one value for so many nodes.
+pub fn filled(alloc: Global, count: usize, value: u32) -> Result<Vec<u32>, OutOfMemory>
+    ensures { IfOk result (λ table. table.items ≡ replicate count value) }
+{
+    Ok(vec![in alloc; value; count]?)
+}
+
+/// What a table has for a node, 0 where it has nothing.
+pub fn value_of(table: &[u32], node: usize) -> u32
+    ensures { result ≡ value_at table.now node }
+{
+    table.get(node).copied().unwrap_or(0)
+}
+
+/// Puts a value into a table, if it has a place for the node.
+pub fn put(table: &mut Vec<u32>, node: usize, value: u32) {
+    if let Some(place) = table.get_mut(node) {
+        *place = value;
+    }
+}
+
+// The first step from a node that lowers the value by more than so much.
+fn falls_from(graph: &Graph, table: &[u32], fall: u32, node: usize) -> Option<usize>
+    ensures { MatchOption result (HoldsFrom graph.now table.now fall node) (FallsTo graph.now table.now fall node) }
+{
+    let own = u64::from(value_of(table, node));
+    let fall = u64::from(fall);
+    if own <= fall {
+        return None;
+    }
+    let mut cursor = graph.cursor(node, 0);
+    'steps: while let Some(next) = graph.advance(node, &mut cursor) {
+        if u64::from(value_of(table, next)) + fall < own {
+            return Some(next);
+        }
+    }
+    None
+}
+
+/// The first step that lowers the value of a table by more than so much. It looks once at each step.
+pub fn first_fall(graph: &Graph, table: &[u32], fall: u32) -> Option<Step>
+    ensures { MatchOption result (Holds graph.now table.now fall)
+        (λ step. FallsTo graph.now table.now fall step.node step.next) }
+{
+    'nodes: for node in 0..graph.count() {
+        if let Some(next) = falls_from(graph, table, fall, node) {
+            return Some(Step { node, next });
+        }
+    }
+    None
+}
+
+/// Whether a node leads to one of the same value.
+pub fn has_peer(graph: &Graph, table: &[u32], node: usize) -> bool
+    ensures { IsTrue result ↔ HasPeer graph.now table.now node }
+{
+    let own = value_of(table, node);
+    let mut cursor = graph.cursor(node, 0);
+    'steps: while let Some(next) = graph.advance(node, &mut cursor) {
+        if value_of(table, next) == own {
+            return true;
+        }
+    }
+    false
+}

@@ -1,0 +1,40 @@
+//! The program: it reads its words and makes the one call of `ib_commands`, over the files that they name and the
+//! standard streams.
+//!
+//! It has no contract of its own: what it prints, and its status, are those of the call.
+#![tactic(auto)]
+
+mod input;
+
+use an_base::memory::OutOfMemory;
+use an_base::text::Word;
+use calling::words::words_of_call;
+use ib_answering::status::{Status, finish};
+use ib_commands::fabric::fabric;
+use input::Input;
+use outside::standard::{StdSink, StdSource};
+use std::process::ExitCode;
+
+// Answers the words over the files that the second and the third of them name.
+fn answer(rt: &HostRuntime, words: &[Word]) -> u8 {
+    let mut topology = StdSource::new(Input::named(rt, rt.stdin(), words.get(1)));
+    let mut tables = StdSource::new(Input::named(rt, rt.stdin(), words.get(2)));
+    let mut out = StdSink::new(rt.stdout());
+    let mut err = StdSink::new(rt.stderr());
+    fabric(
+        rt.alloc(),
+        &mut topology,
+        &mut tables,
+        &mut out,
+        &mut err,
+        words,
+    )
+}
+
+fn main(rt: HostRuntime) -> ExitCode {
+    let code = match words_of_call(&rt) {
+        Ok(words) => answer(&rt, &words),
+        Err(OutOfMemory) => finish(&mut StdSink::new(rt.stderr()), Status::OutOfMemory),
+    };
+    ExitCode::from(code)
+}

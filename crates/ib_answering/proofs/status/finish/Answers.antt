@@ -1,0 +1,25 @@
+use Rattle.std.proofs.Common.{◌∙◌, ap, subst, sym, ℕ, List, ◌++◌, append_assoc, codes}
+use Rattle.ib_answering.specs.declared.status.Status.{Status}
+use Rattle.ib_answering.specs.Status.{IsToldOf}
+use Rattle.ib_answering.proofs.status.finish.Goals as goal
+
+pub tell_line-requires-in-TopologyTooLong : goal.tell_line-requires-in-TopologyTooLong
+tell_line-requires-in-TopologyTooLong g c =
+    let value = c.as_bytes-line-in-TopologyTooLong.ensures.value in
+    let text = c.format-in-TopologyTooLong.ensures.text in
+    rw (append_assoc, append_assoc) (ap (λ (digits : List ℕ). codes "fabric: topology line " ++ (digits ++ codes ": too many\n")) (value ∙ text))
+
+pub returns-in-TopologyRefused : goal.returns-in-TopologyRefused
+returns-in-TopologyRefused g c =
+    subst (λ (s : Status). IsToldOf (g.E.Sink.seen c.args.err.now) (g.E.Sink.seen c.tell_line-in-TopologyRefused.new.err) s c.tell_line-in-TopologyRefused.result)
+    (sym c.in-TopologyRefused.is) c.tell_line-in-TopologyRefused.ensures
+
+pub returns-in-TopologyTooLong : goal.returns-in-TopologyTooLong
+returns-in-TopologyTooLong g c =
+    subst (λ (s : Status). IsToldOf (g.E.Sink.seen c.args.err.now) (g.E.Sink.seen c.tell_line-in-TopologyTooLong.new.err) s c.tell_line-in-TopologyTooLong.result)
+    (sym c.in-TopologyTooLong.is) c.tell_line-in-TopologyTooLong.ensures
+
+pub returns-in-TablesRefused : goal.returns-in-TablesRefused
+returns-in-TablesRefused g c =
+    subst (λ (s : Status). IsToldOf (g.E.Sink.seen c.args.err.now) (g.E.Sink.seen c.tell_line-in-TablesRefused.new.err) s c.tell_line-in-TablesRefused.result)
+    (sym c.in-TablesRefused.is) c.tell_line-in-TablesRefused.ensures

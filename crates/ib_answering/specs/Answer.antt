@@ -1,0 +1,137 @@
+-- The answer of a command: a status that came about by its cause, and was told.
+
+use Rattle.std.specs.Prelude.{◌≡◌, ◌^◌, ℕ, List}
+use Rattle.outside.specs.Told.{Seen, Gains, GainsFront, IsKept, Failed}
+use Rattle.text_lines.specs.declared.stop.Refusal.{Refusal}
+use Rattle.text_lines.specs.declared.stop.Refusal.TheVariants as topology_refusal
+use Rattle.calling.specs.declared.input.Unread.{Unread}
+use Rattle.calling.specs.declared.input.Unread.TheVariants as no_input
+use Rattle.calling.specs.Inputs.{IsInput, IsUnread}
+use Rattle.ib_net.specs.Fabric.{FabricOf}
+use Rattle.ib_fabric.specs.declared.cause.FabricCause.{FabricCause}
+use Rattle.ib_fabric.specs.Fabrics.{IsFabricText, IsFault}
+use Rattle.ib_tables.specs.declared.reader.Tables.{Tables}
+use Rattle.ib_tables.specs.declared.reader.TablesRefusal.{TablesRefusal}
+use Rattle.ib_tables.specs.declared.reader.TablesRefusal.TheVariants as tables_refusal
+use Rattle.ib_tables.specs.Reads.{GaveTables, IsRefusedBy}
+use Rattle.ib_answering.specs.declared.status.Status.{Status}
+use Rattle.ib_answering.specs.declared.status.Status.TheVariants.{Ok, Usage, TopologyRefused, TopologyTooLong, TablesRefused, ReadFault, WriteFault, RoutesLost, Cycle, OutOfMemory}
+use Rattle.ib_answering.specs.Status.{IsToldOf}
+
+-- the sources of a call at one moment
+pub record Sources : Type 0 where
+  pub topology : Seen
+  pub tables : Seen
+
+abbrev pub sources : (topology tables : Seen) → Sources
+sources topology tables = record { topology = topology; tables = tables }
+
+-- they and the sinks
+pub record Streams : Type 0 where
+  pub read : Sources
+  pub out : Seen
+  pub err : Seen
+
+abbrev pub streams : (topology tables out err : Seen) → Streams
+streams topology tables out err = record { read = sources topology tables; out = out; err = err }
+
+-- the most bytes of a topology
+abbrev pub topology_limit : ℕ
+topology_limit = 2 ^ 28
+
+-- for the text of a topology, its fabric and tables: the status with which a command ends, and what it writes
+abbrev pub Gives : Type 1
+Gives = List ℕ → FabricOf → Tables → Status → List ℕ → Type 0
+
+-- a source was read to its end, and its bytes are the text of this fabric
+abbrev pub GaveFabric : (old new : Seen) (text : List ℕ) → FabricOf → Type 0
+GaveFabric old new text fabric =
+    IsInput topology_limit (λ bytes. (bytes ≡ text) × IsFabricText bytes fabric) old new
+
+-- the status of a topology that was not read
+abbrev pub unread_as : Unread → Status
+unread_as no_input.Fault = ReadFault
+unread_as (no_input.TooLong line) = TopologyTooLong line
+unread_as no_input.OutOfMemory = OutOfMemory
+
+-- why there is no fabric: it was not read; the first fault of its text; or want of memory
+pub data IsNoFabric (old new : Seen) (status : Status) : Type 0 where
+  unread : (why : Unread) → status ≡ unread_as why → IsUnread topology_limit old new why → IsNoFabric old new status
+  refused : (line : ℕ) (cause : FabricCause) → status ≡ TopologyRefused line cause
+      → IsInput topology_limit (λ bytes. IsFault bytes line cause) old new → IsNoFabric old new status
+  want : status ≡ OutOfMemory → IsNoFabric old new status
+
+-- the status of a topology that is refused, and of tables that are
+abbrev pub fabric_refused : Refusal FabricCause → Status
+fabric_refused (topology_refusal.Fault line cause) = TopologyRefused line cause
+fabric_refused topology_refusal.OutOfMemory = OutOfMemory
+
+abbrev pub tables_refused : TablesRefusal → Status
+tables_refused (tables_refusal.Fault line cause) = TablesRefused line cause
+tables_refused tables_refusal.ReadFault = ReadFault
+tables_refused tables_refusal.OutOfMemory = OutOfMemory
+
+-- the source of tables of a fabric was refused
+pub record AreNoTables (old new : Sources) (status : Status) : Type 0 where
+  pub text : List ℕ
+  pub fabric : FabricOf
+  pub gave : GaveFabric old.topology new.topology text fabric
+  pub refusal : TablesRefusal
+  pub refused : IsRefusedBy fabric old.tables new.tables refusal
+  pub status_is : status ≡ tables_refused refusal
+
+-- why there is no text to be written: there is no fabric, and the tables were not looked at; there are no tables of it;
+-- or memory is wanting
+pub data IsStop (old new : Sources) (status : Status) : Type 0 where
+  no_fabric : IsNoFabric old.topology new.topology status → new.tables ≡ old.tables → IsStop old new status
+  no_tables : AreNoTables old new status → IsStop old new status
+  wanting : status ≡ OutOfMemory → IsStop old new status
+
+-- the statuses of a call that wrote its text
+abbrev pub IsEnding : Status → Type 0
+IsEnding Ok = Unit {0}
+IsEnding RoutesLost = Unit {0}
+IsEnding Cycle = Unit {0}
+IsEnding status = ⊥
+
+-- both sources were read to their ends, and this is given for them
+pub record IsGiven (gives : Gives) (old new : Sources) (status : Status) (written : List ℕ) : Type 0 where
+  pub text : List ℕ
+  pub fabric : FabricOf
+  pub found : Tables
+  pub gave : GaveFabric old.topology new.topology text fabric
+  pub tables : GaveTables fabric old.tables new.tables found
+  pub given : gives text fabric found status written
+  pub ends : IsEnding status
+
+-- the text was written
+pub record IsWritten (gives : Gives) (old new : Sources) (out out' : Seen) (status : Status) : Type 0 where
+  pub written : List ℕ
+  pub given : IsGiven gives old new status written
+  pub gains : Gains out out' written
+
+-- out failed, and has a front of the text
+pub record IsCutOff (gives : Gives) (old new : Sources) (out out' : Seen) : Type 0 where
+  pub end : Status
+  pub written : List ℕ
+  pub given : IsGiven gives old new end written
+  pub gains : GainsFront out out' written
+  pub failed : Failed out out'
+
+-- The cause of a status, and what out gained: the text, a front of it where out failed, and else nothing.
+pub data IsCause (gives : Gives) (old new : Sources) (out out' : Seen) (status : Status) : Type 0 where
+  written : IsWritten gives old new out out' status → IsCause gives old new out out' status
+  cut : status ≡ WriteFault → IsCutOff gives old new out out' → IsCause gives old new out out' status
+  stopped : IsStop old new status → IsKept out out' → IsCause gives old new out out' status
+
+-- the answer of a command: a status came about by its cause, and was told
+pub record IsAnswer (gives : Gives) (old new : Streams) (answer : ℕ) : Type 0 where
+  pub status : Status
+  pub cause : IsCause gives old.read new.read old.out new.out status
+  pub told : IsToldOf old.err new.err status answer
+
+-- the answer to words that are no call: the sources and out are left alone
+pub record IsUsageAnswer (old new : Streams) (answer : ℕ) : Type 0 where
+  pub read : new.read ≡ old.read
+  pub out : new.out ≡ old.out
+  pub told : IsToldOf old.err new.err Usage answer

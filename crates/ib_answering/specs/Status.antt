@@ -1,0 +1,45 @@
+-- The number and the line of each status.
+
+use Rattle.std.specs.Prelude.{ℕ, List, [], ◌++◌, codes}
+use Rattle.std.specs.Fmt.{decimal}
+use Rattle.outside.specs.Told.{Seen}
+use Rattle.calling.specs.Ended.{IsLineTold}
+use Rattle.ib_fabric.specs.Causes.{cause_text as topology_cause}
+use Rattle.ib_tables.specs.Causes.{cause_text as tables_cause}
+use Rattle.ib_answering.specs.declared.status.Status.{Status}
+use Rattle.ib_answering.specs.declared.status.Status.TheVariants.{Ok, Usage, TopologyRefused, TopologyTooLong, TablesRefused, ReadFault, WriteFault, RoutesLost, Cycle, OutOfMemory}
+
+-- the number of a status
+abbrev pub code_of : Status → ℕ
+code_of Ok = 0
+code_of Usage = 2
+code_of (TopologyRefused line cause) = 3
+code_of (TopologyTooLong line) = 3
+code_of (TablesRefused line cause) = 3
+code_of ReadFault = 4
+code_of WriteFault = 5
+code_of RoutesLost = 7
+code_of Cycle = 8
+code_of OutOfMemory = 9
+
+-- the line for a fault of a file
+abbrev pub refusal_line : (file : List ℕ) (line : ℕ) (cause : List ℕ) → List ℕ
+refusal_line file line cause =
+    codes "fabric: " ++ file ++ codes " line " ++ decimal line ++ codes ": " ++ cause ++ codes "\n"
+
+-- the line of a status
+abbrev pub line_of : Status → List ℕ
+line_of Ok = []
+line_of Usage = codes "usage: fabric judge TOPOLOGY TABLES [hosts|lids|all]\n"
+line_of (TopologyRefused line cause) = refusal_line (codes "topology") line (topology_cause cause)
+line_of (TopologyTooLong line) = refusal_line (codes "topology") line (codes "too many")
+line_of (TablesRefused line cause) = refusal_line (codes "tables") line (tables_cause cause)
+line_of ReadFault = codes "fabric: read fault\n"
+line_of WriteFault = codes "fabric: write fault\n"
+line_of RoutesLost = codes "fabric: routes lost\n"
+line_of Cycle = codes "fabric: cycle\n"
+line_of OutOfMemory = codes "fabric: out of memory\n"
+
+-- a status was told: the answer is its number, and err gained its line, unless err failed
+abbrev pub IsToldOf : (old new : Seen) → Status → (answer : ℕ) → Type 0
+IsToldOf old new status answer = IsLineTold old new (code_of status) (line_of status) answer

@@ -1,0 +1,105 @@
+//! The call of a command: a topology and tables are read, the command gives a text for them, the text is written, and
+//! the status is told.
+
+ghost use Rattle.std.specs.Prelude.{IfOk, IfErr};
+ghost use Rattle.ib_tables.specs.Reads.{HasCells};
+ghost use Rattle.ib_answering.specs.Answer.{sources, streams, Gives, IsAnswer, IsCause, IsEnding, IsGiven, IsStop};
+
+use crate::input::{Topology, read_topology};
+use crate::status::{Status, finish};
+use an_base::memory::OutOfMemory;
+use ib_tables::reader::{Tables, read_tables};
+use outside::all::write_all;
+use outside::sink::Sink;
+use outside::source::Source;
+use std::alloc::Global;
+
+/// What a command gives for tables of a fabric.
+#[derive(Drop)]
+pub struct Given {
+    /// The status with which the call ends once the text is written.
+    pub status: Status,
+    /// The text for out.
+    pub text: Vec<u8>,
+}
+
+/// A command that judges tables of a fabric.
+pub trait Command {
+    /// For the text of a topology, its fabric and tables, the status with which the command ends and what it writes.
+    ghost gives: { Self → Gives };
+
+    /// What the command gives for tables of a fabric.
+    fn given(
+        &self,
+        alloc: Global,
+        topology: &Topology,
+        tables: &Tables,
+    ) -> Result<Given, OutOfMemory>
+        requires { HasCells topology.now.fabric tables.now }
+        ensures given { IfOk result (λ given.
+            gives self.now topology.now.text.items topology.now.fabric tables.now given.status given.text.items) }
+        ensures ends { IfOk result (λ given. IsEnding given.status) };
+}
+
+// What the command gives for what the sources give, or why there is nothing.
+fn found<C: Command, T: Source, S: Source>(
+    command: &C,
+    alloc: Global,
+    topology: &mut T,
+    tables: &mut S,
+) -> Result<Given, Status>
+    ensures given { IfOk result (λ given. IsGiven (C.gives command.now)
+        (sources (T.seen topology.old) (S.seen tables.old))
+        (sources (T.seen topology.new) (S.seen tables.new)) given.status given.text.items) }
+    ensures stopped { IfErr result (IsStop
+        (sources (T.seen topology.old) (S.seen tables.old))
+        (sources (T.seen topology.new) (S.seen tables.new))) }
+{
+    let topology = match read_topology(alloc, topology) {
+        Ok(topology) => topology,
+        Err(status) => return Err(status),
+    };
+    let tables = read_tables(alloc, tables, &topology.fabric)?;
+    Ok(command.given(alloc, &topology, &tables)?)
+}
+
+// Writes the text to out, or answers why there is none.
+fn status_of<C: Command, T: Source, S: Source, O: Sink>(
+    command: &C,
+    alloc: Global,
+    topology: &mut T,
+    tables: &mut S,
+    out: &mut O,
+) -> Status
+    ensures { IsCause (C.gives command.now)
+        (sources (T.seen topology.old) (S.seen tables.old))
+        (sources (T.seen topology.new) (S.seen tables.new))
+        (O.seen out.old) (O.seen out.new) result }
+{
+    let given = match found(command, alloc, topology, tables) {
+        Ok(given) => given,
+        Err(status) => return status,
+    };
+    match write_all(out, &given.text) {
+        Ok(()) => given.status,
+        Err(_fault) => Status::WriteFault,
+    }
+}
+
+/// Answers a command: reads a topology and tables from the sources, writes what the command gives for them to out, and
+/// tells the status. The answer is the number of a status, whose line goes to err.
+pub fn answer<C: Command, T: Source, S: Source, O: Sink, E: Sink>(
+    command: &C,
+    alloc: Global,
+    topology: &mut T,
+    tables: &mut S,
+    out: &mut O,
+    err: &mut E,
+) -> u8
+    ensures { IsAnswer (C.gives command.now)
+        (streams (T.seen topology.old) (S.seen tables.old) (O.seen out.old) (E.seen err.old))
+        (streams (T.seen topology.new) (S.seen tables.new) (O.seen out.new) (E.seen err.new)) result }
+{
+    let status = status_of(command, alloc, topology, tables, out);
+    finish(err, status)
+}

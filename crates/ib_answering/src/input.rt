@@ -1,0 +1,48 @@
+//! The topology that a call reads.
+
+ghost use Rattle.std.specs.Prelude.{◌≡◌, IfErr, IfOk};
+ghost use Rattle.ib_answering.specs.Answer.{GaveFabric, IsNoFabric, unread_as};
+
+use crate::status::Status;
+use calling::input::{Unread, read_input};
+use ib_fabric::read::read_fabric;
+use ib_net::fabric::Fabric;
+use outside::source::Source;
+use std::alloc::Global;
+
+/// The most bytes of a topology.
+pub const TOPOLOGY_LIMIT: usize = 1 << 28;
+
+/// A topology.
+#[derive(Drop)]
+pub struct Topology {
+    /// Its text.
+    pub text: Vec<u8>,
+    /// The fabric of which it is the text.
+    pub fabric: Fabric,
+}
+
+impl From<Unread> for Status {
+    ghost from_gives = { λ why result. result ≡ unread_as why };
+
+    fn from(why: Unread) -> Self {
+        match why {
+            Unread::Fault => Status::ReadFault,
+            Unread::TooLong { line } => Status::TopologyTooLong { line },
+            Unread::OutOfMemory => Status::OutOfMemory,
+        }
+    }
+}
+
+/// Reads a source to its end, as the text of a fabric; or says why there is none.
+pub fn read_topology<S: Source>(alloc: Global, source: &mut S) -> Result<Topology, Status>
+    ensures found { IfOk result (λ topology.
+        GaveFabric (S.seen source.old) (S.seen source.new) topology.text.items topology.fabric) }
+    ensures none { IfErr result (IsNoFabric (S.seen source.old) (S.seen source.new)) }
+{
+    let text = read_input(alloc, source, TOPOLOGY_LIMIT)?;
+    match read_fabric(alloc, &text) {
+        Ok(fabric) => Ok(Topology { text, fabric }),
+        Err(refusal) => Err(Status::from(refusal)),
+    }
+}

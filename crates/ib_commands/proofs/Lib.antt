@@ -1,0 +1,4 @@
+mod WordLemmas
+mod EndLemmas
+mod NameLemmas
+mod CallLemmas

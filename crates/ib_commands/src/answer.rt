@@ -1,0 +1,109 @@
+//! The answer for a fabric and its tables.
+
+ghost use Rattle.std.specs.Prelude.{◌≡◌, IfOk};
+ghost use Rattle.ib_cells.specs.Cells.{TablesOf, tables_of};
+ghost use Rattle.ib_net.specs.Fabric.{FabricOf};
+ghost use Rattle.ib_routes.specs.declared.traffic.Traffic.{Traffic};
+ghost use Rattle.ib_tables.specs.Reads.{HasCells};
+ghost use Rattle.ib_verdict.specs.Count.{IsChannelCount, IsLinkCount};
+ghost use Rattle.ib_verdict.specs.Judgements.{IsJudgement};
+ghost use Rattle.ib_commands.specs.Judged.{IsAnswerFor, IsEndOf, IsLoop, IsRead, routes_of};
+
+use crate::losses::{losses_of, lost_of};
+use crate::names::names_in;
+use crate::steps::steps_of;
+use crate::words::word_of;
+use an_base::memory::OutOfMemory;
+use an_base::text::Word;
+use ib_answering::input::Topology;
+use ib_answering::status::Status;
+use ib_counts::count::count_routes;
+use ib_counts::counts::Counts;
+use ib_lines::answer::{Answer, Read, Routes};
+use ib_net::fabric::Fabric;
+use ib_routes::traffic::Traffic;
+use ib_tables::reader::Tables;
+use ib_verdict::judge::Judgement;
+use ib_verdict::links::count_links;
+use ib_verdict::verdict::{LoopChannel, Verdict};
+use std::alloc::Global;
+
+/// How a call ends whose answer was written.
+pub fn status_of(judged: &Judgement) -> Status
+    ensures { (fabric : FabricOf) (tables : TablesOf) (traffic : Traffic)
+        → IsJudgement fabric tables traffic judged.now → IsEndOf fabric tables traffic result }
+{
+    match &judged.verdict {
+        Verdict::Cycle { channels: _ } => Status::Cycle,
+        Verdict::Ranks { ranks: _ } => {
+            if judged.stops {
+                return Status::RoutesLost;
+            }
+            Status::Ok
+        }
+    }
+}
+
+/// The answer for tables of a fabric, which were judged.
+pub fn answer_for(
+    alloc: Global,
+    topology: &Topology,
+    tables: &Tables,
+    traffic: Traffic,
+    judged: &Judgement,
+) -> Result<Answer, OutOfMemory>
+    requires cells { HasCells topology.now.fabric tables.now }
+    requires judged { IsJudgement topology.now.fabric (tables_of tables.now.cells) traffic judged.now }
+    ensures { IfOk result (IsAnswerFor traffic topology.now.text.items topology.now.fabric tables.now) }
+{
+    let fabric = &topology.fabric;
+    let counts = count_routes(alloc, fabric, &tables.cells, traffic)?;
+    let cycle = steps_of(alloc, fabric, cycle_of(judged))?;
+    let lost = lost_of(alloc, fabric, counts.lost)?;
+    let names = names_in(alloc, &topology.text, &cycle, &lost)?;
+    let links = count_links(fabric);
+    Ok(Answer {
+        read: read_of(fabric, tables, links.links),
+        traffic: Word::of(alloc, word_of(traffic).as_bytes())?,
+        routes: routes_of(counts),
+        channels: links.channels,
+        dependencies: judged.dependencies,
+        cycle,
+        losses: losses_of(counts),
+        lost,
+        names,
+    })
+}
+
+// The channels of the credit loop, none where there is no loop.
+fn cycle_of(judged: &Judgement) -> &[LoopChannel]
+    ensures { (fabric : FabricOf) (tables : TablesOf) (traffic : Traffic)
+        → IsJudgement fabric tables traffic judged.now → IsLoop fabric tables traffic result.now }
+{
+    match &judged.verdict {
+        Verdict::Ranks { ranks: _ } => &[],
+        Verdict::Cycle { channels } => channels,
+    }
+}
+
+fn read_of(fabric: &Fabric, tables: &Tables, links: u64) -> Read
+    ensures { IsLinkCount fabric.now links → IsRead fabric.now tables.now result }
+{
+    Read {
+        switches: fabric.switches() as u64,
+        ends: fabric.ends() as u64,
+        links,
+        rows: tables.rows,
+        unowned: tables.unowned,
+    }
+}
+
+fn routes_of(counts: Counts) -> Routes
+    ensures { result ≡ routes_of counts }
+{
+    Routes {
+        routes: counts.routes,
+        arrived: counts.arrived,
+        hops: u64::from(counts.hops),
+    }
+}

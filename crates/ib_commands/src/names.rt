@@ -1,0 +1,71 @@
+//! The names of the nodes of an answer.
+
+ghost use Rattle.std.specs.Prelude.{◌≡◌, ◌++◌, OnOk, IfOk, nat_eq, option_copied};
+ghost use Rattle.indexmap.specs.IndexSet.{insert_key};
+ghost use Rattle.ib_commands.specs.Names.{mentioned, named, names_for};
+
+use an_base::memory::OutOfMemory;
+use an_base::text::Word;
+use ib_lines::answer::{Lost, Name, Step};
+use ib_topology::names::names_of;
+use indexmap::IndexSet;
+use std::alloc::Global;
+
+/// The names that the text of a topology tells of the nodes of these steps and lost routes, each once, in the order in
+/// which they stand there.
+pub fn names_in(
+    alloc: Global,
+    text: &[u8],
+    steps: &[Step],
+    lost: &[Lost],
+) -> Result<Vec<Name>, OutOfMemory>
+    ensures { IfOk result (λ names. names.items ≡ names_for text.now (mentioned steps.now lost.now)) }
+{
+    let guids = guids_in(alloc, steps, lost)?;
+    let told = names_of(alloc, text, &guids)?;
+    let mut names = Vec::new(alloc);
+    'guids: for guid in guids.as_slice() {
+        push_name(alloc, &mut names, *guid, told.get(guid))?;
+    }
+    Ok(names)
+}
+
+// Appends the name of a node, if it has one.
+fn push_name(
+    alloc: Global,
+    names: &mut Vec<Name>,
+    guid: u64,
+    name: Option<&Word>,
+) -> Result<(), OutOfMemory>
+    ensures { OnOk result (names.new.items ≡ names.old.items ++ named guid (option_copied name.entry)) }
+{
+    let Some(name) = name else {
+        return Ok(());
+    };
+    let text = Word::of(alloc, name.as_bytes())?;
+    names.push(Name { guid, text })?;
+    Ok(())
+}
+
+// The nodes of steps and of lost routes.
+fn guids_in(alloc: Global, steps: &[Step], lost: &[Lost]) -> Result<IndexSet<u64>, OutOfMemory>
+    ensures { IfOk result (λ guids. guids.keys ≡ mentioned steps.now lost.now) }
+{
+    let mut guids = IndexSet::new(alloc);
+    'steps: for step in steps {
+        insert_two(&mut guids, step.guid, step.source)?;
+    }
+    'lost: for route in lost {
+        insert_two(&mut guids, route.source, route.at)?;
+    }
+    Ok(guids)
+}
+
+// Two nodes more.
+fn insert_two(guids: &mut IndexSet<u64>, one: u64, other: u64) -> Result<(), OutOfMemory>
+    ensures { OnOk result (guids.new.keys ≡ insert_key nat_eq (insert_key nat_eq guids.old.keys one) other) }
+{
+    guids.insert(one)?;
+    guids.insert(other)?;
+    Ok(())
+}

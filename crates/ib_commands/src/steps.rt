@@ -1,0 +1,37 @@
+//! The dependencies of a credit loop, as an answer tells them.
+
+ghost use Rattle.std.specs.Prelude.{◌≡◌, map, IfOk};
+ghost use Rattle.ib_commands.specs.Judged.{step_of};
+
+use an_base::memory::OutOfMemory;
+use ib_lines::answer::Step;
+use ib_net::fabric::Fabric;
+use ib_net::node::EndPort;
+use ib_verdict::verdict::LoopChannel;
+use std::alloc::Global;
+
+/// Of each channel of a loop the switch, the port, and the route that takes it and then the next one.
+pub fn steps_of(
+    alloc: Global,
+    fabric: &Fabric,
+    cycle: &[LoopChannel],
+) -> Result<Vec<Step>, OutOfMemory>
+    ensures { IfOk result (λ steps. steps.items ≡ map (step_of fabric.now) cycle.now) }
+{
+    let mut steps = Vec::with_capacity(alloc, cycle.len())?;
+    'channels: for one in cycle {
+        steps.push(step_of(fabric, *one))?;
+    }
+    Ok(steps)
+}
+
+fn step_of(fabric: &Fabric, one: LoopChannel) -> Step
+    ensures { result ≡ step_of fabric.now one }
+{
+    Step {
+        guid: fabric.guid(EndPort::Switch(one.channel.switch)),
+        port: one.channel.port,
+        lid: one.witness.lid,
+        source: fabric.guid(one.witness.source),
+    }
+}

@@ -1,0 +1,7 @@
+mod CountLemmas
+mod LostLemmas
+mod EndLemmas
+mod MoreLemmas
+mod PlaceLemmas
+mod StepLemmas
+mod LongestLemmas

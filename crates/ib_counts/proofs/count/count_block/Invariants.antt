@@ -1,0 +1,8 @@
+use Rattle.std.proofs.Common.{◌+◌, ◌*◌}
+use Rattle.ib_cells.specs.Cells.{tables_of}
+use Rattle.ib_counts.specs.Steps.{AreCountsUntil}
+use Rattle.ib_counts.proofs.count.count_block.Given as goal
+
+-- the counts with the LIDs so far
+abbrev pub invariant-bits : goal.invariant-bits
+invariant-bits l = AreCountsUntil l.fabric (tables_of l.cells) l.traffic (64 * l.block + l.bit) 0 l.counts

@@ -1,0 +1,17 @@
+use Rattle.std.proofs.Common.{◌+◌, sym, subst, ℕ, arith}
+use Rattle.ib_cells.specs.Cells.{tables_of}
+use Rattle.ib_counts.specs.Steps.{AreCountsUntil}
+use Rattle.ib_counts.proofs.StepLemmas.{next_counts}
+use Rattle.ib_counts.proofs.counts.Counts.with_sources.Goals as goal
+
+pub with_source-requires-clause-counts : goal.with_source-requires-clause-counts
+with_source-requires-clause-counts c = subst (λ (n : ℕ). AreCountsUntil c.args.fabric.now (tables_of c.args.cells.now) c.args.traffic c.args.lid n c.places.counts) (sym c.end_port_at-source.ensures.place) c.places.invariant.counts
+
+pub places-preserved : goal.places-preserved
+places-preserved c = record {
+  ready = c.in_ok-counts.ensures.ready;
+  counts = subst (λ (n : ℕ). AreCountsUntil c.args.fabric.now (tables_of c.args.cells.now) c.args.traffic c.args.lid (n + 1) c.in_ok-counts.counts) c.end_port_at-source.ensures.place c.in_ok-counts.ensures.counts;
+}
+
+pub returns : goal.returns
+returns c = next_counts c.args.fabric.now (tables_of c.args.cells.now) c.args.traffic c.args.lid c.places.counts c.places.place (omega arith) (omega arith) c.places.invariant.counts

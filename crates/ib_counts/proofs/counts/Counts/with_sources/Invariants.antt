@@ -1,0 +1,12 @@
+use Rattle.ib_cells.specs.Cells.{tables_of}
+use Rattle.ib_counts.specs.Steps.{AreCountsUntil}
+use Rattle.ib_net.specs.Fabric.{switch_count}
+use Rattle.ib_routes.specs.Trace.{IsReady, hop_to, whole}
+use Rattle.ib_counts.proofs.counts.Counts.with_sources.Given as goal
+
+-- the counts with the end ports so far
+abbrev pub invariant-places : goal.invariant-places
+invariant-places l = record {
+  ready : IsReady (hop_to l.fabric (tables_of l.cells) (whole l.lid)) (switch_count l.fabric) l.marks l.path.items;
+  counts : AreCountsUntil l.fabric (tables_of l.cells) l.traffic l.lid l.place l.counts;
+}

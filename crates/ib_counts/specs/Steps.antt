@@ -1,0 +1,93 @@
+-- How routes are counted, LID by LID and end port by end port. Only private functions cite this.
+use Rattle.std.specs.Prelude.{◌≡◌, ◌<◌, ◌≤◌, ◌≢◌, ◌+◌, ◌*◌, ◌^◌, ◌⊎◌, ℕ}
+use Rattle.std.specs.Prelude.{List, Option, Some, None, length, max}
+use Rattle.ib_cells.specs.Cells.{TablesOf}
+use Rattle.ib_counts.specs.Counts.{AreCountsOf, IsOf, Route, RouteEnds}
+use Rattle.ib_counts.specs.declared.counts.Counts.{Counts}
+use Rattle.ib_counts.specs.declared.counts.LostRoute.{LostRoute}
+use Rattle.ib_net.specs.declared.node.EndPort.{EndPort}
+use Rattle.ib_net.specs.declared.node.EndPort.TheVariants.{Host, Switch}
+use Rattle.ib_net.specs.Fabric.{FabricOf, guid_of, owner_of, switch_count}
+use Rattle.ib_routes.specs.declared.hop.Hop.{Hop}
+use Rattle.ib_routes.specs.declared.hop.Outcome.{Outcome}
+use Rattle.ib_routes.specs.declared.hop.Outcome.TheVariants.{Arrives, Stops, Loops}
+use Rattle.ib_routes.specs.declared.traffic.Traffic.{Traffic}
+use Rattle.ib_routes.specs.Routes.{EndsAs, IsSource, IsTarget, Sends}
+use Rattle.ib_routes.specs.Waves.{HasBit}
+
+-- the place of an end port: those of adapters and routers first, then switches
+abbrev pub place_of : FabricOf → EndPort → ℕ
+place_of fabric (Host end) = end
+place_of fabric (Switch switch) = length fabric.cables + switch
+
+-- an end port of the fabric
+abbrev pub IsEndPort : FabricOf → EndPort → Type 0
+IsEndPort fabric (Host end) = end < length fabric.cables
+IsEndPort fabric (Switch switch) = switch < switch_count fabric
+
+-- one of the first so many that send
+abbrev pub IsSourceUntil : FabricOf → Traffic → ℕ → EndPort → Type 0
+IsSourceUntil fabric traffic place source = IsSource fabric traffic source × (place_of fabric source < place)
+
+-- a route to a lesser LID, or to this one from one of the first so many end ports
+abbrev pub IsUntil : FabricOf → Traffic → ℕ → ℕ → Route → Type 0
+IsUntil fabric traffic lid place route =
+    IsOf fabric traffic route
+    × ((route.lid < lid) ⊎ ((route.lid ≡ lid) × (place_of fabric route.source < place)))
+
+-- those before an end port, and those up to it
+abbrev pub IsBefore : FabricOf → Traffic → ℕ → EndPort → Route → Type 0
+IsBefore fabric traffic lid source = IsUntil fabric traffic lid (place_of fabric source)
+
+abbrev pub IsUpTo : FabricOf → Traffic → ℕ → EndPort → Route → Type 0
+IsUpTo fabric traffic lid source = IsUntil fabric traffic lid (place_of fabric source + 1)
+
+-- the counts of those, which are not too many
+pub record AreCountsUntil (fabric : FabricOf) (tables : TablesOf) (traffic : Traffic) (lid place : ℕ)
+    (counts : Counts)
+    : Type 0 where
+  pub exact : AreCountsOf fabric tables (IsUntil fabric traffic lid place) counts
+  pub few : counts.routes ≤ lid * 2 ^ 17 + place
+
+-- a LID to which some end ports may send
+abbrev pub IsTargeted : FabricOf → Traffic → ℕ → Type 0
+IsTargeted fabric traffic lid =
+    (owner : EndPort) × (owner_of fabric lid ≡ Some owner) × IsTarget fabric traffic owner
+
+-- a route to a LID is to be told in place of the least one so far, if there is one
+abbrev pub IsLesser : FabricOf → Option LostRoute → ℕ → EndPort → Type 0
+IsLesser fabric None lid source = Unit {0}
+IsLesser fabric (Some told) lid source =
+    (told.lid ≡ lid) × (guid_of fabric source < guid_of fabric told.source)
+
+-- each route to a LID arrives, and the greatest number of switches is this one
+pub record AllArriveWithin (fabric : FabricOf) (tables : TablesOf) (traffic : Traffic) (lid hops : ℕ)
+    : Type 0 where
+  pub all :
+      (source : EndPort) → Sends fabric traffic lid source
+      → (switches : ℕ) × RouteEnds fabric tables (record { lid = lid; source = source }) (Arrives switches)
+      × (switches ≤ hops)
+  pub some :
+      hops ≢ 0
+      → (source : EndPort) × Sends fabric traffic lid source
+      × RouteEnds fabric tables (record { lid = lid; source = source }) (Arrives hops)
+
+-- how the route from a switch ends, if it has a bit
+abbrev pub EndsIfStarts : (ℕ → Hop) → List ℕ → ℕ → ℕ → Option Outcome → Type 0
+EndsIfStarts hop_at words bit at None = HasBit words at bit → ⊥
+EndsIfStarts hop_at words bit at (Some outcome) = HasBit words at bit × EndsAs hop_at at outcome
+
+-- the greater number of switches with a route more, which arrives if it begins
+abbrev pub IsLonger : ℕ → Option Outcome → ℕ → Type 0
+IsLonger hops None longer = longer ≡ hops
+IsLonger hops (Some (Arrives switches)) longer = longer ≡ max hops switches
+IsLonger hops (Some (Stops cause)) longer = ⊥
+IsLonger hops (Some Loops) longer = ⊥
+
+-- each route arrives that begins at one of the first so many switches and has a bit, and the longest goes
+-- through so many
+pub record AreLongest (hop_at : ℕ → Hop) (words : List ℕ) (bit count hops : ℕ) : Type 0 where
+  pub all :
+      (at : ℕ) → at < count → HasBit words at bit
+      → (switches : ℕ) × EndsAs hop_at at (Arrives switches) × (switches ≤ hops)
+  pub some : hops ≢ 0 → (at : ℕ) × HasBit words at bit × EndsAs hop_at at (Arrives hops)

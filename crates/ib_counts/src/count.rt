@@ -1,0 +1,322 @@
+//! How the routes of a traffic end, and how many do.
+
+ghost use Rattle.std.specs.Prelude.{◌≡◌, ◌<◌, ◌≤◌, ◌+◌, ◌*◌, ◌/◌, ◌%◌, ◌^◌, length, IfOk, IfSome};
+ghost use Rattle.ib_net.specs.Fabric.{switch_count};
+ghost use Rattle.ib_cells.specs.Cells.{tables_of};
+ghost use Rattle.ib_routes.specs.declared.traffic.Traffic.{Traffic};
+ghost use Rattle.ib_routes.specs.Routes.{EndsAs, IsSource};
+ghost use Rattle.ib_routes.specs.Starts.{AreAllSenders};
+ghost use Rattle.ib_routes.specs.Trace.{IsReady, hop_to, whole};
+ghost use Rattle.ib_routes.specs.Waves.{AreStarts};
+ghost use Rattle.ib_counts.specs.Counts.{AreCounts, IsCountOf, hop_for, sum_of};
+ghost use Rattle.ib_counts.specs.Steps.{AllArriveWithin, AreCountsUntil, EndsIfStarts, IsEndPort, IsLonger};
+ghost use Rattle.ib_counts.specs.Steps.{IsTargeted, place_of};
+
+use crate::counts::Counts;
+use crate::source::{count_senders, count_sources, end_port_at, end_ports};
+use an_base::memory::OutOfMemory;
+use ib_cells::cells::Cells;
+use ib_net::fabric::Fabric;
+use ib_net::node::EndPort;
+use ib_routes::hop::Outcome;
+use ib_routes::start::{Senders, find_senders, is_target, put_starts, sender_start};
+use ib_routes::trace::{Mark, Target, trace};
+use ib_routes::traffic::Traffic;
+use ib_routes::word::has_bit;
+use std::alloc::Global;
+
+// How the route to a LID from a switch ends.
+fn end_from(
+    fabric: &Fabric,
+    cells: &Cells,
+    lid: u16,
+    marks: &mut [Mark],
+    path: &mut Vec<usize>,
+    start: usize,
+) -> Result<Outcome, OutOfMemory>
+    requires same { switch_count fabric.now ≡ cells.now.switches }
+    requires few { switch_count fabric.now ≤ 2 ^ 14 }
+    requires lid { lid < 64 * cells.now.blocks }
+    requires start { start < switch_count fabric.now }
+    requires ready { IsReady (hop_to fabric.now (tables_of cells.now) (whole lid)) (switch_count fabric.now)
+        marks.old path.old.items }
+    ensures ready { IfOk result (λ _. IsReady (hop_to fabric.now (tables_of cells.now) (whole lid))
+        (switch_count fabric.now) marks.new path.new.items) }
+    ensures ends { IfOk result (λ outcome. EndsAs (hop_for fabric.now (tables_of cells.now) lid) start
+        outcome) }
+{
+    let target = Target {
+        block: lid as usize / 64,
+        bit: lid as usize % 64,
+        until: None,
+    };
+    trace(fabric, cells, target, marks, path, start)
+}
+
+// The same, if a route begins there: the switch has the bit of the LID.
+fn end_of_start(
+    fabric: &Fabric,
+    cells: &Cells,
+    lid: u16,
+    starts: &[u64],
+    marks: &mut [Mark],
+    path: &mut Vec<usize>,
+    switch: usize,
+) -> Result<Option<Outcome>, OutOfMemory>
+    requires same { switch_count fabric.now ≡ cells.now.switches }
+    requires few { switch_count fabric.now ≤ 2 ^ 14 }
+    requires lid { lid < 64 * cells.now.blocks }
+    requires switch { switch < switch_count fabric.now }
+    requires starts { length starts.now ≡ switch_count fabric.now }
+    requires ready { IsReady (hop_to fabric.now (tables_of cells.now) (whole lid)) (switch_count fabric.now)
+        marks.old path.old.items }
+    ensures ready { IfOk result (λ _. IsReady (hop_to fabric.now (tables_of cells.now) (whole lid))
+        (switch_count fabric.now) marks.new path.new.items) }
+    ensures ends { IfOk result (EndsIfStarts (hop_for fabric.now (tables_of cells.now) lid) starts.now
+        (lid % 64) switch) }
+{
+    if !has_bit(starts[switch], lid as usize % 64) {
+        return Ok(None);
+    }
+    let outcome = end_from(fabric, cells, lid, marks, path, switch)?;
+    Ok(Some(outcome))
+}
+
+// The greater number of switches, if the route arrives or none begins.
+fn longer_of(hops: u32, outcome: Option<Outcome>) -> Option<u32>
+    ensures { IfSome result (IsLonger hops outcome) }
+{
+    match outcome {
+        None => Some(hops),
+        Some(Outcome::Arrives(switches)) => Some(hops.max(switches)),
+        Some(Outcome::Stops(_)) => None,
+        Some(Outcome::Loops) => None,
+    }
+}
+
+// Through how many switches the longest route to a LID goes, if each arrives that begins at a switch with its
+// bit.
+fn longest_to(
+    fabric: &Fabric,
+    cells: &Cells,
+    lid: u16,
+    starts: &[u64],
+    marks: &mut [Mark],
+    path: &mut Vec<usize>,
+) -> Result<Option<u32>, OutOfMemory>
+    requires same { switch_count fabric.now ≡ cells.now.switches }
+    requires few { switch_count fabric.now ≤ 2 ^ 14 }
+    requires lid { lid < 64 * cells.now.blocks }
+    requires starts { length starts.now ≡ switch_count fabric.now }
+    requires ready { IsReady (hop_to fabric.now (tables_of cells.now) (whole lid)) (switch_count fabric.now)
+        marks.old path.old.items }
+    ensures ready { IfOk result (λ _. IsReady (hop_to fabric.now (tables_of cells.now) (whole lid))
+        (switch_count fabric.now) marks.new path.new.items) }
+    ensures arrive { IfOk result (λ found. IfSome found (λ hops. (traffic : Traffic)
+        → AreStarts fabric.now traffic (lid / 64) starts.now
+        → AllArriveWithin fabric.now (tables_of cells.now) traffic lid hops)) }
+{
+    let mut hops = 0;
+    'switches: for switch in 0..fabric.switches() {
+        let outcome = end_of_start(fabric, cells, lid, starts, marks, path, switch)?;
+        let Some(longer) = longer_of(hops, outcome) else {
+            return Ok(None);
+        };
+        hops = longer;
+    }
+    Ok(Some(hops))
+}
+
+impl Counts {
+    // The route of an end port, if it sends to the LID.
+    fn with_source(
+        self,
+        fabric: &Fabric,
+        cells: &Cells,
+        traffic: Traffic,
+        lid: u16,
+        marks: &mut [Mark],
+        path: &mut Vec<usize>,
+        source: EndPort,
+    ) -> Result<Counts, OutOfMemory>
+        requires same { switch_count fabric.now ≡ cells.now.switches }
+        requires few { switch_count fabric.now ≤ 2 ^ 14 }
+        requires lid { lid < 64 * cells.now.blocks }
+        requires ready { IsReady (hop_to fabric.now (tables_of cells.now) (whole lid))
+            (switch_count fabric.now) marks.old path.old.items }
+        requires source { IsEndPort fabric.now source }
+        requires low { place_of fabric.now source ≤ 2 ^ 17 }
+        requires counts { AreCountsUntil fabric.now (tables_of cells.now) traffic lid
+            (place_of fabric.now source) self }
+        ensures ready { IfOk result (λ _. IsReady (hop_to fabric.now (tables_of cells.now) (whole lid))
+            (switch_count fabric.now) marks.new path.new.items) }
+        ensures counts { IfOk result (AreCountsUntil fabric.now (tables_of cells.now) traffic lid
+            (place_of fabric.now source + 1)) }
+    {
+        let Some(start) = sender_start(fabric, traffic, lid as usize, source) else {
+            return Ok(self);
+        };
+        let outcome = end_from(fabric, cells, lid, marks, path, start as usize)?;
+        Ok(self.with(fabric, cells, lid, source, start, outcome))
+    }
+
+    // The routes of all end ports to a LID, one after the other.
+    fn with_sources(
+        self,
+        fabric: &Fabric,
+        cells: &Cells,
+        traffic: Traffic,
+        lid: u16,
+        marks: &mut [Mark],
+        path: &mut Vec<usize>,
+    ) -> Result<Counts, OutOfMemory>
+        requires same { switch_count fabric.now ≡ cells.now.switches }
+        requires few { switch_count fabric.now ≤ 2 ^ 14 }
+        requires lid { lid < 64 * cells.now.blocks }
+        requires ready { IsReady (hop_to fabric.now (tables_of cells.now) (whole lid))
+            (switch_count fabric.now) marks.old path.old.items }
+        requires counts { AreCountsUntil fabric.now (tables_of cells.now) traffic lid 0 self }
+        ensures { IfOk result (AreCountsUntil fabric.now (tables_of cells.now) traffic (lid + 1) 0) }
+    {
+        let mut counts = self;
+        'places: for place in 0..end_ports(fabric) {
+            let source = end_port_at(fabric, place);
+            counts = counts.with_source(fabric, cells, traffic, lid, marks, path, source)?;
+        }
+        Ok(counts)
+    }
+}
+
+// The counts with the routes to a LID to which some end ports send, if so many send at all.
+fn count_target(
+    alloc: Global,
+    fabric: &Fabric,
+    cells: &Cells,
+    traffic: Traffic,
+    lid: u16,
+    sources: u64,
+    starts: &[u64],
+    counts: Counts,
+) -> Result<Counts, OutOfMemory>
+    requires same { switch_count fabric.now ≡ cells.now.switches }
+    requires lid { lid < 64 * cells.now.blocks }
+    requires target { IsTargeted fabric.now traffic lid }
+    requires sources { IsCountOf (IsSource fabric.now traffic) sources }
+    requires few { sources ≤ 2 ^ 17 }
+    requires count { length starts.now ≡ switch_count fabric.now }
+    requires starts { AreStarts fabric.now traffic (lid / 64) starts.now }
+    requires counts { AreCountsUntil fabric.now (tables_of cells.now) traffic lid 0 counts }
+    ensures { IfOk result (AreCountsUntil fabric.now (tables_of cells.now) traffic (lid + 1) 0) }
+{
+    let mut marks = vec![in alloc; Mark::New; fabric.switches()]?;
+    let mut path = Vec::new(alloc);
+    let longest = longest_to(fabric, cells, lid, starts, &mut marks, &mut path)?;
+    match longest {
+        Some(hops) => {
+            let senders = count_senders(fabric, traffic, lid as usize, sources);
+            Ok(counts.with_arrived(senders, hops))
+        }
+        None => counts.with_sources(fabric, cells, traffic, lid, &mut marks, &mut path),
+    }
+}
+
+// The counts with the routes to a LID.
+fn count_lid(
+    alloc: Global,
+    fabric: &Fabric,
+    cells: &Cells,
+    traffic: Traffic,
+    lid: u16,
+    sources: u64,
+    starts: &[u64],
+    counts: Counts,
+) -> Result<Counts, OutOfMemory>
+    requires same { switch_count fabric.now ≡ cells.now.switches }
+    requires lid { lid < 64 * cells.now.blocks }
+    requires sources { IsCountOf (IsSource fabric.now traffic) sources }
+    requires few { sources ≤ 2 ^ 17 }
+    requires count { length starts.now ≡ switch_count fabric.now }
+    requires starts { AreStarts fabric.now traffic (lid / 64) starts.now }
+    requires counts { AreCountsUntil fabric.now (tables_of cells.now) traffic lid 0 counts }
+    ensures { IfOk result (AreCountsUntil fabric.now (tables_of cells.now) traffic (lid + 1) 0) }
+{
+    if !is_target(fabric, traffic, lid as usize) {
+        return Ok(counts);
+    }
+    count_target(alloc, fabric, cells, traffic, lid, sources, starts, counts)
+}
+
+// The counts with the routes to the LIDs of a block.
+fn count_block(
+    alloc: Global,
+    fabric: &Fabric,
+    cells: &Cells,
+    traffic: Traffic,
+    block: usize,
+    sources: u64,
+    starts: &[u64],
+    counts: Counts,
+) -> Result<Counts, OutOfMemory>
+    requires same { switch_count fabric.now ≡ cells.now.switches }
+    requires block { block < cells.now.blocks }
+    requires low { block < 1024 }
+    requires sources { IsCountOf (IsSource fabric.now traffic) sources }
+    requires few { sources ≤ 2 ^ 17 }
+    requires count { length starts.now ≡ switch_count fabric.now }
+    requires starts { AreStarts fabric.now traffic block starts.now }
+    requires counts { AreCountsUntil fabric.now (tables_of cells.now) traffic (64 * block) 0 counts }
+    ensures { IfOk result (AreCountsUntil fabric.now (tables_of cells.now) traffic (64 * (block + 1)) 0) }
+{
+    let mut counts = counts;
+    'bits: for bit in 0..64usize {
+        let lid = (64 * block + bit) as u16;
+        counts = count_lid(alloc, fabric, cells, traffic, lid, sources, starts, counts)?;
+    }
+    Ok(counts)
+}
+
+// The counts of the routes to all LIDs. The words are a room for bits of each switch.
+fn count_blocks(
+    alloc: Global,
+    fabric: &Fabric,
+    cells: &Cells,
+    traffic: Traffic,
+    senders: &[Senders],
+    starts: &mut [u64],
+) -> Result<Counts, OutOfMemory>
+    requires same { switch_count fabric.now ≡ cells.now.switches }
+    requires senders { AreAllSenders fabric.now traffic senders.now }
+    requires starts { length starts.old ≡ switch_count fabric.now }
+    ensures counts { IfOk result (AreCountsUntil fabric.now (tables_of cells.now) traffic
+        (64 * cells.now.blocks) 0) }
+    ensures low { IfOk result (λ _. cells.now.blocks ≤ 1024) }
+{
+    let sources = count_sources(fabric, traffic);
+    let mut counts = Counts::none();
+    'rounds: for block in 0..cells.blocks() {
+        put_starts(fabric, traffic, block, senders, starts);
+        counts = count_block(
+            alloc, fabric, cells, traffic, block, sources, starts, counts,
+        )?;
+    }
+    Ok(counts)
+}
+
+/// How many routes of a traffic there are, how many arrive, through how many switches the longest of these
+/// goes, and those that do not arrive, by cause: of each the least and where it is lost.
+pub fn count_routes(
+    alloc: Global,
+    fabric: &Fabric,
+    cells: &Cells,
+    traffic: Traffic,
+) -> Result<Counts, OutOfMemory>
+    requires same { switch_count fabric.now ≡ cells.now.switches }
+    requires owners { length fabric.now.owners ≤ 64 * cells.now.blocks }
+    ensures counts { IfOk result (AreCounts fabric.now (tables_of cells.now) traffic) }
+    ensures few { IfOk result (λ counts. sum_of counts.lost < 2 ^ 64) }
+{
+    let senders = find_senders(alloc, fabric, traffic)?;
+    let mut starts = vec![in alloc; 0u64; fabric.switches()]?;
+    let counts = count_blocks(alloc, fabric, cells, traffic, &senders, &mut starts)?;
+    Ok(counts)
+}

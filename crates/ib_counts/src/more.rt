@@ -1,0 +1,240 @@
+//! Counts with one route more.
+
+ghost use Rattle.std.specs.Prelude.{◌≡◌, ◌<◌, ◌≤◌, ◌+◌, ◌*◌, ◌^◌, ◌↔◌, None, Some, max, IsTrue};
+ghost use Rattle.ib_net.specs.Fabric.{start_of, switch_count};
+ghost use Rattle.ib_cells.specs.Cells.{tables_of};
+ghost use Rattle.ib_routes.specs.declared.hop.Outcome.{Outcome};
+ghost use Rattle.ib_routes.specs.declared.hop.Outcome.TheVariants.{Loops, Stops};
+ghost use Rattle.ib_routes.specs.declared.traffic.Traffic.{Traffic};
+ghost use Rattle.ib_routes.specs.Routes.{EndsAs, Sends};
+ghost use Rattle.ib_counts.specs.Counts.{AreCountsOf, AreLosses, IsLoss, IsLost, hop_for, sum_of};
+ghost use Rattle.ib_counts.specs.Steps.{IsBefore, IsLesser, IsUpTo};
+
+use crate::counts::{Counts, Loss, Losses, LostRoute};
+use crate::lost::lost_at;
+use ib_cells::cells::Cells;
+use ib_net::fabric::Fabric;
+use ib_net::node::EndPort;
+use ib_routes::hop::{Cause, Outcome};
+
+// Whether a lost route is to be told in place of the one that is: none is, or its LID is the same and its end
+// port has a lesser GUID.
+fn is_less(fabric: &Fabric, told: Option<LostRoute>, lid: u16, source: EndPort) -> bool
+    ensures { IsTrue result ↔ IsLesser fabric.now told lid source }
+{
+    match told {
+        None => true,
+        Some(one) => one.lid == lid && fabric.guid(source) < fabric.guid(one.source),
+    }
+}
+
+impl Loss {
+    const NONE: Loss = Loss {
+        count: 0,
+        least: None,
+    };
+
+    // One lost route more, which begins at a switch.
+    fn with(self, fabric: &Fabric, cells: &Cells, lid: u16, source: EndPort, start: u32) -> Loss
+        requires same { switch_count fabric.now ≡ cells.now.switches }
+        requires few { switch_count fabric.now ≤ 2 ^ 14 }
+        requires lid { lid < 64 * cells.now.blocks }
+        requires start { start < switch_count fabric.now }
+        requires begins { start_of fabric.now source ≡ Some start }
+        requires fits { self.count < 2 ^ 40 }
+        ensures count { result.count ≡ self.count + 1 }
+        ensures loss { (traffic : Traffic) (outcome : Outcome) → IsLost outcome
+            → Sends fabric.now traffic lid source
+            → EndsAs (hop_for fabric.now (tables_of cells.now) lid) start outcome
+            → IsLoss fabric.now (tables_of cells.now) (IsBefore fabric.now traffic lid source)
+            outcome self
+            → IsLoss fabric.now (tables_of cells.now) (IsUpTo fabric.now traffic lid source)
+            outcome result }
+    {
+        let count = self.count + 1;
+        if !is_less(fabric, self.least, lid, source) {
+            return Loss {
+                count,
+                least: self.least,
+            };
+        }
+        let at = lost_at(fabric, cells, lid as usize, start as usize) as u32;
+        Loss {
+            count,
+            least: Some(LostRoute { lid, source, at }),
+        }
+    }
+}
+
+impl Losses {
+    // One route more that stops, by a cause.
+    fn with(
+        self,
+        fabric: &Fabric,
+        cells: &Cells,
+        lid: u16,
+        source: EndPort,
+        start: u32,
+        cause: Cause,
+    ) -> Losses
+        requires same { switch_count fabric.now ≡ cells.now.switches }
+        requires few { switch_count fabric.now ≤ 2 ^ 14 }
+        requires lid { lid < 64 * cells.now.blocks }
+        requires start { start < switch_count fabric.now }
+        requires begins { start_of fabric.now source ≡ Some start }
+        requires fits { sum_of self < 2 ^ 40 }
+        ensures sum { sum_of result ≡ sum_of self + 1 }
+        ensures losses { (traffic : Traffic) → Sends fabric.now traffic lid source
+            → EndsAs (hop_for fabric.now (tables_of cells.now) lid) start (Stops cause)
+            → AreLosses fabric.now (tables_of cells.now) (IsBefore fabric.now traffic lid source) self
+            → AreLosses fabric.now (tables_of cells.now) (IsUpTo fabric.now traffic lid source)
+            result }
+    {
+        match cause {
+            Cause::Missing => Losses {
+                missing: self.missing.with(fabric, cells, lid, source, start),
+                dead: self.dead,
+                wrong: self.wrong,
+                looping: self.looping,
+            },
+            Cause::Dead => Losses {
+                missing: self.missing,
+                dead: self.dead.with(fabric, cells, lid, source, start),
+                wrong: self.wrong,
+                looping: self.looping,
+            },
+            Cause::Wrong => Losses {
+                missing: self.missing,
+                dead: self.dead,
+                wrong: self.wrong.with(fabric, cells, lid, source, start),
+                looping: self.looping,
+            },
+        }
+    }
+
+    // One more that goes on for ever.
+    fn with_loop(
+        self,
+        fabric: &Fabric,
+        cells: &Cells,
+        lid: u16,
+        source: EndPort,
+        start: u32,
+    ) -> Losses
+        requires same { switch_count fabric.now ≡ cells.now.switches }
+        requires few { switch_count fabric.now ≤ 2 ^ 14 }
+        requires lid { lid < 64 * cells.now.blocks }
+        requires start { start < switch_count fabric.now }
+        requires begins { start_of fabric.now source ≡ Some start }
+        requires fits { sum_of self < 2 ^ 40 }
+        ensures sum { sum_of result ≡ sum_of self + 1 }
+        ensures losses { (traffic : Traffic) → Sends fabric.now traffic lid source
+            → EndsAs (hop_for fabric.now (tables_of cells.now) lid) start Loops
+            → AreLosses fabric.now (tables_of cells.now) (IsBefore fabric.now traffic lid source) self
+            → AreLosses fabric.now (tables_of cells.now) (IsUpTo fabric.now traffic lid source)
+            result }
+    {
+        Losses {
+            missing: self.missing,
+            dead: self.dead,
+            wrong: self.wrong,
+            looping: self.looping.with(fabric, cells, lid, source, start),
+        }
+    }
+}
+
+impl Counts {
+    /// The counts of no routes.
+    pub fn none() -> Counts
+        ensures { result ≡ record {
+          routes = 0;
+          arrived = 0;
+          hops = 0;
+          lost = record {
+            missing = record { count = 0; least = None };
+            dead = record { count = 0; least = None };
+            wrong = record { count = 0; least = None };
+            looping = record { count = 0; least = None };
+          };
+        } }
+    {
+        Counts {
+            routes: 0,
+            arrived: 0,
+            hops: 0,
+            lost: Losses {
+                missing: Loss::NONE,
+                dead: Loss::NONE,
+                wrong: Loss::NONE,
+                looping: Loss::NONE,
+            },
+        }
+    }
+
+    /// One route more, which begins at a switch and ends so.
+    pub fn with(
+        self,
+        fabric: &Fabric,
+        cells: &Cells,
+        lid: u16,
+        source: EndPort,
+        start: u32,
+        outcome: Outcome,
+    ) -> Counts
+        requires same { switch_count fabric.now ≡ cells.now.switches }
+        requires few { switch_count fabric.now ≤ 2 ^ 14 }
+        requires lid { lid < 64 * cells.now.blocks }
+        requires start { start < switch_count fabric.now }
+        requires begins { start_of fabric.now source ≡ Some start }
+        requires all { self.routes ≡ self.arrived + sum_of self.lost }
+        requires fits { self.routes < 2 ^ 40 }
+        ensures routes { result.routes ≡ self.routes + 1 }
+        ensures counts { (traffic : Traffic) → Sends fabric.now traffic lid source
+            → EndsAs (hop_for fabric.now (tables_of cells.now) lid) start outcome
+            → AreCountsOf fabric.now (tables_of cells.now) (IsBefore fabric.now traffic lid source) self
+            → AreCountsOf fabric.now (tables_of cells.now)
+            (IsUpTo fabric.now traffic lid source) result }
+    {
+        let routes = self.routes + 1;
+        match outcome {
+            Outcome::Arrives(switches) => Counts {
+                routes,
+                arrived: self.arrived + 1,
+                hops: self.hops.max(switches),
+                lost: self.lost,
+            },
+            Outcome::Stops(cause) => Counts {
+                routes,
+                arrived: self.arrived,
+                hops: self.hops,
+                lost: self.lost.with(fabric, cells, lid, source, start, cause),
+            },
+            Outcome::Loops => Counts {
+                routes,
+                arrived: self.arrived,
+                hops: self.hops,
+                lost: self.lost.with_loop(fabric, cells, lid, source, start),
+            },
+        }
+    }
+
+    /// So many more that all arrive, the longest of them through so many switches.
+    pub fn with_arrived(self, routes: u64, hops: u32) -> Counts
+        requires all { self.arrived ≤ self.routes }
+        requires fits { self.routes < 2 ^ 40 }
+        requires few { routes ≤ 2 ^ 17 }
+        ensures { result ≡ record {
+          routes = self.routes + routes;
+          arrived = self.arrived + routes;
+          hops = max self.hops hops;
+          lost = self.lost;
+        } }
+    {
+        Counts {
+            routes: self.routes + routes,
+            arrived: self.arrived + routes,
+            hops: self.hops.max(hops),
+            lost: self.lost,
+        }
+    }
+}

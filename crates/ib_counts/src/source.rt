@@ -1,0 +1,74 @@
+//! The end ports that send, one after the other.
+
+ghost use Rattle.std.specs.Prelude.{◌≡◌, ◌≢◌, ◌<◌, ◌≤◌, ◌+◌, ◌^◌, length};
+ghost use Rattle.ib_net.specs.Fabric.{switch_count};
+ghost use Rattle.ib_routes.specs.Routes.{IsSource, Sends};
+ghost use Rattle.ib_counts.specs.Counts.{IsCountOf};
+ghost use Rattle.ib_counts.specs.Steps.{IsEndPort, IsTargeted, place_of};
+
+use ib_net::fabric::Fabric;
+use ib_net::node::EndPort;
+use ib_routes::start::is_source;
+use ib_routes::traffic::Traffic;
+
+/// How many end ports there are.
+pub fn end_ports(fabric: &Fabric) -> usize
+    ensures count { result ≡ length fabric.now.cables + switch_count fabric.now }
+    ensures few { result ≤ 2 ^ 17 }
+{
+    fabric.ends() + fabric.switches()
+}
+
+/// The end port at a place among all: those of adapters and routers first, then switches.
+pub fn end_port_at(fabric: &Fabric, place: usize) -> EndPort
+    requires place { place < length fabric.now.cables + switch_count fabric.now }
+    requires low { place < 2 ^ 17 }
+    ensures place { place_of fabric.now result ≡ place }
+    ensures is { IsEndPort fabric.now result }
+{
+    let ends = fabric.ends();
+    if place < ends {
+        EndPort::Host(place as u32)
+    } else {
+        EndPort::Switch((place - ends) as u32)
+    }
+}
+
+/// How many end ports send.
+pub fn count_sources(fabric: &Fabric, traffic: Traffic) -> u64
+    ensures count { IsCountOf (IsSource fabric.now traffic) result }
+    ensures few { result ≤ 2 ^ 17 }
+{
+    let mut count = 0u64;
+    'places: for place in 0..end_ports(fabric) {
+        let sends = is_source(fabric, traffic, end_port_at(fabric, place));
+        count += u64::from(sends);
+    }
+    count
+}
+
+// How many end ports but one send, if so many do at all.
+fn count_others(fabric: &Fabric, traffic: Traffic, one: EndPort, sources: u64) -> u64
+    requires { IsCountOf (IsSource fabric.now traffic) sources }
+    ensures count { IsCountOf (λ source. IsSource fabric.now traffic source × (source ≢ one)) result }
+    ensures few { result ≤ sources }
+{
+    if is_source(fabric, traffic, one) {
+        sources - 1
+    } else {
+        sources
+    }
+}
+
+/// How many end ports send to a LID to which some do, if so many do at all.
+pub fn count_senders(fabric: &Fabric, traffic: Traffic, lid: usize, sources: u64) -> u64
+    requires target { IsTargeted fabric.now traffic lid }
+    requires sources { IsCountOf (IsSource fabric.now traffic) sources }
+    ensures count { IsCountOf (Sends fabric.now traffic lid) result }
+    ensures few { result ≤ sources }
+{
+    match fabric.owner(lid) {
+        Some(owner) => count_others(fabric, traffic, owner, sources),
+        None => 0,
+    }
+}

@@ -1,0 +1,4 @@
+pub mod Lines
+pub mod Facts
+pub mod Fabrics
+pub mod Causes

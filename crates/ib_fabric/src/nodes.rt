@@ -1,0 +1,104 @@
+//! The nodes among facts.
+
+ghost use Rattle.std.specs.Prelude.{◌≡◌, ◌≤◌, IfErr, IfOk};
+ghost use Rattle.text_lines.specs.Stops.{IsStep};
+ghost use Rattle.ib_net.specs.Nodes.{AddsEnd, AddsSwitch, IsRefusedEnd, IsRefusedSwitch};
+ghost use Rattle.ib_fabric.specs.Facts.{AreLids, IsNodeCause, node_stop, range_of, switch_of};
+
+use crate::cause::FabricCause;
+use crate::lines::Takes;
+use ib_net::node::{LidRange, NodeFault, Switch};
+use ib_net::nodes::Nodes;
+use ib_topology::fact::Fact;
+use text_lines::stop::Stop;
+
+impl Takes for Nodes {
+    ghost use Rattle.ib_fabric.specs.Facts.{AddsNode, IsFaultyNode};
+
+    ghost adds = { AddsNode };
+
+    ghost is_faulty = { IsFaultyNode };
+
+    fn take(&mut self, fact: Fact) -> Result<(), Stop<FabricCause>> {
+        match fact {
+            Fact::Switch {
+                guid,
+                ports,
+                base,
+                lmc,
+            } => take_switch(self, guid, ports, base, lmc),
+            Fact::Host { guid, base, lmc } => take_end(self, guid, base, lmc),
+            Fact::Link { one: _, other: _ } => Ok(()),
+            Fact::Neighbour { guid: _, base: _ } => Ok(()),
+        }
+    }
+}
+
+// Adds a switch.
+fn take_switch(
+    nodes: &mut Nodes,
+    guid: u64,
+    ports: u64,
+    base: u64,
+    lmc: u64,
+) -> Result<(), Stop<FabricCause>>
+    ensures { IsStep result
+        ((ports ≤ 255) × AreLids base lmc × AddsSwitch nodes.old nodes.new guid (switch_of ports base lmc))
+        (IsNodeCause ((ports ≤ 255) × AreLids base lmc)
+        (IsRefusedSwitch nodes.old guid (switch_of ports base lmc))) }
+{
+    let ports = byte(ports)?;
+    let lids = lids(base, lmc)?;
+    match nodes.add_switch(guid, Switch { ports, lids }) {
+        Ok(()) => Ok(()),
+        Err(stop) => Err(of_node(stop)),
+    }
+}
+
+// Adds an end port of an adapter or router.
+fn take_end(nodes: &mut Nodes, guid: u64, base: u64, lmc: u64) -> Result<(), Stop<FabricCause>>
+    ensures { IsStep result (AreLids base lmc × AddsEnd nodes.old nodes.new guid (range_of base lmc))
+        (IsNodeCause (AreLids base lmc) (IsRefusedEnd nodes.old guid (range_of base lmc))) }
+{
+    let lids = lids(base, lmc)?;
+    match nodes.add_end(guid, lids) {
+        Ok(()) => Ok(()),
+        Err(stop) => Err(of_node(stop)),
+    }
+}
+
+// Why a node stops the reader.
+fn of_node(stop: Stop<NodeFault>) -> Stop<FabricCause>
+    ensures { result ≡ node_stop stop }
+{
+    match stop {
+        Stop::Fault(fault) => Stop::Fault(FabricCause::Node(fault)),
+        Stop::OutOfMemory => Stop::OutOfMemory,
+    }
+}
+
+// A number of ports, or an LMC.
+fn byte(number: u64) -> Result<u8, Stop<FabricCause>>
+    ensures ok { IfOk result (λ byte. (byte ≡ number) × (number ≤ 255)) }
+    ensures err { IfErr result (λ stop. (stop ≡ Stop.Fault FabricCause.Range) × (¬ (number ≤ 255))) }
+{
+    if number > 255 {
+        return Err(Stop::Fault(FabricCause::Range));
+    }
+    Ok(number as u8)
+}
+
+// The LIDs from a base on.
+fn lids(base: u64, lmc: u64) -> Result<LidRange, Stop<FabricCause>>
+    ensures ok { IfOk result (λ lids. (lids ≡ range_of base lmc) × AreLids base lmc) }
+    ensures err { IfErr result (λ stop. (stop ≡ Stop.Fault FabricCause.Range) × (¬ AreLids base lmc)) }
+{
+    if base > 0xBFFF {
+        return Err(Stop::Fault(FabricCause::Range));
+    }
+    let lmc = byte(lmc)?;
+    Ok(LidRange {
+        base: base as u16,
+        lmc,
+    })
+}

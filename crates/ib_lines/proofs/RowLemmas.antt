@@ -1,0 +1,55 @@
+-- The rows of an answer, one after another.
+use Rattle.std.proofs.Common.{◌≡◌, ◌∙◌, sym, ap, refl, ℕ, List, [], ◌∷◌, ◌++◌, append_assoc, map}
+use Rattle.std.specs.Prelude.{codes}
+use Rattle.std.specs.Fmt.{decimal}
+use Rattle.std.specs.List.{flat_map}
+use Rattle.std.proofs.lemmas.Grind.{flat_map-append}
+use Rattle.text_lines.specs.Lines.{line_text, lines_text}
+use Rattle.ib_lines.specs.declared.answer.Answer.{Answer}
+use Rattle.ib_lines.specs.declared.answer.Read.{Read}
+use Rattle.ib_lines.specs.Answers.{Row, answer_rows, answer_text, read_row, judged_row, routes_row, channels_row, cycle_rows, lost_rows, name_row}
+
+-- the words for what was read
+pub read_words : (read : Read) (a b c d e : List ℕ) → a ≡ decimal read.switches → b ≡ decimal read.ends → c ≡ decimal read.links → d ≡ decimal read.rows → e ≡ decimal read.unowned → (codes "read" ∷ codes "switches" ∷ a ∷ codes "ends" ∷ b ∷ codes "links" ∷ c ∷ codes "rows" ∷ d ∷ codes "unowned" ∷ e ∷ []) ≡ read_row read
+read_words read a b c d e one two three four five = rw (one, two, three, four, five) refl
+
+pub channel_words : (channels dependencies : ℕ) (a b : List ℕ) → a ≡ decimal channels → b ≡ decimal dependencies → (codes "channels" ∷ a ∷ codes "dependencies" ∷ b ∷ []) ≡ channels_row channels dependencies
+channel_words channels dependencies a b one two = rw (one, two) refl
+
+-- a text with the lines of a list that is another
+pub same_lines : {Form : Type 0} (rows_of : Form → List Row) (xs ys : Form) (old all : List ℕ) → xs ≡ ys → all ≡ old ++ lines_text (rows_of xs) → all ≡ old ++ lines_text (rows_of ys)
+same_lines {Form} rows_of xs ys old all same is = is ∙ ap (λ (zs : Form). old ++ lines_text (rows_of zs)) same
+
+-- a text that goes on by two parts
+onward : (old one more text all : List ℕ) → text ≡ old ++ one → all ≡ text ++ more → all ≡ old ++ (one ++ more)
+onward old one more text all first next = next ∙ ap (λ (t : List ℕ). t ++ more) first ∙ append_assoc old one more
+
+-- the rows after the first five
+last_rows : (a : Answer) → lines_text (cycle_rows a.cycle.items ++ lost_rows a.losses a.lost.items ++ map name_row a.names.items) ≡ lines_text (cycle_rows a.cycle.items) ++ (lines_text (lost_rows a.losses a.lost.items) ++ lines_text (map name_row a.names.items))
+last_rows a =
+    let cycle = cycle_rows a.cycle.items in
+    let lost = lost_rows a.losses a.lost.items in
+    let names = map name_row a.names.items in
+    flat_map-append line_text (cycle ++ lost) names ∙ ap (λ (t : List ℕ). t ++ lines_text names) (flat_map-append line_text cycle lost) ∙ append_assoc (lines_text cycle) (lines_text lost) (lines_text names)
+
+pub answer_is : (a : Answer) (t0 t1 t2 t3 t4 t5 t6 t7 t8 traffic : List ℕ) → traffic ≡ a.traffic → t0 ≡ [] → t1 ≡ t0 ++ line_text (codes "fabric" ∷ codes "1" ∷ []) → t2 ≡ t1 ++ line_text (read_row a.read) → t3 ≡ t2 ++ line_text (judged_row traffic) → t4 ≡ t3 ++ line_text (routes_row a.routes) → t5 ≡ t4 ++ line_text (channels_row a.channels a.dependencies) → t6 ≡ t5 ++ lines_text (cycle_rows a.cycle.items) → t7 ≡ t6 ++ lines_text (lost_rows a.losses a.lost.items) → t8 ≡ t7 ++ lines_text (map name_row a.names.items) → t8 ≡ answer_text a
+unfolding answer_rows
+answer_is a t0 t1 t2 t3 t4 t5 t6 t7 t8 traffic word none h1 h2 h3 h4 h5 h6 h7 h8 =
+    let p1 = line_text (codes "fabric" ∷ codes "1" ∷ []) in
+    let p2 = line_text (read_row a.read) in
+    let p3 = line_text (judged_row a.traffic) in
+    let p4 = line_text (routes_row a.routes) in
+    let p5 = line_text (channels_row a.channels a.dependencies) in
+    let p6 = lines_text (cycle_rows a.cycle.items) in
+    let p7 = lines_text (lost_rows a.losses a.lost.items) in
+    let p8 = lines_text (map name_row a.names.items) in
+    let judged : t3 ≡ t2 ++ p3 = h3 ∙ ap (λ (w : List ℕ). t2 ++ line_text (judged_row w)) word in
+    let e78 = onward t6 p7 p8 t7 t8 h7 h8 in
+    let e68 = onward t5 p6 (p7 ++ p8) t6 t8 h6 e78 in
+    let e58 = onward t4 p5 (p6 ++ (p7 ++ p8)) t5 t8 h5 e68 in
+    let e48 = onward t3 p4 (p5 ++ (p6 ++ (p7 ++ p8))) t4 t8 h4 e58 in
+    let e38 = onward t2 p3 (p4 ++ (p5 ++ (p6 ++ (p7 ++ p8)))) t3 t8 judged e48 in
+    let e28 = onward t1 p2 (p3 ++ (p4 ++ (p5 ++ (p6 ++ (p7 ++ p8))))) t2 t8 h2 e38 in
+    let e18 = onward t0 p1 (p2 ++ (p3 ++ (p4 ++ (p5 ++ (p6 ++ (p7 ++ p8)))))) t1 t8 h1 e28 in
+    e18 ∙ ap (λ (t : List ℕ). t ++ (p1 ++ (p2 ++ (p3 ++ (p4 ++ (p5 ++ (p6 ++ (p7 ++ p8)))))))) none
+    ∙ ap (λ (t : List ℕ). p1 ++ (p2 ++ (p3 ++ (p4 ++ (p5 ++ t))))) (sym (last_rows a))

@@ -1,0 +1,9 @@
+//! The answer of `fabric` as a text.
+//!
+//! It stands on `an_base` and `text_lines`. Its one contract: `printer::print` gives the lines of an
+//! answer, which `specs/Answers` defines: rows of words, each number decimal and each GUID `0x` with sixteen
+//! digits, so that other programs can read all of it.
+#![tactic(auto)]
+
+pub mod answer;
+pub mod printer;

@@ -1,0 +1,3 @@
+pub mod Fabric
+pub mod Nodes
+pub mod Sides

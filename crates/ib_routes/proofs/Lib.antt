@@ -1,0 +1,10 @@
+mod MarkLemmas
+mod TakenLemmas
+mod WordLemmas
+mod RunLemmas
+pub mod StartLemmas
+mod FoundLemmas
+pub mod ChannelLemmas
+mod TraceLemmas
+mod UntilLemmas
+pub mod WitnessLemmas

@@ -1,0 +1,145 @@
+-- The least route that makes a dependency.
+use Rattle.std.proofs.Common.{◌≡◌, sym, subst, refl, ℕ, ◌+◌, ◌*◌, ◌/◌, ◌%◌, ◌<◌, ◌≤◌, [], Option, None, Some, arith, length, replicate, get_or, inl, inr}
+use Rattle.std.specs.Prelude.{MatchOption}
+use Rattle.std.proofs.lemmas.Bool.{cases_lt}
+use Rattle.std.proofs.lemmas.List.{get_or-replicate, get_or_past, length-replicate}
+use Rattle.ib_net.specs.declared.node.EndPort.{EndPort}
+use Rattle.ib_net.specs.declared.node.EndPort.TheVariants.{Host, Switch}
+use Rattle.ib_net.specs.Fabric.{FabricOf, IsFabric, guid_of, start_of, switch_count}
+use Rattle.ib_net.proofs.FabricLemmas.{host_guids, switch_guids}
+use Rattle.ib_cells.specs.Cells.{TablesOf}
+use Rattle.ib_routes.specs.declared.hop.Cause.{Cause}
+use Rattle.ib_routes.specs.declared.hop.Hop.{Hop}
+use Rattle.ib_routes.specs.declared.hop.Outcome.TheVariants.{Arrives, Stops, Loops}
+use Rattle.ib_routes.specs.declared.trace.Mark.{Mark}
+use Rattle.ib_routes.specs.declared.trace.Mark.TheVariants.{New}
+use Rattle.ib_routes.specs.declared.traffic.Traffic.{Traffic}
+use Rattle.ib_routes.specs.Routes.{Channel, ComesBy, ComesTo, EndsAs, Sends, Takes}
+use Rattle.ib_routes.specs.Found.{IsLeastWitness}
+use Rattle.ib_routes.specs.Trace.{IsReady, hop_to, way}
+use Rattle.ib_routes.specs.Witness.{GoesBy, IsFirstHost, IsFirstSource, IsFirstSwitch, IsLeastAt, IsLesser, NoHostComes, NoSourceComes, NoSourceTakes, NoSwitchComes}
+use Rattle.ib_routes.proofs.StartLemmas.{cabled_low, source_low}
+use Rattle.ib_routes.proofs.UntilLemmas.{arrives_alone, arrives_comes, arrives_soon, comes_arrives}
+
+-- at first nothing is known
+new_at : (count at : ℕ) → get_or (replicate count New) at New ≡ New
+new_at count at = elim (cases_lt at count) [
+  | inl low ↦ get_or-replicate count at New New low
+  | inr past ↦ (let l = length-replicate {A = Mark} count New in get_or_past (replicate count New) at New (omega arith))
+]
+
+pub ready_first : (hop_at : ℕ → Hop) (count : ℕ) → IsReady hop_at count (replicate count New) []
+ready_first hop_at count = record {
+  size = length-replicate {A = Mark} count New;
+  ends = λ at outcome is. absurd (let none = new_at count at in cc);
+  short = λ at outcome is. absurd (let none = new_at count at in cc);
+  settled = λ at is. absurd (let none = new_at count at in cc);
+  empty = refl;
+}
+
+module _ (fabric : FabricOf) (tables : TablesOf) (traffic : Traffic) (lid via : ℕ) where
+  same_lid : 64 * (lid / 64) + lid % 64 ≡ lid
+  same_lid = omega arith
+
+  pub arrives_to : (source : EndPort) (start switches : ℕ) → Sends fabric traffic lid source → start_of fabric source ≡ Some start → EndsAs (hop_to fabric tables (way lid via)) start (Arrives switches) → ComesTo fabric tables traffic lid source via
+  arrives_to source start switches sends begins ends =
+      let walk = arrives_comes fabric tables (lid / 64) (lid % 64) via start switches ends in
+      record { sends = sends; start = start; begins = begins; hops = walk.0; comes = subst (λ (d : ℕ). ComesBy fabric tables d walk.0 start via) same_lid walk.1 }
+
+  would_arrive : (source : EndPort) (start : ℕ) → start_of fabric source ≡ Some start → ComesTo fabric tables traffic lid source via → (switches : ℕ) × EndsAs (hop_to fabric tables (way lid via)) start (Arrives switches)
+  would_arrive source start begins comes =
+      let other = comes.begins in
+      let same : comes.start ≡ start = cc in
+      comes_arrives fabric tables (lid / 64) (lid % 64) via comes.hops start
+      (subst (λ (d : ℕ). ComesBy fabric tables d comes.hops start via) (sym same_lid) (subst (λ (s : ℕ). ComesBy fabric tables lid comes.hops s via) same comes.comes))
+
+  pub no_stop : (source : EndPort) (start : ℕ) (cause : Cause) → start_of fabric source ≡ Some start → EndsAs (hop_to fabric tables (way lid via)) start (Stops cause) → ComesTo fabric tables traffic lid source via → ⊥
+  no_stop source start cause begins ends comes = let arrives = would_arrive source start begins comes in arrives_alone (hop_to fabric tables (way lid via)) start arrives.0 cause arrives.1 ends
+
+  pub no_loop : (source : EndPort) (start : ℕ) → start_of fabric source ≡ Some start → EndsAs (hop_to fabric tables (way lid via)) start Loops → ComesTo fabric tables traffic lid source via → ⊥
+  no_loop source start begins ends comes = let arrives = would_arrive source start begins comes in arrives_soon (hop_to fabric tables (way lid via)) start arrives.0 arrives.1 ends
+
+  pub no_start : (source : EndPort) → None ≡ start_of fabric source → ComesTo fabric tables traffic lid source via → ⊥
+  no_start source none comes = let begins = comes.begins in absurd (cc)
+
+  -- who comes is one of the fabric
+  pub host_low : (end : ℕ) → ComesTo fabric tables traffic lid (Host end) via → end < length fabric.cables
+  host_low end comes = let source = comes.sends.is_source in cabled_low fabric traffic end source.0 source.1
+
+  pub switch_low : (switch : ℕ) → ComesTo fabric tables traffic lid (Switch switch) via → switch < switch_count fabric
+  switch_low switch comes = source_low fabric traffic switch comes.sends.is_source
+
+  -- the first of hosts and the first of switches
+  module _ (fits : IsFabric fabric) where
+    first_host : (end : ℕ) → IsFirstHost fabric tables traffic lid via end → (other : ℕ) → ComesTo fabric tables traffic lid (Host other) via → guid_of fabric (Host end) ≤ guid_of fabric (Host other)
+    first_host end is other comes = elim (cases_lt other end) [
+      | inl before ↦ absurd (is.first other before comes)
+      | inr after ↦ (let low = host_low other comes in let same = fits.cables in host_guids fabric fits end other after (omega arith))
+    ]
+
+    first_switch : (switch : ℕ) → IsFirstSwitch fabric tables traffic lid via switch → (other : ℕ) → ComesTo fabric tables traffic lid (Switch other) via → guid_of fabric (Switch switch) ≤ guid_of fabric (Switch other)
+    first_switch switch is other comes = elim (cases_lt other switch) [
+      | inl before ↦ absurd (is.first other before comes)
+      | inr after ↦ switch_guids fabric fits switch other after (switch_low other comes)
+    ]
+
+    none_comes : NoHostComes fabric tables traffic lid via → NoSwitchComes fabric tables traffic lid via → (source : EndPort) → ComesTo fabric tables traffic lid source via → ⊥
+    none_comes hosts switches (Host end) comes = hosts end comes
+    none_comes hosts switches (Switch switch) comes = switches switch comes
+
+    is_host : (end : ℕ) → IsFirstHost fabric tables traffic lid via end → ((other : ℕ) → ComesTo fabric tables traffic lid (Switch other) via → guid_of fabric (Host end) ≤ guid_of fabric (Switch other)) → IsFirstSource fabric tables traffic lid via (Host end)
+    is_host end is switches = record { comes = is.comes; first = go }
+      where
+        go : (other : EndPort) → ComesTo fabric tables traffic lid other via → guid_of fabric (Host end) ≤ guid_of fabric other
+        go (Host other) comes = first_host end is other comes
+        go (Switch other) comes = switches other comes
+
+    is_switch : (switch : ℕ) → IsFirstSwitch fabric tables traffic lid via switch → ((other : ℕ) → ComesTo fabric tables traffic lid (Host other) via → guid_of fabric (Switch switch) ≤ guid_of fabric (Host other)) → IsFirstSource fabric tables traffic lid via (Switch switch)
+    is_switch switch is hosts = record { comes = is.comes; first = go }
+      where
+        go : (other : EndPort) → ComesTo fabric tables traffic lid other via → guid_of fabric (Switch switch) ≤ guid_of fabric other
+        go (Host other) comes = hosts other comes
+        go (Switch other) comes = first_switch switch is other comes
+
+    abbrev IsFound : Option EndPort → Type 0
+    IsFound found = MatchOption found (NoSourceComes fabric tables traffic lid via) (IsFirstSource fabric tables traffic lid via)
+
+    pub first_of : (host switch : Option ℕ) (found : Option EndPort) → MatchOption host (NoHostComes fabric tables traffic lid via) (IsFirstHost fabric tables traffic lid via) → MatchOption switch (NoSwitchComes fabric tables traffic lid via) (IsFirstSwitch fabric tables traffic lid via) → IsLesser fabric host switch found → IsFound found
+    first_of None None found hosts switches is = subst IsFound (sym is) (none_comes hosts switches)
+    first_of (Some end) None found hosts switches is = subst IsFound (sym is) (is_host end hosts (λ other comes. absurd (switches other comes)))
+    first_of None (Some switch) found hosts switches is = subst IsFound (sym is) (is_switch switch switches (λ other comes. absurd (hosts other comes)))
+    first_of (Some end) (Some switch) found hosts switches (inl (is, le)) = subst IsFound (sym is) (is_host end hosts (λ other comes. (let more = first_switch switch switches other comes in omega arith)))
+    first_of (Some end) (Some switch) found hosts switches (inr (is, le)) = subst IsFound (sym is) (is_switch switch switches (λ other comes. (let more = first_host end hosts other comes in omega arith)))
+
+-- who comes to the switch of a channel takes it and the next
+module _ (fabric : FabricOf) (tables : TablesOf) (traffic : Traffic) (lid : ℕ) (channel next : Channel) where
+  pub takes_of : GoesBy fabric tables lid channel next → (source : EndPort) → ComesTo fabric tables traffic lid source channel.switch → Takes fabric tables traffic lid source channel next
+  takes_of goes source comes = record { comes = comes; first = goes.0; after = goes.1.0; second = goes.1.1 }
+
+  pub goes_of : (source : EndPort) → Takes fabric tables traffic lid source channel next → GoesBy fabric tables lid channel next
+  goes_of source takes = (takes.first, (takes.after, takes.second))
+
+  abbrev IsAt : Option EndPort → Type 0
+  IsAt found = MatchOption found (NoSourceTakes fabric tables traffic lid channel next) (IsLeastAt fabric tables traffic lid channel next)
+
+  pub least_at : GoesBy fabric tables lid channel next → (found : Option EndPort) → MatchOption found (NoSourceComes fabric tables traffic lid channel.switch) (IsFirstSource fabric tables traffic lid channel.switch) → IsAt found
+  least_at goes None none = λ source takes. none source takes.comes
+  least_at goes (Some source) is = record { takes = takes_of goes source is.comes; first = λ other takes. is.first other takes.comes }
+
+-- to a LID beyond those that have owners no one sends
+pub owned_low : (fabric : FabricOf) (traffic : Traffic) (lid : ℕ) (source : EndPort) → Sends fabric traffic lid source → lid < length fabric.owners
+owned_low fabric traffic lid source sends = elim (cases_lt lid (length fabric.owners)) [
+  | inl low ↦ low
+  | inr past ↦ absurd (let none = get_or_past fabric.owners lid None past in let owns = sends.owns in cc)
+]
+
+-- the least LID
+pub least_witness : (fabric : FabricOf) (tables : TablesOf) (traffic : Traffic) (lid : ℕ) (channel next : Channel) (source : EndPort) → ((other : ℕ) → other < lid → NoSourceTakes fabric tables traffic other channel next) → IsLeastAt fabric tables traffic lid channel next source → IsLeastWitness fabric tables traffic channel next lid source
+least_witness fabric tables traffic lid channel next source none is = record {
+  takes = is.takes;
+  least = λ other_lid other takes. elim (cases_lt other_lid lid) [
+    | inl before ↦ absurd (none other_lid before other takes)
+    | inr after ↦ after
+  ];
+  first = is.first;
+}

@@ -1,0 +1,21 @@
+use Rattle.std.proofs.Common.{◌≡◌, subst, ℕ, ◌*◌, arith}
+use Rattle.ib_cells.specs.Cells.{tables_of}
+use Rattle.ib_routes.specs.Found.{AreFoundBelow}
+use Rattle.ib_routes.proofs.FoundLemmas.{found_none, found_more, found_all}
+use Rattle.ib_routes.proofs.RunLemmas.{graph_kept}
+use Rattle.ib_routes.proofs.find.add_blocks.Goals as goal
+
+pub waves-init : goal.waves-init
+waves-init c = record { found = found_none c.args.fabric.now (tables_of c.args.cells.now) c.args.traffic c.args.graph.now; graph = c.requires.graph }
+
+pub waves-preserved : goal.waves-preserved
+waves-preserved c = record {
+  found = found_more c.args.fabric.now (tables_of c.args.cells.now) c.args.traffic c.waves.block c.args.graph.now c.waves.graph c.add_block-stopped.new.graph c.waves.stopped c.add_block-stopped.result c.waves.invariant.found c.add_block-stopped.ensures;
+  graph = graph_kept c.args.fabric.now c.waves.graph c.add_block-stopped.new.graph c.add_block-stopped.ensures.wide c.add_block-stopped.ensures.bases c.waves.invariant.graph;
+}
+
+pub returns : goal.returns
+returns c =
+    let last : c.waves.block ≡ c.args.cells.now.blocks = omega arith in
+    found_all c.args.fabric.now (tables_of c.args.cells.now) c.args.traffic c.args.cells.now.blocks c.requires.owners c.args.graph.now c.waves.graph c.waves.stopped
+    (subst (λ (n : ℕ). AreFoundBelow c.args.fabric.now (tables_of c.args.cells.now) c.args.traffic (64 * n) c.args.graph.now c.waves.graph c.waves.stopped) last c.waves.invariant.found)

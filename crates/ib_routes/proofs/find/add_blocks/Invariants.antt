@@ -1,0 +1,11 @@
+use Rattle.std.proofs.Common.{◌*◌}
+use Rattle.ib_cells.specs.Cells.{tables_of}
+use Rattle.ib_routes.specs.Found.{AreFoundBelow}
+use Rattle.ib_routes.specs.Waves.{IsGraphOf}
+use Rattle.ib_routes.proofs.find.add_blocks.Given as goal
+
+abbrev pub invariant-waves : goal.invariant-waves
+invariant-waves l = record {
+  found : AreFoundBelow l.fabric (tables_of l.cells) l.traffic (64 * l.block) l.fn.graph l.graph l.stopped;
+  graph : IsGraphOf l.fabric l.graph;
+}

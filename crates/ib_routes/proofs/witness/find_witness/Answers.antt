@@ -1,0 +1,24 @@
+use Rattle.std.proofs.Common.{sym, subst, ℕ, Option, arith, inl, inr}
+use Rattle.std.specs.Prelude.{MatchOption}
+use Rattle.std.proofs.lemmas.Bool.{cases_eq}
+use Rattle.ib_net.specs.declared.node.EndPort.{EndPort}
+use Rattle.ib_cells.specs.Cells.{tables_of}
+use Rattle.ib_routes.specs.Found.{channel_of}
+use Rattle.ib_routes.specs.Witness.{IsLeastAt, NoSourceTakes}
+use Rattle.ib_routes.proofs.WitnessLemmas.{least_witness, owned_low}
+use Rattle.ib_routes.proofs.witness.find_witness.Goals as goal
+
+pub lids-init : goal.lids-init
+lids-init c = λ other low. absurd (omega arith)
+
+pub lids-preserved : goal.lids-preserved
+lids-preserved c = λ other low. elim (cases_eq other c.lids.lid) [
+  | inr before ↦ c.lids.invariant other (omega arith)
+  | inl same ↦ subst (λ (d : ℕ). NoSourceTakes c.args.fabric.now (tables_of c.args.cells.now) c.args.traffic d (channel_of c.args.channel) (channel_of c.args.next)) (sym same) (subst (λ (o : Option EndPort). MatchOption o (NoSourceTakes c.args.fabric.now (tables_of c.args.cells.now) c.args.traffic c.lids.lid (channel_of c.args.channel) (channel_of c.args.next)) (IsLeastAt c.args.fabric.now (tables_of c.args.cells.now) c.args.traffic c.lids.lid (channel_of c.args.channel) (channel_of c.args.next))) c.in_default.is c.in_ok-found.ensures)
+]
+
+pub returns-in-Some : goal.returns-in-Some
+returns-in-Some c = least_witness c.args.fabric.now (tables_of c.args.cells.now) c.args.traffic c.lids.lid (channel_of c.args.channel) (channel_of c.args.next) c.in-Some.source c.lids.invariant (subst (λ (o : Option EndPort). MatchOption o (NoSourceTakes c.args.fabric.now (tables_of c.args.cells.now) c.args.traffic c.lids.lid (channel_of c.args.channel) (channel_of c.args.next)) (IsLeastAt c.args.fabric.now (tables_of c.args.cells.now) c.args.traffic c.lids.lid (channel_of c.args.channel) (channel_of c.args.next))) c.in-Some.is c.in_ok-found.ensures)
+
+pub returns : goal.returns
+returns c = λ lid source takes. c.lids.invariant lid (let low = owned_low c.args.fabric.now c.args.traffic lid source takes.comes.sends in omega arith) source takes

@@ -1,0 +1,67 @@
+-- How a witness is looked for. Only private functions cite this.
+use Rattle.std.specs.Prelude.{◌≡◌, ◌<◌, ◌≤◌, ◌⊎◌, ℕ, Option, Some, None}
+use Rattle.ib_net.specs.declared.node.EndPort.{EndPort}
+use Rattle.ib_net.specs.declared.node.EndPort.TheVariants.{Host, Switch}
+use Rattle.ib_net.specs.declared.node.Spot.{Spot}
+use Rattle.ib_net.specs.Fabric.{FabricOf, guid_of}
+use Rattle.ib_cells.specs.Cells.{TablesOf}
+use Rattle.ib_routes.specs.declared.hop.Hop.TheVariants.{On}
+use Rattle.ib_routes.specs.declared.traffic.Traffic.{Traffic}
+use Rattle.ib_routes.specs.Routes.{Channel, ComesTo, Takes, hop}
+
+-- the switch to which another one sends what goes to a LID out of a port
+abbrev pub IsNextBy : FabricOf → TablesOf → ℕ → Spot → Option ℕ → Type 0
+IsNextBy fabric tables lid channel None = (next : ℕ) → hop fabric tables channel.switch lid ≡ On channel.port next → ⊥
+IsNextBy fabric tables lid channel (Some next) = hop fabric tables channel.switch lid ≡ On channel.port next
+
+-- what comes to the switch of a channel goes by it and then by the next one
+abbrev pub GoesBy : FabricOf → TablesOf → ℕ → Channel → Channel → Type 0
+GoesBy fabric tables lid channel next =
+    (hop fabric tables channel.switch lid ≡ On channel.port next.switch)
+    × ((after : ℕ) × (hop fabric tables next.switch lid ≡ On next.port after))
+
+module _ (fabric : FabricOf) (tables : TablesOf) (traffic : Traffic) (lid via : ℕ) where
+  abbrev pub NoHostComes : Type 0
+  NoHostComes = (end : ℕ) → ComesTo fabric tables traffic lid (Host end) via → ⊥
+
+  abbrev pub NoSwitchComes : Type 0
+  NoSwitchComes = (switch : ℕ) → ComesTo fabric tables traffic lid (Switch switch) via → ⊥
+
+  abbrev pub NoSourceComes : Type 0
+  NoSourceComes = (source : EndPort) → ComesTo fabric tables traffic lid source via → ⊥
+
+  -- the first that comes
+  pub record IsFirstHost (end : ℕ) : Type 0 where
+    pub comes : ComesTo fabric tables traffic lid (Host end) via
+    pub first : (other : ℕ) → other < end → ComesTo fabric tables traffic lid (Host other) via → ⊥
+
+  pub record IsFirstSwitch (switch : ℕ) : Type 0 where
+    pub comes : ComesTo fabric tables traffic lid (Switch switch) via
+    pub first : (other : ℕ) → other < switch → ComesTo fabric tables traffic lid (Switch other) via → ⊥
+
+  pub record IsFirstSource (source : EndPort) : Type 0 where
+    pub comes : ComesTo fabric tables traffic lid source via
+    pub first : (other : EndPort) → ComesTo fabric tables traffic lid other via → guid_of fabric source ≤ guid_of fabric other
+
+module _ (fabric : FabricOf) (tables : TablesOf) (traffic : Traffic) (lid : ℕ) where
+  -- the first whose route takes a channel and then another one
+  abbrev pub NoSourceTakes : Channel → Channel → Type 0
+  NoSourceTakes channel next = (source : EndPort) → Takes fabric tables traffic lid source channel next → ⊥
+
+  pub record IsLeastAt (channel next : Channel) (source : EndPort) : Type 0 where
+    pub takes : Takes fabric tables traffic lid source channel next
+    pub first :
+        (other : EndPort) → Takes fabric tables traffic lid other channel next
+        → guid_of fabric source ≤ guid_of fabric other
+
+-- of an end port of an adapter or router and a switch the one of lesser GUID
+abbrev pub IsLesserOf : FabricOf → ℕ → ℕ → Option EndPort → Type 0
+IsLesserOf fabric end switch found =
+    ((found ≡ Some (Host end)) × (guid_of fabric (Host end) ≤ guid_of fabric (Switch switch)))
+    ⊎ ((found ≡ Some (Switch switch)) × (guid_of fabric (Switch switch) ≤ guid_of fabric (Host end)))
+
+abbrev pub IsLesser : FabricOf → Option ℕ → Option ℕ → Option EndPort → Type 0
+IsLesser fabric None None found = found ≡ None
+IsLesser fabric (Some end) None found = found ≡ Some (Host end)
+IsLesser fabric None (Some switch) found = found ≡ Some (Switch switch)
+IsLesser fabric (Some end) (Some switch) found = IsLesserOf fabric end switch found

@@ -1,0 +1,175 @@
+ghost use Rattle.std.specs.Prelude.{◌≡◌, ◌<◌, ◌≤◌, ◌*◌, ◌^◌, ◌↔◌, ◌⊎◌, ℕ, length, IfOk, IsTrue, MatchResult};
+ghost use Rattle.ib_cells.specs.Cells.{tables_of};
+ghost use Rattle.ib_routes.specs.Found.{AreBases, AreDependencies, AreFound, SomeIsStopped, base_of};
+ghost use Rattle.channel_graph.specs.Graph.{LeadsTo};
+ghost use Rattle.ib_net.specs.Fabric.{LeadsWithin, switch_count};
+ghost use Rattle.ib_routes.specs.Links.{AreLinks};
+ghost use Rattle.ib_routes.specs.Starts.{AreAllSenders};
+ghost use Rattle.ib_routes.specs.Waves.{HasBit, IsGraphOf, IsWaved};
+
+use crate::link::find_links;
+use crate::start::{Senders, find_senders, put_starts};
+use crate::traffic::Traffic;
+use crate::wave::run;
+use an_base::memory::OutOfMemory;
+use channel_graph::graph::Graph;
+use ib_cells::cells::Cells;
+use ib_net::fabric::Fabric;
+use ib_net::node::Side;
+use std::alloc::Global;
+
+// Takes all bits away.
+fn clear(words: &mut [u64])
+    ensures { (switch bit : ℕ) → HasBit words.new switch bit → ⊥ }
+{
+    'words: for word in words.iter_mut() {
+        *word = 0;
+    }
+}
+
+/// Adds to a graph of the channels of a fabric each dependency that a route to a LID of a block makes, and no other.
+/// Answers whether such a route stops at a place that is not its target, or one has before. The words are a room for
+/// bits of each switch.
+pub fn add_block(
+    fabric: &Fabric,
+    links: &[u64],
+    cells: &Cells,
+    traffic: Traffic,
+    block: usize,
+    senders: &[Senders],
+    seen: &mut [u64],
+    done: &mut [u64],
+    graph: &mut Graph,
+    stopped: bool,
+) -> bool
+    requires links { AreLinks fabric.now links.now }
+    requires same { switch_count fabric.now ≡ cells.now.switches }
+    requires block { block < cells.now.blocks }
+    requires few { block < 1024 }
+    requires senders { AreAllSenders fabric.now traffic senders.now }
+    requires seen_count { length seen.old ≡ switch_count fabric.now }
+    requires done_count { length done.old ≡ switch_count fabric.now }
+    requires graph { IsGraphOf fabric.now graph.old }
+    ensures { IsWaved fabric.now (tables_of cells.now) traffic block graph.old graph.new stopped result }
+{
+    put_starts(fabric, traffic, block, senders, seen);
+    clear(done);
+    run(fabric, links, cells, block, seen, done, graph, stopped)
+}
+
+// The same of all blocks.
+fn add_blocks(
+    fabric: &Fabric,
+    links: &[u64],
+    cells: &Cells,
+    traffic: Traffic,
+    senders: &[Senders],
+    seen: &mut [u64],
+    done: &mut [u64],
+    graph: &mut Graph,
+) -> bool
+    requires links { AreLinks fabric.now links.now }
+    requires same { switch_count fabric.now ≡ cells.now.switches }
+    requires owners { length fabric.now.owners ≤ 64 * cells.now.blocks }
+    requires senders { AreAllSenders fabric.now traffic senders.now }
+    requires seen_count { length seen.old ≡ switch_count fabric.now }
+    requires done_count { length done.old ≡ switch_count fabric.now }
+    requires graph { IsGraphOf fabric.now graph.old }
+    ensures { AreFound fabric.now (tables_of cells.now) traffic graph.old graph.new result }
+{
+    let mut stopped = false;
+    'waves: for block in 0..cells.blocks() {
+        stopped = add_block(
+            fabric, links, cells, traffic, block, senders, seen, done, graph, stopped,
+        );
+    }
+    stopped
+}
+
+/// Adds to a graph of the channels of a fabric each dependency that a route of the traffic makes, and no other. Answers
+/// whether a route stops at a place that is not its target. Where memory is wanted, nothing is added.
+pub fn add_dependencies(
+    alloc: Global,
+    fabric: &Fabric,
+    cells: &Cells,
+    traffic: Traffic,
+    graph: &mut Graph,
+) -> Result<bool, OutOfMemory>
+    requires same { switch_count fabric.now ≡ cells.now.switches }
+    requires owners { length fabric.now.owners ≤ 64 * cells.now.blocks }
+    requires graph { IsGraphOf fabric.now graph.old }
+    ensures { MatchResult result
+        (λ stopped. AreFound fabric.now (tables_of cells.now) traffic graph.old graph.new stopped)
+        (λ _. graph.new ≡ graph.old) }
+{
+    let links = find_links(alloc, fabric)?;
+    let senders = find_senders(alloc, fabric, traffic)?;
+    let mut seen = vec![in alloc; 0u64; fabric.switches()]?;
+    let mut done = vec![in alloc; 0u64; fabric.switches()]?;
+    Ok(add_blocks(
+        fabric, &links, cells, traffic, &senders, &mut seen, &mut done, graph,
+    ))
+}
+
+/// The dependencies of the channels of a fabric, and whether a route is stopped.
+#[derive(Drop)]
+pub struct Found {
+    pub graph: Graph,
+    pub stopped: bool,
+}
+
+// The number of port 1 of the switch to which a port leads.
+fn find_base(most: usize, side: Side) -> u32
+    requires most { most < 255 }
+    requires side { LeadsWithin (2 ^ 20) side }
+    ensures { result ≡ base_of most side }
+{
+    match side {
+        Side::Bare => 0,
+        Side::To(next, _) => (next as usize * most) as u32,
+        Side::End(_) => 0,
+    }
+}
+
+// Those of all ports.
+fn find_bases(alloc: Global, fabric: &Fabric) -> Result<Vec<u32>, OutOfMemory>
+    ensures { IfOk result (λ bases. (length bases.items ≡ switch_count fabric.now * fabric.now.most)
+        × AreBases fabric.now (switch_count fabric.now * fabric.now.most) bases.items) }
+{
+    let most = fabric.most();
+    let count = fabric.switches() * most;
+    let mut bases = vec![in alloc; 0u32; count]?;
+    'places: for place in 0..count {
+        bases[place] = find_base(most, fabric.side_at(place));
+    }
+    Ok(bases)
+}
+
+// A graph of the channels of a fabric, of which none leads to another.
+fn no_dependencies(alloc: Global, fabric: &Fabric) -> Result<Graph, OutOfMemory>
+    ensures graph { IfOk result (λ graph. IsGraphOf fabric.now graph) }
+    ensures none { IfOk result (λ graph. (one other : ℕ) → LeadsTo graph one other → ⊥) }
+{
+    let bases = find_bases(alloc, fabric)?;
+    let wide = (fabric.most() + 63) / 64;
+    let graph = Graph::none(alloc, bases, wide)?;
+    Ok(graph)
+}
+
+/// The dependencies of the channels of a fabric by the routes of a traffic: of each two channels whether the one depends
+/// on the other, and whether a route stops at a place that is not its target.
+pub fn find_dependencies(
+    alloc: Global,
+    fabric: &Fabric,
+    cells: &Cells,
+    traffic: Traffic,
+) -> Result<Found, OutOfMemory>
+    requires same { switch_count fabric.now ≡ cells.now.switches }
+    requires owners { length fabric.now.owners ≤ 64 * cells.now.blocks }
+    ensures graph { IfOk result (λ found. AreDependencies fabric.now (tables_of cells.now) traffic found.graph) }
+    ensures stopped { IfOk result (λ found. IsTrue found.stopped ↔ SomeIsStopped fabric.now (tables_of cells.now) traffic) }
+{
+    let mut graph = no_dependencies(alloc, fabric)?;
+    let stopped = add_dependencies(alloc, fabric, cells, traffic, &mut graph)?;
+    Ok(Found { graph, stopped })
+}

@@ -1,0 +1,118 @@
+ghost use Rattle.std.specs.Prelude.{◌≡◌, ◌<◌, ◌≤◌, ◌+◌, ◌*◌, ◌^◌, length};
+ghost use Rattle.ib_cells.specs.Cells.{tables_of};
+ghost use Rattle.ib_net.specs.Fabric.{owner_of, side_of, LeadsWithin, switch_count};
+ghost use Rattle.ib_routes.specs.Waves.{IsByLink};
+ghost use Rattle.ib_routes.specs.Routes.{hop, hop_by, hop_over, end_if, is_host, is_switch};
+
+use ib_cells::cells::Cells;
+use ib_net::fabric::Fabric;
+use ib_net::node::{EndPort, Side};
+
+/// Why a route stops: the table has no port; the port is bare; it leads to an end port that does not own the LID.
+#[derive(Clone, Copy)]
+pub enum Cause {
+    Missing,
+    Dead,
+    Wrong,
+}
+
+/// What a switch does with what goes to a LID: it sends it out of a port to a switch, hands it to the owner, or stops it.
+#[derive(Clone, Copy)]
+pub enum Hop {
+    On(u8, u32),
+    Arrive,
+    Stop(Cause),
+}
+
+/// How a route ends: it arrives, so many switches on; it stops; or it goes on for ever.
+#[derive(Clone, Copy)]
+pub enum Outcome {
+    Arrives(u32),
+    Stops(Cause),
+    Loops,
+}
+
+// Whether an end port of an adapter or router owns a LID.
+fn is_of_host(fabric: &Fabric, lid: usize, end: u32) -> bool
+    ensures { result ≡ is_host (owner_of fabric.now lid) end }
+{
+    match fabric.owner(lid) {
+        Some(EndPort::Host(own)) => own == end,
+        Some(EndPort::Switch(_)) => false,
+        None => false,
+    }
+}
+
+// Whether a switch owns a LID.
+fn is_of_switch(fabric: &Fabric, lid: usize, switch: usize) -> bool
+    ensures { result ≡ is_switch (owner_of fabric.now lid) switch }
+{
+    match fabric.owner(lid) {
+        Some(EndPort::Host(_)) => false,
+        Some(EndPort::Switch(own)) => own as usize == switch,
+        None => false,
+    }
+}
+
+// The end of a route, at its target or at a wrong place.
+fn end_of(is_own: bool) -> Hop
+    ensures { result ≡ end_if is_own }
+{
+    if is_own {
+        Hop::Arrive
+    } else {
+        Hop::Stop(Cause::Wrong)
+    }
+}
+
+// The hop by a port that is not 0.
+fn hop_by_side(fabric: &Fabric, switch: usize, lid: usize, port: u8, side: Side) -> Hop
+    requires side { side ≡ side_of fabric.now switch port }
+    requires within { LeadsWithin (switch_count fabric.now) side }
+    ensures hop { result ≡ hop_over (owner_of fabric.now lid) port side }
+    ensures link { IsByLink fabric.now switch result }
+{
+    match side {
+        Side::Bare => Hop::Stop(Cause::Dead),
+        Side::To(next, _) => Hop::On(port, next),
+        Side::End(end) => end_of(is_of_host(fabric, lid, end)),
+    }
+}
+
+// The hop by what the table says.
+fn hop_by_port(fabric: &Fabric, switch: usize, lid: usize, port: Option<u8>) -> Hop
+    requires { switch < switch_count fabric.now }
+    ensures hop { result ≡ hop_by fabric.now switch lid port }
+    ensures link { IsByLink fabric.now switch result }
+{
+    match port {
+        None => Hop::Stop(Cause::Missing),
+        Some(0) => end_of(is_of_switch(fabric, lid, switch)),
+        Some(port) => hop_by_side(fabric, switch, lid, port, fabric.side(switch, port)),
+    }
+}
+
+/// The hop of a switch for a LID of a block.
+#[tactic(auto, unfolding(crate::specs::Routes::hop))]
+pub fn find_hop(fabric: &Fabric, cells: &Cells, switch: usize, block: usize, bit: usize) -> Hop
+    requires same { switch_count fabric.now ≡ cells.now.switches }
+    requires switch { switch < switch_count fabric.now }
+    requires block { block < cells.now.blocks }
+    requires bit { bit < 64 }
+    ensures hop { result ≡ hop fabric.now (tables_of cells.now) switch (64 * block + bit) }
+    ensures link { IsByLink fabric.now switch result }
+{
+    let port = cells.port(switch, block, bit);
+    hop_by_port(fabric, switch, 64 * block + bit, port)
+}
+
+/// The hop of a switch for a LID.
+pub fn hop_at(fabric: &Fabric, cells: &Cells, switch: usize, lid: usize) -> Hop
+    requires same { switch_count fabric.now ≡ cells.now.switches }
+    requires switch { switch < switch_count fabric.now }
+    requires lid { lid < 64 * cells.now.blocks }
+    ensures hop { result ≡ hop fabric.now (tables_of cells.now) switch lid }
+    ensures link { IsByLink fabric.now switch result }
+{
+    find_hop(fabric, cells, switch, lid / 64, lid % 64)
+}

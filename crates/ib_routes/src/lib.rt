@@ -1,0 +1,18 @@
+//! The routes of forwarding tables, the dependencies that they make, found for 64 LIDs at a time, and for each of these
+//! the least route that makes it.
+//!
+//! It stands on `an_base`, `channel_graph`, `ib_net` and `ib_cells`. Its contract: `find` puts into a graph exactly the
+//! dependencies that the routes of a traffic make (`specs/Routes`), and says whether one of them stops; `witness` finds
+//! the least route that takes one channel and then another. Where routes begin and how they end (`start`, `trace`) is for
+//! who counts them.
+#![tactic(auto)]
+
+pub mod find;
+pub mod hop;
+mod link;
+pub mod start;
+pub mod trace;
+pub mod traffic;
+mod wave;
+pub mod witness;
+pub mod word;

@@ -1,0 +1,263 @@
+//! By which route a channel depends on another.
+
+ghost use Rattle.std.specs.Prelude.{◌≡◌, ◌<◌, ◌≤◌, ◌*◌, ◌^◌, ◌↔◌, ℕ, length, IfOk, IsTrue, MatchOption};
+ghost use Rattle.ib_net.specs.Fabric.{switch_count};
+ghost use Rattle.ib_cells.specs.Cells.{tables_of};
+ghost use Rattle.ib_routes.specs.Found.{HasNoWitness, IsLeastWitness, channel_of};
+ghost use Rattle.ib_routes.specs.Routes.{ComesTo};
+ghost use Rattle.ib_routes.specs.Trace.{IsReady, hop_to, way};
+ghost use Rattle.ib_routes.specs.Witness.{GoesBy, IsFirstHost, IsFirstSource, IsFirstSwitch, IsNextBy, NoHostComes, NoSourceComes};
+ghost use Rattle.ib_routes.specs.Witness.{IsLesser, IsLesserOf, IsLeastAt, NoSwitchComes, NoSourceTakes};
+
+use crate::hop::{Hop, Outcome, hop_at};
+use crate::start::{begins_at, sends};
+use crate::trace::{Mark, Target, trace};
+use crate::traffic::Traffic;
+use an_base::memory::OutOfMemory;
+use ib_cells::cells::Cells;
+use ib_net::fabric::Fabric;
+use ib_net::node::{EndPort, Spot};
+use std::alloc::Global;
+
+/// A route: to a LID, from an end port.
+#[derive(Clone, Copy)]
+pub struct Witness {
+    pub lid: u16,
+    pub source: EndPort,
+}
+
+// To which switch another one sends what goes to a LID, if it does so out of this port.
+fn next_by(fabric: &Fabric, cells: &Cells, lid: usize, channel: Spot) -> Option<u32>
+    requires same { switch_count fabric.now ≡ cells.now.switches }
+    requires lid { lid < 64 * cells.now.blocks }
+    requires channel { channel.switch < switch_count fabric.now }
+    ensures { IsNextBy fabric.now (tables_of cells.now) lid channel result }
+{
+    match hop_at(fabric, cells, channel.switch as usize, lid) {
+        Hop::On(port, next) => {
+            if port == channel.port {
+                Some(next)
+            } else {
+                None
+            }
+        }
+        Hop::Arrive => None,
+        Hop::Stop(_) => None,
+    }
+}
+
+// Whether what comes to the switch of a channel goes by it and then by the next one.
+fn goes_by(fabric: &Fabric, cells: &Cells, lid: usize, channel: Spot, next: Spot) -> bool
+    requires same { switch_count fabric.now ≡ cells.now.switches }
+    requires lid { lid < 64 * cells.now.blocks }
+    requires channel { channel.switch < switch_count fabric.now }
+    requires next { next.switch < switch_count fabric.now }
+    ensures { IsTrue result ↔ GoesBy fabric.now (tables_of cells.now) lid (channel_of channel) (channel_of next) }
+{
+    match next_by(fabric, cells, lid, channel) {
+        Some(there) => there == next.switch && next_by(fabric, cells, lid, next).is_some(),
+        None => false,
+    }
+}
+
+// Whether the route of an end port to a LID comes to a switch.
+fn comes(
+    fabric: &Fabric,
+    cells: &Cells,
+    traffic: Traffic,
+    lid: usize,
+    via: u32,
+    marks: &mut [Mark],
+    path: &mut Vec<usize>,
+    source: EndPort,
+) -> Result<bool, OutOfMemory>
+    requires same { switch_count fabric.now ≡ cells.now.switches }
+    requires few { switch_count fabric.now ≤ 2 ^ 14 }
+    requires lid { lid < 64 * cells.now.blocks }
+    requires ready { IsReady (hop_to fabric.now (tables_of cells.now) (way lid via)) (switch_count fabric.now)
+        marks.old path.old.items }
+    ensures ready { IfOk result (λ _. IsReady (hop_to fabric.now (tables_of cells.now) (way lid via))
+        (switch_count fabric.now) marks.new path.new.items) }
+    ensures comes { IfOk result (λ yes. IsTrue yes ↔ ComesTo fabric.now (tables_of cells.now) traffic lid source via) }
+{
+    if !sends(fabric, traffic, lid, source) {
+        return Ok(false);
+    }
+    let Some(start) = begins_at(fabric, source) else {
+        return Ok(false);
+    };
+    let target = Target {
+        block: lid / 64,
+        bit: lid % 64,
+        until: Some(via),
+    };
+    let outcome = trace(fabric, cells, target, marks, path, start as usize)?;
+    match outcome {
+        Outcome::Arrives(_) => Ok(true),
+        Outcome::Stops(_) => Ok(false),
+        Outcome::Loops => Ok(false),
+    }
+}
+
+// The end port of an adapter or router of least GUID whose route to a LID comes to a switch.
+fn first_host(
+    fabric: &Fabric,
+    cells: &Cells,
+    traffic: Traffic,
+    lid: usize,
+    via: u32,
+    marks: &mut [Mark],
+    path: &mut Vec<usize>,
+) -> Result<Option<u32>, OutOfMemory>
+    requires same { switch_count fabric.now ≡ cells.now.switches }
+    requires few { switch_count fabric.now ≤ 2 ^ 14 }
+    requires lid { lid < 64 * cells.now.blocks }
+    requires ready { IsReady (hop_to fabric.now (tables_of cells.now) (way lid via)) (switch_count fabric.now)
+        marks.old path.old.items }
+    ensures ready { IfOk result (λ _. IsReady (hop_to fabric.now (tables_of cells.now) (way lid via))
+        (switch_count fabric.now) marks.new path.new.items) }
+    ensures first { IfOk result (λ found. MatchOption found
+        (NoHostComes fabric.now (tables_of cells.now) traffic lid via)
+        (IsFirstHost fabric.now (tables_of cells.now) traffic lid via)) }
+{
+    'ends: for end in 0..fabric.ends() {
+        let source = EndPort::Host(end as u32);
+        let yes = comes(fabric, cells, traffic, lid, via, marks, path, source)?;
+        if yes {
+            return Ok(Some(end as u32));
+        }
+    }
+    Ok(None)
+}
+
+// The same of the switches.
+fn first_switch(
+    fabric: &Fabric,
+    cells: &Cells,
+    traffic: Traffic,
+    lid: usize,
+    via: u32,
+    marks: &mut [Mark],
+    path: &mut Vec<usize>,
+) -> Result<Option<u32>, OutOfMemory>
+    requires same { switch_count fabric.now ≡ cells.now.switches }
+    requires few { switch_count fabric.now ≤ 2 ^ 14 }
+    requires lid { lid < 64 * cells.now.blocks }
+    requires ready { IsReady (hop_to fabric.now (tables_of cells.now) (way lid via)) (switch_count fabric.now)
+        marks.old path.old.items }
+    ensures { IfOk result (λ found. MatchOption found
+        (NoSwitchComes fabric.now (tables_of cells.now) traffic lid via)
+        (IsFirstSwitch fabric.now (tables_of cells.now) traffic lid via)) }
+{
+    'switches: for switch in 0..fabric.switches() {
+        let source = EndPort::Switch(switch as u32);
+        let yes = comes(fabric, cells, traffic, lid, via, marks, path, source)?;
+        if yes {
+            return Ok(Some(switch as u32));
+        }
+    }
+    Ok(None)
+}
+
+// Of an end port of an adapter or router and a switch the one of lesser GUID.
+fn lesser_of(fabric: &Fabric, end: u32, place: u32) -> Option<EndPort>
+    ensures { IsLesserOf fabric.now end place result }
+{
+    if fabric.guid(EndPort::Switch(place)) < fabric.guid(EndPort::Host(end)) {
+        Some(EndPort::Switch(place))
+    } else {
+        Some(EndPort::Host(end))
+    }
+}
+
+// The same where each of them may not be there.
+fn lesser(fabric: &Fabric, host: Option<u32>, switch: Option<u32>) -> Option<EndPort>
+    ensures { IsLesser fabric.now host switch result }
+{
+    match host {
+        None => match switch {
+            None => None,
+            Some(place) => Some(EndPort::Switch(place)),
+        },
+        Some(end) => match switch {
+            None => Some(EndPort::Host(end)),
+            Some(place) => lesser_of(fabric, end, place),
+        },
+    }
+}
+
+// The end port of least GUID whose route to a LID comes to a switch.
+fn first_source(
+    alloc: Global,
+    fabric: &Fabric,
+    cells: &Cells,
+    traffic: Traffic,
+    lid: usize,
+    via: u32,
+) -> Result<Option<EndPort>, OutOfMemory>
+    requires same { switch_count fabric.now ≡ cells.now.switches }
+    requires lid { lid < 64 * cells.now.blocks }
+    ensures { IfOk result (λ found. MatchOption found
+        (NoSourceComes fabric.now (tables_of cells.now) traffic lid via)
+        (IsFirstSource fabric.now (tables_of cells.now) traffic lid via)) }
+{
+    let mut marks = vec![in alloc; Mark::New; fabric.switches()]?;
+    let mut path = Vec::new(alloc);
+    let host = first_host(fabric, cells, traffic, lid, via, &mut marks, &mut path)?;
+    let switch = first_switch(fabric, cells, traffic, lid, via, &mut marks, &mut path)?;
+    Ok(lesser(fabric, host, switch))
+}
+
+// The end port of least GUID whose route to a LID takes a channel and then, directly, another one.
+fn witness_at(
+    alloc: Global,
+    fabric: &Fabric,
+    cells: &Cells,
+    traffic: Traffic,
+    lid: usize,
+    channel: Spot,
+    next: Spot,
+) -> Result<Option<EndPort>, OutOfMemory>
+    requires same { switch_count fabric.now ≡ cells.now.switches }
+    requires lid { lid < 64 * cells.now.blocks }
+    requires channel { channel.switch < switch_count fabric.now }
+    requires next { next.switch < switch_count fabric.now }
+    ensures { IfOk result (λ found. MatchOption found
+        (NoSourceTakes fabric.now (tables_of cells.now) traffic lid (channel_of channel) (channel_of next))
+        (IsLeastAt fabric.now (tables_of cells.now) traffic lid (channel_of channel) (channel_of next))) }
+{
+    if !goes_by(fabric, cells, lid, channel, next) {
+        return Ok(None);
+    }
+    let found = first_source(alloc, fabric, cells, traffic, lid, channel.switch)?;
+    Ok(found)
+}
+
+/// The least LID, and to it the end port of least GUID, whose route takes a channel and then, directly, another one.
+/// There is none where the channel does not depend on the other.
+pub fn find_witness(
+    alloc: Global,
+    fabric: &Fabric,
+    cells: &Cells,
+    traffic: Traffic,
+    channel: Spot,
+    next: Spot,
+) -> Result<Option<Witness>, OutOfMemory>
+    requires same { switch_count fabric.now ≡ cells.now.switches }
+    requires owners { length fabric.now.owners ≤ 64 * cells.now.blocks }
+    requires channel { channel.switch < switch_count fabric.now }
+    requires next { next.switch < switch_count fabric.now }
+    ensures { IfOk result (λ found. MatchOption found
+        (HasNoWitness fabric.now (tables_of cells.now) traffic (channel_of channel) (channel_of next))
+        (λ w. IsLeastWitness fabric.now (tables_of cells.now) traffic (channel_of channel) (channel_of next)
+        w.lid w.source)) }
+{
+    'lids: for lid in 0..fabric.lids() {
+        let found = witness_at(alloc, fabric, cells, traffic, lid, channel, next)?;
+        if let Some(source) = found {
+            let lid = lid as u16;
+            return Ok(Some(Witness { lid, source }));
+        }
+    }
+    Ok(None)
+}

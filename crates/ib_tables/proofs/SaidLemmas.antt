@@ -1,0 +1,64 @@
+-- What lines say, and what they add.
+use Rattle.std.proofs.Common.{◌≡◌, ◌∙◌, sym, ap, refl, ℕ, ◌<◌, ◌≤◌, inl, inr, List, [], ◌∷◌, arith, length, length-take, take, min, Option, Some, None, Result, Ok, Err, Bool, true, false, ltb, nat_le, ◌&&◌}
+use Rattle.std.specs.Prelude.{codes, is_some, nat_eq, if◌then◌else◌}
+use Rattle.std.proofs.lemmas.Bool.{cases_lt}
+use Rattle.std.proofs.lemmas.Bool.Decides.{nat_tests}
+use Rattle.std.proofs.lemmas.List.{take_all}
+use Rattle.text_lines.specs.Lines.{words_of}
+use Rattle.text_lines.specs.declared.stop.Stop.{Stop}
+use Rattle.text_lines.specs.declared.stop.Stop.TheVariants.{Fault, OutOfMemory}
+use Rattle.ib_net.specs.Fabric.{FabricOf}
+use Rattle.ib_tables.specs.declared.cause.TablesCause.{TablesCause}
+use Rattle.ib_tables.specs.declared.line.TableLine.{TableLine}
+use Rattle.ib_tables.specs.Answers.{IsSaid, LedToOrWant}
+use Rattle.ib_words.specs.Cuts.{after}
+use Rattle.ib_tables.specs.TableLines.{begins, is_front_of_row, said_by, said_in}
+use Rattle.ib_tables.specs.Tables.{Told, told_with, told_after}
+
+-- a front of as many bytes as there are, and sixteen at most
+pub front_of : (bytes : List ℕ) (count : ℕ) → count ≡ min (length bytes) 16 → take count bytes ≡ take 16 bytes
+front_of bytes count is = elim (cases_lt (length bytes) 16) [
+  | inl few ↦ take_all count bytes (omega (arith, is)) ∙ sym (take_all 16 bytes (omega arith))
+  | inr many ↦ let same : count ≡ 16 = omega (arith, is) in ap (λ (n : ℕ). take n bytes) same
+]
+
+-- a line that begins with the two bytes of a row
+if_some : (passes : Bool) (rest : List ℕ) → is_some (if passes then Some rest else None) ≡ passes
+if_some true rest = refl
+if_some false rest = refl
+
+and_false : (b : Bool) → (b && false) ≡ false
+and_false true = refl
+and_false false = refl
+
+and_true : (b : Bool) → (b && true) ≡ b
+and_true true = refl
+and_true false = refl
+
+pub front_is : (line : List ℕ) → is_front_of_row line ≡ begins (codes "0x") line
+unfolding after
+front_is [] = refl
+front_is (a ∷ []) = sym (if_some (nat_eq a 48 && false) [] ∙ and_false (nat_eq a 48))
+front_is (a ∷ b ∷ rest) =
+    let long : nat_le 2 (length (a ∷ b ∷ rest)) ≡ true = grind (arith, nat_tests) in
+    ap (λ (l : Bool). l && (nat_eq a 48 && nat_eq b 120)) long
+    ∙ ap (λ (t : Bool). nat_eq a 48 && t) (sym (and_true (nat_eq b 120)))
+    ∙ sym (if_some (nat_eq a 48 && (nat_eq b 120 && true)) rest)
+
+-- a line that is no row, no head and no warning
+pub said_by_words : (line : List ℕ) (words : List (List ℕ)) → length line ≤ 4096 → begins (codes "0x") line ≡ false → begins (codes "Unicast lids ") line ≡ false → begins (codes "*** WARNING ***") line ≡ false → words ≡ words_of line → said_in line ≡ said_by words
+unfolding said_in
+said_by_words line words short row head warning are =
+    let t : ltb 4096 (length line) ≡ false = grind (arith, nat_tests) in
+    rw (t, row, head, warning, are) refl
+
+-- a line that says nothing that is known
+pub stopped_by : (fabric : FabricOf) (told after : Told) (line : List ℕ) (stop : Stop TablesCause) → IsSaid {A = TableLine} (Err stop) (said_in line) → LedToOrWant {Done = Unit {0}} (Err stop) after (told_after fabric told line)
+unfolding told_after
+stopped_by fabric told after line (Fault cause) said = rw said refl
+stopped_by fabric told after line OutOfMemory said = tt
+
+-- what a line says leads to what is told after the line
+pub told_by : (fabric : FabricOf) (told : Told) (line : List ℕ) (said : TableLine) → said_in line ≡ Ok said → told_after fabric told line ≡ told_with fabric told said
+unfolding told_after
+told_by fabric told line said is = rw is refl

@@ -1,0 +1,39 @@
+-- What a reader keeps of the lines so far. Only private functions cite this.
+
+use Rattle.std.specs.Prelude.{◌≡◌, ◌<◌, ◌≤◌, ◌+◌, ◌*◌, ℕ, length, IfSome}
+use Rattle.ib_net.specs.Fabric.{FabricOf, switch_count}
+use Rattle.ib_cells.specs.Cells.{tables_of}
+use Rattle.ib_tables.specs.declared.reading.Reading.{Reading}
+use Rattle.ib_tables.specs.Tables.{Told, switch_in}
+
+-- what it has of them
+abbrev pub told_of : Reading → Told
+told_of reading =
+    record {
+      part = reading.part;
+      tables = tables_of reading.cells;
+      rows = reading.rows;
+      unowned = reading.unowned;
+    }
+
+-- there is a cell for each switch and each LID that has an owner, and rows belong to a switch that there is
+pub record IsFit (fabric : FabricOf) (reading : Reading) : Type 0 where
+  pub switches : reading.cells.switches ≡ switch_count fabric
+  pub lids : length fabric.owners ≤ 64 * reading.cells.blocks
+  pub within : IfSome (switch_in reading.part) (λ switch. switch < switch_count fabric)
+
+-- there are fewer rows than this
+pub record AreFewRows (reading : Reading) (most : ℕ) : Type 0 where
+  pub rows : reading.rows < most
+  pub unowned : reading.unowned < most
+
+-- .. and than lines
+pub record IsReady (fabric : FabricOf) (reading : Reading) : Type 0 where
+  pub fit : IsFit fabric reading
+  pub few : AreFewRows reading reading.line
+
+-- a line adds a row at most
+pub record GrewByOne (old new : Reading) : Type 0 where
+  pub rows : new.rows ≤ old.rows + 1
+  pub unowned : new.unowned ≤ old.unowned + 1
+  pub line : new.line ≡ old.line

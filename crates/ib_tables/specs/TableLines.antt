@@ -1,0 +1,109 @@
+-- The lines of which texts of tables consist, and what each says.
+
+use Rattle.std.specs.Prelude.{◌==◌, ◌&&◌, ℕ, Bool, List, [], ◌∷◌, length, slice_index, take, codes, nat_le, nat_lt, if◌then◌else◌}
+use Rattle.std.specs.Prelude.{Option, Some, None, Result, Ok, Err, option_and_then, is_some}
+use Rattle.std.specs.List.{list_all}
+use Rattle.std.specs.Str.{bytes_eq}
+use Rattle.std.specs.Char.{is_ascii_digit}
+use Rattle.text_lines.specs.Lines.{words_of}
+use Rattle.ib_words.specs.Cuts.{after, cut_first}
+use Rattle.ib_words.specs.Digits.{hex, guid, decimal}
+use Rattle.ib_words.specs.Rows.{row}
+use Rattle.ib_tables.specs.declared.line.TableLine.{TableLine}
+use Rattle.ib_tables.specs.declared.line.TableLine.TheVariants.{Nothing, Head, Row, End, PlainHead, PlainSwitch}
+use Rattle.ib_tables.specs.declared.line.TableLine.TheVariants.{PlainEnd}
+use Rattle.ib_tables.specs.declared.cause.TablesCause.{TablesCause}
+use Rattle.ib_tables.specs.declared.cause.TablesCause.TheVariants.{LineTooLong, UnknownLine, BadRow, BadGuid}
+use Rattle.ib_tables.specs.declared.cause.TablesCause.TheVariants.{LidRange, PortRange}
+
+-- whether a line begins with these bytes
+abbrev pub begins : (front line : List ℕ) → Bool
+begins front line = is_some (after front line)
+
+-- the same of the two bytes with which rows begin
+abbrev pub is_front_of_row : List ℕ → Bool
+is_front_of_row line = nat_le 2 (length line) && (slice_index line 0 == 48 && slice_index line 1 == 120)
+
+-- what a line says, or the first cause why it says nothing
+abbrev pub Said : Type 0
+Said = Result TableLine TablesCause
+
+-- a value, or the cause why there is none
+abbrev pub or_cause : {A : Type 0} → Option A → TablesCause → (A → Said) → Said
+or_cause None cause says = Err cause
+or_cause (Some value) cause says = says value
+
+-- a row for a LID: unicast LIDs end with 0xbfff
+abbrev pub row_for : ℕ → ℕ → Said
+row_for lid port = if nat_lt 0xbfff lid then Err LidRange else Ok (Row lid port)
+
+-- a row as the tools print it: the LID in four hexadecimal digits, the port in three decimal ones
+abbrev pub dumped_row : List ℕ → Said
+dumped_row line = or_cause (row line) BadRow (λ found. row_for found.0 found.1)
+
+-- the head of a switch's table: its GUID stands in 16 digits after the first ` guid 0x`
+abbrev pub head_guid : List ℕ → Option ℕ
+head_guid line = option_and_then (λ parts. guid (take 16 parts.1)) (cut_first (codes " guid 0x") line)
+
+abbrev pub head : List ℕ → Said
+head line = or_cause (head_guid line) BadGuid (λ found. Ok (Head found))
+
+-- a row in plain words: a LID and a port, both in decimal
+abbrev pub plain_port : ℕ → ℕ → Said
+plain_port lid port = if nat_lt 255 port then Err PortRange else row_for lid port
+
+abbrev pub plain_row : (lid port : List ℕ) → Said
+plain_row lid port =
+    or_cause (decimal lid) UnknownLine (λ to. or_cause (decimal port) UnknownLine (λ by. plain_port to by))
+
+-- the switch to which the next plain rows belong: its GUID has 1 to 16 digits after `0x`
+abbrev pub plain_guid : List ℕ → Option ℕ
+plain_guid word = option_and_then hex (after (codes "0x") word)
+
+abbrev pub plain_switch : List ℕ → Said
+plain_switch word = or_cause (plain_guid word) BadGuid (λ found. Ok (PlainSwitch found))
+
+-- whether a word is one of digits
+abbrev pub is_count : List ℕ → Bool
+is_count word = list_all is_ascii_digit word
+
+-- one word, two, three and four
+abbrev pub said_by_one : List ℕ → Said
+said_by_one word = if bytes_eq word (codes "end") then Ok PlainEnd else Err UnknownLine
+
+abbrev pub said_by_two : (first second : List ℕ) → Said
+said_by_two first second =
+    if bytes_eq first (codes "switch") then plain_switch second
+    else (if bytes_eq first (codes "Port") && bytes_eq second (codes "Info") then Ok Nothing
+    else (if bytes_eq first (codes "tables") && bytes_eq second (codes "1") then Ok PlainHead
+    else plain_row first second))
+
+abbrev pub said_by_three : (first second third : List ℕ) → Said
+said_by_three first second third =
+    if bytes_eq first (codes "Lid") && (bytes_eq second (codes "Out") && bytes_eq third (codes "Destination"))
+    then Ok Nothing
+    else (if is_count first && (bytes_eq second (codes "lids") && bytes_eq third (codes "dumped"))
+    then Ok End else Err UnknownLine)
+
+abbrev pub said_by_four : (first second third fourth : List ℕ) → Said
+said_by_four first second third fourth =
+    if is_count first && (bytes_eq second (codes "valid")
+    && (bytes_eq third (codes "lids") && bytes_eq fourth (codes "dumped")))
+    then Ok End else Err UnknownLine
+
+-- words that are no row and no head; dump_lfts ends with a warning of which the first word is `***`
+abbrev pub said_by : List (List ℕ) → Said
+said_by [] = Ok Nothing
+said_by (first ∷ []) = said_by_one first
+said_by (first ∷ second ∷ []) = said_by_two first second
+said_by (first ∷ second ∷ third ∷ []) = said_by_three first second third
+said_by (first ∷ second ∷ third ∷ fourth ∷ []) = said_by_four first second third fourth
+said_by words = Err UnknownLine
+
+-- what a line says, or why it is none of a text of tables
+unfoldable pub said_in : List ℕ → Said
+said_in line =
+    if nat_lt 4096 (length line) then Err LineTooLong
+    else (if begins (codes "0x") line then dumped_row line
+    else (if begins (codes "Unicast lids ") line then head line
+    else (if begins (codes "*** WARNING ***") line then Ok Nothing else said_by (words_of line))))

@@ -1,0 +1,143 @@
+-- The text of the tables of a fabric.
+
+use Rattle.std.specs.Prelude.{◌≡◌, ◌+◌, ◌==◌, ◌^◌, ℕ, Bool, true, false, List, ⊤, if◌then◌else◌}
+use Rattle.std.specs.Prelude.{Option, Some, None, is_none, Result, Ok, Err}
+use Rattle.text_lines.specs.Lines.{lines_of}
+use Rattle.text_lines.specs.Chains.{LeadsBy, IsFaultOf}
+use Rattle.ib_net.specs.Fabric.{FabricOf, owner_of, switch_with}
+use Rattle.ib_cells.specs.Cells.{TablesOf, with_port}
+use Rattle.ib_tables.specs.declared.line.TableLine.{TableLine}
+use Rattle.ib_tables.specs.declared.line.TableLine.TheVariants.{Nothing, Head, Row, End, PlainHead, PlainSwitch}
+use Rattle.ib_tables.specs.declared.line.TableLine.TheVariants.{PlainEnd}
+use Rattle.ib_tables.specs.declared.reading.Part.{Part}
+use Rattle.ib_tables.specs.declared.reading.Part.TheVariants.{Start, Between, Dumped, Plain, PlainOf}
+use Rattle.ib_tables.specs.declared.cause.TablesCause.{TablesCause}
+use Rattle.ib_tables.specs.declared.cause.TablesCause.TheVariants.{UnknownSwitch, OutOfPlace, NoEnd, PortDiffers}
+use Rattle.ib_tables.specs.TableLines.{said_in}
+
+-- What lines say so far: in which part of the text the next one stands, the ports, and how many rows named a
+-- port, for any LID and for LIDs that nobody owns.
+pub record Told : Type 0 where
+  pub part : Part
+  pub tables : TablesOf
+  pub rows : ℕ
+  pub unowned : ℕ
+
+-- no switch has a port for any LID
+abbrev pub no_ports : TablesOf
+no_ports switch lid = None
+
+-- what no lines say
+abbrev pub none_told : Told
+none_told = record { part = Start; tables = no_ports; rows = 0; unowned = 0 }
+
+-- whether a table of a dump is open, and whether a plain text is
+abbrev pub is_dump : Part → Bool
+is_dump (Dumped switch) = true
+is_dump part = false
+
+abbrev pub is_plain : Part → Bool
+is_plain Plain = true
+is_plain (PlainOf switch) = true
+is_plain part = false
+
+-- the switch to which a row belongs
+abbrev pub switch_in : Part → Option ℕ
+switch_in (Dumped switch) = Some switch
+switch_in (PlainOf switch) = Some switch
+switch_in part = None
+
+-- what is told after a line, or why the line is faulty
+abbrev pub Step : Type 0
+Step = Result Told TablesCause
+
+abbrev pub and_then :
+    {A B : Type 0} → Result A TablesCause → (A → Result B TablesCause) → Result B TablesCause
+and_then (Ok found) next = next found
+and_then (Err cause) next = Err cause
+
+abbrev pub at_part : Told → Part → Told
+at_part told part = record told { part = part }
+
+-- the rows of a switch of the fabric follow
+abbrev pub rows_of : Told → (ℕ → Part) → Option ℕ → Step
+rows_of told part None = Err UnknownSwitch
+rows_of told part (Some switch) = Ok (at_part told (part switch))
+
+-- a row that names a port, for a LID that nobody owns and for one that has an owner
+abbrev pub unowned_row : Told → Told
+unowned_row told = record told { rows = told.rows + 1; unowned = told.unowned + 1 }
+
+abbrev pub owned_row : Told → (switch lid port : ℕ) → Told
+owned_row told switch lid port =
+    record told { rows = told.rows + 1; tables = with_port told.tables switch lid port }
+
+-- the port of an owned LID: none was told, or this one, or another
+abbrev pub port_told : Told → (switch lid port : ℕ) → Option ℕ → Step
+port_told told switch lid port None = Ok (owned_row told switch lid port)
+port_told told switch lid port (Some other) =
+    if other == port then Ok (owned_row told switch lid port) else Err PortDiffers
+
+-- 255 is no port: such a row says nothing
+abbrev pub row_told : FabricOf → Told → (lid port : ℕ) → Option ℕ → Step
+row_told fabric told lid port None = Err OutOfPlace
+row_told fabric told lid port (Some switch) =
+    if port == 255 then Ok told
+    else (if is_none (owner_of fabric lid) then Ok (unowned_row told)
+    else port_told told switch lid port (told.tables switch lid))
+
+-- a dump's table, or a plain text, begins where none is open, and ends where one is
+abbrev pub may_begin : Part → Result ⊤ TablesCause
+may_begin part = if is_dump part then Err NoEnd else (if is_plain part then Err OutOfPlace else Ok tt)
+
+abbrev pub begins_told : Told → Step → Step
+begins_told told step = and_then (may_begin told.part) (λ _. step)
+
+abbrev pub if_open : Bool → Step → Step
+if_open is_open step = if is_open then step else Err OutOfPlace
+
+-- what is told after what a line says
+abbrev pub told_with : FabricOf → Told → TableLine → Step
+told_with fabric told Nothing = Ok told
+told_with fabric told (Row lid port) = row_told fabric told lid port (switch_in told.part)
+told_with fabric told (Head guid) = begins_told told (rows_of told Dumped (switch_with fabric guid))
+told_with fabric told End = if_open (is_dump told.part) (Ok (at_part told Between))
+told_with fabric told PlainHead = begins_told told (Ok (at_part told Plain))
+told_with fabric told (PlainSwitch guid) =
+    if_open (is_plain told.part) (rows_of told PlainOf (switch_with fabric guid))
+told_with fabric told PlainEnd = if_open (is_plain told.part) (Ok (at_part told Between))
+
+-- what is told after a line
+unfoldable pub told_after : FabricOf → Told → List ℕ → Step
+told_after fabric told line = and_then (said_in line) (told_with fabric told)
+
+-- a line is good after what was told, and leads to more; or it is faulty, first by this cause
+abbrev pub AddsTo : FabricOf → Told → List ℕ → Told → Type 0
+AddsTo fabric told line after = told_after fabric told line ≡ Ok after
+
+abbrev pub IsFaultyAfter : FabricOf → Told → List ℕ → TablesCause → Type 0
+IsFaultyAfter fabric told line cause = told_after fabric told line ≡ Err cause
+
+-- the last part ended
+abbrev pub IsEnded : Told → Type 0
+IsEnded told = told.part ≡ Between
+
+-- The bytes are the text of these tables of the fabric: each line is good after those before it, the last
+-- part ended, and the tables are what the lines say. So many rows named a port, and so many of them for LIDs
+-- that nobody owns.
+pub record IsTablesText (fabric : FabricOf) (bytes : List ℕ) (tables : TablesOf) (rows unowned : ℕ)
+    : Type 0 where
+  pub last : Told
+  pub good : LeadsBy (AddsTo fabric) none_told (lines_of bytes) last
+  pub ended : IsEnded last
+  pub says : tables ≡ last.tables
+  pub rows_are : rows ≡ last.rows
+  pub unowned_are : unowned ≡ last.unowned
+
+-- the first fault of the bytes, as the text of tables of the fabric, is in this line and of this cause
+abbrev pub IsTablesFault : FabricOf → List ℕ → ℕ → TablesCause → Type 0
+IsTablesFault fabric = IsFaultOf none_told (AddsTo fabric) (IsFaultyAfter fabric) IsEnded NoEnd
+
+-- the most bytes of a text of tables
+abbrev pub most_bytes : ℕ
+most_bytes = 2 ^ 62

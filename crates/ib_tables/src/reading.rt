@@ -1,0 +1,272 @@
+//! What the lines of tables say so far.
+
+ghost use Rattle.std.specs.Prelude.{◌≡◌, ◌+◌, ◌<◌, ◌≤◌, ◌^◌, ◌-◌, ◌↔◌, IfOk, OnOk, OnErr, IsTrue, None, Some, Ok, MatchResult};
+ghost use Rattle.ib_net.specs.Fabric.{switch_count, switch_with};
+ghost use Rattle.ib_tables.specs.declared.cause.TablesCause.TheVariants.{UnknownSwitch};
+ghost use Rattle.ib_tables.specs.declared.reading.Part.TheVariants.{Between, Dumped, Plain, PlainOf};
+ghost use Rattle.ib_tables.specs.Answers.{LedTo, LedToOrWant};
+ghost use Rattle.ib_tables.specs.Tables.{is_dump, is_plain, may_begin, switch_in, none_told, told_with, told_after, IsEnded};
+ghost use Rattle.ib_tables.specs.Tables.{at_part, begins_told, if_open, row_told, rows_of};
+ghost use Rattle.ib_tables.specs.Readings.{told_of, IsFit, IsReady, AreFewRows, GrewByOne};
+
+use crate::cause::TablesCause;
+use crate::line::{TableLine, TablesStop, table_line};
+use an_base::memory::OutOfMemory;
+use ib_cells::cells::Cells;
+use ib_net::fabric::Fabric;
+use std::alloc::Global;
+use text_lines::stop::Stop;
+
+/// The part of a text in which the next line stands.
+#[derive(Clone, Copy, PartialEq, Eq)]
+pub enum Part {
+    /// No part began.
+    Start,
+    /// The last part ended.
+    Between,
+    /// The table of this switch in a dump.
+    Dumped(usize),
+    /// A plain text that has named no switch.
+    Plain,
+    /// The rows of this switch in a plain text.
+    PlainOf(usize),
+}
+
+impl Part {
+    // Whether none is open, so that one may begin; else the cause why not.
+    fn may_begin(self) -> Result<(), TablesCause>
+        ensures { result ≡ may_begin self }
+    {
+        if self.is_dump() {
+            return Err(TablesCause::NoEnd);
+        }
+        if self.is_plain() {
+            return Err(TablesCause::OutOfPlace);
+        }
+        Ok(())
+    }
+
+    // Whether it is a table of a dump.
+    fn is_dump(self) -> bool
+        ensures { result ≡ is_dump self }
+    {
+        match self {
+            Part::Dumped(_) => true,
+            Part::Start | Part::Between | Part::Plain | Part::PlainOf(_) => false,
+        }
+    }
+
+    // Whether it is one of a plain text.
+    fn is_plain(self) -> bool
+        ensures { result ≡ is_plain self }
+    {
+        match self {
+            Part::Plain | Part::PlainOf(_) => true,
+            Part::Start | Part::Between | Part::Dumped(_) => false,
+        }
+    }
+
+    // The switch to which a row belongs.
+    #[inline]
+    fn switch(self) -> Option<usize>
+        ensures { result ≡ switch_in self }
+    {
+        match self {
+            Part::Dumped(switch) | Part::PlainOf(switch) => Some(switch),
+            Part::Start | Part::Between | Part::Plain => None,
+        }
+    }
+}
+
+/// What so many lines say.
+#[derive(Drop)]
+pub struct Reading {
+    /// The part in which the next line stands.
+    part: Part,
+    /// The ports of the LIDs that have an owner.
+    pub cells: Cells,
+    /// How many rows named a port.
+    pub rows: u64,
+    /// How many of these are for LIDs that nobody owns.
+    pub unowned: u64,
+    /// The number of the next line, from 1.
+    pub line: u64,
+}
+
+// The place of the switch with this GUID.
+fn known(fabric: &Fabric, guid: u64) -> Result<usize, TablesCause>
+    ensures place { MatchResult result (λ switch. switch_with fabric.now guid ≡ Some switch)
+        (λ cause. (switch_with fabric.now guid ≡ None) × (cause ≡ UnknownSwitch)) }
+    ensures range { IfOk result (λ switch. switch < switch_count fabric.now) }
+{
+    match fabric.switch_with(guid) {
+        Some(switch) => Ok(switch as usize),
+        None => Err(TablesCause::UnknownSwitch),
+    }
+}
+
+impl Reading {
+    /// What no lines of tables of the fabric say.
+    pub fn new(alloc: Global, fabric: &Fabric) -> Result<Reading, OutOfMemory>
+        ensures none { IfOk result (λ reading. told_of reading ≡ none_told) }
+        ensures ready { IfOk result (IsReady fabric.now) }
+        ensures first { IfOk result (λ reading. reading.line ≡ 1) }
+    {
+        Ok(Reading {
+            part: Part::Start,
+            cells: Cells::new(alloc, fabric.switches(), fabric.lids())?,
+            rows: 0,
+            unowned: 0,
+            line: 1,
+        })
+    }
+
+    /// Whether the last part ended.
+    pub fn is_ended(&self) -> bool
+        ensures { IsTrue result ↔ IsEnded (told_of self.now) }
+    {
+        self.part == Part::Between
+    }
+
+    /// Adds what the next line says, without what ends it.
+    #[inline]
+    pub fn add_line(
+        &mut self,
+        alloc: Global,
+        fabric: &Fabric,
+        line: &[u8],
+    ) -> Result<(), TablesStop>
+        requires ready { IsReady fabric.now self.old }
+        requires few { self.old.line < 2 ^ 64 - 1 }
+        ensures step { LedToOrWant result (told_of self.new) (told_after fabric.now (told_of self.old) line.now) }
+        ensures ready { OnOk result (IsReady fabric.now self.new) }
+        ensures next { OnOk result (self.new.line ≡ self.old.line + 1) }
+        ensures here { OnErr result (self.new.line ≡ self.old.line) }
+    {
+        let said = table_line(alloc, line)?;
+        if let Err(cause) = self.add(fabric, said) {
+            return Err(Stop::Fault(cause));
+        }
+        self.line += 1;
+        Ok(())
+    }
+
+    // Adds what a line says.
+    #[inline]
+    fn add(&mut self, fabric: &Fabric, said: TableLine) -> Result<(), TablesCause>
+        requires fit { IsFit fabric.now self.old }
+        requires few { AreFewRows self.old (2 ^ 64 - 1) }
+        ensures step { LedTo result (told_of self.new) (told_with fabric.now (told_of self.old) said) }
+        ensures fit { OnOk result (IsFit fabric.now self.new) }
+        ensures rows { GrewByOne self.old self.new }
+    {
+        match said {
+            TableLine::Nothing => Ok(()),
+            TableLine::Row(lid, port) => self.add_row(fabric, lid, port),
+            TableLine::Head(guid) => self.begin_dump(fabric, guid),
+            TableLine::End => self.end_dump(),
+            TableLine::PlainHead => self.begin_plain(),
+            TableLine::PlainSwitch(guid) => self.begin_rows(fabric, guid),
+            TableLine::PlainEnd => self.end_plain(),
+        }
+    }
+
+    // Adds what a row says.
+    #[inline]
+    fn add_row(&mut self, fabric: &Fabric, lid: u16, port: u8) -> Result<(), TablesCause>
+        requires fit { IsFit fabric.now self.old }
+        requires few { AreFewRows self.old (2 ^ 64 - 1) }
+        ensures step { LedTo result (told_of self.new)
+            (row_told fabric.now (told_of self.old) lid port (switch_in self.old.part)) }
+        ensures fit { OnOk result (IsFit fabric.now self.new) }
+        ensures rows { GrewByOne self.old self.new }
+    {
+        let Some(switch) = self.part.switch() else {
+            return Err(TablesCause::OutOfPlace);
+        };
+        if port == 255 {
+            return Ok(());
+        }
+        if fabric.owner(usize::from(lid)).is_none() {
+            self.rows += 1;
+            self.unowned += 1;
+            return Ok(());
+        }
+        if !self.cells.put(switch, usize::from(lid), port) {
+            return Err(TablesCause::PortDiffers);
+        }
+        self.rows += 1;
+        Ok(())
+    }
+
+    // Begins the table of a switch in a dump.
+    fn begin_dump(&mut self, fabric: &Fabric, guid: u64) -> Result<(), TablesCause>
+        requires fit { IsFit fabric.now self.old }
+        ensures step { LedTo result (told_of self.new)
+            (begins_told (told_of self.old) (rows_of (told_of self.old) Dumped (switch_with fabric.now guid))) }
+        ensures fit { OnOk result (IsFit fabric.now self.new) }
+        ensures rows { GrewByOne self.old self.new }
+    {
+        self.part.may_begin()?;
+        self.part = Part::Dumped(known(fabric, guid)?);
+        Ok(())
+    }
+
+    // Ends the table of a switch in a dump.
+    fn end_dump(&mut self) -> Result<(), TablesCause>
+        ensures step { LedTo result (told_of self.new)
+            (if_open (is_dump self.old.part) (Ok (at_part (told_of self.old) Between))) }
+        ensures cells { self.new.cells ≡ self.old.cells }
+        ensures part { OnOk result (self.new.part ≡ Between) }
+        ensures rows { GrewByOne self.old self.new }
+    {
+        if !self.part.is_dump() {
+            return Err(TablesCause::OutOfPlace);
+        }
+        self.part = Part::Between;
+        Ok(())
+    }
+
+    // Begins a plain text.
+    fn begin_plain(&mut self) -> Result<(), TablesCause>
+        ensures step { LedTo result (told_of self.new)
+            (begins_told (told_of self.old) (Ok (at_part (told_of self.old) Plain))) }
+        ensures cells { self.new.cells ≡ self.old.cells }
+        ensures part { OnOk result (self.new.part ≡ Plain) }
+        ensures rows { GrewByOne self.old self.new }
+    {
+        self.part.may_begin()?;
+        self.part = Part::Plain;
+        Ok(())
+    }
+
+    // Begins the rows of a switch in a plain text.
+    fn begin_rows(&mut self, fabric: &Fabric, guid: u64) -> Result<(), TablesCause>
+        requires fit { IsFit fabric.now self.old }
+        ensures step { LedTo result (told_of self.new)
+            (if_open (is_plain self.old.part) (rows_of (told_of self.old) PlainOf (switch_with fabric.now guid))) }
+        ensures fit { OnOk result (IsFit fabric.now self.new) }
+        ensures rows { GrewByOne self.old self.new }
+    {
+        if !self.part.is_plain() {
+            return Err(TablesCause::OutOfPlace);
+        }
+        self.part = Part::PlainOf(known(fabric, guid)?);
+        Ok(())
+    }
+
+    // Ends a plain text.
+    fn end_plain(&mut self) -> Result<(), TablesCause>
+        ensures step { LedTo result (told_of self.new)
+            (if_open (is_plain self.old.part) (Ok (at_part (told_of self.old) Between))) }
+        ensures cells { self.new.cells ≡ self.old.cells }
+        ensures part { OnOk result (self.new.part ≡ Between) }
+        ensures rows { GrewByOne self.old self.new }
+    {
+        if !self.part.is_plain() {
+            return Err(TablesCause::OutOfPlace);
+        }
+        self.part = Part::Between;
+        Ok(())
+    }
+}

@@ -1,0 +1,83 @@
+use Rattle.std.specs.Prelude.{◌||◌, ℕ, List, Option, Some, None, codes, if◌then◌else◌}
+use Rattle.ib_words.specs.Cuts.{◌>>=◌, after, cut, cut_first, cut_last}
+use Rattle.ib_words.specs.Digits.{guid, hex}
+use Rattle.ib_topology.specs.declared.fact.Fact.{Fact}
+use Rattle.ib_topology.specs.declared.fact.Fact.TheVariants as fact
+use Rattle.ib_topology.specs.declared.fact.PortTold.{PortTold}
+use Rattle.ib_topology.specs.declared.fact.PortTold.TheVariants.{OfSwitch, OfHost}
+use Rattle.ib_topology.specs.declared.fact.Line.{Line}
+use Rattle.ib_topology.specs.declared.fact.Part.TheVariants as part
+use Rattle.ib_topology.specs.Facts.{telling_three}
+use Rattle.ib_topology.specs.Fronts.{begins}
+
+-- The lines of `opensm-subnet.lst`, one for each end of each link:
+-- `{ SW Ports:24 SystemGUID:.. NodeGUID:.. PortGUID:.. .. {leaf1} LID:0006 PN:01 } { CA .. } PHY=4x ..`.
+-- Descriptions are any bytes, so what stands after one is found from the right.
+
+-- the number in hexadecimal digits at the front of a text, up to a space, and what stands after that
+unfoldable pub hex_then : List ℕ → Option (ℕ × List ℕ)
+hex_then text = do
+  parts ← cut 32 text
+  number ← hex parts.0
+  Some (number, parts.1)
+
+-- the same of a GUID in sixteen digits
+unfoldable pub guid_then : List ℕ → Option (ℕ × List ℕ)
+guid_then text = do
+  parts ← cut 32 text
+  number ← guid parts.0
+  Some (number, parts.1)
+
+-- the GUIDs of a node and of its port, after ` SystemGUID:`
+unfoldable pub guids : List ℕ → Option (ℕ × ℕ)
+guids text = do
+  parts ← cut_first (codes " NodeGUID:") text
+  node ← guid_then parts.1
+  rest ← after (codes "PortGUID:") node.1
+  port ← guid_then rest
+  Some (node.0, port.0)
+
+-- a LID and the number of a port: `0006 PN:01`
+unfoldable pub at : List ℕ → Option (ℕ × ℕ)
+at text = do
+  base ← hex_then text
+  word ← after (codes "PN:") base.1
+  port ← hex word
+  Some (base.0, port)
+
+-- what a node of a kind is, and the port of it; the LMC is not told
+unfoldable pub told_by : (kind : List ℕ) (ports : ℕ) (guids at : ℕ × ℕ) → Option (Fact × PortTold)
+told_by kind ports guids at =
+    if begins (codes "SW") kind
+    then Some (fact.Switch guids.0 ports at.0 0, OfSwitch guids.0 at.1)
+    else if begins (codes "CA") kind || begins (codes "Rt") kind
+    then Some (fact.Host guids.1 at.0 0, OfHost guids.1) else None
+
+-- what one side of a line tells: of `SW Ports:24`, of what stands after ` SystemGUID:`, and of `0006 PN:01`
+unfoldable pub side : (head rest numbers : List ℕ) → Option (Fact × PortTold)
+side head rest numbers = do
+  kind ← cut 32 head
+  word ← after (codes "Ports:") kind.1
+  ports ← hex word
+  both ← guids rest
+  place ← at numbers
+  told_by kind.0 ports both place
+
+-- what the first side of a line tells
+unfoldable pub near_side : List ℕ → Option (Fact × PortTold)
+near_side text = do
+  numbers ← cut_last (codes "} LID:") text
+  both ← cut_first (codes " SystemGUID:") numbers.0
+  head ← after (codes "{ ") both.0
+  side head both.1 numbers.1
+
+-- what a line says: the second side is found from the right, and the first in what stands before it
+unfoldable pub dumped : List ℕ → Option Line
+dumped line = do
+  both ← cut_last (codes " } PHY=") line
+  numbers ← cut_last (codes "} LID:") both.0
+  heads ← cut_last (codes " SystemGUID:") numbers.0
+  sides ← cut_last (codes " } { ") heads.0
+  one ← near_side sides.0
+  other ← side sides.1 heads.1 numbers.1
+  Some (telling_three part.Dumped one.0 other.0 (fact.Link one.1 other.1))

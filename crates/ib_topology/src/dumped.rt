@@ -1,0 +1,124 @@
+//! The lines of `opensm-subnet.lst`.
+
+ghost use Rattle.std.specs.Prelude.{◌≡◌, Some, None, MatchOption};
+ghost use Rattle.ib_topology.specs.Dumped.{hex_then, guid_then, guids, at, told_by, side, near_side, dumped};
+
+use crate::fact::{Fact, Line, Part, PortTold};
+use crate::front::begins;
+use ib_words::cut::{after, cut, cut_first, cut_last};
+use ib_words::digits::{guid, hex};
+
+// The number in hexadecimal digits at the front of a text, up to a space, and what stands after that.
+#[tactic(auto, unfolding(crate::specs::Dumped::hex_then))]
+fn hex_then(text: &[u8]) -> Option<(u64, &[u8])>
+    ensures { MatchOption result (hex_then text.now ≡ None)
+        (λ r. hex_then text.now ≡ Some (r.0, r.1.now)) }
+{
+    let (word, rest) = cut(text, b' ')?;
+    let number = hex(word)?;
+    Some((number, rest))
+}
+
+// The same of a GUID in sixteen digits.
+#[tactic(auto, unfolding(crate::specs::Dumped::guid_then))]
+fn guid_then(text: &[u8]) -> Option<(u64, &[u8])>
+    ensures { MatchOption result (guid_then text.now ≡ None)
+        (λ r. guid_then text.now ≡ Some (r.0, r.1.now)) }
+{
+    let (word, rest) = cut(text, b' ')?;
+    let number = guid(word)?;
+    Some((number, rest))
+}
+
+// The GUIDs of a node and of its port, after ` SystemGUID:`.
+#[tactic(auto, unfolding(crate::specs::Dumped::guids))]
+fn guids(text: &[u8]) -> Option<(u64, u64)>
+    ensures { result ≡ guids text.now }
+{
+    let (_front, rest) = cut_first(text, " NodeGUID:")?;
+    let (node, rest) = guid_then(rest)?;
+    let rest = after(rest, "PortGUID:")?;
+    let (port, _rest) = guid_then(rest)?;
+    Some((node, port))
+}
+
+// A LID and the number of a port: `0006 PN:01`.
+#[tactic(auto, unfolding(crate::specs::Dumped::at))]
+fn at(text: &[u8]) -> Option<(u64, u64)>
+    ensures { result ≡ at text.now }
+{
+    let (base, rest) = hex_then(text)?;
+    let word = after(rest, "PN:")?;
+    let port = hex(word)?;
+    Some((base, port))
+}
+
+// What a node of a kind is, and the port of it.
+#[tactic(auto, unfolding(crate::specs::Dumped::told_by))]
+fn told_by(kind: &[u8], ports: u64, guids: (u64, u64), at: (u64, u64)) -> Option<(Fact, PortTold)>
+    ensures { result ≡ told_by kind.now ports guids at }
+{
+    let (node, end) = guids;
+    let (base, port) = at;
+    if begins(kind, "SW") {
+        let fact = Fact::Switch {
+            guid: node,
+            ports,
+            base,
+            lmc: 0,
+        };
+        return Some((fact, PortTold::OfSwitch { guid: node, port }));
+    }
+    if begins(kind, "CA") || begins(kind, "Rt") {
+        let fact = Fact::Host {
+            guid: end,
+            base,
+            lmc: 0,
+        };
+        return Some((fact, PortTold::OfHost { guid: end }));
+    }
+    None
+}
+
+// What one side of a line tells: of its head, of what stands after ` SystemGUID:`, and of what stands after
+// the description.
+#[tactic(auto, unfolding(crate::specs::Dumped::side))]
+fn side(head: &[u8], rest: &[u8], numbers: &[u8]) -> Option<(Fact, PortTold)>
+    ensures { result ≡ side head.now rest.now numbers.now }
+{
+    let (kind, word) = cut(head, b' ')?;
+    let word = after(word, "Ports:")?;
+    let ports = hex(word)?;
+    let guids = guids(rest)?;
+    let at = at(numbers)?;
+    told_by(kind, ports, guids, at)
+}
+
+// What the first side of a line tells.
+#[tactic(auto, unfolding(crate::specs::Dumped::near_side))]
+fn near_side(text: &[u8]) -> Option<(Fact, PortTold)>
+    ensures { result ≡ near_side text.now }
+{
+    let (front, numbers) = cut_last(text, "} LID:")?;
+    let (front, guids) = cut_first(front, " SystemGUID:")?;
+    let head = after(front, "{ ")?;
+    side(head, guids, numbers)
+}
+
+/// What a line says of `opensm-subnet.lst`.
+#[tactic(auto, unfolding(crate::specs::Dumped::dumped))]
+pub fn dumped(line: &[u8]) -> Option<Line>
+    ensures { result ≡ dumped line.now }
+{
+    let (both, _speed) = cut_last(line, " } PHY=")?;
+    let (front, numbers) = cut_last(both, "} LID:")?;
+    let (heads, guids) = cut_last(front, " SystemGUID:")?;
+    let (near, head) = cut_last(heads, " } { ")?;
+    let one = near_side(near)?;
+    let other = side(head, guids, numbers)?;
+    let link = Fact::Link {
+        one: one.1,
+        other: other.1,
+    };
+    Some(Line::of_three(Part::Dumped, one.0, other.0, link))
+}

@@ -1,0 +1,68 @@
+//! What the lines of a topology say, each by where it stands.
+
+ghost use Rattle.std.specs.Prelude.{◌≡◌};
+ghost use Rattle.ib_topology.specs.Texts.{first, says, may_end};
+
+use crate::discovered::discovered;
+use crate::dumped::dumped;
+use crate::fact::{Line, Part};
+use crate::front::begins;
+use crate::plain::{ended, is_silent, plain};
+use text_lines::word::is;
+
+/// The most bytes of a line, without what ends it.
+pub const MOST_LINE: usize = 4_096;
+
+/// Whether a text may end here.
+pub fn may_end(part: Part) -> bool
+    ensures { result ≡ may_end part }
+{
+    match part {
+        Part::Start => false,
+        Part::Outside => true,
+        Part::Switch { guid: _ } => true,
+        Part::Adapter => true,
+        Part::Dumped => true,
+        Part::Plain => false,
+        Part::Ended => true,
+    }
+}
+
+/// What a line of at most so many bytes says, by where it stands.
+#[tactic(auto, unfolding(crate::specs::Texts::says))]
+pub fn says(part: Part, line: &[u8]) -> Option<Line>
+    ensures { result ≡ says part line.now }
+{
+    match part {
+        Part::Start => first(line),
+        Part::Outside => discovered(part, line),
+        Part::Switch { guid: _ } => discovered(part, line),
+        Part::Adapter => discovered(part, line),
+        Part::Dumped => {
+            if line.is_empty() {
+                Some(Line::silent(Part::Dumped))
+            } else {
+                dumped(line)
+            }
+        }
+        Part::Plain => plain(line),
+        Part::Ended => ended(line),
+    }
+}
+
+// What a line says before which only silent ones stand.
+#[tactic(auto, unfolding(crate::specs::Texts::first))]
+fn first(line: &[u8]) -> Option<Line>
+    ensures { result ≡ first line.now }
+{
+    if is_silent(line) {
+        return Some(Line::silent(Part::Start));
+    }
+    if begins(line, "{") {
+        return dumped(line);
+    }
+    if is(line, "topology 1") {
+        return Some(Line::silent(Part::Plain));
+    }
+    discovered(Part::Outside, line)
+}

@@ -1,0 +1,13 @@
+mod RankLemmas
+mod OneAnswer
+mod NumberLemmas
+mod ArriveLemmas
+mod PassLemmas
+mod PacketLemmas
+mod RingLemmas
+mod CycleLemmas
+mod TrafficLemmas
+mod WitnessLemmas
+mod CountLemmas
+mod EndLemmas
+mod LinkLemmas

@@ -1,0 +1,17 @@
+use Rattle.std.proofs.Common.{length}
+use Rattle.ib_cells.specs.Cells.{tables_of}
+use Rattle.ib_verdict.proofs.CountLemmas.{dependencies}
+use Rattle.ib_verdict.proofs.PassLemmas.{pass}
+use Rattle.ib_verdict.proofs.judge.judge.Goals as goal
+
+pub returns : goal.returns
+returns c =
+    let found = c.in_ok-found.found in
+    let are = c.in_ok-found.ensures in
+    let verdict = c.in_ok-verdict.ensures in
+    record {
+      verdict = verdict;
+      stops = are.stopped;
+      passes = λ none. pass c.args.fabric.now (tables_of c.args.cells.now) c.args.traffic found.stopped are.stopped c.in_ok-verdict.verdict verdict none;
+      dependencies = dependencies c.args.fabric.now (tables_of c.args.cells.now) c.args.traffic found.graph are.graph (length found.graph.bases) c.count_steps-dependencies.result are.graph.count c.count_steps-dependencies.ensures;
+    }

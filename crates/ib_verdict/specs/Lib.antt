@@ -1,0 +1,4 @@
+pub mod Verdict
+pub mod Packets
+pub mod Count
+pub mod Judgements

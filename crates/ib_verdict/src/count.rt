@@ -1,0 +1,32 @@
+//! How many dependencies a graph has.
+
+ghost use Rattle.std.specs.Prelude.{◌≡◌, ◌≤◌, length};
+ghost use Rattle.channel_graph.specs.Graph.{LeadsTo};
+ghost use Rattle.ib_verdict.specs.Count.{IsCount, IsPairCount};
+
+use channel_graph::graph::Graph;
+
+// To how many nodes one leads.
+fn count_from(graph: &Graph, node: usize) -> u64
+    ensures count { IsCount (LeadsTo graph.now node) (length graph.now.bases) result }
+    ensures few { result ≤ length graph.now.bases }
+{
+    let mut count = 0u64;
+    let mut from = 0usize;
+    'steps: while let Some(next) = graph.next(node, from) {
+        from = next + 1;
+        count += 1;
+    }
+    count
+}
+
+/// How many steps a graph has.
+pub fn count_steps(graph: &Graph) -> u64
+    ensures { IsPairCount (LeadsTo graph.now) (length graph.now.bases) (length graph.now.bases) result }
+{
+    let mut count = 0u64;
+    'nodes: for node in 0..graph.count() {
+        count += count_from(graph, node);
+    }
+    count
+}

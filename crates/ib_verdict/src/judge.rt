@@ -1,0 +1,153 @@
+//! The judgement of the tables of a fabric.
+
+ghost use Rattle.std.specs.Prelude.{◌≡◌, ◌<◌, ◌≤◌, ◌*◌, ◌^◌, length, map, IfOk};
+ghost use Rattle.ib_cells.specs.Cells.{tables_of};
+ghost use Rattle.ib_net.specs.Fabric.{IsFabric, switch_count};
+ghost use Rattle.ib_routes.specs.Found.{AreDependencies, IsLeastWitness, channel_of};
+ghost use Rattle.ib_routes.specs.Routes.{DependsOn};
+ghost use Rattle.ib_verdict.specs.Judgements.{IsJudgement};
+ghost use Rattle.ib_verdict.specs.Verdict.{CycleIs, IsLeastLoop, IsVerdict, spot_at};
+
+use crate::count::count_steps;
+use crate::verdict::{LoopChannel, Verdict};
+use an_base::memory::OutOfMemory;
+use channel_graph::graph::Graph;
+use channel_graph::verdict::{Verdict as GraphVerdict, verdict_of};
+use ib_cells::cells::Cells;
+use ib_net::fabric::Fabric;
+use ib_net::node::Spot;
+use ib_routes::find::find_dependencies;
+use ib_routes::traffic::Traffic;
+use ib_routes::witness::{Witness, find_witness};
+use std::alloc::Global;
+
+/// What the tables of a fabric do with the routes of a traffic.
+#[derive(Drop)]
+pub struct Judgement {
+    /// The ranks of the channels, or the least credit loop with the routes that make it.
+    pub verdict: Verdict,
+    /// Whether some route stops before its target.
+    pub stops: bool,
+    /// How many pairs of channels there are of which the one depends on the other.
+    pub dependencies: u64,
+}
+
+// The port of a place.
+fn spot_of(most: usize, place: u32) -> Spot
+    requires some { 0 < most }
+    requires few { most < 255 }
+    ensures { result ≡ spot_at most place }
+{
+    let place = place as usize;
+    Spot {
+        switch: (place / most) as u32,
+        port: (place % most) as u8 + 1,
+    }
+}
+
+// The ports of places.
+fn spots_of(alloc: Global, most: usize, places: &[u32]) -> Result<Vec<Spot>, OutOfMemory>
+    requires some { 0 < most }
+    requires few { most < 255 }
+    ensures { IfOk result (λ spots. spots.items ≡ map (spot_at most) places.now) }
+{
+    let mut spots = Vec::with_capacity(alloc, places.len())?;
+    'places: for place in places {
+        spots.push(spot_of(most, *place))?;
+    }
+    Ok(spots)
+}
+
+// The least route by which a channel depends on another.
+fn witness_of(
+    alloc: Global,
+    fabric: &Fabric,
+    cells: &Cells,
+    traffic: Traffic,
+    channel: Spot,
+    next: Spot,
+) -> Result<Witness, OutOfMemory>
+    requires same { switch_count fabric.now ≡ cells.now.switches }
+    requires owners { length fabric.now.owners ≤ 64 * cells.now.blocks }
+    requires fabric { IsFabric fabric.now }
+    requires depends { DependsOn fabric.now (tables_of cells.now) traffic (channel_of channel) (channel_of next) }
+    ensures { IfOk result (λ w. IsLeastWitness fabric.now (tables_of cells.now) traffic
+        (channel_of channel) (channel_of next) w.lid w.source) }
+{
+    match find_witness(alloc, fabric, cells, traffic, channel, next)? {
+        Some(witness) => Ok(witness),
+        None => unreachable!(),
+    }
+}
+
+// The channels of a credit loop, each with the least route by which it depends on the next one.
+fn with_witnesses(
+    alloc: Global,
+    fabric: &Fabric,
+    cells: &Cells,
+    traffic: Traffic,
+    spots: &[Spot],
+) -> Result<Vec<LoopChannel>, OutOfMemory>
+    requires same { switch_count fabric.now ≡ cells.now.switches }
+    requires owners { length fabric.now.owners ≤ 64 * cells.now.blocks }
+    requires fabric { IsFabric fabric.now }
+    requires least { IsLeastLoop fabric.now (tables_of cells.now) traffic spots.now }
+    ensures { IfOk result (λ channels. CycleIs fabric.now (tables_of cells.now) traffic channels.items) }
+{
+    let mut channels = Vec::with_capacity(alloc, spots.len())?;
+    'places: for place in 0..spots.len() {
+        let channel = spots[place];
+        let next = spots[(place + 1) % spots.len()];
+        let witness = witness_of(alloc, fabric, cells, traffic, channel, next)?;
+        channels.push(LoopChannel { channel, witness })?;
+    }
+    Ok(channels)
+}
+
+// The verdict on a graph of the dependencies.
+fn verdict_on(
+    alloc: Global,
+    fabric: &Fabric,
+    cells: &Cells,
+    traffic: Traffic,
+    graph: &Graph,
+) -> Result<Verdict, OutOfMemory>
+    requires same { switch_count fabric.now ≡ cells.now.switches }
+    requires owners { length fabric.now.owners ≤ 64 * cells.now.blocks }
+    requires graph { AreDependencies fabric.now (tables_of cells.now) traffic graph.now }
+    ensures { IfOk result (λ verdict. IsVerdict fabric.now (tables_of cells.now) traffic verdict) }
+{
+    let most = fabric.most().max(1);
+    match verdict_of(alloc, graph)? {
+        GraphVerdict::Ranks { ranks } => Ok(Verdict::Ranks { ranks }),
+        GraphVerdict::Cycle { nodes } => {
+            let spots = spots_of(alloc, most, &nodes)?;
+            let channels = with_witnesses(alloc, fabric, cells, traffic, &spots)?;
+            Ok(Verdict::Cycle { channels })
+        }
+    }
+}
+
+/// Judges the tables of a fabric by the routes of a traffic: the ranks of the channels exactly where there is no credit
+/// loop, else the least one, with the least route that makes each of its dependencies; whether a route stops; and how
+/// many dependencies there are. Where there is no credit loop and none stops, all arrive. The error is want of memory
+/// alone.
+pub fn judge(
+    alloc: Global,
+    fabric: &Fabric,
+    cells: &Cells,
+    traffic: Traffic,
+) -> Result<Judgement, OutOfMemory>
+    requires same { switch_count fabric.now ≡ cells.now.switches }
+    requires owners { length fabric.now.owners ≤ 64 * cells.now.blocks }
+    ensures { IfOk result (IsJudgement fabric.now (tables_of cells.now) traffic) }
+{
+    let found = find_dependencies(alloc, fabric, cells, traffic)?;
+    let dependencies = count_steps(&found.graph);
+    let verdict = verdict_on(alloc, fabric, cells, traffic, &found.graph)?;
+    Ok(Judgement {
+        verdict,
+        stops: found.stopped,
+        dependencies,
+    })
+}

@@ -1,0 +1,84 @@
+use Rattle.std.proofs.Common.{◌≡◌, ◌∙◌, sym, ap, refl, ℕ, ◌+◌, ◌-◌, ◌*◌, ◌^◌, ◌<◌, ◌≤◌, List, arith, length, get_or, take, map, lit<, Option, Some, None, Bool, true, false, eqb, ◌&&◌, nat_lt, nat_le}
+use Rattle.std.specs.Prelude.{MatchOption, if◌then◌else◌}
+use Rattle.std.specs.List.{list_all, range_with_len}
+use Rattle.std.specs.Char.{is_digit, digit_value}
+use Rattle.std.specs.Str.Parse.{digits_value}
+use Rattle.std.proofs.lemmas.List.Folds.{list_all_at}
+use Rattle.std.proofs.lemmas.List.FromFn.{get_or-map-range_with_len}
+use Rattle.std.proofs.lemmas.Bool.Decides.{nat_tests}
+use Rattle.std.proofs.Math.Nat.{pow-le-pow_right}
+use Rattle.text_lines.specs.Words.{is_number_in, number_value}
+use Rattle.ib_words.specs.Digits.{is_hex, hex, guid, decimal}
+
+and_false : (b : Bool) → (b && false) ≡ false
+and_false true = refl
+and_false false = refl
+
+-- words that are no number in hexadecimal digits
+pub hex_of_none : (word : List ℕ) → length word ≡ 0 → is_hex word ≡ false
+hex_of_none word none = let t : nat_lt 0 (length word) ≡ false = grind (arith, nat_tests) in rw t (and_false (list_all (λ byte. is_digit byte 16) word))
+
+pub hex_of_many : (word : List ℕ) → 16 < length word → is_hex word ≡ false
+hex_of_many word many =
+    let s : nat_lt 0 (length word) ≡ true = grind (arith, nat_tests) in
+    let t : nat_le (length word) 16 ≡ false = grind (arith, nat_tests) in
+    rw (s, t) (and_false (list_all (λ byte. is_digit byte 16) word))
+
+pub hex_of_other : (word : List ℕ) (i : ℕ) → i < length word → is_digit (get_or word i 0) 16 ≡ false → is_hex word ≡ false
+hex_of_other word i low other = let t : list_all (λ byte. is_digit byte 16) word ≡ false = list_all_at (λ byte. is_digit byte 16) word i 0 low other in rw t refl
+
+-- and one that is
+pub hex_of_digits : (word : List ℕ) → 0 < length word → length word ≤ 16 → list_all (λ byte. is_digit byte 16) word ≡ true → is_hex word ≡ true
+hex_of_digits word some few all =
+    let s : nat_lt 0 (length word) ≡ true = grind (arith, nat_tests) in
+    let t : nat_le (length word) 16 ≡ true = grind (arith, nat_tests) in
+    rw (all, s, t) refl
+
+-- fewer than sixteen digits keep below 2 ^ 60
+pub digits_fit : (i n : ℕ) → i ≤ 15 → n < 16 ^ i → n < 2 ^ 60
+digits_fit i n few below = let p : 16 ^ i ≤ 16 ^ 15 = pow-le-pow_right {n = 16} (lit< tt) few in omega arith
+
+pub hex_is : (word : List ℕ) (r : Option ℕ) → MatchOption r (is_hex word ≡ false) (λ n. (is_hex word ≡ true) × (n ≡ digits_value 16 word)) → r ≡ hex word
+unfolding hex
+hex_is word None fails = rw fails refl
+hex_is word (Some n) (passes, says) = rw passes (ap (λ (x : ℕ). Some x) says)
+
+pub guid_is : (word : List ℕ) (r : Option ℕ) → eqb (length word) 16 ≡ true → r ≡ hex word → r ≡ guid word
+unfolding guid
+guid_is word r fit says = rw fit says
+
+pub no_guid : (word : List ℕ) → eqb (length word) 16 ≡ false → None ≡ guid word
+unfolding guid
+no_guid word fit = rw fit refl
+
+pub decimal_is : (word : List ℕ) (r : Option ℕ) → MatchOption r (is_number_in 0 (2 ^ 64 - 1) word ≡ false) (λ n. (is_number_in 0 (2 ^ 64 - 1) word ≡ true) × (n ≡ number_value word)) → r ≡ decimal word
+unfolding decimal
+decimal_is word None fails = rw fails refl
+decimal_is word (Some n) (passes, says) = rw passes (ap (λ (x : ℕ). Some x) says)
+
+-- the table of digits, by its rule
+abbrev pub digit_or_none : ℕ → ℕ
+digit_or_none c = if is_digit c 16 then digit_value c else 255
+
+abbrev pub digit_table : List ℕ
+digit_table = map digit_or_none (range_with_len 0 256)
+
+in_table : (table : List ℕ) (c : ℕ) → table ≡ digit_table → c < 256 → get_or table c 0 ≡ digit_or_none c
+in_table table c is within = ap (λ (l : List ℕ). get_or l c 0) is ∙ get_or-map-range_with_len digit_or_none 0 256 c c 0 within (omega arith)
+
+of_low : (passes : Bool) (n d : ℕ) → n ≡ (if passes then d else 255) → n < 16 → (passes ≡ true) × (n ≡ d)
+of_low true n d is low = (refl, is)
+of_low false n d is low = absurd (omega (arith, is))
+
+of_high : (passes : Bool) (n d : ℕ) → (passes ≡ true → d < 16) → n ≡ (if passes then d else 255) → 16 ≤ n → passes ≡ false
+of_high true n d small is high = absurd (omega (arith, is, small refl))
+of_high false n d small is high = refl
+
+digit_low : (c : ℕ) → is_digit c 16 ≡ true → digit_value c < 16
+digit_low c digit = grind (arith, nat_tests)
+
+pub digit_of : (table : List ℕ) (c : ℕ) → table ≡ digit_table → c < 256 → get_or table c 0 < 16 → (is_digit c 16 ≡ true) × (get_or table c 0 ≡ digit_value c)
+digit_of table c is within low = of_low (is_digit c 16) _ (digit_value c) (in_table table c is within) low
+
+pub no_digit : (table : List ℕ) (c : ℕ) → table ≡ digit_table → c < 256 → 16 ≤ get_or table c 0 → is_digit c 16 ≡ false
+no_digit table c is within high = of_high (is_digit c 16) _ (digit_value c) (digit_low c) (in_table table c is within) high

@@ -1,0 +1,24 @@
+use Rattle.std.specs.Prelude.{◌==◌, ◌&&◌, ◌-◌, ◌^◌, ℕ, Bool, List, length, Option, Some, None}
+use Rattle.std.specs.Prelude.{if◌then◌else◌, nat_lt, nat_le}
+use Rattle.std.specs.List.{list_all}
+use Rattle.std.specs.Char.{is_digit}
+use Rattle.std.specs.Str.Parse.{digits_value}
+use Rattle.text_lines.specs.Words.{is_number_in, number_value}
+
+-- Numbers in hexadecimal and decimal digits.
+
+-- whether a word is of 1 to 16 hexadecimal digits, in either case
+abbrev pub is_hex : List ℕ → Bool
+is_hex word = list_all (λ byte. is_digit byte 16) word && (nat_lt 0 (length word) && nat_le (length word) 16)
+
+-- what such a word says
+unfoldable pub hex : List ℕ → Option ℕ
+hex word = if is_hex word then Some (digits_value 16 word) else None
+
+-- what a word of exactly 16 hexadecimal digits says
+unfoldable pub guid : List ℕ → Option ℕ
+guid word = if length word == 16 then hex word else None
+
+-- what a number in decimal says, below 2^64
+unfoldable pub decimal : List ℕ → Option ℕ
+decimal word = if is_number_in 0 (2 ^ 64 - 1) word then Some (number_value word) else None

@@ -1,0 +1,48 @@
+//! Cuts of a text around what stands in it.
+
+ghost use Rattle.std.specs.Prelude.{◌≡◌, ◌==◌, Some, None, position, MatchOption};
+ghost use Rattle.ib_words.specs.Cuts.{after, cut, cut_first, cut_last};
+
+use memchr::{memchr, memmem};
+
+/// What stands after a front with which the text begins.
+pub fn after<'a>(text: &'a [u8], front: &str) -> Option<&'a [u8]>
+    ensures { MatchOption result (after front.now text.now ≡ None)
+        (λ rest. after front.now text.now ≡ Some rest.now) }
+{
+    text.strip_prefix(front.as_bytes())
+}
+
+/// What stands before the first such byte, and after it.
+pub fn cut(text: &[u8], byte: u8) -> Option<(&[u8], &[u8])>
+    ensures { MatchOption result (cut byte text.now ≡ None)
+        (λ parts. cut byte text.now ≡ Some (parts.0.now, parts.1.now)) }
+{
+    let place = first_place(text, byte)?;
+    Some((&text[..place], &text[place + 1..]))
+}
+
+// Where the byte stands first.
+fn first_place(text: &[u8], byte: u8) -> Option<usize>
+    ensures { result ≡ position (λ other. other == byte) text.now }
+{
+    memchr(byte, text)
+}
+
+/// What stands before the first place of these bytes in the text, and after it.
+pub fn cut_first<'a>(text: &'a [u8], bytes: &str) -> Option<(&'a [u8], &'a [u8])>
+    ensures { MatchOption result (cut_first bytes.now text.now ≡ None)
+        (λ parts. cut_first bytes.now text.now ≡ Some (parts.0.now, parts.1.now)) }
+{
+    let place = memmem::find(text, bytes.as_bytes())?;
+    Some((&text[..place], &text[place + bytes.len()..]))
+}
+
+/// What stands before the last place of these bytes in the text, and after it.
+pub fn cut_last<'a>(text: &'a [u8], bytes: &str) -> Option<(&'a [u8], &'a [u8])>
+    ensures { MatchOption result (cut_last bytes.now text.now ≡ None)
+        (λ parts. cut_last bytes.now text.now ≡ Some (parts.0.now, parts.1.now)) }
+{
+    let place = memmem::rfind(text, bytes.as_bytes())?;
+    Some((&text[..place], &text[place + bytes.len()..]))
+}

@@ -1,0 +1,70 @@
+//! The rows of forwarding tables.
+
+ghost use Rattle.std.specs.Prelude.{◌≡◌, ◌+◌, ◌<◌, ◌≤◌, true, false, length, MatchOption, IfSome};
+ghost use Rattle.std.specs.Char.{is_ascii_digit};
+ghost use Rattle.ib_words.specs.Rows.{is_row, row, four_hex, three_decimal};
+
+use crate::digits::hex_digit;
+
+/// What a row says: a LID and a port. It is `0x` and four hexadecimal digits, a space and three decimal
+/// digits, and after these nothing, or a space and anything.
+#[inline]
+pub fn row(line: &[u8]) -> Option<(u16, u8)>
+    ensures { result ≡ row line.now }
+{
+    if is_row(line) {
+        let lid = four_hex(line[2], line[3], line[4], line[5])?;
+        let port = three_decimal(line[7], line[8], line[9])?;
+        Some((lid, port))
+    } else {
+        None
+    }
+}
+
+// Whether a line has the form of a row, but for its digits.
+#[inline]
+fn is_row(line: &[u8]) -> bool
+    ensures row { result ≡ is_row line.now }
+    ensures long { result ≡ true → 10 ≤ length line.now }
+{
+    if line.len() < 10 {
+        return false;
+    }
+    let is_spaced = line[6] == b' ' && (line.len() == 10 || line[10] == b' ');
+    line[0] == b'0' && line[1] == b'x' && is_spaced
+}
+
+// What four hexadecimal digits say.
+#[inline]
+fn four_hex(a: u8, b: u8, c: u8, d: u8) -> Option<u16>
+    ensures { result ≡ four_hex a b c d }
+{
+    let high = u16::from(hex_digit(a)?) * 16 + u16::from(hex_digit(b)?);
+    let low = u16::from(hex_digit(c)?) * 16 + u16::from(hex_digit(d)?);
+    Some(high * 256 + low)
+}
+
+// What three decimal digits say, at most 255.
+#[inline]
+fn three_decimal(a: u8, b: u8, c: u8) -> Option<u8>
+    ensures { result ≡ three_decimal a b c }
+{
+    let hundreds = u16::from(decimal_digit(a)?) * 100;
+    let number = hundreds + u16::from(decimal_digit(b)?) * 10 + u16::from(decimal_digit(c)?);
+    if number > 255 {
+        return None;
+    }
+    Some(number as u8)
+}
+
+#[inline]
+fn decimal_digit(c: u8) -> Option<u8>
+    ensures digit { MatchOption result (is_ascii_digit c ≡ false)
+        (λ d. (is_ascii_digit c ≡ true) × (c ≡ 48 + d)) }
+    ensures low { IfSome result (λ d. d < 10) }
+{
+    match c {
+        b'0'..=b'9' => Some(c - b'0'),
+        _ => None,
+    }
+}

@@ -1,0 +1,110 @@
+# The part of ./autonet and of ./fabric that proves and builds a program. Whoever reads it sets name, the name of the
+# wrapper, and root, out and log, its folders and the log of a build; and sample, a word with which a program is run once.
+# shellcheck shell=sh disable=SC2154
+
+# Says a line on the terminal.
+say() {
+    echo "$name: $1" >&2
+}
+
+# The crates that the program $1 stands on, lowest first, and last its own.
+crates() {
+    awk -v program="$1" '/^[a-z]/ {
+            names[++count] = $1
+            sub(/:$/, "", names[count])
+            sub(/^[^:]*:/, "")
+            below[names[count]] = $0
+        }
+        END {
+            is_wanted[program] = 1
+            for (i = count; i > 0; i--)
+                if (names[i] in is_wanted) {
+                    number = split(below[names[i]], needs)
+                    for (k = 1; k <= number; k++)
+                        is_wanted[needs[k]] = 1
+                }
+            for (i = 1; i <= count; i++)
+                if (names[i] in is_wanted)
+                    print names[i]
+        }' "$root/crates.txt"
+}
+
+# Whether the program $1 is built, of the sources that there are now. (A program has no specs/ and no proofs/.)
+is_current() {
+    # shellcheck disable=SC2046 # (names of crates have no spaces)
+    [ -x "$out/$1" ] && (cd "$root/crates" && [ -z "$(find ../crates.txt \
+        $(crates "$1" | sed 's|.*|&/src &/specs &/proofs|') -newer "$out/$1" -print -quit 2> /dev/null)" ])
+}
+
+# How far the build is, at the crate $1, with $2 crates left.
+progress() {
+    seconds=$(($(date +%s) - started))
+    printf '%s: proving %s, %s left, %d min %02d s' "$name" "$1" "$2" $((seconds / 60)) $((seconds % 60)) >&2
+}
+
+# Shows how far the build is: once where err is no terminal, and else again and again.
+show() {
+    if [ -t 2 ]; then
+        while sleep 1; do
+            printf '\r' >&2
+            progress "$1" "$2"
+        done
+    else
+        progress "$1" "$2"
+        echo >&2
+    fi
+}
+
+# Proves the crate $1, or the program with its last crate, with $2 crates left.
+prove() {
+    show "$1" "$2" &
+    ticker=$!
+    if [ "$2" -gt 0 ]; then
+        (cd "$root/crates/$1" && rt lib)
+    else
+        (cd "$root/crates/$1" && { rt run -- "$sample" || [ -x "out/$1" ]; })
+    fi < /dev/null >> "$log" 2>&1
+    status=$?
+    if [ -t 2 ]; then
+        kill "$ticker"
+        printf '\r\033[K' >&2
+    fi
+    wait "$ticker" 2> /dev/null
+    ticker=
+    return "$status"
+}
+
+# Proves and builds the program $1.
+build() {
+    program=$1
+    rm -f "$root/crates/$program/out/$program" # so that what stands there is what this build made
+    # shellcheck disable=SC2046 # (names of crates have no spaces)
+    set -- $(crates "$program")
+    while [ $# -gt 0 ]; do
+        prove "$1" $(($# - 1)) || return
+        shift
+    done
+    cp "$root/crates/$program/out/$program" "$out/$program.new" && mv "$out/$program.new" "$out/$program"
+}
+
+# Sees to it that there is an rt.
+want_rt() {
+    if ! command -v rt > /dev/null; then
+        say "the program is to be built, and the command rt, which proves and builds it, is not found"
+        say "it is part of the Rattle kit: add the kit's folder bin to PATH, and call again"
+        exit 127
+    fi
+}
+
+# Proves and builds the program $1, after the wrapper's own words about it (announce), or ends with 126 or 127.
+want_program() {
+    want_rt
+    mkdir -p "$out" && : > "$log" || { say "not built: there is no writing into $out"; exit 126; }
+    announce "$1"
+    started=$(date +%s)
+    ticker=
+    trap '[ -z "$ticker" ] || { kill "$ticker" 2> /dev/null; [ ! -t 2 ] || echo >&2; }' EXIT
+    trap 'exit 130' HUP INT TERM
+    build "$1" || { say "not built, see $log"; exit 126; }
+    trap - EXIT HUP INT TERM
+}
