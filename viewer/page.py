@@ -7,7 +7,7 @@ from pathlib import Path
 from string import Template
 from textwrap import wrap
 
-from .picture import MARKS, STYLE, Picture, tag, text, title
+from .picture import MARKS, STYLE, Picture, box, tag, text, title
 from .strip import LEFT, WIDE, Strip
 
 HERE = Path(__file__).parent
@@ -55,8 +55,9 @@ def counts(story):
 
 def legend_row(kind, words):
     """A line of the legend: how something is drawn, and what it is."""
-    line = f'<g class="{kind}"><path class="line" d="M4 9L52 9"/></g>'
-    sample = f'<svg viewBox="0 0 60 18" width="60" height="18" aria-hidden="true">{line}</svg>'
+    shape = '<path class="line" d="M4 9L52 9"/>' if kind.startswith("wire") else box(28, 9, 44, 13, rx=4)
+    drawn = f'<g class="{kind}">{shape}</g>'
+    sample = f'<svg viewBox="0 0 60 18" width="60" height="18" aria-hidden="true">{drawn}</svg>'
     return f"<div>{sample} {escape(words)}</div>"
 
 

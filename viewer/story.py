@@ -66,13 +66,13 @@ class Story:
     def note_tree(self):
         """Says where the tree comes from."""
         whose = "as the program printed it" if self.told_tree else (
-            "worked out by ./view from the network file, with all links up; nothing of it is proved (give the output "
-            "of expect, and it is that which the program printed)")
+            "worked out by ./view from the network file, with all links up; nothing of it is proved (give what "
+            "autonet expect prints too, and its tree is shown)")
         self.legend.append(("wire tree", "a link of the spanning tree"))
         self.legend.append(("wire other", "another link"))
         self.notes.append(f"The tree is {whose}.")
         self.notes.append("The small boxes at the ends of links, and at hosts, are ports."
-                          + " By no. rows name a switch." * bool(self.numbers))
+                          + " Rows name a switch by its number (no.)." * bool(self.numbers))
 
     def put_links(self):
         """The classes and words of links."""

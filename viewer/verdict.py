@@ -31,10 +31,10 @@ class Verdict(Story):
                 takers[kind](*values)
         self.scene.begin()
 
-    def refused(self, words):
-        """The tables are refused."""
+    def refused(self, words, sign="wire red ahead", of_sign="refused: packets go as the arrow shows"):
+        """The tables are refused, which the picture shows by a sign."""
         self.headline = f"{self.of_network()} Its tables are refused: {words}"
-        self.legend.append(("wire red ahead", "refused: the way of the packets, as the arrow shows"))
+        self.legend.append((sign, of_sign))
 
     def rank(self, switch, port, rank):
         """A channel has a rank."""
@@ -62,7 +62,8 @@ class Verdict(Story):
         if entry:
             self.scene.put(f"port-{at}-{entry}", "class", "port red")
         where = f"what came in by port {entry}" if entry else "what comes from it"
-        self.refused(f"a packet from {one} to {other} can come to {at}, where {where} has no exit with a link.")
+        self.refused(f"a packet from {one} to {other} can come to {at}, where {where} has no exit with a link.",
+                     "switch red", "refused: the two of the pair, and where a packet is stuck")
 
     def exit(self, switch, entry, number, port):
         """An exit without a link, or up behind a way down."""
@@ -78,4 +79,5 @@ class Verdict(Story):
         to = f"number {number}" + (f", which is {target}" if target else "")
         came = f"came in by port {entry}" if entry else "comes from the switch itself"
         why = "goes up the tree behind a way down" if has_link else "has no link"
-        self.refused(f"at {switch}, what {came} and is for {to}, may leave by port {port}, which {why}.")
+        sign = () if has_link else ("port red", "refused: the ports by which it comes and leaves")
+        self.refused(f"at {switch}, what {came} and is for {to}, may leave by port {port}, which {why}.", *sign)
