@@ -52,7 +52,9 @@ class Judged(Story):
             red = "a channel of the cycle, with the LID of a route that takes it and the next"
             self.legend.append(("wire red ahead", red))
             self.legend.append(("wire", "another link between switches of the cycle"))
-        self.notes += self.judgement.facts if self.judgement else []
+        if self.judgement and self.judgement.lost:
+            self.legend.append(("switch red", "a switch where a route is lost"))
+        self.notes += [f"Printed: {fact}" for fact in self.judgement.facts] if self.judgement else []
         self.scene.begin()
 
     def put_switch(self, switch):
@@ -83,12 +85,15 @@ class Judged(Story):
             return words
         if self.cycle:
             left = len(net.switches) - len(self.plan.at)
-            rest = f" {plural(left, 'switch')} that are not on it are not drawn." if left else ""
+            others = "The other switch is" if left == 1 else f"The other {left} switches are"
+            rest = f" {others} not drawn." if left else ""
             names = listed(self.plan.label(end[0]) for end, _, _ in self.cycle)
             many = plural(len(self.cycle), "channel")
-            return f"{words} Its tables close a cycle of {many}: {names}, and round again.{rest}"
+            why = "in which each can wait for the next"
+            loop = f"a credit loop, which is a cycle of {many}, {why}"
+            return f"{words} Its tables make {loop}: {names}, and round again.{rest}"
         lost = " Some routes are lost." if self.judgement.lost else ""
-        return f"{words} Its tables close no cycle.{lost}"
+        return f"{words} Its tables make no credit loop.{lost}"
 
 
 def short(name):
