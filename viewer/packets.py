@@ -130,6 +130,7 @@ class Flood(Story):
         self.headline = self.of_network() + " A broadcast from each switch goes up the tree to its root, and down."
         self.note_tree()
         self.legend.append(("wire hop ahead", "a hop of the broadcast"))
+        self.notes.append("A box says broadcast at the switch that sends it, and copy at each that has got it.")
         self.scene.begin()
         self.gone = {}
         for form, values, line in self.files.flood.told:
@@ -162,9 +163,13 @@ class Flood(Story):
         far, _ = self.network.far(switch, port)
         kind = line.words[0]
         if kind == "down":
-            self.scene.put(f"switch-{switch}-3", "text", "copy")
-            self.scene.put(f"switch-{far}-3", "text", "copy")
-        return f"{kind} from {switch} by port {port} to {far}"
+            self.put_copy(switch)
+            self.put_copy(far)
+        return f"the broadcast from {self.sender} goes {kind} from {switch} by port {port} to {far}"
+
+    def put_copy(self, switch):
+        """A switch has its copy; the one that sends stays told."""
+        self.scene.put(f"switch-{switch}-3", "text", "broadcast · copy" if switch == self.sender else "copy")
 
     def copies(self, _line, many):
         """All have their copies."""
