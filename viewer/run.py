@@ -6,7 +6,7 @@ SIGNS = {
     "s.dead": ("✕", "dead"),
     "s.checking": ("…", "checking"),
     "s.host": ("h", "a host's"),
-    "s.switch.who": ("?", "a switch's, which one is asked"),
+    "s.switch.who": ("?", "a switch's, not yet known which"),
     "s.switch.loop": ("↺", "a loop to this switch"),
     "s.switch.good": ("✓", "good"),
 }
@@ -31,7 +31,7 @@ class Run(Story):
         self.lost, self.sent, self.delivered, self.dropped = {}, 0, 0, 0
         self.here = {}
         self.spans, self.place = {switch: [] for switch in net.switches}, 0
-        self.cables = []
+        self.faults = []
         for switch in net.switches:
             self.put_switch(switch)
             self.put_packets(switch)
@@ -58,10 +58,10 @@ class Run(Story):
     def tell_words(self):
         """The headline, and what signs mean."""
         ended = " It ended {} at tick {} after {} events.".format(*self.files.report.end)
-        cables = f" {' '.join(self.cables[:3])}" if self.cables else ""
+        faults = f" {' '.join(self.faults[:3])}" if self.faults else ""
         parts = plural(len(self.network.switches), "switch"), plural(len(self.network.links), "link")
         self.headline = (
-            f"A run of {parts[0]} and {parts[1]}.{cables} {plural(self.sent, 'packet')} sent, "
+            f"A run of {parts[0]} and {parts[1]}.{faults} {plural(self.sent, 'packet')} sent, "
             f"{self.delivered} delivered; {plural(sum(self.lost.values()), 'frame')} lost.{ended}")
         self.legend += [
             ("wire good", "a link that is good at both ends"),
@@ -69,14 +69,19 @@ class Run(Story):
             ("wire down", "a cable that failed"),
             ("wire hop ahead", "the hop of a packet"),
             ("wire lost ahead", "a frame that is lost"),
+            ("switch epoch-2", "a switch in the colour of its epoch"),
+            ("switch epoch-2 no-table", "a switch that uses no table"),
+            ("host got", "a host that sends or gets a packet now"),
         ]
         self.notes += [
             "An epoch is one agreement of the switches on how they are cabled. A switch whose links changed begins "
             "the next epoch, and those that hear of it join it. To load is to bring the routes of an epoch into use.",
-            "Signs at ports: " + ", ".join(f"{sign} {words}" for sign, words in SIGNS.values()) + ".",
-            "A box has the switch, its epoch, and the table in use with the switch's own number in it; it is dashed "
-            "while no table is in use.",
-            "Switches stand by the levels of the tree with all links up; the tree of an epoch is not in the report.",
+            "At a port stand its number and a sign: "
+            + ", ".join(f"{sign} {words}" for sign, words in SIGNS.values()) + ".",
+            "A box has the switch, its epoch, and the table in use with the switch's own number (no.) in it. "
+            "✉ 2 beside it: packet 2 is there, or on the way to it.",
+            "Levels are those of the tree with all links up, and stay so: the tree of an epoch is not in the report, "
+            "but its root is, in the step in which a switch has finished the epoch.",
         ]
 
     # What is put
@@ -212,14 +217,15 @@ class Run(Story):
     def at_fail(self, line, _form, life, p, dropped):
         """A cable failed."""
         self.cable(self.end(line, life, p), True)
-        self.cables.append(f"The cable at port {p} of {named(life)} fails at event {self.place}.")
+        self.faults.append(f"The cable at port {p} of {named(life)} fails at event {self.place}.")
         return f"the cable at port {p} of {named(life)} fails; {plural(dropped, 'frame')} on it dropped"
 
     def at_repair(self, line, _form, life, p):
         """A cable is up again."""
         self.cable(self.end(line, life, p), False)
-        self.cables.append(f"It is repaired at event {self.place}." if len(self.cables) == 1 else
-                           f"The cable at port {p} of {named(life)} is repaired at event {self.place}.")
+        cable = f"The cable at port {p} of {named(life)}"
+        it = "It" if len(self.faults) == 1 and self.faults[0].startswith(f"{cable} fails") else cable
+        self.faults.append(f"{it} is repaired at event {self.place}.")
         return f"the cable at port {p} of {named(life)} is repaired"
 
     def cable(self, end, is_down):
@@ -245,6 +251,7 @@ class Run(Story):
         self.span(switch)
         self.put_switch(switch)
         self.put_counts()
+        self.faults.append(f"{switch} is switched off and on at event {self.place}.")
         return f"{switch} is switched off and on: it is {named(life)} now"
 
     def at_packet(self, line, form, packet, sender, target, address):
