@@ -230,7 +230,8 @@ class Picture:
         name = f"channel-{end[0]}-{end[1]}"
         words = self.value(name, "text")
         wide = max(24, len(words) * 6.8)
-        x, y = self.room.first_free(beside(points, wide / 2, 7), range(40, 200, 8), wide, 15)
+        first = max(40, int(0.3 * points[-1][1]))
+        x, y = self.room.first_free(beside(points, wide / 2, 7), range(first, first + 160, 8), wide, 15)
         return text(x, y + 4, words, id=name, **{"class": self.value(name, "class", "channel")})
 
 
