@@ -108,7 +108,7 @@ class Report:
         self.end = None
 
     def take(self, line):
-        """Takes a line behind the first."""
+        """Takes a line after the first."""
         words = line.words
         if words[0] == "row":
             self.row_forms.read(line, words)

@@ -172,7 +172,7 @@ JUDGED = (
 
 
 class Judgement:
-    """What `fabric judge` printed, behind its first line: counts, the cycle, losses, names."""
+    """What `fabric judge` printed, after its first line: counts, the cycle, losses, names."""
 
     def __init__(self, fabric):
         self.fabric = fabric

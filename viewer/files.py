@@ -77,7 +77,7 @@ class Files:
             self.take_answer(line, left)
 
     def take_network(self, line, left):
-        """Takes a network file behind its first line."""
+        """Takes a network file after its first line."""
         reader = NetworkReader()
         self.put(line, "network", reader.network)
         take_to_end(reader, left, line)

@@ -54,6 +54,8 @@ class Judged(Story):
             self.legend.append(("wire", "another link between switches of the cycle"))
         if self.judgement and self.judgement.lost:
             self.legend.append(("switch red", "a switch where a route is lost"))
+        if self.cycle:
+            self.notes.append("All was judged on one lane. If the routing engine uses several, this does not settle it.")
         self.notes += [f"Printed: {fact}" for fact in self.judgement.facts] if self.judgement else []
         self.scene.begin()
 

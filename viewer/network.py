@@ -103,7 +103,7 @@ def new_uid(network, word):
 
 
 def life(network, word):
-    """Reads a switch in one of its lives: its name, from the second life on with a point and the boot behind it."""
+    """Reads a switch in one of its lives: its name, from the second life on with a point and the boot after it."""
     of, point, boot = word.partition(".")
     return names_of("switch", network)(of), number(2, 2**64)(boot) if point else 1
 

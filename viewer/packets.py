@@ -112,7 +112,7 @@ class Flow(Story):
 
     def end(self, _line, moves, arrived, local, unjoined):
         """All moves are done."""
-        words = f"{plural(moves, 'move')}, {arrived} arrived, {local} local, {unjoined} not joined"
+        words = f"{plural(moves, 'move')}, {arrived} arrived, {local} within one switch, {unjoined} between hosts that no way joins"
         self.headline = f"{self.of_network()} {plural(len(self.network.sends), 'packet')} to send: {words}."
         return f"the end: {words}"
 

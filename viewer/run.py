@@ -74,6 +74,8 @@ class Run(Story):
             ("host got", "a host that sends or gets a packet now"),
         ]
         self.notes += [
+            "An event is one step of a switch, a cable or a host. A frame is what switches send each other, a packet what "
+            "hosts send. A tick is one beat of the network's clock.",
             "An epoch is one agreement of the switches on how they are cabled. A switch whose links changed begins "
             "the next epoch, and those that hear of it join it. To load is to bring the routes of an epoch into use.",
             "At a port stand its number and a sign: "

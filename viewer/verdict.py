@@ -78,6 +78,6 @@ class Verdict(Story):
         target = self.by_number(switch, number)
         to = f"number {number}" + (f", which is {target}" if target else "")
         came = f"came in by port {entry}" if entry else "comes from the switch itself"
-        why = "goes up the tree behind a way down" if has_link else "has no link"
+        why = "goes up the tree after a way down" if has_link else "has no link"
         sign = () if has_link else ("port red", "refused: the ports by which it comes and leaves")
         self.refused(f"at {switch}, what {came} and is for {to}, may leave by port {port}, which {why}.", *sign)
