@@ -1,0 +1,4 @@
+pub mod Blocks
+pub mod Boxes
+pub mod Drops
+pub mod ClockLemmas

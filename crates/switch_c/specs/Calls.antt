@@ -1,0 +1,140 @@
+-- What comes of the calls on a switch that C holds: those of `switch_core`, and when they are refused.
+
+use Rattle.std.specs.Prelude.{◌≡◌, ◌⊎◌, ◌==◌, ◌&&◌, ◌||◌, ℕ, ◌+◌, ◌<◌, ◌≤◌, nat_lt, not, List, [], ◌++◌, length, drop, map, slice_get, Option, None, Some, Bool, true, false, if◌then◌else◌}
+use Rattle.std.specs.Int.{bit_at}
+use Rattle.an_base.specs.Values.{LifeId}
+use Rattle.an_base.specs.declared.port.Sample.{Sample}
+use Rattle.an_base.specs.declared.port.Sample.TheVariants as sample
+use Rattle.port_monitor.specs.Histories.{externals}
+use Rattle.switch_core.specs.Bytes.{BytesOut, OutOf}
+use Rattle.switch_core.specs.Switch.{SwitchOf, started, started_as}
+use Rattle.switch_core.specs.Kept.{Handles, Loads as LoadsTable, StandsFor, Ticks, is_spent, load_due}
+use Rattle.switch_core.specs.declared.switch.TableFor.{TableFor}
+use Rattle.switch_c.specs.declared.shown.FrameShown.{FrameShown}
+use Rattle.switch_c.specs.declared.status.Status.{Status}
+use Rattle.switch_c.specs.declared.status.Status.TheVariants.{Done, Argument, OutOfMemory, Spent, Over, NotDue, NoMore, Room}
+use Rattle.switch_c.specs.declared.instance.Instance.{Instance}
+
+-- a call was refused for this, and nothing changed
+pub record Refuses (why : Status) (old new : Instance) (status : Status) : Type 0 where
+  pub is : status ≡ why
+  pub same : new ≡ old
+
+-- an identifier is below 2^48, a boot is from 1, and a number is 1 to 126
+abbrev pub is_in_range : ℕ → ℕ → ℕ → Bool
+is_in_range uid boot had =
+    nat_lt uid 281474976710656 && (nat_lt 0 boot && (nat_lt 0 had && nat_lt had 127))
+
+-- a switch at power-on, which has let no frame go out and loaded no table
+pub record IsStarted (life : LifeId) (epoch had : ℕ) (any : Bool) (instance : Instance) : Type 0 where
+  pub start : instance.switch.start ≡ record { life = life; epoch = epoch; had = had; any = any }
+  pub stands : StandsFor instance.switch (started life epoch had any)
+  pub works : instance.switch.works ≡ 0
+  pub out : instance.out ≡ record { frames = []; noframe = false }
+  pub given : instance.given ≡ 0
+  pub loaded : instance.loaded ≡ None
+  pub lost : instance.lost ≡ false
+
+-- Its life is over, so that it takes no clock and no frame: memory was wanting for one, it took 2^28 of them,
+-- or no epoch is left for it.
+abbrev pub is_over : Instance → Bool
+is_over instance =
+    instance.lost || (not (nat_lt instance.switch.works 268435456) || is_spent instance.switch)
+
+-- a clock or a frame was taken, and comes to this; none of the frames that go out was handed out
+pub record IsTaken (Comes : SwitchOf → (SwitchOf → Type 0) → OutOf → Type 0) (old new : Instance)
+    : Type 0 where
+  pub comes : (switch : SwitchOf) → StandsFor old.switch switch
+      → Comes switch (StandsFor new.switch) new.out
+  pub given : new.given ≡ 0
+  pub start : new.switch.start ≡ old.switch.start
+  pub works : new.switch.works ≡ old.switch.works + 1
+  pub loaded : new.loaded ≡ old.loaded
+  pub lost : new.lost ≡ false
+
+-- memory was wanting: the switch is as it was started, no frame goes out, and its life is over
+pub record IsLost (old new : Instance) : Type 0 where
+  pub stands : StandsFor new.switch (started_as old.switch.start)
+  pub start : new.switch.start ≡ old.switch.start
+  pub out : new.out ≡ record { frames = []; noframe = false }
+  pub loaded : new.loaded ≡ old.loaded
+  pub lost : new.lost ≡ true
+
+-- a set has a port: bit p of a set says that it has port p
+abbrev pub has_port : ℕ → ℕ → Bool
+has_port set port = bit_at set port == 1
+
+-- what the hardware says of a port, by the set of the ports with a link and that of the ports to hosts
+abbrev pub sample_of : ℕ → ℕ → ℕ → Sample
+sample_of up hosts port =
+    if has_port up port then (if has_port hosts port then sample.Host else sample.Switch) else sample.Down
+
+abbrev pub samples_of : ℕ → ℕ → List Sample
+samples_of up hosts = map (sample_of up hosts) externals
+
+-- a clock
+pub record Clocks (now up hosts : ℕ) (old new : Instance) (status : Status) : Type 0 where
+  pub over : is_over old ≡ true → Refuses Over old new status
+  pub taken : is_over old ≡ false → (status ≡ Done) ⊎ ((status ≡ Spent) ⊎ (status ≡ OutOfMemory))
+  pub done : status ≡ Done
+      → IsTaken (λ switch Is out. Ticks now (samples_of up hosts) switch Is out false) old new
+  pub spent : status ≡ Spent
+      → IsTaken (λ switch Is out. Ticks now (samples_of up hosts) switch Is out true) old new
+  pub lost : status ≡ OutOfMemory → IsLost old new
+
+abbrev pub is_port : ℕ → Bool
+is_port port = nat_lt 0 port && nat_lt port 13
+
+-- bytes come by a port
+pub record TakesFrame (port : ℕ) (bytes : List ℕ) (old new : Instance) (status : Status) : Type 0 where
+  pub argument : is_port port ≡ false → Refuses Argument old new status
+  pub over : is_port port ≡ true → is_over old ≡ true → Refuses Over old new status
+  pub taken : is_port port ≡ true → is_over old ≡ false → (status ≡ Done) ⊎ (status ≡ OutOfMemory)
+  pub done : status ≡ Done → IsTaken (λ switch Is out. Handles port bytes switch Is out) old new
+  pub lost : status ≡ OutOfMemory → IsLost old new
+
+-- a frame is told: its port, its length, and its bytes at the front of those that C passed
+pub record IsTold (frame : BytesOut) (told : FrameShown) (before after : List ℕ) : Type 0 where
+  pub length_is : told.length ≡ length frame.bytes
+  pub port_is : told.port ≡ frame.port
+  pub bytes : after ≡ frame.bytes ++ drop (length frame.bytes) before
+
+-- it is longer than the room for it, and its length alone is told
+pub record HasNoRoom (frame : BytesOut) (shown told : FrameShown) (before after : List ℕ) : Type 0 where
+  pub told_is : told ≡ record shown { length = length frame.bytes }
+  pub bytes : after ≡ before
+
+-- the next frame of the last clock or frame is asked for
+pub record HandsOut (shown told : FrameShown) (before after : List ℕ) (old new : Instance) (status : Status)
+    : Type 0 where
+  -- none is left
+  pub none : slice_get old.out.frames old.given ≡ None
+      → (told ≡ shown) × ((after ≡ before) × Refuses NoMore old new status)
+  -- one that finds no room stays the next one
+  pub room : (frame : BytesOut) → slice_get old.out.frames old.given ≡ Some frame
+      → length before < length frame.bytes
+      → HasNoRoom frame shown told before after × Refuses Room old new status
+  -- and else the next one is that after it
+  pub done : (frame : BytesOut) → slice_get old.out.frames old.given ≡ Some frame
+      → length frame.bytes ≤ length before
+      → IsTold frame told before after × ((status ≡ Done) × (new ≡ record old { given = old.given + 1 }))
+
+-- the table that is due was loaded
+pub record IsLoaded (old new : Instance) : Type 0 where
+  pub table : TableFor
+  pub loaded : new.loaded ≡ Some table
+  pub epoch : (switch : SwitchOf) → StandsFor old.switch switch → table.epoch ≡ switch.epoch
+  pub loads : (switch : SwitchOf) → StandsFor old.switch switch
+      → LoadsTable switch (StandsFor new.switch) table.table
+  pub start : new.switch.start ≡ old.switch.start
+  pub works : new.switch.works ≡ old.switch.works
+  pub out : new.out ≡ old.out
+  pub given : new.given ≡ old.given
+  pub lost : new.lost ≡ old.lost
+
+-- a table is to be loaded
+pub record Loads (old new : Instance) (status : Status) : Type 0 where
+  pub not_due : load_due old.switch ≡ false → Refuses NotDue old new status
+  pub due : load_due old.switch ≡ true → (status ≡ Done) ⊎ (status ≡ OutOfMemory)
+  pub done : status ≡ Done → IsLoaded old new
+  pub memory : status ≡ OutOfMemory → new ≡ old

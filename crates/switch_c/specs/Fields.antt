@@ -1,0 +1,44 @@
+-- Each byte of each field is the place of the field in its struct, from 1.
+
+use Rattle.std.specs.Prelude.{ℕ, ◌*◌}
+use Rattle.switch_c.specs.declared.shown.Shown.{Shown}
+use Rattle.switch_c.specs.declared.shown.PortShown.{PortShown}
+use Rattle.switch_c.specs.declared.shown.RowShown.{RowShown}
+use Rattle.switch_c.specs.declared.shown.MemberShown.{MemberShown}
+use Rattle.switch_c.specs.declared.shown.FrameShown.{FrameShown}
+
+-- the number of eight, of four and of two bytes that are all this one
+abbrev pub eight : ℕ → ℕ
+eight byte = byte * 72340172838076673
+
+abbrev pub four : ℕ → ℕ
+four byte = byte * 16843009
+
+abbrev pub two : ℕ → ℕ
+two byte = byte * 257
+
+abbrev pub shown_fields : Shown
+shown_fields = record {
+  epoch = eight 1;
+  table_epoch = eight 2;
+  works = four 3;
+  members = four 4;
+  number = 5;
+  load_due = 6;
+  unacked = 7;
+  spent = 8;
+  noframe = 9;
+  lost = 10;
+}
+
+abbrev pub port_fields : PortShown
+port_fields = record { uid = eight 1; boot = four 2; port = 3; state = 4 }
+
+abbrev pub row_fields : RowShown
+row_fields = record { exits = two 1; entry = 2; to = 3 }
+
+abbrev pub member_fields : MemberShown
+member_fields = record { uid = eight 1; boot = four 2; number = 3 }
+
+abbrev pub frame_fields : FrameShown
+frame_fields = record { length = eight 1; port = 2 }

@@ -1,0 +1,260 @@
+//! One switch for a program in C: a static library whose exports are the calls of `switch_core`.
+//!
+//! It stands on the switch alone. Its contract: C holds a switch by a handle, and each export does to the
+//! switch of a handle what the call of `switch_core` does, restated clause by clause. Whatever a caller
+//! passes within the ranges of the types is answered by a status; where a call is refused nothing has
+//! changed. Rows, members and frames are handed out one by one, in their order.
+//!
+//! What no clause can see, and the C side owes, is in `embed/autonet.h`: that a handle is zero before its
+//! first start and is written by these calls alone, and that pointers are those of what they say.
+#![tactic(auto)]
+
+mod block;
+pub mod handle;
+pub mod instance;
+pub mod shown;
+pub mod status;
+
+ghost use Rattle.std.specs.Prelude.{◌≡◌};
+ghost use Rattle.switch_c.specs.Answers.{Asks, Calls, Ends, IsHandle, Starts};
+ghost use Rattle.switch_c.specs.Calls.{Clocks, HandsOut, Loads, TakesFrame};
+ghost use Rattle.switch_c.specs.Shows.{AsksMember, AsksPort, AsksRow, Shows};
+ghost use Rattle.switch_c.specs.Fields.{frame_fields, member_fields, port_fields, row_fields, shown_fields};
+
+use crate::handle::Handle;
+use crate::instance::Instance;
+use crate::shown::{FrameShown, MemberShown, PortShown, RowShown, Shown};
+use crate::status::Status;
+use std::alloc::Global;
+
+/// Starts a switch in a life that no switch had before: its identifier below 2^48 and its boot from 1. It
+/// begins in an epoch that it has not joined, with the number that it had before, 1 to 126. Its tables are
+/// to have all legal routes if `any` holds, else the least ones alone. The handle must hold no switch.
+#[unsafe(no_mangle)]
+pub extern "C" fn autonet_start(
+    alloc: Global,
+    switch: &mut Handle,
+    uid: u64,
+    boot: u32,
+    epoch: u64,
+    had: u8,
+    any: bool,
+) -> u32
+    requires handle { IsHandle switch.old.held switch.old.block.instance }
+    ensures handle { IsHandle switch.new.held switch.new.block.instance }
+    ensures starts { Starts uid boot epoch had any switch.old.block.instance switch.new.block.instance result }
+{
+    match switch.take(alloc) {
+        Some(instance) => {
+            switch.put(instance);
+            Status::Started.code()
+        }
+        None => match Instance::boxed(alloc, uid, boot, epoch, had, any) {
+            Ok(instance) => {
+                switch.put(instance);
+                Status::Done.code()
+            }
+            Err(status) => status.code(),
+        },
+    }
+}
+
+/// A clock comes at this tick. Bit `p` of `up` says that port `p`, 1 to 12, has a link, and bit `p` of
+/// `hosts` that a host is at its other end; the other bits say nothing.
+#[unsafe(no_mangle)]
+pub extern "C" fn autonet_clock(
+    alloc: Global,
+    switch: &mut Handle,
+    now: u32,
+    up: u16,
+    hosts: u16,
+) -> u32
+    requires handle { IsHandle switch.old.held switch.old.block.instance }
+    ensures handle { IsHandle switch.new.held switch.new.block.instance }
+    ensures clocks { Calls (Clocks now up hosts) switch.old.block.instance switch.new.block.instance result }
+{
+    match switch.take(alloc) {
+        Some(mut instance) => {
+            let status = instance.clock(now, up, hosts);
+            switch.put(instance);
+            status.code()
+        }
+        None => Status::NotStarted.code(),
+    }
+}
+
+/// Bytes come by a port, 1 to 12.
+#[unsafe(no_mangle)]
+pub extern "C" fn autonet_frame(alloc: Global, switch: &mut Handle, port: u8, bytes: &[u8]) -> u32
+    requires handle { IsHandle switch.old.held switch.old.block.instance }
+    ensures handle { IsHandle switch.new.held switch.new.block.instance }
+    ensures takes { Calls (TakesFrame port bytes.now) switch.old.block.instance switch.new.block.instance result }
+{
+    match switch.take(alloc) {
+        Some(mut instance) => {
+            let status = instance.frame(port, bytes);
+            switch.put(instance);
+            status.code()
+        }
+        None => Status::NotStarted.code(),
+    }
+}
+
+/// Hands out the next frame of the last clock or frame: its port, its length, and its bytes at the front
+/// of `bytes`. Where they have too little room the length alone is told.
+#[unsafe(no_mangle)]
+pub extern "C" fn autonet_next(
+    alloc: Global,
+    switch: &mut Handle,
+    frame: &mut FrameShown,
+    bytes: &mut [u8],
+) -> u32
+    requires handle { IsHandle switch.old.held switch.old.block.instance }
+    ensures handle { IsHandle switch.new.held switch.new.block.instance }
+    ensures hands { Calls (HandsOut frame.old frame.new bytes.old bytes.new) switch.old.block.instance switch.new.block.instance result }
+{
+    match switch.take(alloc) {
+        Some(mut instance) => {
+            let status = instance.next(frame, bytes);
+            switch.put(instance);
+            status.code()
+        }
+        None => Status::NotStarted.code(),
+    }
+}
+
+/// Loads the table that is due. Its rows are then those of the switch.
+#[unsafe(no_mangle)]
+pub extern "C" fn autonet_load(alloc: Global, switch: &mut Handle) -> u32
+    requires handle { IsHandle switch.old.held switch.old.block.instance }
+    ensures handle { IsHandle switch.new.held switch.new.block.instance }
+    ensures loads { Calls Loads switch.old.block.instance switch.new.block.instance result }
+{
+    match switch.take(alloc) {
+        Some(mut instance) => {
+            let status = instance.load();
+            switch.put(instance);
+            status.code()
+        }
+        None => Status::NotStarted.code(),
+    }
+}
+
+/// Tells what the switch shows of itself.
+#[unsafe(no_mangle)]
+pub extern "C" fn autonet_show(alloc: Global, switch: &mut Handle, shown: &mut Shown) -> u32
+    requires handle { IsHandle switch.old.held switch.old.block.instance }
+    ensures handle { IsHandle switch.new.held switch.new.block.instance }
+    ensures shows { Asks (Shows shown.new) switch.old.block.instance switch.new.block.instance result }
+{
+    match switch.take(alloc) {
+        Some(instance) => {
+            let status = instance.show(shown);
+            switch.put(instance);
+            status.code()
+        }
+        None => Status::NotStarted.code(),
+    }
+}
+
+/// Tells what the switch takes the other end of a port, 1 to 12, to be.
+#[unsafe(no_mangle)]
+pub extern "C" fn autonet_port(
+    alloc: Global,
+    switch: &mut Handle,
+    port: u8,
+    shown: &mut PortShown,
+) -> u32
+    requires handle { IsHandle switch.old.held switch.old.block.instance }
+    ensures handle { IsHandle switch.new.held switch.new.block.instance }
+    ensures shows { Asks (AsksPort port shown.old shown.new) switch.old.block.instance switch.new.block.instance result }
+{
+    match switch.take(alloc) {
+        Some(instance) => {
+            let status = instance.port(port, shown);
+            switch.put(instance);
+            status.code()
+        }
+        None => Status::NotStarted.code(),
+    }
+}
+
+/// Tells the row at a place of the table that was loaded last, from 0.
+#[unsafe(no_mangle)]
+pub extern "C" fn autonet_row(
+    alloc: Global,
+    switch: &mut Handle,
+    place: usize,
+    row: &mut RowShown,
+) -> u32
+    requires handle { IsHandle switch.old.held switch.old.block.instance }
+    ensures handle { IsHandle switch.new.held switch.new.block.instance }
+    ensures shows { Asks (AsksRow place row.old row.new) switch.old.block.instance switch.new.block.instance result }
+{
+    match switch.take(alloc) {
+        Some(instance) => {
+            let status = instance.row(place, row);
+            switch.put(instance);
+            status.code()
+        }
+        None => Status::NotStarted.code(),
+    }
+}
+
+/// Tells the member at a place, from 0, of what the switch has finished with in its present epoch.
+#[unsafe(no_mangle)]
+pub extern "C" fn autonet_member(
+    alloc: Global,
+    switch: &mut Handle,
+    place: usize,
+    member: &mut MemberShown,
+) -> u32
+    requires handle { IsHandle switch.old.held switch.old.block.instance }
+    ensures handle { IsHandle switch.new.held switch.new.block.instance }
+    ensures shows { Asks (AsksMember place member.old member.new) switch.old.block.instance switch.new.block.instance result }
+{
+    match switch.take(alloc) {
+        Some(instance) => {
+            let status = instance.member(place, member);
+            switch.put(instance);
+            status.code()
+        }
+        None => Status::NotStarted.code(),
+    }
+}
+
+/// Ends the life of the switch and gives back its memory. The handle then holds no switch.
+#[unsafe(no_mangle)]
+pub extern "C" fn autonet_end(alloc: Global, switch: &mut Handle) -> u32
+    requires handle { IsHandle switch.old.held switch.old.block.instance }
+    ensures handle { IsHandle switch.new.held switch.new.block.instance }
+    ensures ends { Ends switch.old.block.instance switch.new.block.instance result }
+{
+    match switch.take(alloc) {
+        Some(_instance) => Status::Done.code(),
+        None => Status::NotStarted.code(),
+    }
+}
+
+/// Fills each byte of each field with the place of the field in its struct, from 1, so that a program can
+/// see that its header has the fields where this library has them.
+#[unsafe(no_mangle)]
+pub extern "C" fn autonet_fields(
+    shown: &mut Shown,
+    port: &mut PortShown,
+    row: &mut RowShown,
+    member: &mut MemberShown,
+    frame: &mut FrameShown,
+)
+    ensures shown { shown.new ≡ shown_fields }
+    ensures port { port.new ≡ port_fields }
+    ensures row { row.new ≡ row_fields }
+    ensures member { member.new ≡ member_fields }
+    ensures frame { frame.new ≡ frame_fields }
+{
+    *shown = Shown::by_place();
+    *port = PortShown::by_place();
+    *row = RowShown::by_place();
+    *member = MemberShown::by_place();
+    *frame = FrameShown::by_place();
+}

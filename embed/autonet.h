@@ -1,0 +1,175 @@
+/* autonet.h: one proved switch in a C program.
+ *
+ * Link libswitch_c.a and the toolchain's liblibc_c.a; docs/EMBED.md says how they are built. The library
+ * needs of C only malloc, realloc, free, memcpy, memmove and memset. It keeps nothing of its own: all
+ * that a switch is stands behind its autonet_switch, so a program may hold as many as it likes.
+ *
+ * A program calls autonet_clock at each tick and autonet_frame for all that comes in by a port. After
+ * each of the two it does, in this order:
+ *   1. autonet_show; where `epoch` is another than `table_epoch` it takes its table out of use;
+ *   2. autonet_next until AUTONET_NO_MORE, and sends each frame by its port;
+ *   3. where `load_due` is 1, autonet_load, and puts the rows of autonet_row into use.
+ *
+ * What a program owes, for no call can check it:
+ *   - an autonet_switch is zero before its first autonet_start, and nothing but these calls writes it;
+ *     a copy of it is not used any more after a call with the other one;
+ *   - calls for one switch come one after the other, from one thread, and from no signal handler nor the
+ *     child of a fork; calls for different switches may come at once where malloc may;
+ *   - pointers are not NULL, even where a count is 0, and lead to what the call says; what a call writes
+ *     is no part of the switch nor of what else it is passed;
+ *   - no two starts ever have the same identifier and boot, also after the power was off: the next boot
+ *     is on stable storage before autonet_start. After a call that answered that the life is over
+ *     (AUTONET_OUT_OF_MEMORY of a clock or a frame, AUTONET_SPENT, AUTONET_OVER) the switch goes on with
+ *     autonet_end and a start with the next boot;
+ *   - what is passed to autonet_frame came by this port. It may be lost, late, repeated or out of order, and
+ *     be any bytes that are no frame; but bytes that are a frame were sent by a switch of this network;
+ *   - step 1 comes before step 2. */
+#ifndef AUTONET_H
+#define AUTONET_H
+
+#include <stdbool.h>
+#include <stddef.h>
+#include <stdint.h>
+
+#ifdef __cplusplus
+extern "C" {
+#endif
+
+/* The ports are 1 to 12. A set of ports is a number: bit p says that it has port p. */
+#define AUTONET_PORTS 12
+
+/* The greatest number of a switch in a topology, and the most members of one. */
+#define AUTONET_MOST_NUMBER 126
+
+/* No frame has more bytes. A link must carry as many. */
+#define AUTONET_MOST_FRAME 22591
+
+/* The most clocks and frames of one life. */
+#define AUTONET_MOST_WORKS 268435456
+
+/* What a call answers. Where it is not said otherwise, nothing was changed or written by a call that
+ * answers another status than AUTONET_DONE. */
+enum {
+    AUTONET_DONE = 0,          /* it was done */
+    AUTONET_ARGUMENT = 1,      /* a number is out of its range */
+    AUTONET_OUT_OF_MEMORY = 2, /* no memory was found; see the call */
+    AUTONET_SPENT = 3,         /* the clock was taken, and no epoch is left: this life is over */
+    AUTONET_OVER = 4,          /* this life is over: it takes no clock and no frame */
+    AUTONET_NOT_DUE = 5,       /* no table is to be loaded */
+    AUTONET_NOT_STARTED = 6,   /* this autonet_switch holds no switch */
+    AUTONET_STARTED = 7,       /* it holds one already */
+    AUTONET_NO_MORE = 8,       /* there is no such frame, row or member, or none any more */
+    AUTONET_ROOM = 9           /* the frame is longer than the room for it; its length was told */
+};
+
+/* What a switch takes the other end of a port to be. */
+enum {
+    AUTONET_DEAD = 0,     /* there is no link, or it has failed */
+    AUTONET_CHECKING = 1, /* the link came up again */
+    AUTONET_HOST = 2,     /* a host */
+    AUTONET_WHO = 3,      /* a switch that has not yet said who it is */
+    AUTONET_LOOP = 4,     /* this switch itself */
+    AUTONET_GOOD = 5      /* another switch, which is known */
+};
+
+/* A switch. Zero holds none: autonet_switch s = {0}; */
+typedef struct {
+    void *at;
+    uint32_t held;
+} autonet_switch;
+
+/* What a switch shows of itself. */
+typedef struct {
+    uint64_t epoch;       /* the epoch that it is in */
+    uint64_t table_epoch; /* that of the table that it loaded last, 0 where number is 0 */
+    uint32_t works;       /* how many clocks and frames it took in this life */
+    uint32_t members;     /* how many members it has finished with in its epoch, 0: not finished */
+    uint8_t number;       /* its number in the table that it loaded last, 0: none was loaded */
+    uint8_t load_due;     /* 1: a table is to be loaded, else 0 */
+    uint8_t unacked;      /* 1: something that it sent is not acknowledged, else 0 */
+    uint8_t spent;        /* 1: no epoch is left, else 0 */
+    uint8_t noframe;      /* 1: what came in last is no frame, else 0 */
+    uint8_t lost;         /* 1: memory was wanting for a clock or a frame, else 0 */
+} autonet_shown;
+
+/* What it takes the other end of a port to be. */
+typedef struct {
+    uint64_t uid;  /* the identifier of the switch there, 0 where boot is 0 */
+    uint32_t boot; /* its boot, 0: not known */
+    uint8_t port;  /* its port, 0 where boot is 0 */
+    uint8_t state; /* AUTONET_DEAD to AUTONET_GOOD */
+} autonet_port_shown;
+
+/* A row of a table: what came in at `entry` and goes to switch `to` may go out by any of `exits`. */
+typedef struct {
+    uint16_t exits; /* a set of ports; empty: it is to be dropped */
+    uint8_t entry;  /* the port at which it came in, 0: it is of this switch itself */
+    uint8_t to;     /* the number of a switch, 1 to 126 */
+} autonet_row_shown;
+
+/* A member of a topology. */
+typedef struct {
+    uint64_t uid;   /* its identifier */
+    uint32_t boot;  /* its boot */
+    uint8_t number; /* its number in the topology, 1 to 126 */
+} autonet_member_shown;
+
+/* A frame that goes out. */
+typedef struct {
+    size_t length; /* how many bytes it has */
+    uint8_t port;  /* the port by which it goes out, 1 to 12 */
+} autonet_frame_shown;
+
+/* Starts a switch: identifier `uid` below 2^48, `boot` from 1, an `epoch` that it has not joined (any will
+ * do, as 0), the number `had` that it wishes for, 1 to 126 (the `number` that it had, else 1), and whether
+ * its tables have all legal routes (`any`) or the least ones alone. It takes memory, which autonet_end
+ * gives back. AUTONET_STARTED, AUTONET_ARGUMENT, AUTONET_OUT_OF_MEMORY: nothing was started. */
+uint32_t autonet_start(autonet_switch *s, uint64_t uid, uint32_t boot, uint64_t epoch, uint8_t had, bool any);
+
+/* A clock: ticks `now` since some moment of this switch; the set `up` of the ports that have a link, and
+ * the set `hosts` of those of them at whose other end is a host. Other bits say nothing. A tick must be
+ * longer than a frame takes to the other end and back with its handling: two probes in a row that stay
+ * unanswered end a link. AUTONET_SPENT: the clock was taken, the ports have changed, nothing is joined.
+ * AUTONET_OUT_OF_MEMORY: the life is over, and no frame goes out. AUTONET_OVER: nothing was done. */
+uint32_t autonet_clock(autonet_switch *s, uint32_t now, uint16_t up, uint16_t hosts);
+
+/* `length` bytes came by `port`, 1 to 12. Those of no frame change nothing (`noframe`).
+ * AUTONET_ARGUMENT: there is no such port. AUTONET_OUT_OF_MEMORY and AUTONET_OVER as of a clock. */
+uint32_t autonet_frame(autonet_switch *s, uint8_t port, const uint8_t *bytes, size_t length);
+
+/* The next frame that goes out since the last clock or frame, in their order: its port and length, and its
+ * bytes at the front of `bytes`, which has room for `room`. A frame that is not asked for before the next
+ * clock or frame is a lost one. AUTONET_NO_MORE: all were handed out. AUTONET_ROOM: `room` is too little;
+ * `length` alone was written, and the frame is still the next one. AUTONET_MOST_FRAME is always enough. */
+uint32_t autonet_next(autonet_switch *s, autonet_frame_shown *frame, uint8_t *bytes, size_t room);
+
+/* Loads the table that is due. Its rows are those of autonet_row until the next load. AUTONET_NOT_DUE.
+ * AUTONET_OUT_OF_MEMORY: it is still due, and the life goes on. */
+uint32_t autonet_load(autonet_switch *s);
+
+/* What the switch shows of itself. */
+uint32_t autonet_show(autonet_switch *s, autonet_shown *shown);
+
+/* What it takes the other end of `port` to be. AUTONET_ARGUMENT: the port is none of 1 to 12. */
+uint32_t autonet_port(autonet_switch *s, uint8_t port, autonet_port_shown *shown);
+
+/* The row at `place`, from 0, of the table that was loaded last: rising by entry, then by number.
+ * AUTONET_NO_MORE: there is none at this place. */
+uint32_t autonet_row(autonet_switch *s, size_t place, autonet_row_shown *row);
+
+/* The member at `place`, from 0, of what the switch has finished with in its present epoch, rising by
+ * identifier. AUTONET_NO_MORE: there is none at this place, or it has not finished. */
+uint32_t autonet_member(autonet_switch *s, size_t place, autonet_member_shown *member);
+
+/* Ends the life of the switch and gives its memory back. It then holds none. */
+uint32_t autonet_end(autonet_switch *s);
+
+/* Fills each byte of each field with the place of the field in its struct, from 1. A program can see by it
+ * that this header and the library agree, as embed/fields.c does. */
+void autonet_fields(autonet_shown *shown, autonet_port_shown *port, autonet_row_shown *row,
+                    autonet_member_shown *member, autonet_frame_shown *frame);
+
+#ifdef __cplusplus
+}
+#endif
+#endif

@@ -1,0 +1,349 @@
+/* One switch in a process of its own, over real links.
+ *
+ *   autonetd [--loss PERCENT] [--again PERCENT] [--epoch N] NAME UID BOOTFILE TICK_MS LINK ..
+ *
+ * UID is hexadecimal, below 2^48. BOOTFILE keeps the number of the last boot: the next one is on stable
+ * storage before the switch starts. TICK_MS is the tick in milliseconds. A LINK is one of
+ *   PORT=udp:LOCAL:REMOTE[:FILE]   datagrams on 127.0.0.1 between these two UDP ports; while FILE exists the
+ *                                  cable is cut: the port shows no link, and what comes or goes is lost
+ *   PORT=if:NAME                   an Ethernet interface: frames of type 0x88b5, with their length in two bytes
+ *                                  in front, for short frames come padded
+ * --loss drops that share of the frames that come in, and --again hands that share in twice.
+ *
+ * What the switch does is a line each on standard output, with the time and NAME in front:
+ *   start LIFE | port P WORD [LIFE port Q] | epoch E | out of use | finished E members N |
+ *   load E number N LIFE=NUMBER .. | rows TO:EXIT/EXIT .. | over STATUS | end ..
+ * A line is one write, so that processes may share a file that each opens to append. What a line says is so
+ * before a later frame leaves: a table is out of use before any frame of a call that changes the epoch. */
+#define _GNU_SOURCE
+#include "autonet.h"
+#include <arpa/inet.h>
+#include <errno.h>
+#include <fcntl.h>
+#include <libgen.h>
+#include <linux/if_packet.h>
+#include <net/ethernet.h>
+#include <net/if.h>
+#include <poll.h>
+#include <signal.h>
+#include <stdarg.h>
+#include <stdio.h>
+#include <stdlib.h>
+#include <string.h>
+#include <sys/ioctl.h>
+#include <sys/socket.h>
+#include <time.h>
+#include <unistd.h>
+
+#define ETHER_TYPE 0x88b5
+#define ETHER_FRONT 16 /* two addresses, the type, and the length of what follows */
+
+struct cable {
+    int fd; /* 0: there is none */
+    int index;
+    char interface[IFNAMSIZ]; /* empty: UDP */
+    char cut[256];            /* the file that cuts it, or empty */
+};
+
+static const char *const states[] = {"dead", "checking", "host", "who", "loop", "good"};
+static const char *name;
+static const char *boot_file;
+static uint64_t uid;
+static int loss, again;
+static struct cable cables[AUTONET_PORTS + 1];
+
+static autonet_switch sw;
+static autonet_shown shown;                             /* after the last call */
+static autonet_port_shown ports[AUTONET_PORTS + 1];     /* after the last call */
+static int in_use;                                      /* whether a table is */
+static uint8_t had = 1;                                 /* the number that it wishes for */
+static volatile sig_atomic_t stop;
+static unsigned long came, left, dropped;
+
+static void on_signal(int signal) { (void)signal, stop = 1; }
+
+static void say(const char *format, ...) {
+    static char line[8192];
+    struct timespec now;
+    clock_gettime(CLOCK_REALTIME, &now);
+    int at = snprintf(line, sizeof line, "%lld.%06ld %s ", (long long)now.tv_sec, now.tv_nsec / 1000, name);
+    va_list words;
+    va_start(words, format);
+    at += vsnprintf(line + at, sizeof line - at - 1, format, words);
+    va_end(words);
+    if ((size_t)at > sizeof line - 2) at = sizeof line - 2;
+    line[at++] = '\n';
+    if (write(STDOUT_FILENO, line, at) != at) _exit(1);
+}
+
+static _Noreturn void die(const char *what) {
+    fprintf(stderr, "autonetd %s: %s: %s\n", name, what, strerror(errno));
+    exit(1);
+}
+
+static void sync_of(const char *path, int flags) {
+    int fd = open(path, flags);
+    if (fd < 0 || fsync(fd) || close(fd)) die(path);
+}
+
+/* The next boot, which is on stable storage when this returns. */
+static uint32_t next_boot(void) {
+    unsigned boot = 0;
+    char next[4096], folder[4096];
+    FILE *file = fopen(boot_file, "r");
+    if (file) {
+        if (fscanf(file, "%u", &boot) != 1) die(boot_file);
+        fclose(file);
+    } else if (errno != ENOENT) die(boot_file);
+    if (++boot == 0) die("no boot is left");
+    snprintf(next, sizeof next, "%s.next", boot_file);
+    snprintf(folder, sizeof folder, "%s", boot_file);
+    file = fopen(next, "w");
+    if (!file || fprintf(file, "%u\n", boot) < 0 || fclose(file)) die(next);
+    sync_of(next, O_WRONLY);
+    if (rename(next, boot_file)) die(boot_file);
+    sync_of(dirname(folder), O_RDONLY | O_DIRECTORY);
+    return boot;
+}
+
+static void start(uint64_t epoch) {
+    uint32_t boot = next_boot();
+    uint32_t status = autonet_start(&sw, uid, boot, epoch, had, false);
+    if (status != AUTONET_DONE) {
+        say("over %u", status);
+        exit(1);
+    }
+    memset(&shown, 0, sizeof shown);
+    memset(ports, 0, sizeof ports);
+    shown.epoch = epoch;
+    in_use = 0;
+    say("start %012llx.%u", (unsigned long long)uid, boot);
+}
+
+static int is_up(const struct cable *cable) {
+    if (!cable->fd) return 0;
+    if (!cable->interface[0]) return !cable->cut[0] || access(cable->cut, F_OK) != 0;
+    struct ifreq ask;
+    memset(&ask, 0, sizeof ask);
+    memcpy(ask.ifr_name, cable->interface, IFNAMSIZ);
+    return ioctl(cable->fd, SIOCGIFFLAGS, &ask) == 0 && (ask.ifr_flags & IFF_UP) && (ask.ifr_flags & IFF_RUNNING);
+}
+
+/* A frame that cannot be sent is a lost one. */
+static void transmit(uint8_t port, const uint8_t *bytes, size_t length) {
+    static uint8_t packet[ETHER_FRONT + AUTONET_MOST_FRAME];
+    const struct cable *cable = &cables[port];
+    left++;
+    if (!cable->fd || !is_up(cable)) return;
+    if (!cable->interface[0]) {
+        if (send(cable->fd, bytes, length, 0) < 0) return;
+        return;
+    }
+    memset(packet, 0xff, 6);
+    memset(packet + 6, 0, 6);
+    packet[6] = 2;
+    packet[12] = ETHER_TYPE >> 8, packet[13] = ETHER_TYPE & 255;
+    packet[14] = (uint8_t)(length >> 8), packet[15] = (uint8_t)length;
+    memcpy(packet + ETHER_FRONT, bytes, length);
+    struct sockaddr_ll to = {.sll_family = AF_PACKET, .sll_ifindex = cable->index, .sll_halen = 6};
+    if (sendto(cable->fd, packet, ETHER_FRONT + length, 0, (struct sockaddr *)&to, sizeof to) < 0) return;
+}
+
+/* The bytes that came, or -1 where none did or they are not for the switch. */
+static ssize_t receive(const struct cable *cable, uint8_t *bytes, size_t room) {
+    static uint8_t packet[65536];
+    struct sockaddr_ll from;
+    socklen_t size = sizeof from;
+    if (!cable->interface[0]) {
+        ssize_t length = recv(cable->fd, bytes, room, MSG_DONTWAIT | MSG_TRUNC);
+        return length < 0 || (size_t)length > room || !is_up(cable) ? -1 : length;
+    }
+    ssize_t all = recvfrom(cable->fd, packet, sizeof packet, MSG_DONTWAIT, (struct sockaddr *)&from, &size);
+    if (all < ETHER_FRONT || from.sll_pkttype == PACKET_OUTGOING) return -1;
+    size_t length = (size_t)packet[14] << 8 | packet[15];
+    if (length > (size_t)all - ETHER_FRONT || length > room) return -1;
+    memcpy(bytes, packet + ETHER_FRONT, length);
+    return (ssize_t)length;
+}
+
+static void say_ports(void) {
+    for (uint8_t port = 1; port <= AUTONET_PORTS; port++) {
+        autonet_port_shown now;
+        autonet_port(&sw, port, &now);
+        if (now.state != ports[port].state || now.uid != ports[port].uid || now.boot != ports[port].boot) {
+            if (now.state == AUTONET_GOOD)
+                say("port %u good %012llx.%u port %u", port, (unsigned long long)now.uid, now.boot, now.port);
+            else
+                say("port %u %s", port, states[now.state]);
+        }
+        ports[port] = now;
+    }
+}
+
+/* The members with their numbers. */
+static void members_into(char *text, size_t room) {
+    autonet_member_shown member;
+    size_t at = 0;
+    text[0] = 0;
+    for (size_t place = 0; at < room - 40 && autonet_member(&sw, place, &member) == AUTONET_DONE; place++)
+        at += snprintf(text + at, room - at, " %012llx.%u=%u", (unsigned long long)member.uid, member.boot, member.number);
+}
+
+/* The rows of the packets of the switch itself. */
+static void rows_into(char *text, size_t room) {
+    autonet_row_shown row;
+    size_t at = 0;
+    text[0] = 0;
+    for (size_t place = 0; at < room - 60 && autonet_row(&sw, place, &row) == AUTONET_DONE && row.entry == 0; place++) {
+        char mark = ':';
+        at += snprintf(text + at, room - at, " %u", row.to);
+        for (int port = 1; port <= AUTONET_PORTS; port++)
+            if (row.exits >> port & 1) at += snprintf(text + at, room - at, "%c%d", mark, port), mark = '/';
+    }
+}
+
+static void load(void) {
+    static char text[6000];
+    uint32_t status = autonet_load(&sw);
+    if (status != AUTONET_DONE) {
+        say("load failed %u", status); /* it is still due */
+        return;
+    }
+    autonet_show(&sw, &shown);
+    had = shown.number;
+    in_use = 1; /* here the rows would go to the hardware */
+    members_into(text, sizeof text);
+    say("load %llu number %u%s", (unsigned long long)shown.table_epoch, shown.number, text);
+    rows_into(text, sizeof text);
+    say("rows%s", text);
+}
+
+/* What follows a clock or a frame, in this order: a table of another epoch goes out of use, the frames go
+ * out, a table that is due is loaded. Then a life that is over goes on with the next boot. */
+static void after(uint32_t status) {
+    static uint8_t bytes[AUTONET_MOST_FRAME];
+    autonet_frame_shown frame;
+    autonet_shown now;
+    autonet_show(&sw, &now);
+    if (now.epoch != shown.epoch) {
+        if (in_use) say("out of use");
+        in_use = 0;
+        say("epoch %llu", (unsigned long long)now.epoch);
+    }
+    int finished = now.members && (now.epoch != shown.epoch || !shown.members);
+    shown = now;
+    while (autonet_next(&sw, &frame, bytes, sizeof bytes) == AUTONET_DONE) transmit(frame.port, bytes, frame.length);
+    say_ports();
+    if (finished) say("finished %llu members %u", (unsigned long long)now.epoch, now.members);
+    if (now.load_due) load();
+    if (status == AUTONET_OUT_OF_MEMORY || status == AUTONET_SPENT || status == AUTONET_OVER) {
+        if (in_use) say("out of use");
+        say("over %u", status);
+        autonet_end(&sw);
+        start(0);
+    }
+}
+
+static int roll(int percent) { return percent && (int)(random() % 100) < percent; }
+
+static void take(uint8_t port) {
+    static uint8_t bytes[AUTONET_MOST_FRAME];
+    ssize_t length = receive(&cables[port], bytes, sizeof bytes);
+    if (length < 0) return;
+    if (roll(loss)) {
+        dropped++;
+        return;
+    }
+    came++;
+    after(autonet_frame(&sw, port, bytes, (size_t)length));
+    if (roll(again)) after(autonet_frame(&sw, port, bytes, (size_t)length));
+}
+
+static void tick(uint32_t now) {
+    uint16_t up = 0;
+    for (int port = 1; port <= AUTONET_PORTS; port++)
+        if (is_up(&cables[port])) up |= (uint16_t)(1u << port);
+    after(autonet_clock(&sw, now, up, 0));
+}
+
+static long long now_ms(void) {
+    struct timespec now;
+    clock_gettime(CLOCK_MONOTONIC, &now);
+    return now.tv_sec * 1000LL + now.tv_nsec / 1000000;
+}
+
+/* Takes what comes until this moment. */
+static void wait_until(long long due) {
+    struct pollfd polled[AUTONET_PORTS];
+    uint8_t which[AUTONET_PORTS];
+    nfds_t count = 0;
+    for (uint8_t port = 1; port <= AUTONET_PORTS; port++)
+        if (cables[port].fd) polled[count] = (struct pollfd){cables[port].fd, POLLIN, 0}, which[count++] = port;
+    for (long long rest; !stop && (rest = due - now_ms()) > 0;) {
+        if (poll(polled, count, (int)rest) <= 0) continue;
+        for (nfds_t at = 0; at < count && !stop; at++)
+            if (polled[at].revents) take(which[at]);
+    }
+}
+
+static void open_udp(struct cable *cable, int local, int remote) {
+    struct sockaddr_in at = {.sin_family = AF_INET, .sin_port = htons((uint16_t)local), .sin_addr.s_addr = htonl(INADDR_LOOPBACK)};
+    cable->fd = socket(AF_INET, SOCK_DGRAM, 0);
+    if (cable->fd < 0 || bind(cable->fd, (struct sockaddr *)&at, sizeof at)) die("udp");
+    at.sin_port = htons((uint16_t)remote);
+    if (connect(cable->fd, (struct sockaddr *)&at, sizeof at)) die("udp");
+}
+
+static void open_interface(struct cable *cable, const char *interface) {
+    snprintf(cable->interface, sizeof cable->interface, "%s", interface);
+    cable->index = (int)if_nametoindex(interface);
+    cable->fd = socket(AF_PACKET, SOCK_RAW, htons(ETHER_TYPE));
+    struct sockaddr_ll at = {.sll_family = AF_PACKET, .sll_protocol = htons(ETHER_TYPE), .sll_ifindex = cable->index};
+    if (!cable->index || cable->fd < 0 || bind(cable->fd, (struct sockaddr *)&at, sizeof at)) die(interface);
+}
+
+static int open_cable(const char *text) {
+    int port, local, remote, at = 0;
+    if (sscanf(text, "%d=%n", &port, &at) != 1 || !at || port < 1 || port > AUTONET_PORTS || cables[port].fd) return 0;
+    if (sscanf(text + at, "udp:%d:%d:%255s", &local, &remote, cables[port].cut) >= 2) open_udp(&cables[port], local, remote);
+    else if (!strncmp(text + at, "if:", 3)) open_interface(&cables[port], text + at + 3);
+    else return 0;
+    return 1;
+}
+
+int main(int count, char **words) {
+    uint64_t epoch = 0;
+    int at = 1;
+    for (; at + 1 < count && !strncmp(words[at], "--", 2); at += 2) {
+        if (!strcmp(words[at], "--loss")) loss = atoi(words[at + 1]);
+        else if (!strcmp(words[at], "--again")) again = atoi(words[at + 1]);
+        else if (!strcmp(words[at], "--epoch")) epoch = strtoull(words[at + 1], NULL, 10);
+        else return 2;
+    }
+    if (count - at < 5) {
+        fprintf(stderr, "usage: autonetd [--loss PERCENT] [--again PERCENT] [--epoch N] NAME UID BOOTFILE TICK_MS LINK ..\n");
+        return 2;
+    }
+    name = words[at], uid = strtoull(words[at + 1], NULL, 16), boot_file = words[at + 2];
+    long tick_ms = atol(words[at + 3]);
+    if (tick_ms < 1) return 2;
+    for (int link = at + 4; link < count; link++)
+        if (!open_cable(words[link])) {
+            fprintf(stderr, "autonetd: no link: %s\n", words[link]);
+            return 2;
+        }
+    srandom((unsigned)(uid * 2654435761u + (unsigned)getpid()));
+    signal(SIGTERM, on_signal);
+    signal(SIGINT, on_signal);
+    start(epoch);
+    uint32_t ticks = 0;
+    for (long long due = now_ms(); !stop; ticks++) {
+        tick(ticks);
+        due += tick_ms;
+        if (due + tick_ms < now_ms()) due = now_ms(); /* it was held up: no clocks are made up for */
+        wait_until(due);
+    }
+    say("end ticks %u works %u came %lu left %lu dropped %lu", ticks, shown.works, came, left, dropped);
+    autonet_end(&sw);
+    return 0;
+}
