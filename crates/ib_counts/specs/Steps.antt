@@ -1,6 +1,6 @@
 -- How routes are counted, LID by LID and end port by end port. Only private functions cite this.
 use Rattle.std.specs.Prelude.{◌≡◌, ◌<◌, ◌≤◌, ◌≢◌, ◌+◌, ◌*◌, ◌^◌, ◌⊎◌, ℕ}
-use Rattle.std.specs.Prelude.{List, Option, Some, None, length, max}
+use Rattle.std.specs.Prelude.{List, [], Option, Some, None, length, max}
 use Rattle.ib_cells.specs.Cells.{TablesOf}
 use Rattle.ib_counts.specs.Counts.{AreCountsOf, IsOf, Route, RouteEnds}
 use Rattle.ib_counts.specs.declared.counts.Counts.{Counts}
@@ -11,6 +11,7 @@ use Rattle.ib_net.specs.Fabric.{FabricOf, guid_of, owner_of, switch_count}
 use Rattle.ib_routes.specs.declared.hop.Hop.{Hop}
 use Rattle.ib_routes.specs.declared.hop.Outcome.{Outcome}
 use Rattle.ib_routes.specs.declared.hop.Outcome.TheVariants.{Arrives, Stops, Loops}
+use Rattle.ib_routes.specs.declared.trace.Mark.{Mark}
 use Rattle.ib_routes.specs.declared.traffic.Traffic.{Traffic}
 use Rattle.ib_routes.specs.Routes.{EndsAs, IsSource, IsTarget, Sends}
 use Rattle.ib_routes.specs.Waves.{HasBit}
@@ -48,6 +49,11 @@ pub record AreCountsUntil (fabric : FabricOf) (tables : TablesOf) (traffic : Tra
     : Type 0 where
   pub exact : AreCountsOf fabric tables (IsUntil fabric traffic lid place) counts
   pub few : counts.routes ≤ lid * 2 ^ 17 + place
+
+-- a room for marks of so many switches, and for the path of a route
+pub record IsRoom (count : ℕ) (marks : List Mark) (path : List ℕ) : Type 0 where
+  pub size : length marks ≡ count
+  pub empty : path ≡ []
 
 -- a LID to which some end ports may send
 abbrev pub IsTargeted : FabricOf → Traffic → ℕ → Type 0

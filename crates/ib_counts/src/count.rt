@@ -1,8 +1,9 @@
 //! How the routes of a traffic end, and how many do.
 
-ghost use Rattle.std.specs.Prelude.{◌≡◌, ◌<◌, ◌≤◌, ◌+◌, ◌*◌, ◌/◌, ◌%◌, ◌^◌, length, IfOk, IfSome};
+ghost use Rattle.std.specs.Prelude.{◌≡◌, ◌<◌, ◌≤◌, ◌+◌, ◌*◌, ◌/◌, ◌%◌, ◌^◌, length, replicate, IfOk, IfSome};
 ghost use Rattle.ib_net.specs.Fabric.{switch_count};
 ghost use Rattle.ib_cells.specs.Cells.{tables_of};
+ghost use Rattle.ib_routes.specs.declared.trace.Mark.TheVariants.{New};
 ghost use Rattle.ib_routes.specs.declared.traffic.Traffic.{Traffic};
 ghost use Rattle.ib_routes.specs.Routes.{EndsAs, IsSource};
 ghost use Rattle.ib_routes.specs.Starts.{AreAllSenders};
@@ -10,7 +11,7 @@ ghost use Rattle.ib_routes.specs.Trace.{IsReady, hop_to, whole};
 ghost use Rattle.ib_routes.specs.Waves.{AreStarts};
 ghost use Rattle.ib_counts.specs.Counts.{AreCounts, IsCountOf, hop_for, sum_of};
 ghost use Rattle.ib_counts.specs.Steps.{AllArriveWithin, AreCountsUntil, EndsIfStarts, IsEndPort, IsLonger};
-ghost use Rattle.ib_counts.specs.Steps.{IsTargeted, place_of};
+ghost use Rattle.ib_counts.specs.Steps.{IsRoom, IsTargeted, place_of};
 
 use crate::counts::Counts;
 use crate::source::{count_senders, count_sources, end_port_at, end_ports};
@@ -24,6 +25,13 @@ use ib_routes::trace::{Mark, Target, trace};
 use ib_routes::traffic::Traffic;
 use ib_routes::word::has_bit;
 use std::alloc::Global;
+
+// Marks all switches as new.
+fn clear(marks: &mut [Mark])
+    ensures { marks.new ≡ replicate (length marks.old) New }
+{
+    marks.fill(Mark::New);
+}
 
 // How the route to a LID from a switch ends.
 fn end_from(
@@ -176,7 +184,9 @@ impl Counts {
         requires ready { IsReady (hop_to fabric.now (tables_of cells.now) (whole lid))
             (switch_count fabric.now) marks.old path.old.items }
         requires counts { AreCountsUntil fabric.now (tables_of cells.now) traffic lid 0 self }
-        ensures { IfOk result (AreCountsUntil fabric.now (tables_of cells.now) traffic (lid + 1) 0) }
+        ensures ready { IfOk result (λ _. IsReady (hop_to fabric.now (tables_of cells.now) (whole lid))
+            (switch_count fabric.now) marks.new path.new.items) }
+        ensures counts { IfOk result (AreCountsUntil fabric.now (tables_of cells.now) traffic (lid + 1) 0) }
     {
         let mut counts = self;
         'places: for place in 0..end_ports(fabric) {
@@ -189,104 +199,123 @@ impl Counts {
 
 // The counts with the routes to a LID to which some end ports send, if so many send at all.
 fn count_target(
-    alloc: Global,
     fabric: &Fabric,
     cells: &Cells,
     traffic: Traffic,
     lid: u16,
     sources: u64,
     starts: &[u64],
+    marks: &mut [Mark],
+    path: &mut Vec<usize>,
     counts: Counts,
 ) -> Result<Counts, OutOfMemory>
     requires same { switch_count fabric.now ≡ cells.now.switches }
+    requires switches { switch_count fabric.now ≤ 2 ^ 14 }
     requires lid { lid < 64 * cells.now.blocks }
     requires target { IsTargeted fabric.now traffic lid }
     requires sources { IsCountOf (IsSource fabric.now traffic) sources }
     requires few { sources ≤ 2 ^ 17 }
     requires count { length starts.now ≡ switch_count fabric.now }
     requires starts { AreStarts fabric.now traffic (lid / 64) starts.now }
+    requires room { IsRoom (switch_count fabric.now) marks.old path.old.items }
     requires counts { AreCountsUntil fabric.now (tables_of cells.now) traffic lid 0 counts }
-    ensures { IfOk result (AreCountsUntil fabric.now (tables_of cells.now) traffic (lid + 1) 0) }
+    ensures room { IfOk result (λ _. IsRoom (switch_count fabric.now) marks.new path.new.items) }
+    ensures counts { IfOk result (AreCountsUntil fabric.now (tables_of cells.now) traffic (lid + 1) 0) }
 {
-    let mut marks = vec![in alloc; Mark::New; fabric.switches()]?;
-    let mut path = Vec::new(alloc);
-    let longest = longest_to(fabric, cells, lid, starts, &mut marks, &mut path)?;
+    clear(marks);
+    let longest = longest_to(fabric, cells, lid, starts, marks, path)?;
     match longest {
         Some(hops) => {
             let senders = count_senders(fabric, traffic, lid as usize, sources);
             Ok(counts.with_arrived(senders, hops))
         }
-        None => counts.with_sources(fabric, cells, traffic, lid, &mut marks, &mut path),
+        None => counts.with_sources(fabric, cells, traffic, lid, marks, path),
     }
 }
 
 // The counts with the routes to a LID.
 fn count_lid(
-    alloc: Global,
     fabric: &Fabric,
     cells: &Cells,
     traffic: Traffic,
     lid: u16,
     sources: u64,
     starts: &[u64],
+    marks: &mut [Mark],
+    path: &mut Vec<usize>,
     counts: Counts,
 ) -> Result<Counts, OutOfMemory>
     requires same { switch_count fabric.now ≡ cells.now.switches }
+    requires switches { switch_count fabric.now ≤ 2 ^ 14 }
     requires lid { lid < 64 * cells.now.blocks }
     requires sources { IsCountOf (IsSource fabric.now traffic) sources }
     requires few { sources ≤ 2 ^ 17 }
     requires count { length starts.now ≡ switch_count fabric.now }
     requires starts { AreStarts fabric.now traffic (lid / 64) starts.now }
+    requires room { IsRoom (switch_count fabric.now) marks.old path.old.items }
     requires counts { AreCountsUntil fabric.now (tables_of cells.now) traffic lid 0 counts }
-    ensures { IfOk result (AreCountsUntil fabric.now (tables_of cells.now) traffic (lid + 1) 0) }
+    ensures room { IfOk result (λ _. IsRoom (switch_count fabric.now) marks.new path.new.items) }
+    ensures counts { IfOk result (AreCountsUntil fabric.now (tables_of cells.now) traffic (lid + 1) 0) }
 {
     if !is_target(fabric, traffic, lid as usize) {
         return Ok(counts);
     }
-    count_target(alloc, fabric, cells, traffic, lid, sources, starts, counts)
+    count_target(
+        fabric, cells, traffic, lid, sources, starts, marks, path, counts,
+    )
 }
 
 // The counts with the routes to the LIDs of a block.
 fn count_block(
-    alloc: Global,
     fabric: &Fabric,
     cells: &Cells,
     traffic: Traffic,
     block: usize,
     sources: u64,
     starts: &[u64],
+    marks: &mut [Mark],
+    path: &mut Vec<usize>,
     counts: Counts,
 ) -> Result<Counts, OutOfMemory>
     requires same { switch_count fabric.now ≡ cells.now.switches }
+    requires switches { switch_count fabric.now ≤ 2 ^ 14 }
     requires block { block < cells.now.blocks }
     requires low { block < 1024 }
     requires sources { IsCountOf (IsSource fabric.now traffic) sources }
     requires few { sources ≤ 2 ^ 17 }
     requires count { length starts.now ≡ switch_count fabric.now }
     requires starts { AreStarts fabric.now traffic block starts.now }
+    requires room { IsRoom (switch_count fabric.now) marks.old path.old.items }
     requires counts { AreCountsUntil fabric.now (tables_of cells.now) traffic (64 * block) 0 counts }
-    ensures { IfOk result (AreCountsUntil fabric.now (tables_of cells.now) traffic (64 * (block + 1)) 0) }
+    ensures room { IfOk result (λ _. IsRoom (switch_count fabric.now) marks.new path.new.items) }
+    ensures counts { IfOk result (AreCountsUntil fabric.now (tables_of cells.now) traffic (64 * (block + 1)) 0) }
 {
     let mut counts = counts;
     'bits: for bit in 0..64usize {
         let lid = (64 * block + bit) as u16;
-        counts = count_lid(alloc, fabric, cells, traffic, lid, sources, starts, counts)?;
+        counts = count_lid(
+            fabric, cells, traffic, lid, sources, starts, marks, path, counts,
+        )?;
     }
     Ok(counts)
 }
 
-// The counts of the routes to all LIDs. The words are a room for bits of each switch.
+// The counts of the routes to all LIDs. The words are a room for bits of each switch, the marks one for what is
+// known of it, and the path one for the switches of a route.
 fn count_blocks(
-    alloc: Global,
     fabric: &Fabric,
     cells: &Cells,
     traffic: Traffic,
     senders: &[Senders],
     starts: &mut [u64],
+    marks: &mut [Mark],
+    path: &mut Vec<usize>,
 ) -> Result<Counts, OutOfMemory>
     requires same { switch_count fabric.now ≡ cells.now.switches }
+    requires switches { switch_count fabric.now ≤ 2 ^ 14 }
     requires senders { AreAllSenders fabric.now traffic senders.now }
     requires starts { length starts.old ≡ switch_count fabric.now }
+    requires room { IsRoom (switch_count fabric.now) marks.old path.old.items }
     ensures counts { IfOk result (AreCountsUntil fabric.now (tables_of cells.now) traffic
         (64 * cells.now.blocks) 0) }
     ensures low { IfOk result (λ _. cells.now.blocks ≤ 1024) }
@@ -296,7 +325,7 @@ fn count_blocks(
     'rounds: for block in 0..cells.blocks() {
         put_starts(fabric, traffic, block, senders, starts);
         counts = count_block(
-            alloc, fabric, cells, traffic, block, sources, starts, counts,
+            fabric, cells, traffic, block, sources, starts, marks, path, counts,
         )?;
     }
     Ok(counts)
@@ -317,6 +346,16 @@ pub fn count_routes(
 {
     let senders = find_senders(alloc, fabric, traffic)?;
     let mut starts = vec![in alloc; 0u64; fabric.switches()]?;
-    let counts = count_blocks(alloc, fabric, cells, traffic, &senders, &mut starts)?;
+    let mut marks = vec![in alloc; Mark::New; fabric.switches()]?;
+    let mut path = Vec::new(alloc);
+    let counts = count_blocks(
+        fabric,
+        cells,
+        traffic,
+        &senders,
+        &mut starts,
+        &mut marks,
+        &mut path,
+    )?;
     Ok(counts)
 }

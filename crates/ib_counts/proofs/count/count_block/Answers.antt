@@ -5,13 +5,19 @@ use Rattle.ib_routes.specs.Waves.{AreStarts}
 use Rattle.ib_counts.proofs.count.count_block.Goals as goal
 
 pub bits-init : goal.bits-init
-bits-init c = subst (λ (n : ℕ). AreCountsUntil c.args.fabric.now (tables_of c.args.cells.now) c.args.traffic n 0 c.args.counts) (let e : 64 * c.args.block ≡ 64 * c.args.block + 0 = omega arith in e) c.requires.counts
+bits-init c = record {
+  room = c.requires.room;
+  counts = subst (λ (n : ℕ). AreCountsUntil c.args.fabric.now (tables_of c.args.cells.now) c.args.traffic n 0 c.args.counts) (let e : 64 * c.args.block ≡ 64 * c.args.block + 0 = omega arith in e) c.requires.counts;
+}
 
 pub bits-preserved : goal.bits-preserved
-bits-preserved c = subst (λ (n : ℕ). AreCountsUntil c.args.fabric.now (tables_of c.args.cells.now) c.args.traffic n 0 c.in_ok-counts.counts) (let e : 64 * c.args.block + c.bits.bit + 1 ≡ 64 * c.args.block + (c.bits.bit + 1) = omega arith in e) c.in_ok-counts.ensures
+bits-preserved c = record {
+  room = c.in_ok-counts.ensures.room;
+  counts = subst (λ (n : ℕ). AreCountsUntil c.args.fabric.now (tables_of c.args.cells.now) c.args.traffic n 0 c.in_ok-counts.counts) (let e : 64 * c.args.block + c.bits.bit + 1 ≡ 64 * c.args.block + (c.bits.bit + 1) = omega arith in e) c.in_ok-counts.ensures.counts;
+}
 
 pub count_lid-requires-clause-starts : goal.count_lid-requires-clause-starts
 count_lid-requires-clause-starts c = subst (λ (b : ℕ). AreStarts c.args.fabric.now c.args.traffic b c.args.starts.now) (let e : c.args.block ≡ (64 * c.args.block + c.bits.bit) / 64 = omega arith in e) c.requires.starts
 
-pub returns : goal.returns
-returns c = subst (λ (n : ℕ). AreCountsUntil c.args.fabric.now (tables_of c.args.cells.now) c.args.traffic n 0 c.bits.counts) (omega arith) c.bits.invariant
+pub returns-clause-counts : goal.returns-clause-counts
+returns-clause-counts c = subst (λ (n : ℕ). AreCountsUntil c.args.fabric.now (tables_of c.args.cells.now) c.args.traffic n 0 c.bits.counts) (omega arith) c.bits.invariant.counts

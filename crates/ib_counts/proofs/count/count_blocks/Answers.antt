@@ -6,7 +6,10 @@ use Rattle.ib_counts.proofs.StepLemmas.{first_counts}
 use Rattle.ib_counts.proofs.count.count_blocks.Goals as goal
 
 pub rounds-init : goal.rounds-init
-rounds-init c = subst (λ (n : Counts). AreCountsUntil c.args.fabric.now (tables_of c.args.cells.now) c.args.traffic 0 0 n) (sym c.none-counts.ensures) (first_counts c.args.fabric.now (tables_of c.args.cells.now) c.args.traffic)
+rounds-init c = record {
+  room = c.requires.room;
+  counts = subst (λ (n : Counts). AreCountsUntil c.args.fabric.now (tables_of c.args.cells.now) c.args.traffic 0 0 n) (sym c.none-counts.ensures) (first_counts c.args.fabric.now (tables_of c.args.cells.now) c.args.traffic);
+}
 
 pub returns-clause-counts : goal.returns-clause-counts
-returns-clause-counts c = subst (λ (n : ℕ). AreCountsUntil c.args.fabric.now (tables_of c.args.cells.now) c.args.traffic n 0 c.rounds.counts) (omega arith) c.rounds.invariant
+returns-clause-counts c = subst (λ (n : ℕ). AreCountsUntil c.args.fabric.now (tables_of c.args.cells.now) c.args.traffic n 0 c.rounds.counts) (omega arith) c.rounds.invariant.counts

@@ -17,14 +17,9 @@ with_arrived-requires-clause-all c = (let all = c.requires.counts.exact.all in o
 pub with_arrived-requires-clause-fits : goal.with_arrived-requires-clause-fits
 with_arrived-requires-clause-fits c = (let few = c.requires.counts.few in omega arith)
 
-pub returns-in-Some : goal.returns-in-Some
-returns-in-Some c =
+pub returns-in-Some-clause-counts : goal.returns-in-Some-clause-counts
+returns-in-Some-clause-counts c =
     let longest = subst (λ (o : Option ℕ). IfSome o (λ hops. (traffic : Traffic) → AreStarts c.args.fabric.now traffic (c.args.lid / 64) c.args.starts.now → AllArriveWithin c.args.fabric.now (tables_of c.args.cells.now) traffic c.args.lid hops)) c.in-Some.is c.in_ok-longest.ensures.arrive in
     subst (λ (n : Counts). AreCountsUntil c.args.fabric.now (tables_of c.args.cells.now) c.args.traffic (c.args.lid + 1) 0 n) (sym c.with_arrived.ensures)
     (arrived_counts c.args.fabric.now (tables_of c.args.cells.now) c.args.traffic c.args.lid c.args.counts c.count_senders-senders.result c.in-Some.hops (max c.args.counts.hops c.in-Some.hops) c.count_senders-senders.ensures.count
     (let few = c.count_senders-senders.ensures.few in let all = c.requires.few in omega arith) (longest c.args.traffic c.requires.starts) refl c.requires.counts)
-
-pub longest_to-requires-clause-ready : goal.longest_to-requires-clause-ready
-longest_to-requires-clause-ready c =
-    let ready = ready_first (hop_to c.args.fabric.now (tables_of c.args.cells.now) (whole c.args.lid)) (switch_count c.args.fabric.now) in
-    search rules

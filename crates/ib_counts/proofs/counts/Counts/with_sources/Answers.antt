@@ -13,5 +13,5 @@ places-preserved c = record {
   counts = subst (λ (n : ℕ). AreCountsUntil c.args.fabric.now (tables_of c.args.cells.now) c.args.traffic c.args.lid (n + 1) c.in_ok-counts.counts) c.end_port_at-source.ensures.place c.in_ok-counts.ensures.counts;
 }
 
-pub returns : goal.returns
-returns c = next_counts c.args.fabric.now (tables_of c.args.cells.now) c.args.traffic c.args.lid c.places.counts c.places.place (omega arith) (omega arith) c.places.invariant.counts
+pub returns-clause-counts : goal.returns-clause-counts
+returns-clause-counts c = next_counts c.args.fabric.now (tables_of c.args.cells.now) c.args.traffic c.args.lid c.places.counts c.places.place (omega arith) (omega arith) c.places.invariant.counts
