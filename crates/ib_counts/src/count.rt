@@ -137,8 +137,8 @@ fn longest_to(
 
 impl Counts {
     // The route of an end port, if it sends to the LID.
-    fn with_source(
-        self,
+    fn add_source(
+        &mut self,
         fabric: &Fabric,
         cells: &Cells,
         traffic: Traffic,
@@ -146,7 +146,7 @@ impl Counts {
         marks: &mut [Mark],
         path: &mut Vec<usize>,
         source: EndPort,
-    ) -> Result<Counts, OutOfMemory>
+    ) -> Result<(), OutOfMemory>
         requires same { switch_count fabric.now ≡ cells.now.switches }
         requires few { switch_count fabric.now ≤ 2 ^ 14 }
         requires lid { lid < 64 * cells.now.blocks }
@@ -155,17 +155,18 @@ impl Counts {
         requires source { IsEndPort fabric.now source }
         requires low { place_of fabric.now source ≤ 2 ^ 17 }
         requires counts { AreCountsUntil fabric.now (tables_of cells.now) traffic lid
-            (place_of fabric.now source) self }
+            (place_of fabric.now source) self.old }
         ensures ready { IfOk result (λ _. IsReady (hop_to fabric.now (tables_of cells.now) (whole lid))
             (switch_count fabric.now) marks.new path.new.items) }
-        ensures counts { IfOk result (AreCountsUntil fabric.now (tables_of cells.now) traffic lid
-            (place_of fabric.now source + 1)) }
+        ensures counts { IfOk result (λ _. AreCountsUntil fabric.now (tables_of cells.now) traffic lid
+            (place_of fabric.now source + 1) self.new) }
     {
         let Some(start) = sender_start(fabric, traffic, lid as usize, source) else {
-            return Ok(self);
+            return Ok(());
         };
         let outcome = end_from(fabric, cells, lid, marks, path, start as usize)?;
-        Ok(self.with(fabric, cells, lid, source, start, outcome))
+        self.add(fabric, cells, lid, source, start, outcome);
+        Ok(())
     }
 
     // The routes of all end ports to a LID, one after the other.
@@ -191,7 +192,7 @@ impl Counts {
         let mut counts = self;
         'places: for place in 0..end_ports(fabric) {
             let source = end_port_at(fabric, place);
-            counts = counts.with_source(fabric, cells, traffic, lid, marks, path, source)?;
+            counts.add_source(fabric, cells, traffic, lid, marks, path, source)?;
         }
         Ok(counts)
     }

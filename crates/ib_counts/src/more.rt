@@ -35,111 +35,78 @@ impl Loss {
     };
 
     // One lost route more, which begins at a switch.
-    fn with(self, fabric: &Fabric, cells: &Cells, lid: u16, source: EndPort, start: u32) -> Loss
+    fn add(&mut self, fabric: &Fabric, cells: &Cells, lid: u16, source: EndPort, start: u32)
         requires same { switch_count fabric.now ≡ cells.now.switches }
         requires few { switch_count fabric.now ≤ 2 ^ 14 }
         requires lid { lid < 64 * cells.now.blocks }
         requires start { start < switch_count fabric.now }
         requires begins { start_of fabric.now source ≡ Some start }
-        requires fits { self.count < 2 ^ 40 }
-        ensures count { result.count ≡ self.count + 1 }
+        requires fits { self.old.count < 2 ^ 40 }
+        ensures count { self.new.count ≡ self.old.count + 1 }
         ensures loss { (traffic : Traffic) (outcome : Outcome) → IsLost outcome
             → Sends fabric.now traffic lid source
             → EndsAs (hop_for fabric.now (tables_of cells.now) lid) start outcome
             → IsLoss fabric.now (tables_of cells.now) (IsBefore fabric.now traffic lid source)
-            outcome self
+            outcome self.old
             → IsLoss fabric.now (tables_of cells.now) (IsUpTo fabric.now traffic lid source)
-            outcome result }
+            outcome self.new }
     {
-        let count = self.count + 1;
+        self.count += 1;
         if !is_less(fabric, self.least, lid, source) {
-            return Loss {
-                count,
-                least: self.least,
-            };
+            return;
         }
         let at = lost_at(fabric, cells, lid as usize, start as usize) as u32;
-        Loss {
-            count,
-            least: Some(LostRoute { lid, source, at }),
-        }
+        self.least = Some(LostRoute { lid, source, at });
     }
 }
 
 impl Losses {
     // One route more that stops, by a cause.
-    fn with(
-        self,
+    fn add(
+        &mut self,
         fabric: &Fabric,
         cells: &Cells,
         lid: u16,
         source: EndPort,
         start: u32,
         cause: Cause,
-    ) -> Losses
+    )
         requires same { switch_count fabric.now ≡ cells.now.switches }
         requires few { switch_count fabric.now ≤ 2 ^ 14 }
         requires lid { lid < 64 * cells.now.blocks }
         requires start { start < switch_count fabric.now }
         requires begins { start_of fabric.now source ≡ Some start }
-        requires fits { sum_of self < 2 ^ 40 }
-        ensures sum { sum_of result ≡ sum_of self + 1 }
+        requires fits { sum_of self.old < 2 ^ 40 }
+        ensures sum { sum_of self.new ≡ sum_of self.old + 1 }
         ensures losses { (traffic : Traffic) → Sends fabric.now traffic lid source
             → EndsAs (hop_for fabric.now (tables_of cells.now) lid) start (Stops cause)
-            → AreLosses fabric.now (tables_of cells.now) (IsBefore fabric.now traffic lid source) self
+            → AreLosses fabric.now (tables_of cells.now) (IsBefore fabric.now traffic lid source) self.old
             → AreLosses fabric.now (tables_of cells.now) (IsUpTo fabric.now traffic lid source)
-            result }
+            self.new }
     {
         match cause {
-            Cause::Missing => Losses {
-                missing: self.missing.with(fabric, cells, lid, source, start),
-                dead: self.dead,
-                wrong: self.wrong,
-                looping: self.looping,
-            },
-            Cause::Dead => Losses {
-                missing: self.missing,
-                dead: self.dead.with(fabric, cells, lid, source, start),
-                wrong: self.wrong,
-                looping: self.looping,
-            },
-            Cause::Wrong => Losses {
-                missing: self.missing,
-                dead: self.dead,
-                wrong: self.wrong.with(fabric, cells, lid, source, start),
-                looping: self.looping,
-            },
+            Cause::Missing => self.missing.add(fabric, cells, lid, source, start),
+            Cause::Dead => self.dead.add(fabric, cells, lid, source, start),
+            Cause::Wrong => self.wrong.add(fabric, cells, lid, source, start),
         }
     }
 
     // One more that goes on for ever.
-    fn with_loop(
-        self,
-        fabric: &Fabric,
-        cells: &Cells,
-        lid: u16,
-        source: EndPort,
-        start: u32,
-    ) -> Losses
+    fn add_loop(&mut self, fabric: &Fabric, cells: &Cells, lid: u16, source: EndPort, start: u32)
         requires same { switch_count fabric.now ≡ cells.now.switches }
         requires few { switch_count fabric.now ≤ 2 ^ 14 }
         requires lid { lid < 64 * cells.now.blocks }
         requires start { start < switch_count fabric.now }
         requires begins { start_of fabric.now source ≡ Some start }
-        requires fits { sum_of self < 2 ^ 40 }
-        ensures sum { sum_of result ≡ sum_of self + 1 }
+        requires fits { sum_of self.old < 2 ^ 40 }
+        ensures sum { sum_of self.new ≡ sum_of self.old + 1 }
         ensures losses { (traffic : Traffic) → Sends fabric.now traffic lid source
             → EndsAs (hop_for fabric.now (tables_of cells.now) lid) start Loops
-            → AreLosses fabric.now (tables_of cells.now) (IsBefore fabric.now traffic lid source) self
+            → AreLosses fabric.now (tables_of cells.now) (IsBefore fabric.now traffic lid source) self.old
             → AreLosses fabric.now (tables_of cells.now) (IsUpTo fabric.now traffic lid source)
-            result }
+            self.new }
     {
-        Losses {
-            missing: self.missing,
-            dead: self.dead,
-            wrong: self.wrong,
-            looping: self.looping.with(fabric, cells, lid, source, start),
-        }
+        self.looping.add(fabric, cells, lid, source, start);
     }
 }
 
@@ -172,49 +139,38 @@ impl Counts {
     }
 
     /// One route more, which begins at a switch and ends so.
-    pub fn with(
-        self,
+    pub fn add(
+        &mut self,
         fabric: &Fabric,
         cells: &Cells,
         lid: u16,
         source: EndPort,
         start: u32,
         outcome: Outcome,
-    ) -> Counts
+    )
         requires same { switch_count fabric.now ≡ cells.now.switches }
         requires few { switch_count fabric.now ≤ 2 ^ 14 }
         requires lid { lid < 64 * cells.now.blocks }
         requires start { start < switch_count fabric.now }
         requires begins { start_of fabric.now source ≡ Some start }
-        requires all { self.routes ≡ self.arrived + sum_of self.lost }
-        requires fits { self.routes < 2 ^ 40 }
-        ensures routes { result.routes ≡ self.routes + 1 }
+        requires all { self.old.routes ≡ self.old.arrived + sum_of self.old.lost }
+        requires fits { self.old.routes < 2 ^ 40 }
+        ensures routes { self.new.routes ≡ self.old.routes + 1 }
         ensures counts { (traffic : Traffic) → Sends fabric.now traffic lid source
             → EndsAs (hop_for fabric.now (tables_of cells.now) lid) start outcome
-            → AreCountsOf fabric.now (tables_of cells.now) (IsBefore fabric.now traffic lid source) self
             → AreCountsOf fabric.now (tables_of cells.now)
-            (IsUpTo fabric.now traffic lid source) result }
+            (IsBefore fabric.now traffic lid source) self.old
+            → AreCountsOf fabric.now (tables_of cells.now)
+            (IsUpTo fabric.now traffic lid source) self.new }
     {
-        let routes = self.routes + 1;
+        self.routes += 1;
         match outcome {
-            Outcome::Arrives(switches) => Counts {
-                routes,
-                arrived: self.arrived + 1,
-                hops: self.hops.max(switches),
-                lost: self.lost,
-            },
-            Outcome::Stops(cause) => Counts {
-                routes,
-                arrived: self.arrived,
-                hops: self.hops,
-                lost: self.lost.with(fabric, cells, lid, source, start, cause),
-            },
-            Outcome::Loops => Counts {
-                routes,
-                arrived: self.arrived,
-                hops: self.hops,
-                lost: self.lost.with_loop(fabric, cells, lid, source, start),
-            },
+            Outcome::Arrives(switches) => {
+                self.arrived += 1;
+                self.hops = self.hops.max(switches);
+            }
+            Outcome::Stops(cause) => self.lost.add(fabric, cells, lid, source, start, cause),
+            Outcome::Loops => self.lost.add_loop(fabric, cells, lid, source, start),
         }
     }
 

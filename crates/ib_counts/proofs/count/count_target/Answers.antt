@@ -1,13 +1,10 @@
-use Rattle.std.proofs.Common.{rules, ◌+◌, ◌/◌, sym, subst, refl, ℕ, Option, arith, max}
+use Rattle.std.proofs.Common.{◌+◌, ◌/◌, sym, subst, refl, ℕ, Option, arith, max}
 use Rattle.std.specs.Prelude.{IfSome}
 use Rattle.ib_cells.specs.Cells.{tables_of}
 use Rattle.ib_counts.specs.Steps.{AllArriveWithin, AreCountsUntil}
 use Rattle.ib_counts.specs.declared.counts.Counts.{Counts}
 use Rattle.ib_routes.specs.declared.traffic.Traffic.{Traffic}
 use Rattle.ib_routes.specs.Waves.{AreStarts}
-use Rattle.ib_net.specs.Fabric.{switch_count}
-use Rattle.ib_routes.specs.Trace.{hop_to, whole}
-use Rattle.ib_routes.proofs.WitnessLemmas.{ready_first}
 use Rattle.ib_counts.proofs.StepLemmas.{arrived_counts}
 use Rattle.ib_counts.proofs.count.count_target.Goals as goal
 

@@ -4,13 +4,13 @@ use Rattle.ib_counts.specs.Steps.{AreCountsUntil}
 use Rattle.ib_counts.proofs.StepLemmas.{next_counts}
 use Rattle.ib_counts.proofs.counts.Counts.with_sources.Goals as goal
 
-pub with_source-requires-clause-counts : goal.with_source-requires-clause-counts
-with_source-requires-clause-counts c = subst (λ (n : ℕ). AreCountsUntil c.args.fabric.now (tables_of c.args.cells.now) c.args.traffic c.args.lid n c.places.counts) (sym c.end_port_at-source.ensures.place) c.places.invariant.counts
+pub add_source-requires-clause-counts : goal.add_source-requires-clause-counts
+add_source-requires-clause-counts c = subst (λ (n : ℕ). AreCountsUntil c.args.fabric.now (tables_of c.args.cells.now) c.args.traffic c.args.lid n c.places.counts) (sym c.end_port_at-source.ensures.place) c.places.invariant.counts
 
 pub places-preserved : goal.places-preserved
 places-preserved c = record {
-  ready = c.in_ok-counts.ensures.ready;
-  counts = subst (λ (n : ℕ). AreCountsUntil c.args.fabric.now (tables_of c.args.cells.now) c.args.traffic c.args.lid (n + 1) c.in_ok-counts.counts) c.end_port_at-source.ensures.place c.in_ok-counts.ensures.counts;
+  ready = c.in_ok-add_source.ensures.ready;
+  counts = subst (λ (n : ℕ). AreCountsUntil c.args.fabric.now (tables_of c.args.cells.now) c.args.traffic c.args.lid (n + 1) c.add_source.new.self) c.end_port_at-source.ensures.place c.in_ok-add_source.ensures.counts;
 }
 
 pub returns-clause-counts : goal.returns-clause-counts
