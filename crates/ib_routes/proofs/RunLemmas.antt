@@ -6,7 +6,7 @@ use Rattle.ib_routes.specs.declared.traffic.Traffic.{Traffic}
 use Rattle.ib_net.specs.Fabric.{FabricOf, switch_count}
 use Rattle.ib_cells.specs.Cells.{TablesOf}
 use Rattle.ib_routes.specs.Routes.{ComesBy, ComesTo}
-use Rattle.ib_routes.specs.Waves.{HasBit, StateOf, IsGraphOf, AreStarts, IsRunning, IsTurned, IsIdle, IsWaved}
+use Rattle.ib_routes.specs.Waves.{HasBit, StateOf, IsGraphOf, AreStarts, IsRunning, IsTurned, IsFurther, IsIdle, IsWaved}
 use Rattle.std.proofs.lemmas.Bool.{cases_eq}
 use Rattle.ib_routes.proofs.TakenLemmas.{taken_none, taken_more}
 use Rattle.ib_routes.proofs.WordLemmas.{bit_or_not, has_low}
@@ -148,3 +148,17 @@ idle_rest at old new before after idle rest switch bit low has =
       | inl same ↦ subst (λ (s : ℕ). HasBit before s bit) (sym same) (idle.none bit (subst (λ (s : ℕ). HasBit old.seen s bit) same saw))
       | inr other ↦ rest switch bit (omega arith) saw
     ])
+
+-- a turn carries the waves further
+pub further_one : (fabric : FabricOf) (tables : TablesOf) (block at : ℕ) (old new : StateOf) (before after : List ℕ) → IsTurned fabric tables block at old new before after → IsFurther fabric tables block old new before after
+further_one fabric tables block at old new before after turn = record {
+  running = λ initial run. run_more fabric tables block initial at old new before after run turn;
+  less = turn.less;
+}
+
+-- and one more still further
+pub further_more : (fabric : FabricOf) (tables : TablesOf) (block at : ℕ) (first old new : StateOf) (before done after : List ℕ) → IsFurther fabric tables block first old before done → IsTurned fabric tables block at old new done after → IsFurther fabric tables block first new before after
+further_more fabric tables block at first old new before done after so_far turn = record {
+  running = λ initial run. run_more fabric tables block initial at old new done after (so_far.running initial run) turn;
+  less = (let less = so_far.less in let more = turn.less in omega arith);
+}

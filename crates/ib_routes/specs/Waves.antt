@@ -110,6 +110,11 @@ pub record IsIdle (at : ℕ) (old new : StateOf) (before after : List ℕ) : Typ
   pub same_done : after ≡ before
   pub none : (bit : ℕ) → HasBit old.seen at bit → HasBit before at bit
 
+-- the waves over a block have come further
+pub record IsFurther (fabric : FabricOf) (tables : TablesOf) (block : ℕ) (old new : StateOf) (before after : List ℕ) : Type 0 where
+  pub running : (initial : StateOf) → IsRunning fabric tables block initial old before → IsRunning fabric tables block initial new after
+  pub less : gap after < gap before
+
 -- two channels, by their numbers, that the route of an end port takes one after the other
 pub record TakesNumbers (fabric : FabricOf) (tables : TablesOf) (traffic : Traffic) (lid one other : ℕ) : Type 0 where
   pub source : EndPort

@@ -3,7 +3,7 @@ ghost use Rattle.std.specs.Int.{bit_at};
 ghost use Rattle.ib_routes.specs.declared.traffic.Traffic.{Traffic};
 ghost use Rattle.ib_cells.specs.Cells.{tables_of};
 ghost use Rattle.ib_routes.specs.Links.{AreLinks};
-ghost use Rattle.ib_routes.specs.Waves.{AreStarts, HasBit, IsGraphOf, IsIdle, IsTurned, IsWaved, Taken};
+ghost use Rattle.ib_routes.specs.Waves.{AreStarts, HasBit, IsFurther, IsGraphOf, IsIdle, IsTurned, IsWaved, Taken};
 ghost use Rattle.ib_net.specs.Fabric.{switch_count};
 
 use crate::hop::{Hop, find_hop};
@@ -23,7 +23,8 @@ fn mark(words: &mut [u64], switch: usize, bit: usize)
     words[switch] = words[switch] | 1u64 << bit;
 }
 
-// Takes the hop of a switch for a LID of the block. Answers whether it stops, or one has before.
+// Takes the hop of a switch for a LID of the block. Answers whether it stops, or one has before. Where it goes on, the
+// switch to which it leads is ahead: a hint, on which nothing rests.
 fn take(
     fabric: &Fabric,
     links: &[u64],
@@ -33,6 +34,7 @@ fn take(
     bit: usize,
     seen: &mut [u64],
     graph: &mut Graph,
+    ahead: &mut usize,
     stopped: bool,
 ) -> bool
     requires links { AreLinks fabric.now links.now }
@@ -50,6 +52,7 @@ fn take(
         Hop::On(port, next) => {
             let to = next as usize;
             mark(seen, to, bit);
+            *ahead = to;
             if let Some(next_port) = port_on(fabric, links, cells, to, block, bit) {
                 let channel = at * fabric.most() + (usize::from(port) - 1);
                 graph.insert(channel, usize::from(next_port) - 1);
@@ -71,6 +74,7 @@ fn visit(
     fresh: u64,
     seen: &mut [u64],
     graph: &mut Graph,
+    ahead: &mut usize,
     stopped: bool,
 ) -> bool
     requires links { AreLinks fabric.now links.now }
@@ -87,7 +91,9 @@ fn visit(
     let mut stops = stopped;
     'bits: while left > 0 {
         let bit = lowest(left);
-        stops = take(fabric, links, cells, block, at, bit, seen, graph, stops);
+        stops = take(
+            fabric, links, cells, block, at, bit, seen, graph, ahead, stops,
+        );
         left = without(left, bit);
     }
     stops
@@ -103,6 +109,7 @@ fn turn(
     seen: &mut [u64],
     done: &mut [u64],
     graph: &mut Graph,
+    ahead: &mut usize,
     stopped: bool,
 ) -> Option<bool>
     requires links { AreLinks fabric.now links.now }
@@ -125,10 +132,56 @@ fn turn(
         return None;
     }
     done[at] = joined(gone, fresh);
-    Some(visit(fabric, links, cells, block, at, fresh, seen, graph, stopped))
+    Some(visit(
+        fabric, links, cells, block, at, fresh, seen, graph, ahead, stopped,
+    ))
 }
 
-/// Rounds over the switches until nothing is fresh. The bits that are seen are those at which routes begin.
+// Takes the hops of a switch that were not taken yet, if there are any; then those of the switch to which the last of
+// them led, and so on until one has none. So a line of switches is gone along at once, in whatever order they stand.
+fn follow(
+    fabric: &Fabric,
+    links: &[u64],
+    cells: &Cells,
+    block: usize,
+    at: usize,
+    seen: &mut [u64],
+    done: &mut [u64],
+    graph: &mut Graph,
+    stopped: bool,
+) -> Option<bool>
+    requires links { AreLinks fabric.now links.now }
+    requires same { switch_count fabric.now ≡ cells.now.switches }
+    requires at { at < switch_count fabric.now }
+    requires block { block < cells.now.blocks }
+    requires count { length seen.old ≡ switch_count fabric.now }
+    requires done_count { length done.old ≡ switch_count fabric.now }
+    requires graph { IsGraphOf fabric.now graph.old }
+    ensures { MatchOption result
+        (IsIdle at (record { seen = seen.old; graph = graph.old; stopped = stopped })
+        (record { seen = seen.new; graph = graph.new; stopped = stopped }) done.old done.new)
+        (λ stops. IsFurther fabric.now (tables_of cells.now) block
+        (record { seen = seen.old; graph = graph.old; stopped = stopped })
+        (record { seen = seen.new; graph = graph.new; stopped = stops }) done.old done.new) }
+{
+    let mut ahead = at;
+    let mut stops = turn(
+        fabric, links, cells, block, at, seen, done, graph, &mut ahead, stopped,
+    )?;
+    'turns: while ahead < fabric.switches() {
+        let next = ahead;
+        match turn(
+            fabric, links, cells, block, next, seen, done, graph, &mut ahead, stops,
+        ) {
+            Some(now) => stops = now,
+            None => break 'turns,
+        }
+    }
+    Some(stops)
+}
+
+/// Rounds over the switches until nothing is fresh. The bits that are seen are those at which routes begin. Of each round
+/// the greatest bit that is fresh anywhere comes to the ends of its routes, since `follow` goes on by the last hop.
 pub fn run(
     fabric: &Fabric,
     links: &[u64],
@@ -154,7 +207,7 @@ pub fn run(
     'rounds: while fresh {
         fresh = false;
         'switches: for at in 0..fabric.switches() {
-            if let Some(now) = turn(fabric, links, cells, block, at, seen, done, graph, stops) {
+            if let Some(now) = follow(fabric, links, cells, block, at, seen, done, graph, stops) {
                 stops = now;
                 fresh = true;
             }

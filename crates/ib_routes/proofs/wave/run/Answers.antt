@@ -1,33 +1,33 @@
 use Rattle.std.proofs.Common.{◌≡◌, ◌∙◌, sym, ap, subst, ℕ, Bool, List, arith}
 use Rattle.ib_cells.specs.Cells.{tables_of}
 use Rattle.ib_routes.specs.Waves.{IsRunning, gap}
-use Rattle.ib_routes.proofs.RunLemmas.{run_more, run_done, idle_run, idle_rest}
+use Rattle.ib_routes.proofs.RunLemmas.{run_done, idle_run, idle_rest}
 use Rattle.ib_routes.proofs.wave.run.Goals as goal
 use Rattle.ib_routes.proofs.wave.run.Goals.{in-Some, in_default}
 
 pub switches-preserved : goal.switches-preserved
 switches-preserved c =
     let so_far = c.switches.invariant in
-    elim c.match-turn.branch [
+    elim c.match-follow.branch [
       | in-Some w ↦ (
-          let turned = w.in-Some.ensures in
-          let less = turned.less in
+          let further = w.in-Some.ensures in
+          let less = further.less in
           let most = so_far.most in
           record {
-            running = subst (λ (b : Bool). IsRunning c.args.fabric.now (tables_of c.args.cells.now) c.args.block (record { seen = c.args.seen.now; graph = c.args.graph.now; stopped = c.args.stopped }) (record { seen = c.turn.new.seen; graph = c.turn.new.graph; stopped = b }) c.turn.new.done) (sym w.stops-is)
-                (run_more c.args.fabric.now (tables_of c.args.cells.now) c.args.block (record { seen = c.args.seen.now; graph = c.args.graph.now; stopped = c.args.stopped }) c.switches.at (record { seen = c.switches.seen; graph = c.switches.graph; stopped = c.switches.stops }) (record { seen = c.turn.new.seen; graph = c.turn.new.graph; stopped = w.in-Some.now }) c.switches.done c.turn.new.done so_far.running turned);
+            running = subst (λ (b : Bool). IsRunning c.args.fabric.now (tables_of c.args.cells.now) c.args.block (record { seen = c.args.seen.now; graph = c.args.graph.now; stopped = c.args.stopped }) (record { seen = c.follow.new.seen; graph = c.follow.new.graph; stopped = b }) c.follow.new.done) (sym w.stops-is)
+                (further.running (record { seen = c.args.seen.now; graph = c.args.graph.now; stopped = c.args.stopped }) so_far.running);
             rest = λ e. absurd (let t = w.fresh-is in cc);
             most = omega arith;
             less = λ _. omega arith;
           })
       | in_default w ↦ (
           let idle = w.in_default.ensures in
-          let same_gap : gap c.turn.new.done ≡ gap c.switches.done = ap (λ (xs : List ℕ). gap xs) idle.same_done in
+          let same_gap : gap c.follow.new.done ≡ gap c.switches.done = ap (λ (xs : List ℕ). gap xs) idle.same_done in
           let most = so_far.most in
           record {
-            running = subst (λ (b : Bool). IsRunning c.args.fabric.now (tables_of c.args.cells.now) c.args.block (record { seen = c.args.seen.now; graph = c.args.graph.now; stopped = c.args.stopped }) (record { seen = c.turn.new.seen; graph = c.turn.new.graph; stopped = b }) c.turn.new.done) (sym w.stops-is)
-                (idle_run c.args.fabric.now (tables_of c.args.cells.now) c.args.block (record { seen = c.args.seen.now; graph = c.args.graph.now; stopped = c.args.stopped }) c.switches.at (record { seen = c.switches.seen; graph = c.switches.graph; stopped = c.switches.stops }) (record { seen = c.turn.new.seen; graph = c.turn.new.graph; stopped = c.switches.stops }) c.switches.done c.turn.new.done idle so_far.running);
-            rest = λ e. idle_rest c.switches.at (record { seen = c.switches.seen; graph = c.switches.graph; stopped = c.switches.stops }) (record { seen = c.turn.new.seen; graph = c.turn.new.graph; stopped = c.switches.stops }) c.switches.done c.turn.new.done idle (so_far.rest (sym w.fresh-is ∙ e));
+            running = subst (λ (b : Bool). IsRunning c.args.fabric.now (tables_of c.args.cells.now) c.args.block (record { seen = c.args.seen.now; graph = c.args.graph.now; stopped = c.args.stopped }) (record { seen = c.follow.new.seen; graph = c.follow.new.graph; stopped = b }) c.follow.new.done) (sym w.stops-is)
+                (idle_run c.args.fabric.now (tables_of c.args.cells.now) c.args.block (record { seen = c.args.seen.now; graph = c.args.graph.now; stopped = c.args.stopped }) c.switches.at (record { seen = c.switches.seen; graph = c.switches.graph; stopped = c.switches.stops }) (record { seen = c.follow.new.seen; graph = c.follow.new.graph; stopped = c.switches.stops }) c.switches.done c.follow.new.done idle so_far.running);
+            rest = λ e. idle_rest c.switches.at (record { seen = c.switches.seen; graph = c.switches.graph; stopped = c.switches.stops }) (record { seen = c.follow.new.seen; graph = c.follow.new.graph; stopped = c.switches.stops }) c.switches.done c.follow.new.done idle (so_far.rest (sym w.fresh-is ∙ e));
             most = omega arith;
             less = λ e. (let less = so_far.less (sym w.fresh-is ∙ e) in omega arith);
           })
