@@ -1,6 +1,13 @@
-# The part of ./autonet and of ./fabric that proves and builds a program. Whoever reads it sets name, the name of the
-# wrapper, and root, out and log, its folders and the log of a build; and sample, a word with which a program is run once.
+# The part of ./autonet and of ./fabric that proves and builds a program, and tells the version. Whoever reads it sets
+# name, the name of the wrapper, and root, out and log, its folders and the log of a build; and sample, a word with which
+# a program is run once.
 # shellcheck shell=sh disable=SC2154
+
+# Tells the version, which is the first one of CHANGES.md, and the commit.
+version() {
+    echo "$name $(sed -n '/^## [0-9]/{s/^## \([0-9.]*\).*/\1/p;q;}' "$root/CHANGES.md")," \
+        "commit $(git -C "$root" rev-parse --short HEAD 2> /dev/null || echo unknown)"
+}
 
 # Says a line on the terminal.
 say() {
