@@ -6,6 +6,7 @@ is measured alone, and its columns have `-`."""
 
 import os
 import subprocess
+import sys
 import tempfile
 import time
 
@@ -13,6 +14,13 @@ ROOT = os.path.dirname(os.path.dirname(os.path.abspath(__file__)))
 PROVED = os.environ.get("AUTONET", os.path.join(ROOT, "out", "autonet"))
 YARDSTICK = os.path.join(ROOT, "out", "yardstick")
 HEAD = " milliseconds  processor   peak KiB   yardstick's processor   peak KiB  times as long"
+
+
+def help_if_asked(text):
+    """Prints the head of a script, and ends, where its only word is -h or --help."""
+    if sys.argv[1:] in (["-h"], ["--help"]):
+        print(text)
+        sys.exit()
 
 
 class Programs:

@@ -13,6 +13,7 @@ import resource
 import shutil
 import signal
 import subprocess
+import sys
 import tempfile
 import time
 
@@ -21,6 +22,14 @@ CASES = TOP / "tests" / "cases"
 
 # The most seconds by the clock that a run may take.
 CLOCK = 900
+
+
+def help_if_asked(text):
+    """Prints the head of a script, and ends, where its only word is -h or --help."""
+    if sys.argv[1:] in (["-h"], ["--help"]):
+        print(text)
+        sys.exit()
+
 
 # Of the calls of the C library by which memory is taken, bytes are read from standard input and bytes are written,
 # the one whose number is given fails: a growth, or with FAIL_GROWTHS_FROM each from that one on; a read or a write
