@@ -36,8 +36,10 @@ class Files:
             raise Fault(names[0], 0, "no network")
 
     def take_file(self, lines):
-        """Takes the texts that stand in one file."""
+        """Takes the texts that stand in one file. The line that the program wrote on standard error may come last."""
         said = [line for line in lines if line.words]
+        if len(said) > 1 and said[-1].words[0] in ("autonet:", "fabric:"):
+            said.pop()
         if said and is_topology(said[0]):
             self.put(said[0], "network", read_topology(said))
         else:
