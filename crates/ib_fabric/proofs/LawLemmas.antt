@@ -18,7 +18,7 @@ use Rattle.ib_topology.specs.declared.fact.PortTold.{PortTold}
 use Rattle.ib_topology.specs.declared.fact.PortTold.TheVariants.{OfSwitch, OfHost}
 use Rattle.ib_topology.specs.Texts.{says}
 use Rattle.ib_fabric.specs.declared.cause.FabricCause.{FabricCause}
-use Rattle.ib_fabric.specs.declared.cause.FabricCause.TheVariants.{Text, Range, Node, Link, LidDiffers}
+use Rattle.ib_fabric.specs.declared.cause.FabricCause.TheVariants.{Text, Range, Node, Link, LidDiffers, UnknownSwitch}
 use Rattle.ib_fabric.specs.Facts.{AddsLink, AddsNode, CablesPort, CannotJoin, IsFaultyLink, IsFaultyNode, IsLinkCause, IsNoCable, IsNoLink, IsNodeCause, Joins, LinksPorts, range_of, spot_of, switch_of}
 use Rattle.ib_fabric.specs.Lines.{AddsFacts, AddsLine, AddsSome, HasFaultyFact, IsEnded, IsFaultFrom, IsFaultyLine, IsFaultySome, IsTextFrom}
 use Rattle.ib_fabric.specs.Fabrics.{HasNodes, IsFabricText, IsFault, no_nodes}
@@ -130,6 +130,7 @@ node_once old (fact.Switch guid ports base lmc) a b x y = one_switch_added old a
 node_once old (fact.Host guid base lmc) a b x y = one_end_added old a b guid (range_of base lmc) x.1 y.1
 node_once old (fact.Link one other) a b x y = x ∙ sym y
 node_once old (fact.Neighbour guid base) a b x y = x ∙ sym y
+node_once old (fact.HasSwitch guid) a b x y = x ∙ sym y
 
 module _ (range : Type 0) (refused : NodeFault → Type 0) where
   cause_not : (cause : FabricCause) → range → ((fault : NodeFault) → refused fault → ⊥) → IsNodeCause range refused cause → ⊥
@@ -138,6 +139,7 @@ module _ (range : Type 0) (refused : NodeFault → Type 0) where
   cause_not (Node fault) within none y = none fault y.1
   cause_not (Link fault) within none y = y
   cause_not LidDiffers within none y = y
+  cause_not UnknownSwitch within none y = y
 
   cause_one : ((f g : NodeFault) → refused f → refused g → f ≡ g) → (b c : FabricCause) → IsNodeCause range refused b → IsNodeCause range refused c → b ≡ c
   cause_one one Range Range x y = refl
@@ -147,24 +149,29 @@ module _ (range : Type 0) (refused : NodeFault → Type 0) where
   cause_one one (Text f) c x y = absurd x
   cause_one one (Link f) c x y = absurd x
   cause_one one LidDiffers c x y = absurd x
+  cause_one one UnknownSwitch c x y = absurd x
   cause_one one Range (Text g) x y = absurd y
   cause_one one Range (Link g) x y = absurd y
   cause_one one Range LidDiffers x y = absurd y
+  cause_one one Range UnknownSwitch x y = absurd y
   cause_one one (Node f) (Text g) x y = absurd y
   cause_one one (Node f) (Link g) x y = absurd y
   cause_one one (Node f) LidDiffers x y = absurd y
+  cause_one one (Node f) UnknownSwitch x y = absurd y
 
 node_not : (old : NodesOf) (fact : Fact) (new : NodesOf) (cause : FabricCause) → AddsNode old fact new → IsFaultyNode old fact cause → ⊥
 node_not old (fact.Switch guid ports base lmc) new cause x y = cause_not _ _ cause (x.0, x.1) (λ fault. switch_or old new guid (switch_of ports base lmc) fault x.2) y
 node_not old (fact.Host guid base lmc) new cause x y = cause_not _ _ cause x.0 (λ fault. end_or old new guid (range_of base lmc) fault x.1) y
 node_not old (fact.Link one other) new cause x y = y
 node_not old (fact.Neighbour guid base) new cause x y = y
+node_not old (fact.HasSwitch guid) new cause x y = y
 
 node_cause : (old : NodesOf) (fact : Fact) (b c : FabricCause) → IsFaultyNode old fact b → IsFaultyNode old fact c → b ≡ c
 node_cause old (fact.Switch guid ports base lmc) b c x y = cause_one _ _ (one_switch_fault old guid (switch_of ports base lmc)) b c x y
 node_cause old (fact.Host guid base lmc) b c x y = cause_one _ _ (one_end_fault old guid (range_of base lmc)) b c x y
 node_cause old (fact.Link one other) b c x y = absurd x
 node_cause old (fact.Neighbour guid base) b c x y = absurd x
+node_cause old (fact.HasSwitch guid) b c x y = absurd x
 
 -- links
 module _ (old : FabricOf) (port far : ℕ) where
@@ -223,6 +230,7 @@ link_cause_not refused (Text fault) none y = y
 link_cause_not refused Range none y = y
 link_cause_not refused (Node fault) none y = y
 link_cause_not refused LidDiffers none y = y
+link_cause_not refused UnknownSwitch none y = y
 
 link_cause_one : (refused : LinkFault → Type 0) → ((f g : LinkFault) → refused f → refused g → f ≡ g) → (b c : FabricCause) → IsLinkCause refused b → IsLinkCause refused c → b ≡ c
 link_cause_one refused one (Link f) (Link g) x y = ap (λ (n : LinkFault). Link n) (one f g x y)
@@ -230,28 +238,33 @@ link_cause_one refused one (Text f) c x y = absurd x
 link_cause_one refused one Range c x y = absurd x
 link_cause_one refused one (Node f) c x y = absurd x
 link_cause_one refused one LidDiffers c x y = absurd x
+link_cause_one refused one UnknownSwitch c x y = absurd x
 link_cause_one refused one (Link f) (Text g) x y = absurd y
 link_cause_one refused one (Link f) Range x y = absurd y
 link_cause_one refused one (Link f) (Node g) x y = absurd y
 link_cause_one refused one (Link f) LidDiffers x y = absurd y
+link_cause_one refused one (Link f) UnknownSwitch x y = absurd y
 
 link_once : (old : FabricOf) (fact : Fact) (a b : FabricOf) → AddsLink old fact a → AddsLink old fact b → a ≡ b
 link_once old (fact.Switch guid ports base lmc) a b x y = x ∙ sym y
 link_once old (fact.Host guid base lmc) a b x y = x ∙ sym y
 link_once old (fact.Link one other) a b x y = joins_once old one other a b x y
 link_once old (fact.Neighbour guid base) a b x y = x.1 ∙ sym y.1
+link_once old (fact.HasSwitch guid) a b x y = x.1 ∙ sym y.1
 
 link_not : (old : FabricOf) (fact : Fact) (new : FabricOf) (cause : FabricCause) → AddsLink old fact new → IsFaultyLink old fact cause → ⊥
 link_not old (fact.Switch guid ports base lmc) new cause x y = y
 link_not old (fact.Host guid base lmc) new cause x y = y
 link_not old (fact.Link one other) new cause x y = link_cause_not (CannotJoin old one other) cause (λ fault. joins_not old one other new fault x) y
 link_not old (fact.Neighbour guid base) new cause x y = y.1 x.0
+link_not old (fact.HasSwitch guid) new cause x y = x.0 y.1
 
 link_cause : (old : FabricOf) (fact : Fact) (b c : FabricCause) → IsFaultyLink old fact b → IsFaultyLink old fact c → b ≡ c
 link_cause old (fact.Switch guid ports base lmc) b c x y = absurd x
 link_cause old (fact.Host guid base lmc) b c x y = absurd x
 link_cause old (fact.Link one other) b c x y = link_cause_one (CannotJoin old one other) (joins_fault old one other) b c x y
 link_cause old (fact.Neighbour guid base) b c x y = x.0 ∙ sym y.0
+link_cause old (fact.HasSwitch guid) b c x y = x.0 ∙ sym y.0
 
 -- the laws
 same_bare : (bytes : List ℕ) (one other : FabricOf) → HasNodes bytes one → HasNodes bytes other → one ≡ other

@@ -253,6 +253,7 @@ module _ (old new : FabricOf) (two : HasTwoEnds old) where
   fact_two (fact.Host guid base lmc) is = same_two is
   fact_two (fact.Link one other) is = joins_two one other is
   fact_two (fact.Neighbour guid base) is = same_two is.1
+  fact_two (fact.HasSwitch guid) is = same_two is.1
 
 -- what each fact keeps, a text keeps
 module _ {Told : Type 0} (adds : Told → Fact → Told → Type 0) (Holds : Told → Type 0) (keeps : (old new : Told) → Holds old → (said : Fact) → adds old said new → Holds new) where

@@ -9,6 +9,7 @@ use Rattle.ib_topology.specs.declared.cause.TopologyCause.{TopologyCause}
 use Rattle.ib_topology.specs.declared.cause.TopologyCause.TheVariants.{LineTooLong, UnknownLine, NoEnd}
 use Rattle.ib_fabric.specs.declared.cause.FabricCause.{FabricCause}
 use Rattle.ib_fabric.specs.declared.cause.FabricCause.TheVariants.{Text, Range, Node, Link, LidDiffers}
+use Rattle.ib_fabric.specs.declared.cause.FabricCause.TheVariants.{UnknownSwitch}
 
 abbrev pub form_text : TopologyCause → List ℕ
 form_text LineTooLong = codes "line too long"
@@ -32,3 +33,4 @@ cause_text Range = codes "number range"
 cause_text (Node fault) = node_text fault
 cause_text (Link fault) = link_text fault
 cause_text LidDiffers = codes "lid differs"
+cause_text UnknownSwitch = codes "unknown switch"

@@ -1,5 +1,5 @@
 -- What facts tell: first of nodes, and then of links between them.
-use Rattle.std.specs.Prelude.{◌≡◌, ◌≤◌, ◌⊎◌, ℕ, Option, Some, None}
+use Rattle.std.specs.Prelude.{◌≡◌, ◌≢◌, ◌≤◌, ◌⊎◌, ℕ, Option, Some, None}
 use Rattle.std.specs.Option.{option_map, option_or}
 use Rattle.text_lines.specs.declared.stop.Stop.{Stop}
 use Rattle.text_lines.specs.declared.stop.Stop.TheVariants.{Fault, OutOfMemory}
@@ -19,6 +19,7 @@ use Rattle.ib_topology.specs.declared.fact.PortTold.{PortTold}
 use Rattle.ib_topology.specs.declared.fact.PortTold.TheVariants.{OfSwitch, OfHost}
 use Rattle.ib_fabric.specs.declared.cause.FabricCause.{FabricCause}
 use Rattle.ib_fabric.specs.declared.cause.FabricCause.TheVariants.{Text, Range, Node, Link, LidDiffers}
+use Rattle.ib_fabric.specs.declared.cause.FabricCause.TheVariants.{UnknownSwitch}
 
 -- LIDs from a base on, and a switch
 abbrev pub range_of : ℕ → ℕ → LidRange
@@ -39,6 +40,7 @@ AddsNode old (fact.Switch guid ports base lmc) new =
 AddsNode old (fact.Host guid base lmc) new = AreLids base lmc × AddsEnd old new guid (range_of base lmc)
 AddsNode old (fact.Link one other) new = new ≡ old
 AddsNode old (fact.Neighbour guid base) new = new ≡ old
+AddsNode old (fact.HasSwitch guid) new = new ≡ old
 
 -- the cause is that a number is out of range, or a fault for which a node is refused
 abbrev pub IsNodeCause : Type 0 → (NodeFault → Type 0) → FabricCause → Type 0
@@ -47,6 +49,7 @@ IsNodeCause range refused (Node fault) = range × refused fault
 IsNodeCause range refused (Text fault) = ⊥
 IsNodeCause range refused (Link fault) = ⊥
 IsNodeCause range refused LidDiffers = ⊥
+IsNodeCause range refused UnknownSwitch = ⊥
 
 -- why a node stops the reader
 abbrev pub node_stop : Stop NodeFault → Stop FabricCause
@@ -61,6 +64,7 @@ IsFaultyNode old (fact.Host guid base lmc) cause =
     IsNodeCause (AreLids base lmc) (IsRefusedEnd old guid (range_of base lmc)) cause
 IsFaultyNode old (fact.Link one other) cause = ⊥
 IsFaultyNode old (fact.Neighbour guid base) cause = ⊥
+IsFaultyNode old (fact.HasSwitch guid) cause = ⊥
 
 abbrev pub spot_of : ℕ → ℕ → Spot
 spot_of switch port = record { switch = switch; port = port }
@@ -100,12 +104,13 @@ abbrev pub IsLidOf : FabricOf → Option EndPort → ℕ → Type 0
 IsLidOf fabric None lid = Unit {0}
 IsLidOf fabric (Some owner) lid = (lid ≡ 0) ⊎ (owner_of fabric lid ≡ Some owner)
 
--- a link is added, or a neighbour's LID is its own, if the fact tells of one
+-- a link is added, a neighbour's LID is its own, or a switch that is named is there, if the fact tells of one
 abbrev pub AddsLink : FabricOf → Fact → FabricOf → Type 0
 AddsLink old (fact.Switch guid ports base lmc) new = new ≡ old
 AddsLink old (fact.Host guid base lmc) new = new ≡ old
 AddsLink old (fact.Link one other) new = Joins old one other new
 AddsLink old (fact.Neighbour guid base) new = IsLidOf old (node_with old guid) base × (new ≡ old)
+AddsLink old (fact.HasSwitch guid) new = (switch_with old guid ≢ None) × (new ≡ old)
 
 -- two ports cannot be linked, or not cabled, by this fault
 abbrev pub IsNoLink : FabricOf → Option ℕ → ℕ → Option ℕ → ℕ → LinkFault → Type 0
@@ -135,11 +140,13 @@ IsLinkCause refused (Text fault) = ⊥
 IsLinkCause refused Range = ⊥
 IsLinkCause refused (Node fault) = ⊥
 IsLinkCause refused LidDiffers = ⊥
+IsLinkCause refused UnknownSwitch = ⊥
 
--- the link of a fact, or its LID of a neighbour, is refused by this cause
+-- the link of a fact, its LID of a neighbour, or the switch that it names, is refused by this cause
 abbrev pub IsFaultyLink : FabricOf → Fact → FabricCause → Type 0
 IsFaultyLink old (fact.Switch guid ports base lmc) cause = ⊥
 IsFaultyLink old (fact.Host guid base lmc) cause = ⊥
 IsFaultyLink old (fact.Link one other) cause = IsLinkCause (CannotJoin old one other) cause
 IsFaultyLink old (fact.Neighbour guid base) cause =
     (cause ≡ LidDiffers) × (¬ IsLidOf old (node_with old guid) base)
+IsFaultyLink old (fact.HasSwitch guid) cause = (cause ≡ UnknownSwitch) × (switch_with old guid ≡ None)

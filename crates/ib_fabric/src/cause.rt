@@ -19,6 +19,8 @@ pub enum FabricCause {
     Link(LinkFault),
     /// A neighbour tells another LID of a node than the node's own line.
     LidDiffers,
+    /// A plain text does not have a switch that the line names.
+    UnknownSwitch,
 }
 
 impl FabricCause {
@@ -39,6 +41,7 @@ impl FabricCause {
             FabricCause::Link(LinkFault::NoPort) => "no such port",
             FabricCause::Link(LinkFault::Differs) => "link differs",
             FabricCause::LidDiffers => "lid differs",
+            FabricCause::UnknownSwitch => "unknown switch",
         }
     }
 }

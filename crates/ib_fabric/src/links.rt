@@ -1,4 +1,4 @@
-//! The links among facts, and what neighbours tell.
+//! The links among facts, the switches that are named, and what neighbours tell.
 
 ghost use Rattle.std.specs.Prelude.{◌≡◌, ◌<◌, ◌↔◌, IfErr, IfOk, IsTrue, OnOk, Some};
 ghost use Rattle.ib_net.specs.Fabric.{IsPort, end_with, switch_count, switch_with};
@@ -32,6 +32,10 @@ impl Takes for Fabric {
                     Err(Stop::Fault(FabricCause::LidDiffers))
                 }
             }
+            Fact::HasSwitch { guid } => match self.switch_with(guid) {
+                Some(_) => Ok(()),
+                None => Err(Stop::Fault(FabricCause::UnknownSwitch)),
+            },
             Fact::Switch {
                 guid: _,
                 ports: _,

@@ -30,6 +30,7 @@ impl Takes for Nodes {
             Fact::Host { guid, base, lmc } => take_end(self, guid, base, lmc),
             Fact::Link { one: _, other: _ } => Ok(()),
             Fact::Neighbour { guid: _, base: _ } => Ok(()),
+            Fact::HasSwitch { guid: _ } => Ok(()),
         }
     }
 }

@@ -89,6 +89,7 @@ node_told (Some (fact.Switch guid ports base lmc)) = Some guid
 node_told (Some (fact.Host guid base lmc)) = Some guid
 node_told (Some (fact.Link one other)) = None
 node_told (Some (fact.Neighbour guid base)) = None
+node_told (Some (fact.HasSwitch guid)) = None
 
 -- a node with its name, if there are both
 abbrev pub named : Option ℕ → Option (List ℕ) → List (ℕ × List ℕ)

@@ -7,10 +7,11 @@ use Rattle.ib_topology.specs.declared.fact.Fact.TheVariants as fact
 use Rattle.ib_topology.specs.declared.fact.PortTold.TheVariants.{OfSwitch, OfHost}
 use Rattle.ib_topology.specs.declared.fact.Line.{Line}
 use Rattle.ib_topology.specs.declared.fact.Part.TheVariants as part
-use Rattle.ib_topology.specs.Facts.{silent, telling, telling_two}
+use Rattle.ib_topology.specs.Facts.{silent, telling, telling_three}
 use Rattle.ib_topology.specs.Fronts.{begins, number_then, front_number}
 
--- The lines of the plain format. After the last number of a line a space and a name may follow.
+-- The lines of the plain format. After the last number of a line a space and a name may follow. A SWITCH is
+-- the id of a switch that the text has.
 
 -- the id at the front of a text, `0x` and hexadecimal digits up to a space, and what stands after that
 unfoldable pub id_then : List ℕ → Option (ℕ × List ℕ)
@@ -37,7 +38,7 @@ plain_host text = do
   lmc ← number_then base.1
   switch ← id_then lmc.1
   port ← front_number switch.1
-  Some (telling_two part.Plain (fact.Host guid.0 base.0 lmc.0)
+  Some (telling_three part.Plain (fact.Host guid.0 base.0 lmc.0) (fact.HasSwitch switch.0)
       (fact.Link (OfHost guid.0) (OfSwitch switch.0 port)))
 
 -- `link SWITCH PORT SWITCH PORT`
@@ -47,7 +48,8 @@ plain_link text = do
   port ← number_then one.1
   other ← id_then port.1
   far_port ← front_number other.1
-  Some (telling part.Plain (fact.Link (OfSwitch one.0 port.0) (OfSwitch other.0 far_port)))
+  Some (telling_three part.Plain (fact.HasSwitch one.0) (fact.HasSwitch other.0)
+      (fact.Link (OfSwitch one.0 port.0) (OfSwitch other.0 far_port)))
 
 -- what a line tells by its first word
 unfoldable pub item : List ℕ → Option Line

@@ -38,6 +38,10 @@ pub enum Fact {
         guid: u64,
         base: u64,
     },
+    /// A switch of this GUID is in the text: a plain line names it.
+    HasSwitch {
+        guid: u64,
+    },
 }
 
 /// What one line says: at most three facts, and what kind of line may follow.

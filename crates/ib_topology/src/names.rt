@@ -100,6 +100,7 @@ fn node_told(fact: Option<Fact>) -> Option<u64>
         } => Some(guid),
         Fact::Link { one: _, other: _ } => None,
         Fact::Neighbour { guid: _, base: _ } => None,
+        Fact::HasSwitch { guid: _ } => None,
     }
 }
 

@@ -50,11 +50,13 @@ fn plain_host(text: &[u8]) -> Option<Line>
     let (lmc, rest) = number_then(rest)?;
     let (switch, rest) = id_then(rest)?;
     let port = front_number(rest)?;
+    let host = Fact::Host { guid, base, lmc };
+    let there = Fact::HasSwitch { guid: switch };
     let link = Fact::Link {
         one: PortTold::OfHost { guid },
         other: PortTold::OfSwitch { guid: switch, port },
     };
-    Some(Line::of_two(Part::Plain, Fact::Host { guid, base, lmc }, link))
+    Some(Line::of_three(Part::Plain, host, there, link))
 }
 
 // What a link's line tells, after its first word.
@@ -66,6 +68,8 @@ fn plain_link(text: &[u8]) -> Option<Line>
     let (port, rest) = number_then(rest)?;
     let (other, rest) = id_then(rest)?;
     let far_port = front_number(rest)?;
+    let there = Fact::HasSwitch { guid: one };
+    let far_there = Fact::HasSwitch { guid: other };
     let link = Fact::Link {
         one: PortTold::OfSwitch { guid: one, port },
         other: PortTold::OfSwitch {
@@ -73,7 +77,7 @@ fn plain_link(text: &[u8]) -> Option<Line>
             port: far_port,
         },
     };
-    Some(Line::of(Part::Plain, link))
+    Some(Line::of_three(Part::Plain, there, far_there, link))
 }
 
 // What a line tells by its first word.
