@@ -1,5 +1,5 @@
 -- The names of a text, noted line by line.
-use Rattle.std.proofs.Common.{◌≡◌, ◌≢◌, ◌∙◌, sym, ap, subst, refl, ℕ, Bool, true, false, true≢false, cond, is_some, List, [], ◌∷◌, ◌++◌, append_assoc, append-nil, Option, Some, None, Contains, inl, inr}
+use Rattle.std.proofs.Common.{◌≡◌, ◌≢◌, ◌∙◌, sym, ap, subst, refl, arith, length, ℕ, Bool, true, false, true≢false, cond, is_some, List, [], ◌∷◌, ◌++◌, append_assoc, append-nil, Option, Some, None, Contains, inl, inr}
 use Rattle.std.specs.Prelude.{nat_eq}
 use Rattle.std.specs.List.{list_any}
 use Rattle.std.specs.Map.{lookup}
@@ -92,6 +92,13 @@ module _ (told names : List (ℕ × List ℕ)) (guids : List ℕ) (are : AreSo t
     others = λ g not. lookup-append (nat_eq g) names ((guid, name) ∷ []) ∙ ap (λ (o : Option (List ℕ)). option_or o (lookup (nat_eq g) ((guid, name) ∷ []))) (are.others g not)
         ∙ alone g (λ same. not (subst (Contains guids) (sym same) (Contains-from_any eqb-true guid guids asked)));
   }
+
+-- no names, if none is asked for
+pub none_asked : (bytes guids : List ℕ) (names : List (ℕ × List ℕ)) → length guids ≡ 0 → names ≡ [] → AreNamesOf bytes guids names
+none_asked bytes guids names few none = subst (AreNamesOf bytes guids) (sym none) (record {
+  asked = λ guid has. absurd (let low = has.1 in omega arith);
+  others = λ guid not. refl;
+})
 
 -- lines are read, up to the rest
 pub record IsReadTo (bytes rest : List ℕ) (here : Part) (section : Option (List ℕ)) (guids : List ℕ) (names : List (ℕ × List ℕ)) : Type 0 where

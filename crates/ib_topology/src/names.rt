@@ -1,6 +1,6 @@
 //! The names of nodes, which the facts of a text leave out.
 
-ghost use Rattle.std.specs.Prelude.{◌≡◌, ◌++◌, ℕ, List, Some, None, MatchOption, IfOk, OnOk, nat_eq};
+ghost use Rattle.std.specs.Prelude.{◌≡◌, ◌++◌, [], ℕ, List, Some, None, MatchOption, IfOk, OnOk, nat_eq};
 ghost use Rattle.std.specs.Map.{lookup};
 ghost use Rattle.std.specs.Option.{option_copied};
 ghost use Rattle.ib_topology.specs.Names.{AreNamesBy, AreNamesOf, braced, far_name, halves, head_name, named};
@@ -28,32 +28,49 @@ pub fn names_of(
     ensures { IfOk result (λ names. AreNamesOf bytes.now guids.now.keys names.entries) }
 {
     let mut names = IndexMap::new(alloc);
+    note_names(alloc, &mut names, bytes, guids)?;
+    Ok(names)
+}
+
+// Notes the names that a text tells of the nodes that are asked for. It is not gone over if there are none.
+fn note_names(
+    alloc: Global,
+    names: &mut IndexMap<u64, Word>,
+    bytes: &[u8],
+    guids: &IndexSet<u64>,
+) -> Result<(), OutOfMemory>
+    requires { names.old.entries ≡ [] }
+    ensures { OnOk result (AreNamesOf bytes.now guids.now.keys names.new.entries) }
+{
+    if guids.is_empty() {
+        return Ok(());
+    }
     let mut part = Part::Start;
     let mut section = None;
     let mut rest = bytes;
     'lines: while let Some((line, after)) = first_line(rest) {
         let Some(said) = says(part, line) else {
-            return Ok(names);
+            return Ok(());
         };
         part = said.part;
         section = section_name(section, line);
         note(
             alloc,
-            &mut names,
+            names,
             guids,
             node_told(said.first),
             near_name(part, section, line),
         )?;
         note(
             alloc,
-            &mut names,
+            names,
             guids,
             node_told(said.second),
             far_name(part, line),
         )?;
         rest = after;
     }
-    Ok(names)
+    Ok(())
 }
 
 // Notes the name of a node, if there are both, it is asked for, and no name is noted.

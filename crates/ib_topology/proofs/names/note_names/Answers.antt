@@ -2,7 +2,7 @@ use Rattle.std.proofs.Common.{◌++◌}
 use Rattle.std.specs.Option.{option_copied}
 use Rattle.ib_topology.specs.Names.{named}
 use Rattle.ib_topology.proofs.NameLemmas.{line_noted}
-use Rattle.ib_topology.proofs.names.names_of.Goals as goal
+use Rattle.ib_topology.proofs.names.note_names.Goals as goal
 
 pub lines-preserved : goal.lines-preserved
 lines-preserved c =
