@@ -1,7 +1,7 @@
 //! Why a text tells of no topology.
 
 /// What is wrong with a line.
-#[derive(Clone, Copy, Debug, PartialEq, Eq)]
+#[derive(Clone, Copy)]
 pub enum TopologyCause {
     /// It has more than 4,096 bytes.
     LineTooLong,
