@@ -47,6 +47,13 @@ far_port id rest =
     option_map_or (λ guid. in_brackets rest >>= λ port. Some (OfSwitch guid port)) (switch_id id)
     (adapter_id id >>= λ node. in_parentheses rest >>= λ guid. Some (OfHost guid))
 
+-- the same in a line, and what stands after the id
+unfoldable pub far_end : List ℕ → Option (PortTold × List ℕ)
+far_end line = do
+  id ← quoted line
+  port ← far_port id.0 id.1
+  Some (port, id.1)
+
 -- the LID after the last ` lid `
 unfoldable pub last_lid : List ℕ → Option ℕ
 last_lid text = do
@@ -83,25 +90,33 @@ adapter_head text = do
 unfoldable pub switch_port : ℕ → List ℕ → Option Line
 switch_port guid line = do
   port ← in_brackets line
-  id ← quoted line
-  other ← far_port id.0 id.1
-  base ← last_lid id.1
-  Some (telling_two (part.Switch guid) (fact.Link (OfSwitch guid port) other)
-      (fact.Neighbour (guid_of other) base))
+  far ← far_end line
+  base ← last_lid far.1
+  Some (telling_two (part.Switch guid) (fact.Link (OfSwitch guid port) far.0)
+      (fact.Neighbour (guid_of far.0) base))
+
+-- the GUID of the port of an adapter, which stands before the id of the far end
+unfoldable pub own_guid : List ℕ → Option ℕ
+own_guid line = do
+  port ← in_brackets line
+  own ← cut 34 line
+  in_parentheses own.0
+
+-- its LIDs
+unfoldable pub port_lids : List ℕ → Option (ℕ × ℕ)
+port_lids text = do
+  numbers ← cut_first (codes "# lid ") text
+  own_lids numbers.1
 
 -- `[1](8f10400000011) \t"S-0002c90000000001"[1]\t\t# lid 1 lmc 0 "leaf1" lid 6 4xSDR`, in that of an adapter
 unfoldable pub adapter_port : List ℕ → Option Line
 adapter_port line = do
-  port ← in_brackets line
-  own ← cut 34 line
-  guid ← in_parentheses own.0
-  id ← quoted line
-  other ← far_port id.0 id.1
-  numbers ← cut_first (codes "# lid ") id.1
-  lids ← own_lids numbers.1
-  far_base ← last_lid id.1
-  Some (telling_three part.Adapter (fact.Host guid lids.0 lids.1) (fact.Link (OfHost guid) other)
-      (fact.Neighbour (guid_of other) far_base))
+  guid ← own_guid line
+  far ← far_end line
+  lids ← port_lids far.1
+  far_base ← last_lid far.1
+  Some (telling_three part.Adapter (fact.Host guid lids.0 lids.1) (fact.Link (OfHost guid) far.0)
+      (fact.Neighbour (guid_of far.0) far_base))
 
 -- the head of a node
 unfoldable pub head_line : List ℕ → Option Line
@@ -138,5 +153,5 @@ is_passed_over line = begins (codes "#") line || (is_of_chassis line || is_of_id
 unfoldable pub discovered : Part → List ℕ → Option Line
 discovered here line =
     if length line == 0 then Some (silent part.Outside)
-    else if is_passed_over line then Some (silent here)
-    else option_map_or (λ rest. port_line here line) (after (codes "[") line) (head_line line)
+    else if begins (codes "[") line then port_line here line
+    else if is_passed_over line then Some (silent here) else head_line line

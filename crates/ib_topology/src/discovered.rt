@@ -2,7 +2,8 @@
 
 ghost use Rattle.std.specs.Prelude.{◌≡◌, Some, None, MatchOption};
 ghost use Rattle.ib_topology.specs.Discovered.{quoted, in_brackets, in_parentheses};
-ghost use Rattle.ib_topology.specs.Discovered.{switch_id, adapter_id, far_port, last_lid, own_lids};
+ghost use Rattle.ib_topology.specs.Discovered.{switch_id, adapter_id, far_end, far_port, last_lid, own_guid};
+ghost use Rattle.ib_topology.specs.Discovered.{own_lids, port_lids};
 ghost use Rattle.ib_topology.specs.Discovered.{switch_head, adapter_head, switch_port, adapter_port};
 ghost use Rattle.ib_topology.specs.Discovered.{head_line, port_line, discovered};
 ghost use Rattle.ib_topology.specs.Discovered.{is_of_chassis, is_of_ids, is_passed_over};
@@ -84,6 +85,17 @@ fn far_port(id: &[u8], rest: &[u8]) -> Option<PortTold>
     }
 }
 
+// The same in a line, and what stands after the id.
+#[tactic(auto, unfolding(crate::specs::Discovered::far_end))]
+fn far_end(line: &[u8]) -> Option<(PortTold, &[u8])>
+    ensures { MatchOption result (far_end line.now ≡ None)
+        (λ r. far_end line.now ≡ Some (r.0, r.1.now)) }
+{
+    let (id, rest) = quoted(line)?;
+    let port = far_port(id, rest)?;
+    Some((port, rest))
+}
+
 // The LID after the last ` lid `.
 #[tactic(auto, unfolding(crate::specs::Discovered::last_lid))]
 fn last_lid(text: &[u8]) -> Option<u64>
@@ -140,8 +152,7 @@ fn switch_port(guid: u64, line: &[u8]) -> Option<Line>
     ensures { result ≡ switch_port guid line.now }
 {
     let port = in_brackets(line)?;
-    let (id, rest) = quoted(line)?;
-    let other = far_port(id, rest)?;
+    let (other, rest) = far_end(line)?;
     let base = last_lid(rest)?;
     let link = Fact::Link {
         one: PortTold::OfSwitch { guid, port },
@@ -154,18 +165,33 @@ fn switch_port(guid: u64, line: &[u8]) -> Option<Line>
     Some(Line::of_two(Part::Switch { guid }, link, neighbour))
 }
 
+// The GUID of the port of an adapter or router, which stands before the id of the far end.
+#[tactic(auto, unfolding(crate::specs::Discovered::own_guid))]
+fn own_guid(line: &[u8]) -> Option<u64>
+    ensures { result ≡ own_guid line.now }
+{
+    let _port = in_brackets(line)?;
+    let (front, _rest) = cut(line, b'"')?;
+    in_parentheses(front)
+}
+
+// The LIDs of that port.
+#[tactic(auto, unfolding(crate::specs::Discovered::port_lids))]
+fn port_lids(text: &[u8]) -> Option<(u64, u64)>
+    ensures { result ≡ port_lids text.now }
+{
+    let (_front, numbers) = cut_first(text, "# lid ")?;
+    own_lids(numbers)
+}
+
 // What the line of a port tells in the section of an adapter or router.
 #[tactic(auto, unfolding(crate::specs::Discovered::adapter_port))]
 fn adapter_port(line: &[u8]) -> Option<Line>
     ensures { result ≡ adapter_port line.now }
 {
-    let _port = in_brackets(line)?;
-    let (front, _rest) = cut(line, b'"')?;
-    let guid = in_parentheses(front)?;
-    let (id, rest) = quoted(line)?;
-    let other = far_port(id, rest)?;
-    let (_front, numbers) = cut_first(rest, "# lid ")?;
-    let (base, lmc) = own_lids(numbers)?;
+    let guid = own_guid(line)?;
+    let (other, rest) = far_end(line)?;
+    let (base, lmc) = port_lids(rest)?;
     let far_base = last_lid(rest)?;
     let host = Fact::Host { guid, base, lmc };
     let link = Fact::Link {
@@ -248,11 +274,11 @@ pub fn discovered(part: Part, line: &[u8]) -> Option<Line>
     if line.is_empty() {
         return Some(Line::silent(Part::Outside));
     }
+    if begins(line, "[") {
+        return port_line(part, line);
+    }
     if is_passed_over(line) {
         return Some(Line::silent(part));
     }
-    match after(line, "[") {
-        Some(_rest) => port_line(part, line),
-        None => head_line(line),
-    }
+    head_line(line)
 }

@@ -7,6 +7,7 @@ use ib_words::cut::cut;
 use ib_words::digits::decimal;
 
 /// Whether a text begins with this one.
+#[inline(always)]
 pub fn begins(text: &[u8], front: &str) -> bool
     ensures { result ≡ begins front.now text.now }
 {
