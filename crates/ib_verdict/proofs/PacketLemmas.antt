@@ -1,4 +1,4 @@
--- Where numbers fall along each dependency and no route stops, waiting leads to a packet that can go.
+-- Where numbers fall along each dependency, waiting leads to a packet that can go.
 use Rattle.std.proofs.Common.{◌≡◌, ◌≢◌, sym, ap, subst, refl, ℕ, zero, suc, ◌<◌, ◌≤◌, List, [], ◌∷◌, length, inl, inr, arith}
 use Rattle.std.specs.Prelude.{Contains}
 use Rattle.std.proofs.lemmas.Bool.{cases_lt}
@@ -9,15 +9,24 @@ use Rattle.ib_routes.specs.declared.hop.Hop.{Hop}
 use Rattle.ib_routes.specs.declared.hop.Hop.TheVariants.{On, Arrive, Stop}
 use Rattle.ib_routes.specs.declared.traffic.Traffic.{Traffic}
 use Rattle.ib_routes.specs.Routes.{Channel, ComesTo, DependsOn, IsStopped, IsStop, hop}
-use Rattle.ib_verdict.specs.Packets.{AllStand, ComesFree, FirstCanGo, Packet, QueuesOf, StandsIn, WaitsFor}
+use Rattle.ib_verdict.specs.Packets.{AllStand, ComesFree, FirstCanGo, Leaves, Packet, QueuesOf, StandsIn, WaitsFor}
 
-module _ (fabric : FabricOf) (tables : TablesOf) (traffic : Traffic) (rank : Channel → ℕ) (fall : (channel next : Channel) → DependsOn fabric tables traffic channel next → rank next < rank channel) (kept : (lid : ℕ) (source : EndPort) → IsStopped fabric tables traffic lid source → ⊥) (room : Channel → ℕ) (queue : QueuesOf) (some : (each : Channel) → 1 ≤ room each) (stand : AllStand fabric tables traffic queue) where
-  -- a packet comes to the switch at the far side of its channel
-  comes_far : (channel : Channel) (packet : Packet) (stands : StandsIn fabric tables traffic channel packet) → ComesTo fabric tables traffic packet.lid packet.source stands.far
-  comes_far channel packet stands =
-      let comes = stands.comes in
-      record { sends = comes.sends; start = comes.start; begins = comes.begins; hops = suc comes.hops; comes = (channel.switch, channel.port, comes.comes, stands.takes) }
+-- a packet comes to the switch at the far side of its channel
+comes_far : (fabric : FabricOf) (tables : TablesOf) (traffic : Traffic) (channel : Channel) (packet : Packet) (stands : StandsIn fabric tables traffic channel packet) → ComesTo fabric tables traffic packet.lid packet.source stands.far
+comes_far fabric tables traffic channel packet stands =
+    let comes = stands.comes in
+    record { sends = comes.sends; start = comes.start; begins = comes.begins; hops = suc comes.hops; comes = (channel.switch, channel.port, comes.comes, stands.takes) }
 
+-- where no route stops, it leaves there only to arrive
+pub arrives : (fabric : FabricOf) (tables : TablesOf) (traffic : Traffic) (kept : (lid : ℕ) (source : EndPort) → IsStopped fabric tables traffic lid source → ⊥) (channel : Channel) (packet : Packet) (stands : StandsIn fabric tables traffic channel packet) → Leaves (hop fabric tables stands.far packet.lid) → hop fabric tables stands.far packet.lid ≡ Arrive
+arrives fabric tables traffic kept channel packet stands leaves = by_hop (hop fabric tables stands.far packet.lid) refl
+  where
+    by_hop : (does : Hop) → hop fabric tables stands.far packet.lid ≡ does → hop fabric tables stands.far packet.lid ≡ Arrive
+    by_hop Arrive is = is
+    by_hop (Stop cause) is = absurd (kept packet.lid packet.source (stands.far, comes_far fabric tables traffic channel packet stands, subst IsStop (sym is) tt))
+    by_hop (On port next) is = absurd (subst Leaves is leaves)
+
+module _ (fabric : FabricOf) (tables : TablesOf) (traffic : Traffic) (rank : Channel → ℕ) (fall : (channel next : Channel) → DependsOn fabric tables traffic channel next → rank next < rank channel) (room : Channel → ℕ) (queue : QueuesOf) (some : (each : Channel) → 1 ≤ room each) (stand : AllStand fabric tables traffic queue) where
   -- the channel that it takes next, on which its own depends
   depends : (channel : Channel) (packet : Packet) (stands : StandsIn fabric tables traffic channel packet) (out after : ℕ) → hop fabric tables stands.far packet.lid ≡ On out after → DependsOn fabric tables traffic channel (record { switch = stands.far; port = out })
   depends channel packet stands out after on = (packet.lid, packet.source, record { comes = stands.comes; first = stands.takes; after = after; second = on })
@@ -54,8 +63,8 @@ module _ (fabric : FabricOf) (tables : TablesOf) (traffic : Traffic) (rank : Cha
     ]
 
     by_hop : ((next : Channel) → DependsOn fabric tables traffic channel next → queue next ≢ [] → ComesFree fabric tables room queue next) → (does : Hop) → hop fabric tables stands.far first.lid ≡ does → ComesFree fabric tables room queue channel
-    by_hop again Arrive does = at_once (record { first = first; rest = rest; stand = is; can = record { far = stands.far; takes = stands.takes; goes = inl does } })
-    by_hop again (Stop cause) does = absurd (kept first.lid first.source (stands.far, comes_far channel first stands, subst IsStop (sym does) tt))
+    by_hop again Arrive does = at_once (record { first = first; rest = rest; stand = is; can = record { far = stands.far; takes = stands.takes; goes = inl (subst Leaves (sym does) tt) } })
+    by_hop again (Stop cause) does = at_once (record { first = first; rest = rest; stand = is; can = record { far = stands.far; takes = stands.takes; goes = inl (subst Leaves (sym does) tt) } })
     by_hop again (On out after) does = onward out after does (again (ahead_of out) (depends channel first stands out after does))
 
   here : (first : Packet) (rest : List Packet) → Contains (first ∷ rest) first

@@ -8,7 +8,7 @@ use Rattle.ib_routes.specs.declared.hop.Hop.{Hop}
 use Rattle.ib_routes.specs.declared.hop.Hop.TheVariants.{On, Arrive, Stop}
 use Rattle.ib_routes.specs.declared.traffic.Traffic.{Traffic}
 use Rattle.ib_routes.specs.Routes.{Channel, DependsOn, hop}
-use Rattle.ib_verdict.specs.Packets.{AllFit, AllStand, CanGo, FirstCanGo, Packet, QueuesOf, StandsIn}
+use Rattle.ib_verdict.specs.Packets.{AllFit, AllStand, CanGo, FirstCanGo, Leaves, Packet, QueuesOf, StandsIn}
 
 -- a hop goes on by one port to one switch
 abbrev out_of : ℕ → Hop → ℕ
@@ -80,7 +80,7 @@ module _ (fabric : FabricOf) (tables : TablesOf) (traffic : Traffic) (room : Cha
       let far = same_on channel.port (next_of channel).switch channel.port can.far (sym takes.first ∙ can.takes) in
       let second : hop fabric tables can.far lid ≡ On (next_of channel).port takes.after = subst (λ (s : ℕ). hop fabric tables s lid ≡ On (next_of channel).port takes.after) far.1 takes.second in
       elim can.goes [
-        | inl arrive ↦ (let e : On (next_of channel).port takes.after ≡ Arrive = sym second ∙ arrive in cc)
+        | inl leaves ↦ subst Leaves second leaves
         | inr (next, after, to, on, less) ↦ (
             let ports = same_on next.port after (next_of channel).port takes.after (sym on ∙ second) in
             let is : next ≡ next_of channel = same_channel next (next_of channel) (to ∙ sym far.1) ports.0 in

@@ -4,7 +4,8 @@ use Rattle.channel_graph.specs.Cycles.{Walk}
 use Rattle.ib_cells.specs.Cells.{TablesOf}
 use Rattle.ib_net.specs.declared.node.EndPort.{EndPort}
 use Rattle.ib_net.specs.Fabric.{FabricOf}
-use Rattle.ib_routes.specs.declared.hop.Hop.TheVariants.{On, Arrive}
+use Rattle.ib_routes.specs.declared.hop.Hop.{Hop}
+use Rattle.ib_routes.specs.declared.hop.Hop.TheVariants.{On, Arrive, Stop}
 use Rattle.ib_routes.specs.declared.traffic.Traffic.{Traffic}
 use Rattle.ib_routes.specs.Routes.{Channel, ComesTo, hop}
 
@@ -33,15 +34,21 @@ AllStand fabric tables traffic queue =
     (channel : Channel) (packet : Packet) → Contains (queue channel) packet
     → StandsIn fabric tables traffic channel packet
 
--- what the switch at the far side of a channel does with a packet: it arrives, or the channel that it takes next has
--- room for it
+-- A packet leaves where its route ends: it arrives, or the switch at which the route stops drops it.
+abbrev pub Leaves : Hop → Type 0
+Leaves (On port next) = ⊥
+Leaves Arrive = Unit {0}
+Leaves (Stop cause) = Unit {0}
+
+-- what the switch at the far side of a channel does with a packet: it leaves there, or the channel that it takes next
+-- has room for it
 pub record CanGo (fabric : FabricOf) (tables : TablesOf) (room : Channel → ℕ) (queue : QueuesOf) (channel : Channel)
     (packet : Packet)
     : Type 0 where
   pub far : ℕ
   pub takes : hop fabric tables channel.switch packet.lid ≡ On channel.port far
   pub goes :
-      (hop fabric tables far packet.lid ≡ Arrive)
+      Leaves (hop fabric tables far packet.lid)
       ⊎ ((next : Channel) × (after : ℕ) × (next.switch ≡ far) × (hop fabric tables far packet.lid ≡ On next.port after)
       × (length (queue next) < room next))
 

@@ -8,9 +8,10 @@ ghost use Rattle.ib_net.specs.Fabric.{FabricOf, guid_of};
 ghost use Rattle.ib_routes.specs.declared.traffic.Traffic.{Traffic};
 ghost use Rattle.ib_routes.specs.declared.traffic.Traffic.TheVariants.{Hosts, Lids, All};
 ghost use Rattle.ib_routes.specs.Found.{IsLeastWitness, SomeIsStopped};
-ghost use Rattle.ib_routes.specs.Routes.{Channel, DependsOn, IsStopped, Sends};
+ghost use Rattle.ib_routes.specs.declared.hop.Hop.TheVariants.{Arrive};
+ghost use Rattle.ib_routes.specs.Routes.{Channel, DependsOn, IsStopped, Sends, hop};
 ghost use Rattle.ib_verdict.specs.Count.{IsChannelCount, IsDependencyCount, IsLinkCount};
-ghost use Rattle.ib_verdict.specs.Packets.{AllFit, AllStand, ComesFree, FirstCanGo, QueuesOf};
+ghost use Rattle.ib_verdict.specs.Packets.{AllFit, AllStand, ComesFree, FirstCanGo, Leaves, Packet, QueuesOf, StandsIn};
 ghost use Rattle.ib_verdict.specs.declared.verdict.LoopChannel.{LoopChannel};
 ghost use Rattle.ib_verdict.specs.Verdict.{AllArrive, AreAtMost, ArrivesBy, CycleIs, HasRanks, rank_in, spots_in};
 
@@ -25,16 +26,24 @@ pub fn routes_arrive_soon()
         → (links : ℕ) × (links ≤ most + 1) × ArrivesBy fabric tables lid source links }
 {}
 
-/// Some packet can move, and what waits leads to it. Let tables pass, let each channel have at least one place, and let
-/// each packet stand on a route of the traffic. From each channel that is not empty, each time to the channel for
-/// which its first packet waits, one comes to a channel whose first packet arrives or has room ahead.
+/// Some packet can move, and what waits leads to it. Let there be no credit loop, let each channel have at least one
+/// place, and let each packet stand on a route of the traffic. From each channel that is not empty, each time to the
+/// channel for which its first packet waits, one comes to a channel whose first packet leaves or has room ahead. Routes
+/// may be lost: a packet whose route stops at a switch is taken to be dropped there, so it leaves.
 pub fn some_packet_can_move()
     ensures { (fabric : FabricOf) (tables : TablesOf) (traffic : Traffic) (ranks : List ℕ) (room : Channel → ℕ)
         (queue : QueuesOf) (channel : Channel)
         → HasRanks fabric tables traffic ranks
-        → ((to : ℕ) (from : EndPort) → IsStopped fabric tables traffic to from → ⊥)
         → ((each : Channel) → 1 ≤ room each) → AllStand fabric tables traffic queue → queue channel ≢ []
         → ComesFree fabric tables room queue channel }
+{}
+
+/// No packet is dropped where no route of the traffic stops: what leaves at the far side of its channel arrives.
+pub fn no_packet_is_dropped()
+    ensures { (fabric : FabricOf) (tables : TablesOf) (traffic : Traffic) (channel : Channel) (packet : Packet)
+        → ((to : ℕ) (from : EndPort) → IsStopped fabric tables traffic to from → ⊥)
+        → (stands : StandsIn fabric tables traffic channel packet)
+        → Leaves (hop fabric tables stands.far packet.lid) → hop fabric tables stands.far packet.lid ≡ Arrive }
 {}
 
 /// A credit loop can be full, for any numbers of places in the channels, at least one each. There is a filling of no
