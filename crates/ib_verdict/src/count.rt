@@ -12,9 +12,8 @@ fn count_from(graph: &Graph, node: usize) -> u64
     ensures few { result ≤ length graph.now.bases }
 {
     let mut count = 0u64;
-    let mut from = 0usize;
-    'steps: while let Some(next) = graph.next(node, from) {
-        from = next + 1;
+    let mut cursor = graph.cursor(node, 0);
+    'steps: while let Some(_next) = graph.advance(node, &mut cursor) {
         count += 1;
     }
     count

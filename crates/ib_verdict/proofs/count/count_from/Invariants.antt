@@ -1,11 +1,18 @@
 use Rattle.std.proofs.Common.{◌-◌, ◌≤◌, ◌^◌, length}
 use Rattle.channel_graph.specs.Graph.{LeadsTo}
+use Rattle.channel_graph.specs.Rows.{StandsAt}
 use Rattle.ib_verdict.specs.Count.{IsCount}
 use Rattle.ib_verdict.proofs.count.count_from.Given as goal
 
 -- the steps so far
 abbrev pub invariant-steps : goal.invariant-steps
-invariant-steps l = record { so_far : IsCount (LeadsTo l.graph l.node) l.from l.count; low : l.from ≤ length l.graph.bases; few : l.count ≤ l.from; small : l.from ≤ 2 ^ 31 }
+invariant-steps l = record {
+  stands : StandsAt l.graph l.node l.cursor;
+  so_far : IsCount (LeadsTo l.graph l.node) l.cursor.from l.count;
+  low : l.cursor.from ≤ length l.graph.bases;
+  few : l.count ≤ l.cursor.from;
+  small : l.cursor.from ≤ 2 ^ 31;
+}
 
 abbrev pub decreases-steps : goal.decreases-steps
-decreases-steps l = length l.graph.bases - l.from
+decreases-steps l = length l.graph.bases - l.cursor.from
