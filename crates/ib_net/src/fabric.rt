@@ -220,7 +220,7 @@ fn no_owners(alloc: Global) -> Result<Vec<Option<EndPort>>, OutOfMemory>
     Ok(owners)
 }
 
-// The owner of each LID, up to the greatest that has one.
+// The owner of each LID, up to the greatest that has one: a copy, since the room for all LIDs is 0.6 MB.
 fn find_owners(
     alloc: Global,
     switches: &IndexMap<u64, Switch>,
@@ -240,8 +240,8 @@ fn find_owners(
     put_switches(&mut owners, switches);
     put_ends(&mut owners, ends);
     let end = owned_end(&owners);
-    owners.truncate(end);
-    Ok(owners)
+    let owned = Vec::from_slice(alloc, &owners[..end])?;
+    Ok(owned)
 }
 
 // So many bare sides.
