@@ -1,9 +1,13 @@
--- A side in four bytes. Only private functions cite this.
+-- What private functions cite: a side in four bytes, and the parts of a fabric.
 use Rattle.std.specs.Prelude.{◌≡◌, ◌<◌, ◌-◌, ◌/◌, ◌%◌, ◌^◌, ℕ, List, length, if◌then◌else◌, nat_lt, map}
 use Rattle.ib_net.specs.declared.node.Spot.{Spot}
 use Rattle.ib_net.specs.declared.node.Side.{Side}
 use Rattle.ib_net.specs.declared.node.Side.TheVariants.{Bare, To, End}
+use Rattle.ib_net.specs.declared.node.LidRange.{LidRange}
+use Rattle.ib_net.specs.declared.node.Switch.{Switch}
+use Rattle.ib_net.specs.declared.fabric.Parts.{Parts}
 use Rattle.ib_net.specs.Fabric.{FabricOf, IsOther, side_of}
+use Rattle.ib_net.specs.Nodes.{NodesOf}
 
 -- to a port of a switch: the switch in the upper bytes, the port in the lowest; to an end port: from 2 ^ 30
 -- on
@@ -34,3 +38,16 @@ pub record IsSideSet (old new : FabricOf) (spot : Spot) (side : Side) : Type 0 w
   pub others :
       (switch port : ℕ) → IsOther spot switch port → side_of new switch port ≡ side_of old switch port
   pub rest : new ≡ record old { sides = new.sides }
+
+-- these switches and end ports, and the fabric of nodes and parts
+abbrev pub nodes_in : List (ℕ × Switch) → List (ℕ × LidRange) → NodesOf
+nodes_in switches ends = record { switches = switches; ends = ends }
+
+abbrev pub fabric_in : NodesOf → Parts → FabricOf
+fabric_in nodes parts = record {
+  nodes = nodes;
+  most = parts.most;
+  sides = sides_in parts.sides.items;
+  cables = parts.cables.items;
+  owners = parts.owners.items;
+}

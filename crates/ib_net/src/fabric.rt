@@ -5,8 +5,8 @@ ghost use Rattle.std.specs.Prelude.{slice_index_or, replicate, All, None, IfErr,
 ghost use Rattle.std.specs.Prelude.{OnErr, OnOk};
 ghost use Rattle.ib_net.specs.declared.node.Switch.{Switch};
 ghost use Rattle.ib_net.specs.declared.node.LidRange.{LidRange};
-ghost use Rattle.ib_net.specs.Nodes.{AreOwners, EndsOwned, HasOneEndPort, IsLow, NodesOf, PutsOwner};
-ghost use Rattle.ib_net.specs.Sides.{IsSideSet, IsSmallEnd};
+ghost use Rattle.ib_net.specs.Nodes.{AreNodes, AreOwners, EndsOwned, HasOneEndPort, IsLow, NodesOf, PutsOwner};
+ghost use Rattle.ib_net.specs.Sides.{IsSideSet, IsSmallEnd, fabric_in, nodes_in};
 ghost use Rattle.ib_net.specs.Fabric.{AreUncabled, IsBareOf, IsCabledTo, IsFabric, IsLinked, IsMost, IsPort};
 ghost use Rattle.ib_net.specs.Fabric.{IsRefusedCable, IsRefusedLink, LeadsWithin, MayCable, MayLink};
 ghost use Rattle.ib_net.specs.Fabric.{cable_of, end_with, guid_in, guid_of, owner_of, ports_of, side_of};
@@ -264,6 +264,39 @@ fn no_cables(alloc: Global, count: usize) -> Result<Vec<Option<Spot>>, OutOfMemo
     Ok(cables)
 }
 
+// What stands beside the nodes of a fabric.
+#[derive(Drop)]
+struct Parts {
+    most: usize,
+    sides: Vec<u32>,
+    cables: Vec<Option<Spot>>,
+    owners: Vec<Option<EndPort>>,
+}
+
+// Puts nodes in the order of their GUIDs, and gives what stands beside them in a fabric that is not cabled.
+fn bare_parts(
+    alloc: Global,
+    switches: &mut IndexMap<u64, Switch>,
+    ends: &mut IndexMap<u64, LidRange>,
+) -> Result<Parts, OutOfMemory>
+    requires { AreNodes (nodes_in switches.old.entries ends.old.entries) }
+    ensures { IfOk result (λ parts. IsBareOf (nodes_in switches.old.entries ends.old.entries)
+        (fabric_in (nodes_in switches.new.entries ends.new.entries) parts)) }
+{
+    switches.sort_keys()?;
+    ends.sort_keys()?;
+    let most = usize::from(most_ports(switches));
+    let owners = find_owners(alloc, switches, ends)?;
+    let sides = bare_sides(alloc, switches.len() * most)?;
+    let cables = no_cables(alloc, ends.len())?;
+    Ok(Parts {
+        most,
+        sides,
+        cables,
+        owners,
+    })
+}
+
 impl Fabric {
     /// A fabric of these nodes, by rising GUID, that is not cabled.
     pub fn of(alloc: Global, nodes: Nodes) -> Result<Fabric, OutOfMemory>
@@ -274,12 +307,12 @@ impl Fabric {
             mut ends,
             owned: _,
         } = nodes;
-        switches.sort_keys()?;
-        ends.sort_keys()?;
-        let most = usize::from(most_ports(&switches));
-        let owners = find_owners(alloc, &switches, &ends)?;
-        let sides = bare_sides(alloc, switches.len() * most)?;
-        let cables = no_cables(alloc, ends.len())?;
+        let Parts {
+            most,
+            sides,
+            cables,
+            owners,
+        } = bare_parts(alloc, &mut switches, &mut ends)?;
         Ok(Fabric {
             switches,
             ends,
