@@ -4,4 +4,5 @@ mod EndLemmas
 mod MoreLemmas
 mod PlaceLemmas
 mod StepLemmas
+mod HeightLemmas
 mod LongestLemmas

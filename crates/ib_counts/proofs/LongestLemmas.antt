@@ -1,15 +1,15 @@
 -- The longest of the routes to a LID, if all arrive.
-use Rattle.std.proofs.Common.{◌≡◌, ◌∙◌, sym, subst, refl, ℕ, ◌+◌, ◌*◌, ◌/◌, ◌%◌, ◌<◌, List, Option, Some, None, arith, inl, inr, max}
+use Rattle.std.proofs.Common.{◌≡◌, ◌∙◌, sym, subst, refl, ℕ, ◌+◌, ◌*◌, ◌/◌, ◌%◌, ◌<◌, List, Some, arith, inl, inr, max}
 use Rattle.std.proofs.lemmas.Bool.{cases_eq, cases_lt}
 use Rattle.ib_cells.specs.Cells.{TablesOf}
 use Rattle.ib_counts.specs.Counts.{hop_for}
-use Rattle.ib_counts.specs.Steps.{AllArriveWithin, AreLongest, EndsIfStarts, IsLonger}
+use Rattle.ib_counts.specs.Heights.{IsLonger}
+use Rattle.ib_counts.specs.Steps.{AllArriveWithin, AreLongest}
 use Rattle.ib_net.specs.declared.node.EndPort.{EndPort}
 use Rattle.ib_counts.proofs.EndLemmas.{begins_at}
 use Rattle.ib_net.specs.Fabric.{FabricOf, IsFabric, start_of, switch_count}
 use Rattle.ib_routes.specs.declared.hop.Hop.{Hop}
-use Rattle.ib_routes.specs.declared.hop.Outcome.{Outcome}
-use Rattle.ib_routes.specs.declared.hop.Outcome.TheVariants.{Arrives, Stops, Loops}
+use Rattle.ib_routes.specs.declared.hop.Outcome.TheVariants.{Arrives}
 use Rattle.ib_routes.specs.declared.traffic.Traffic.{Traffic}
 use Rattle.ib_routes.specs.Routes.{EndsAs, Sends}
 use Rattle.ib_routes.specs.Waves.{AreStarts, HasBit}
@@ -47,11 +47,11 @@ module _ (hop_at : ℕ → Hop) (words : List ℕ) (bit : ℕ) where
     ];
   }
 
-  pub longest_more : (count hops longer : ℕ) (outcome : Option Outcome) → EndsIfStarts hop_at words bit count outcome → IsLonger hops outcome longer → AreLongest hop_at words bit count hops → AreLongest hop_at words bit (count + 1) longer
-  longest_more count hops longer None none is are = subst (AreLongest hop_at words bit (count + 1)) (sym is) (longest_none count hops none are)
-  longest_more count hops longer (Some (Arrives switches)) ends is are = longest_one count hops switches longer ends.0 ends.1 is are
-  longest_more count hops longer (Some (Stops cause)) ends is are = absurd is
-  longest_more count hops longer (Some Loops) ends is are = absurd is
+  pub longest_more : (count hops longer : ℕ) → IsLonger hop_at words bit count hops longer → AreLongest hop_at words bit count hops → AreLongest hop_at words bit (count + 1) longer
+  longest_more count hops longer is are = elim is [
+    | inl (none, same) ↦ subst (AreLongest hop_at words bit (count + 1)) (sym same) (longest_none count hops none are)
+    | inr (has, (switches, ends, most)) ↦ longest_one count hops switches longer has ends most are
+  ]
 
 module _ (fabric : FabricOf) (fits : IsFabric fabric) (tables : TablesOf) (traffic : Traffic) (lid : ℕ) (words : List ℕ) (starts : AreStarts fabric traffic (lid / 64) words) where
   same_lid : 64 * (lid / 64) + lid % 64 ≡ lid

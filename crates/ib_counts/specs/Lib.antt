@@ -1,3 +1,4 @@
 pub mod Counts
 pub mod Steps
 pub mod Lost
+pub mod Heights

@@ -1,17 +1,16 @@
 -- How routes are counted, LID by LID and end port by end port. Only private functions cite this.
 use Rattle.std.specs.Prelude.{◌≡◌, ◌<◌, ◌≤◌, ◌≢◌, ◌+◌, ◌*◌, ◌^◌, ◌⊎◌, ℕ}
-use Rattle.std.specs.Prelude.{List, [], Option, Some, None, length, max}
+use Rattle.std.specs.Prelude.{List, [], Option, Some, None, length}
 use Rattle.ib_cells.specs.Cells.{TablesOf}
 use Rattle.ib_counts.specs.Counts.{AreCountsOf, IsOf, Route, RouteEnds}
 use Rattle.ib_counts.specs.declared.counts.Counts.{Counts}
 use Rattle.ib_counts.specs.declared.counts.LostRoute.{LostRoute}
+use Rattle.ib_counts.specs.declared.room.Rooms.{Rooms}
 use Rattle.ib_net.specs.declared.node.EndPort.{EndPort}
 use Rattle.ib_net.specs.declared.node.EndPort.TheVariants.{Host, Switch}
 use Rattle.ib_net.specs.Fabric.{FabricOf, guid_of, owner_of, switch_count}
 use Rattle.ib_routes.specs.declared.hop.Hop.{Hop}
-use Rattle.ib_routes.specs.declared.hop.Outcome.{Outcome}
-use Rattle.ib_routes.specs.declared.hop.Outcome.TheVariants.{Arrives, Stops, Loops}
-use Rattle.ib_routes.specs.declared.trace.Mark.{Mark}
+use Rattle.ib_routes.specs.declared.hop.Outcome.TheVariants.{Arrives}
 use Rattle.ib_routes.specs.declared.traffic.Traffic.{Traffic}
 use Rattle.ib_routes.specs.Routes.{EndsAs, IsSource, IsTarget, Sends}
 use Rattle.ib_routes.specs.Waves.{HasBit}
@@ -50,10 +49,12 @@ pub record AreCountsUntil (fabric : FabricOf) (tables : TablesOf) (traffic : Tra
   pub exact : AreCountsOf fabric tables (IsUntil fabric traffic lid place) counts
   pub few : counts.routes ≤ lid * 2 ^ 17 + place
 
--- a room for marks of so many switches, and for the path of a route
-pub record IsRoom (count : ℕ) (marks : List Mark) (path : List ℕ) : Type 0 where
-  pub size : length marks ≡ count
-  pub empty : path ≡ []
+-- rooms for so many switches
+pub record AreRooms (count : ℕ) (rooms : Rooms) : Type 0 where
+  pub heights : length rooms.heights.items ≡ count
+  pub way : length rooms.way.items ≡ count
+  pub marks : length rooms.marks.items ≡ count
+  pub path : rooms.path.items ≡ []
 
 -- a LID to which some end ports may send
 abbrev pub IsTargeted : FabricOf → Traffic → ℕ → Type 0
@@ -77,18 +78,6 @@ pub record AllArriveWithin (fabric : FabricOf) (tables : TablesOf) (traffic : Tr
       hops ≢ 0
       → (source : EndPort) × Sends fabric traffic lid source
       × RouteEnds fabric tables (record { lid = lid; source = source }) (Arrives hops)
-
--- how the route from a switch ends, if it has a bit
-abbrev pub EndsIfStarts : (ℕ → Hop) → List ℕ → ℕ → ℕ → Option Outcome → Type 0
-EndsIfStarts hop_at words bit at None = HasBit words at bit → ⊥
-EndsIfStarts hop_at words bit at (Some outcome) = HasBit words at bit × EndsAs hop_at at outcome
-
--- the greater number of switches with a route more, which arrives if it begins
-abbrev pub IsLonger : ℕ → Option Outcome → ℕ → Type 0
-IsLonger hops None longer = longer ≡ hops
-IsLonger hops (Some (Arrives switches)) longer = longer ≡ max hops switches
-IsLonger hops (Some (Stops cause)) longer = ⊥
-IsLonger hops (Some Loops) longer = ⊥
 
 -- each route arrives that begins at one of the first so many switches and has a bit, and the longest goes
 -- through so many

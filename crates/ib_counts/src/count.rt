@@ -1,6 +1,6 @@
 //! How the routes of a traffic end, and how many do.
 
-ghost use Rattle.std.specs.Prelude.{◌≡◌, ◌<◌, ◌≤◌, ◌+◌, ◌*◌, ◌/◌, ◌%◌, ◌^◌, length, replicate, IfOk, IfSome};
+ghost use Rattle.std.specs.Prelude.{◌≡◌, ◌<◌, ◌≤◌, ◌+◌, ◌*◌, ◌/◌, ◌%◌, ◌^◌, [], length, replicate, IfOk, IfSome};
 ghost use Rattle.ib_net.specs.Fabric.{switch_count};
 ghost use Rattle.ib_cells.specs.Cells.{tables_of};
 ghost use Rattle.ib_routes.specs.declared.trace.Mark.TheVariants.{New};
@@ -10,10 +10,11 @@ ghost use Rattle.ib_routes.specs.Starts.{AreAllSenders};
 ghost use Rattle.ib_routes.specs.Trace.{IsReady, hop_to, whole};
 ghost use Rattle.ib_routes.specs.Waves.{AreStarts};
 ghost use Rattle.ib_counts.specs.Counts.{AreCounts, IsCountOf, hop_for, sum_of};
-ghost use Rattle.ib_counts.specs.Steps.{AllArriveWithin, AreCountsUntil, EndsIfStarts, IsEndPort, IsLonger};
-ghost use Rattle.ib_counts.specs.Steps.{IsRoom, IsTargeted, place_of};
+ghost use Rattle.ib_counts.specs.Steps.{AllArriveWithin, AreCountsUntil, AreRooms, IsEndPort, IsTargeted, place_of};
 
 use crate::counts::Counts;
+use crate::height::{clear, longer_from};
+use crate::room::Rooms;
 use crate::source::{count_senders, count_sources, end_port_at, end_ports};
 use an_base::memory::OutOfMemory;
 use ib_cells::cells::Cells;
@@ -23,11 +24,10 @@ use ib_routes::hop::Outcome;
 use ib_routes::start::{Senders, find_senders, is_target, put_starts, sender_start};
 use ib_routes::trace::{Mark, Target, trace};
 use ib_routes::traffic::Traffic;
-use ib_routes::word::has_bit;
 use std::alloc::Global;
 
 // Marks all switches as new.
-fn clear(marks: &mut [Mark])
+fn forget(marks: &mut [Mark])
     ensures { marks.new ≡ replicate (length marks.old) New }
 {
     marks.fill(Mark::New);
@@ -61,78 +61,31 @@ fn end_from(
     trace(fabric, cells, target, marks, path, start)
 }
 
-// The same, if a route begins there: the switch has the bit of the LID.
-fn end_of_start(
-    fabric: &Fabric,
-    cells: &Cells,
-    lid: u16,
-    starts: &[u64],
-    marks: &mut [Mark],
-    path: &mut Vec<usize>,
-    switch: usize,
-) -> Result<Option<Outcome>, OutOfMemory>
-    requires same { switch_count fabric.now ≡ cells.now.switches }
-    requires few { switch_count fabric.now ≤ 2 ^ 14 }
-    requires lid { lid < 64 * cells.now.blocks }
-    requires switch { switch < switch_count fabric.now }
-    requires starts { length starts.now ≡ switch_count fabric.now }
-    requires ready { IsReady (hop_to fabric.now (tables_of cells.now) (whole lid)) (switch_count fabric.now)
-        marks.old path.old.items }
-    ensures ready { IfOk result (λ _. IsReady (hop_to fabric.now (tables_of cells.now) (whole lid))
-        (switch_count fabric.now) marks.new path.new.items) }
-    ensures ends { IfOk result (EndsIfStarts (hop_for fabric.now (tables_of cells.now) lid) starts.now
-        (lid % 64) switch) }
-{
-    if !has_bit(starts[switch], lid as usize % 64) {
-        return Ok(None);
-    }
-    let outcome = end_from(fabric, cells, lid, marks, path, switch)?;
-    Ok(Some(outcome))
-}
-
-// The greater number of switches, if the route arrives or none begins.
-fn longer_of(hops: u32, outcome: Option<Outcome>) -> Option<u32>
-    ensures { IfSome result (IsLonger hops outcome) }
-{
-    match outcome {
-        None => Some(hops),
-        Some(Outcome::Arrives(switches)) => Some(hops.max(switches)),
-        Some(Outcome::Stops(_)) => None,
-        Some(Outcome::Loops) => None,
-    }
-}
-
-// Through how many switches the longest route to a LID goes, if each arrives that begins at a switch with its
-// bit.
+// Through how many switches the longest route to a LID goes, if each arrives that begins at a switch with its bit.
 fn longest_to(
     fabric: &Fabric,
     cells: &Cells,
     lid: u16,
     starts: &[u64],
-    marks: &mut [Mark],
-    path: &mut Vec<usize>,
-) -> Result<Option<u32>, OutOfMemory>
+    heights: &mut [u32],
+    path: &mut [u32],
+) -> Option<u32>
     requires same { switch_count fabric.now ≡ cells.now.switches }
     requires few { switch_count fabric.now ≤ 2 ^ 14 }
     requires lid { lid < 64 * cells.now.blocks }
     requires starts { length starts.now ≡ switch_count fabric.now }
-    requires ready { IsReady (hop_to fabric.now (tables_of cells.now) (whole lid)) (switch_count fabric.now)
-        marks.old path.old.items }
-    ensures ready { IfOk result (λ _. IsReady (hop_to fabric.now (tables_of cells.now) (whole lid))
-        (switch_count fabric.now) marks.new path.new.items) }
-    ensures arrive { IfOk result (λ found. IfSome found (λ hops. (traffic : Traffic)
+    requires size { length heights.old ≡ switch_count fabric.now }
+    requires room { length path.old ≡ switch_count fabric.now }
+    ensures { IfSome result (λ hops. (traffic : Traffic)
         → AreStarts fabric.now traffic (lid / 64) starts.now
-        → AllArriveWithin fabric.now (tables_of cells.now) traffic lid hops)) }
+        → AllArriveWithin fabric.now (tables_of cells.now) traffic lid hops) }
 {
+    clear(heights);
     let mut hops = 0;
     'switches: for switch in 0..fabric.switches() {
-        let outcome = end_of_start(fabric, cells, lid, starts, marks, path, switch)?;
-        let Some(longer) = longer_of(hops, outcome) else {
-            return Ok(None);
-        };
-        hops = longer;
+        hops = longer_from(fabric, cells, lid, starts, heights, path, switch, hops)?;
     }
-    Ok(Some(hops))
+    Some(hops)
 }
 
 impl Counts {
@@ -182,13 +135,13 @@ impl Counts {
         requires same { switch_count fabric.now ≡ cells.now.switches }
         requires few { switch_count fabric.now ≤ 2 ^ 14 }
         requires lid { lid < 64 * cells.now.blocks }
-        requires ready { IsReady (hop_to fabric.now (tables_of cells.now) (whole lid))
-            (switch_count fabric.now) marks.old path.old.items }
+        requires size { length marks.old ≡ switch_count fabric.now }
+        requires empty { path.old.items ≡ [] }
         requires counts { AreCountsUntil fabric.now (tables_of cells.now) traffic lid 0 self }
-        ensures ready { IfOk result (λ _. IsReady (hop_to fabric.now (tables_of cells.now) (whole lid))
-            (switch_count fabric.now) marks.new path.new.items) }
+        ensures empty { IfOk result (λ _. path.new.items ≡ []) }
         ensures counts { IfOk result (AreCountsUntil fabric.now (tables_of cells.now) traffic (lid + 1) 0) }
     {
+        forget(marks);
         let mut counts = self;
         'places: for place in 0..end_ports(fabric) {
             let source = end_port_at(fabric, place);
@@ -206,8 +159,7 @@ fn count_target(
     lid: u16,
     sources: u64,
     starts: &[u64],
-    marks: &mut [Mark],
-    path: &mut Vec<usize>,
+    rooms: &mut Rooms,
     counts: Counts,
 ) -> Result<Counts, OutOfMemory>
     requires same { switch_count fabric.now ≡ cells.now.switches }
@@ -218,19 +170,31 @@ fn count_target(
     requires few { sources ≤ 2 ^ 17 }
     requires count { length starts.now ≡ switch_count fabric.now }
     requires starts { AreStarts fabric.now traffic (lid / 64) starts.now }
-    requires room { IsRoom (switch_count fabric.now) marks.old path.old.items }
+    requires rooms { AreRooms (switch_count fabric.now) rooms.old }
     requires counts { AreCountsUntil fabric.now (tables_of cells.now) traffic lid 0 counts }
-    ensures room { IfOk result (λ _. IsRoom (switch_count fabric.now) marks.new path.new.items) }
+    ensures rooms { IfOk result (λ _. AreRooms (switch_count fabric.now) rooms.new) }
     ensures counts { IfOk result (AreCountsUntil fabric.now (tables_of cells.now) traffic (lid + 1) 0) }
 {
-    clear(marks);
-    let longest = longest_to(fabric, cells, lid, starts, marks, path)?;
-    match longest {
+    match longest_to(
+        fabric,
+        cells,
+        lid,
+        starts,
+        &mut rooms.heights,
+        &mut rooms.way,
+    ) {
         Some(hops) => {
             let senders = count_senders(fabric, traffic, lid as usize, sources);
             Ok(counts.with_arrived(senders, hops))
         }
-        None => counts.with_sources(fabric, cells, traffic, lid, marks, path),
+        None => counts.with_sources(
+            fabric,
+            cells,
+            traffic,
+            lid,
+            &mut rooms.marks,
+            &mut rooms.path,
+        ),
     }
 }
 
@@ -242,8 +206,7 @@ fn count_lid(
     lid: u16,
     sources: u64,
     starts: &[u64],
-    marks: &mut [Mark],
-    path: &mut Vec<usize>,
+    rooms: &mut Rooms,
     counts: Counts,
 ) -> Result<Counts, OutOfMemory>
     requires same { switch_count fabric.now ≡ cells.now.switches }
@@ -253,17 +216,15 @@ fn count_lid(
     requires few { sources ≤ 2 ^ 17 }
     requires count { length starts.now ≡ switch_count fabric.now }
     requires starts { AreStarts fabric.now traffic (lid / 64) starts.now }
-    requires room { IsRoom (switch_count fabric.now) marks.old path.old.items }
+    requires rooms { AreRooms (switch_count fabric.now) rooms.old }
     requires counts { AreCountsUntil fabric.now (tables_of cells.now) traffic lid 0 counts }
-    ensures room { IfOk result (λ _. IsRoom (switch_count fabric.now) marks.new path.new.items) }
+    ensures rooms { IfOk result (λ _. AreRooms (switch_count fabric.now) rooms.new) }
     ensures counts { IfOk result (AreCountsUntil fabric.now (tables_of cells.now) traffic (lid + 1) 0) }
 {
     if !is_target(fabric, traffic, lid as usize) {
         return Ok(counts);
     }
-    count_target(
-        fabric, cells, traffic, lid, sources, starts, marks, path, counts,
-    )
+    count_target(fabric, cells, traffic, lid, sources, starts, rooms, counts)
 }
 
 // The counts with the routes to the LIDs of a block.
@@ -274,8 +235,7 @@ fn count_block(
     block: usize,
     sources: u64,
     starts: &[u64],
-    marks: &mut [Mark],
-    path: &mut Vec<usize>,
+    rooms: &mut Rooms,
     counts: Counts,
 ) -> Result<Counts, OutOfMemory>
     requires same { switch_count fabric.now ≡ cells.now.switches }
@@ -286,37 +246,33 @@ fn count_block(
     requires few { sources ≤ 2 ^ 17 }
     requires count { length starts.now ≡ switch_count fabric.now }
     requires starts { AreStarts fabric.now traffic block starts.now }
-    requires room { IsRoom (switch_count fabric.now) marks.old path.old.items }
+    requires rooms { AreRooms (switch_count fabric.now) rooms.old }
     requires counts { AreCountsUntil fabric.now (tables_of cells.now) traffic (64 * block) 0 counts }
-    ensures room { IfOk result (λ _. IsRoom (switch_count fabric.now) marks.new path.new.items) }
+    ensures rooms { IfOk result (λ _. AreRooms (switch_count fabric.now) rooms.new) }
     ensures counts { IfOk result (AreCountsUntil fabric.now (tables_of cells.now) traffic (64 * (block + 1)) 0) }
 {
     let mut counts = counts;
     'bits: for bit in 0..64usize {
         let lid = (64 * block + bit) as u16;
-        counts = count_lid(
-            fabric, cells, traffic, lid, sources, starts, marks, path, counts,
-        )?;
+        counts = count_lid(fabric, cells, traffic, lid, sources, starts, rooms, counts)?;
     }
     Ok(counts)
 }
 
-// The counts of the routes to all LIDs. The words are a room for bits of each switch, the marks one for what is
-// known of it, and the path one for the switches of a route.
+// The counts of the routes to all LIDs. The words are a room for bits of each switch.
 fn count_blocks(
     fabric: &Fabric,
     cells: &Cells,
     traffic: Traffic,
     senders: &[Senders],
     starts: &mut [u64],
-    marks: &mut [Mark],
-    path: &mut Vec<usize>,
+    rooms: &mut Rooms,
 ) -> Result<Counts, OutOfMemory>
     requires same { switch_count fabric.now ≡ cells.now.switches }
     requires switches { switch_count fabric.now ≤ 2 ^ 14 }
     requires senders { AreAllSenders fabric.now traffic senders.now }
     requires starts { length starts.old ≡ switch_count fabric.now }
-    requires room { IsRoom (switch_count fabric.now) marks.old path.old.items }
+    requires rooms { AreRooms (switch_count fabric.now) rooms.old }
     ensures counts { IfOk result (AreCountsUntil fabric.now (tables_of cells.now) traffic
         (64 * cells.now.blocks) 0) }
     ensures low { IfOk result (λ _. cells.now.blocks ≤ 1024) }
@@ -326,7 +282,7 @@ fn count_blocks(
     'rounds: for block in 0..cells.blocks() {
         put_starts(fabric, traffic, block, senders, starts);
         counts = count_block(
-            fabric, cells, traffic, block, sources, starts, marks, path, counts,
+            fabric, cells, traffic, block, sources, starts, rooms, counts,
         )?;
     }
     Ok(counts)
@@ -347,16 +303,7 @@ pub fn count_routes(
 {
     let senders = find_senders(alloc, fabric, traffic)?;
     let mut starts = vec![in alloc; 0u64; fabric.switches()]?;
-    let mut marks = vec![in alloc; Mark::New; fabric.switches()]?;
-    let mut path = Vec::new(alloc);
-    let counts = count_blocks(
-        fabric,
-        cells,
-        traffic,
-        &senders,
-        &mut starts,
-        &mut marks,
-        &mut path,
-    )?;
+    let mut rooms = Rooms::new(alloc, fabric.switches())?;
+    let counts = count_blocks(fabric, cells, traffic, &senders, &mut starts, &mut rooms)?;
     Ok(counts)
 }

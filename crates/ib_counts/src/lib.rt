@@ -8,7 +8,9 @@
 
 pub mod count;
 pub mod counts;
+mod height;
 pub mod law;
 mod lost;
 mod more;
+mod room;
 mod source;

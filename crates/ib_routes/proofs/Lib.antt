@@ -5,6 +5,6 @@ mod RunLemmas
 pub mod StartLemmas
 mod FoundLemmas
 pub mod ChannelLemmas
-mod TraceLemmas
+pub mod TraceLemmas
 mod UntilLemmas
 pub mod WitnessLemmas

@@ -6,13 +6,13 @@ use Rattle.ib_counts.proofs.count.count_block.Goals as goal
 
 pub bits-init : goal.bits-init
 bits-init c = record {
-  room = c.requires.room;
+  rooms = c.requires.rooms;
   counts = subst (λ (n : ℕ). AreCountsUntil c.args.fabric.now (tables_of c.args.cells.now) c.args.traffic n 0 c.args.counts) (let e : 64 * c.args.block ≡ 64 * c.args.block + 0 = omega arith in e) c.requires.counts;
 }
 
 pub bits-preserved : goal.bits-preserved
 bits-preserved c = record {
-  room = c.in_ok-counts.ensures.room;
+  rooms = c.in_ok-counts.ensures.rooms;
   counts = subst (λ (n : ℕ). AreCountsUntil c.args.fabric.now (tables_of c.args.cells.now) c.args.traffic n 0 c.in_ok-counts.counts) (let e : 64 * c.args.block + c.bits.bit + 1 ≡ 64 * c.args.block + (c.bits.bit + 1) = omega arith in e) c.in_ok-counts.ensures.counts;
 }
 

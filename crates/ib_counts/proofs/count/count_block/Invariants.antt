@@ -1,12 +1,12 @@
 use Rattle.std.proofs.Common.{◌+◌, ◌*◌}
 use Rattle.ib_cells.specs.Cells.{tables_of}
-use Rattle.ib_counts.specs.Steps.{AreCountsUntil, IsRoom}
+use Rattle.ib_counts.specs.Steps.{AreCountsUntil, AreRooms}
 use Rattle.ib_net.specs.Fabric.{switch_count}
 use Rattle.ib_counts.proofs.count.count_block.Given as goal
 
 -- the counts with the LIDs so far
 abbrev pub invariant-bits : goal.invariant-bits
 invariant-bits l = record {
-  room : IsRoom (switch_count l.fabric) l.marks l.path.items;
+  rooms : AreRooms (switch_count l.fabric) l.rooms;
   counts : AreCountsUntil l.fabric (tables_of l.cells) l.traffic (64 * l.block + l.bit) 0 l.counts;
 }

@@ -7,7 +7,7 @@ use Rattle.ib_counts.proofs.count.count_blocks.Goals as goal
 
 pub rounds-init : goal.rounds-init
 rounds-init c = record {
-  room = c.requires.room;
+  rooms = c.requires.rooms;
   counts = subst (λ (n : Counts). AreCountsUntil c.args.fabric.now (tables_of c.args.cells.now) c.args.traffic 0 0 n) (sym c.none-counts.ensures) (first_counts c.args.fabric.now (tables_of c.args.cells.now) c.args.traffic);
 }
 

@@ -1,10 +1,7 @@
-use Rattle.std.proofs.Common.{◌+◌, ◌/◌, sym, subst, refl, ℕ, Option, arith, max}
-use Rattle.std.specs.Prelude.{IfSome}
+use Rattle.std.proofs.Common.{◌+◌, sym, subst, refl, arith, max}
 use Rattle.ib_cells.specs.Cells.{tables_of}
-use Rattle.ib_counts.specs.Steps.{AllArriveWithin, AreCountsUntil}
+use Rattle.ib_counts.specs.Steps.{AreCountsUntil}
 use Rattle.ib_counts.specs.declared.counts.Counts.{Counts}
-use Rattle.ib_routes.specs.declared.traffic.Traffic.{Traffic}
-use Rattle.ib_routes.specs.Waves.{AreStarts}
 use Rattle.ib_counts.proofs.StepLemmas.{arrived_counts}
 use Rattle.ib_counts.proofs.count.count_target.Goals as goal
 
@@ -16,7 +13,6 @@ with_arrived-requires-clause-fits c = (let few = c.requires.counts.few in omega 
 
 pub returns-in-Some-clause-counts : goal.returns-in-Some-clause-counts
 returns-in-Some-clause-counts c =
-    let longest = subst (λ (o : Option ℕ). IfSome o (λ hops. (traffic : Traffic) → AreStarts c.args.fabric.now traffic (c.args.lid / 64) c.args.starts.now → AllArriveWithin c.args.fabric.now (tables_of c.args.cells.now) traffic c.args.lid hops)) c.in-Some.is c.in_ok-longest.ensures.arrive in
     subst (λ (n : Counts). AreCountsUntil c.args.fabric.now (tables_of c.args.cells.now) c.args.traffic (c.args.lid + 1) 0 n) (sym c.with_arrived.ensures)
     (arrived_counts c.args.fabric.now (tables_of c.args.cells.now) c.args.traffic c.args.lid c.args.counts c.count_senders-senders.result c.in-Some.hops (max c.args.counts.hops c.in-Some.hops) c.count_senders-senders.ensures.count
-    (let few = c.count_senders-senders.ensures.few in let all = c.requires.few in omega arith) (longest c.args.traffic c.requires.starts) refl c.requires.counts)
+    (let few = c.count_senders-senders.ensures.few in let all = c.requires.few in omega arith) (c.in-Some.ensures c.args.traffic c.requires.starts) refl c.requires.counts)

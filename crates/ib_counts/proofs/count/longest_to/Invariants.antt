@@ -1,14 +1,13 @@
 use Rattle.std.proofs.Common.{◌%◌}
 use Rattle.ib_cells.specs.Cells.{tables_of}
 use Rattle.ib_counts.specs.Counts.{hop_for}
+use Rattle.ib_counts.specs.Heights.{AreHeights}
 use Rattle.ib_counts.specs.Steps.{AreLongest}
-use Rattle.ib_net.specs.Fabric.{switch_count}
-use Rattle.ib_routes.specs.Trace.{IsReady, hop_to, whole}
 use Rattle.ib_counts.proofs.count.longest_to.Given as goal
 
 -- of the switches so far
 abbrev pub invariant-switches : goal.invariant-switches
 invariant-switches l = record {
-  ready : IsReady (hop_to l.fabric (tables_of l.cells) (whole l.lid)) (switch_count l.fabric) l.marks l.path.items;
+  heights : AreHeights (hop_for l.fabric (tables_of l.cells) l.lid) l.heights;
   longest : AreLongest (hop_for l.fabric (tables_of l.cells) l.lid) l.starts (l.lid % 64) l.switch l.hops;
 }
