@@ -10,7 +10,7 @@ ghost use Rattle.ib_routes.specs.Witness.{GoesBy, IsFirstHost, IsFirstSource, Is
 ghost use Rattle.ib_routes.specs.Witness.{IsLesser, IsLesserOf, IsLeastAt, NoSwitchComes, NoSourceTakes};
 
 use crate::hop::{Hop, Outcome, hop_at};
-use crate::start::{begins_at, sends};
+use crate::start::{begins_at, is_target, sends};
 use crate::trace::{Mark, Target, trace};
 use crate::traffic::Traffic;
 use an_base::memory::OutOfMemory;
@@ -226,6 +226,9 @@ fn witness_at(
         (NoSourceTakes fabric.now (tables_of cells.now) traffic lid (channel_of channel) (channel_of next))
         (IsLeastAt fabric.now (tables_of cells.now) traffic lid (channel_of channel) (channel_of next))) }
 {
+    if !is_target(fabric, traffic, lid) {
+        return Ok(None);
+    }
     if !goes_by(fabric, cells, lid, channel, next) {
         return Ok(None);
     }
