@@ -33,6 +33,7 @@ pub enum Outcome {
 }
 
 // Whether an end port of an adapter or router owns a LID.
+#[inline]
 fn is_of_host(fabric: &Fabric, lid: usize, end: u32) -> bool
     ensures { result ≡ is_host (owner_of fabric.now lid) end }
 {
@@ -44,6 +45,7 @@ fn is_of_host(fabric: &Fabric, lid: usize, end: u32) -> bool
 }
 
 // Whether a switch owns a LID.
+#[inline]
 fn is_of_switch(fabric: &Fabric, lid: usize, switch: usize) -> bool
     ensures { result ≡ is_switch (owner_of fabric.now lid) switch }
 {
@@ -55,6 +57,7 @@ fn is_of_switch(fabric: &Fabric, lid: usize, switch: usize) -> bool
 }
 
 // The end of a route, at its target or at a wrong place.
+#[inline]
 fn end_of(is_own: bool) -> Hop
     ensures { result ≡ end_if is_own }
 {
@@ -66,6 +69,7 @@ fn end_of(is_own: bool) -> Hop
 }
 
 // The hop by a port that is not 0.
+#[inline]
 fn hop_by_side(fabric: &Fabric, switch: usize, lid: usize, port: u8, side: Side) -> Hop
     requires side { side ≡ side_of fabric.now switch port }
     requires within { LeadsWithin (switch_count fabric.now) side }
@@ -80,6 +84,7 @@ fn hop_by_side(fabric: &Fabric, switch: usize, lid: usize, port: u8, side: Side)
 }
 
 // The hop by what the table says.
+#[inline]
 fn hop_by_port(fabric: &Fabric, switch: usize, lid: usize, port: Option<u8>) -> Hop
     requires { switch < switch_count fabric.now }
     ensures hop { result ≡ hop_by fabric.now switch lid port }
@@ -93,6 +98,7 @@ fn hop_by_port(fabric: &Fabric, switch: usize, lid: usize, port: Option<u8>) -> 
 }
 
 /// The hop of a switch for a LID of a block.
+#[inline]
 #[tactic(auto, unfolding(crate::specs::Routes::hop))]
 pub fn find_hop(fabric: &Fabric, cells: &Cells, switch: usize, block: usize, bit: usize) -> Hop
     requires same { switch_count fabric.now ≡ cells.now.switches }
@@ -107,6 +113,7 @@ pub fn find_hop(fabric: &Fabric, cells: &Cells, switch: usize, block: usize, bit
 }
 
 /// The hop of a switch for a LID.
+#[inline]
 pub fn hop_at(fabric: &Fabric, cells: &Cells, switch: usize, lid: usize) -> Hop
     requires same { switch_count fabric.now ≡ cells.now.switches }
     requires switch { switch < switch_count fabric.now }

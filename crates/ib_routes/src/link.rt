@@ -53,6 +53,7 @@ pub fn find_links(alloc: Global, fabric: &Fabric) -> Result<Vec<u64>, OutOfMemor
 }
 
 // Whether a port leads to a switch.
+#[inline]
 fn is_link(fabric: &Fabric, links: &[u64], switch: usize, port: u8) -> bool
     requires links { AreLinks fabric.now links.now }
     requires switch { switch < switch_count fabric.now }
@@ -63,6 +64,7 @@ fn is_link(fabric: &Fabric, links: &[u64], switch: usize, port: u8) -> bool
 }
 
 /// The port by which a switch sends on what goes to a LID of a block, if it does so to another switch.
+#[inline]
 pub fn port_on(
     fabric: &Fabric,
     links: &[u64],

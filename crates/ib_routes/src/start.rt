@@ -81,6 +81,7 @@ pub fn sender_start(fabric: &Fabric, traffic: Traffic, lid: usize, source: EndPo
 }
 
 // Whether an end port owns a LID.
+#[inline]
 fn is_owner(fabric: &Fabric, lid: usize, who: EndPort) -> bool
     ensures { IsTrue result ↔ (owner_of fabric.now lid ≡ Some who) }
 {
@@ -98,6 +99,7 @@ fn is_owner(fabric: &Fabric, lid: usize, who: EndPort) -> bool
 }
 
 // Whether an end port of an adapter or router is cabled.
+#[inline]
 fn is_cabled(fabric: &Fabric, end: u32) -> bool
     ensures { IsTrue result ↔ IsCabled fabric.now end }
 {
@@ -108,6 +110,7 @@ fn is_cabled(fabric: &Fabric, end: u32) -> bool
 }
 
 /// Whether some end port owns a LID to which others send.
+#[inline]
 pub fn is_target(fabric: &Fabric, traffic: Traffic, lid: usize) -> bool
     ensures { IsTrue result ↔ ((owner : EndPort) × (owner_of fabric.now lid ≡ Some owner) × IsTarget fabric.now traffic owner) }
 {
@@ -151,6 +154,7 @@ fn targets_of(fabric: &Fabric, traffic: Traffic, block: usize) -> u64
 }
 
 // The LIDs of a block to which some end port sends from a switch.
+#[inline]
 fn starts_at(
     fabric: &Fabric,
     traffic: Traffic,

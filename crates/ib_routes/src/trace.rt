@@ -32,6 +32,7 @@ pub enum Mark {
 }
 
 // The hop of a switch on the way to a target.
+#[inline]
 fn hop_to(fabric: &Fabric, cells: &Cells, target: Target, at: usize) -> Hop
     requires same { switch_count fabric.now ≡ cells.now.switches }
     requires at { at < switch_count fabric.now }
@@ -54,6 +55,7 @@ fn hop_to(fabric: &Fabric, cells: &Cells, target: Target, at: usize) -> Hop
 }
 
 // The hop where routes arrive at another switch alone.
+#[inline]
 fn not_there(does: Hop) -> Hop
     ensures { result ≡ not_there does }
 {
@@ -101,6 +103,7 @@ fn follow(
 }
 
 // One switch more.
+#[inline]
 fn longer(outcome: Outcome) -> Outcome
     requires { IsShort (2 ^ 31) outcome }
     ensures { result ≡ longer outcome }

@@ -15,6 +15,7 @@ use ib_cells::cells::Cells;
 use ib_net::fabric::Fabric;
 
 // Sets a bit of the word of a switch.
+#[inline]
 fn mark(words: &mut [u64], switch: usize, bit: usize)
     requires switch { switch < length words.old }
     requires bit { bit < 64 }
@@ -25,6 +26,7 @@ fn mark(words: &mut [u64], switch: usize, bit: usize)
 
 // Takes the hop of a switch for a LID of the block. Answers whether it stops, or one has before. Where it goes on, the
 // switch to which it leads is ahead: a hint, on which nothing rests.
+#[inline]
 fn take(
     fabric: &Fabric,
     links: &[u64],
@@ -65,6 +67,7 @@ fn take(
 }
 
 // Takes the hops of a switch for each LID of which a bit is fresh.
+#[inline]
 fn visit(
     fabric: &Fabric,
     links: &[u64],
@@ -100,6 +103,7 @@ fn visit(
 }
 
 // Takes the hops of a switch that were not taken yet, if there are any.
+#[inline]
 fn turn(
     fabric: &Fabric,
     links: &[u64],
