@@ -1,0 +1,109 @@
+-- What holds of processes, at moments of their own.
+
+use Rattle.std.proofs.Common.{◌≡◌, ◌∙◌, sym, ap, refl, subst, ℕ, ◌≤◌, List, [], ◌∷◌, length, Some, None, inl, inr, Bool, true, false, cond, Contains}
+use Rattle.std.proofs.lemmas.Option.{none-some}
+use Rattle.std.specs.Ordering.{is_eq}
+use Rattle.an_base.specs.Values.{EntryOf, LifeId, TopoOf}
+use Rattle.an_base.specs.Order.{life_cmp}
+use Rattle.epoch_core.specs.Log.{CardOf}
+use Rattle.epoch_core.specs.Epoch.{finish}
+use Rattle.epoch_game.specs.Slice.{Earlier}
+use Rattle.epoch_game.specs.Game.{Game, Play, begins, slice, HasFinished as FinishedIn}
+use Rattle.epoch_game.proofs.Lists.{earlier_nil}
+use Rattle.epoch_game.proofs.StreamLemmas.{has_grown}
+use Rattle.epoch_game.proofs.FinishLemmas.{finish_earlier, finished_alike}
+use Rattle.epoch_game.proofs.GameLemmas.{later_run, play_run}
+use Rattle.switch_core.specs.Switch.{SwitchOf, finish_of}
+use Rattle.switch_game.specs.Network.{Happens, PowerOn, dark}
+use Rattle.switch_game.specs.Playing.{Agrees, node_of}
+use Rattle.switch_game.proofs.Laws.{agrees, later, plays}
+use Rattle.switch_game.proofs.Members.{not_behind}
+use Rattle.switch_game.proofs.QuietLives.{has_settled}
+use Rattle.switch_game.specs.Quiet.{HasSettled, IsQuiet}
+use Rattle.switch_processes.specs.Processes.{Call, Event, HasFinished, HasNoCycle, IsRun, switch_after}
+use Rattle.switch_processes.specs.Orders.{CallOf, HasOneOrder, calls_of, game_after, network_after}
+use Rattle.switch_processes.proofs.Ordered.{CanHappen, can_happen, can_tail, happens_since, same_switch, whole}
+
+-- a moment of a life is one of the order
+pub record IsMoment (order : List CallOf) (x : LifeId) (m : List Call) : Type 0 where
+  pub past : List CallOf
+  pub earlier : Earlier past order
+  pub calls : calls_of x past ≡ m
+
+moment_in : (order : List CallOf) (x : LifeId) (m : List Call) → Earlier m (calls_of x order) → IsMoment order x m
+moment_in [] x m is = record { past = []; earlier = refl; calls = sym is }
+moment_in (one ∷ order) x m e = by (is_eq (life_cmp one.life x)) refl (moment_in order x m) e
+  where
+    by : (b : Bool) → is_eq (life_cmp one.life x) ≡ b → (Earlier m (calls_of x order) → IsMoment order x m) → Earlier m (cond b (one.call ∷ calls_of x order) (calls_of x order)) → IsMoment (one ∷ order) x m
+    by true is before (inl at) = record {
+      past = one ∷ order;
+      earlier = inl refl;
+      calls = ap (λ (b : Bool). cond b (one.call ∷ calls_of x order) (calls_of x order)) is ∙ sym at;
+    }
+    by true is before (inr low) = let r = before low in record { past = r.past; earlier = inr r.earlier; calls = r.calls }
+    by false is before low = let r = before low in record { past = r.past; earlier = inr r.earlier; calls = r.calls }
+
+-- whoever has finished at a moment of the game has finished with that ever after
+finish_stays : (lives : List LifeId) (first : LifeId → ℕ) (g h : Game) (x : LifeId) (s : SwitchOf) (t : TopoOf) → Play lives (begins first) g → Play lives g h → Agrees x s g → finish_of s ≡ Some t
+    → (f : FinishedIn h x s.epoch) × (f.topology ≡ t)
+finish_stays lives first g h x s t play more agree is = by s.joined refl is
+  where
+    by : (b : Bool) → s.joined ≡ b → cond b (finish s.card s.log) None ≡ Some t → (f : FinishedIn h x s.epoch) × (f.topology ≡ t)
+    by true joined done =
+        let w = has_grown lives (slice s.epoch g) (slice s.epoch h) x (node_of s) (later_run lives first g h s.epoch play more) (agree.joined joined) in
+        (record { node = w.node; joined = w.joined; topology = t; finish = ap (λ (c : CardOf). finish c w.node.log) w.card ∙ finish_earlier s.card s.log w.node.log t w.log done }, refl)
+    by false joined done = absurd (none-some t done)
+
+-- the game of an order of all that was done
+pub record IsPlayed (lives : List LifeId) (on : PowerOn) (did : LifeId → List Call) : Type 0 where
+  pub order : List CallOf
+  pub calls : (x : LifeId) → calls_of x order ≡ did x
+  pub can : CanHappen lives on order
+
+pub is_played : (lives : List LifeId) (on : PowerOn) (did : LifeId → List Call) (sending : Event → Event) → IsRun lives on did sending → HasNoCycle did sending → IsPlayed lives on did
+is_played lives on did sending run acyclic =
+    let w = whole lives on did sending run acyclic in
+    record { order = w.order; calls = w.interleaving; can = can_happen lives on did sending run w.order w.ordered }
+
+happens_to : (lives : List LifeId) (on : PowerOn) (order : List CallOf) → CanHappen lives on order → Happens lives (dark on) (begins on.epoch) (network_after on order) (game_after on order)
+happens_to lives on order can = happens_since lives on order [] (earlier_nil order) can
+
+-- who has finished at a moment of its own has finished in the game
+finished_in : (lives : List LifeId) (on : PowerOn) (did : LifeId → List Call) (p : IsPlayed lives on did) (x : LifeId) (e : ℕ) (t : TopoOf) → HasFinished on did x e t → (f : FinishedIn (game_after on p.order) x e) × (f.topology ≡ t)
+finished_in lives on did p x e t f =
+    let m = moment_in p.order x f.moment (subst (Earlier f.moment) (sym (p.calls x)) f.earlier) in
+    let v = network_after on m.past in
+    let g = game_after on m.past in
+    let h = game_after on p.order in
+    let s = v.switches x in
+    let is : s ≡ switch_after on x f.moment = same_switch on m.past x ∙ ap (switch_after on x) m.calls in
+    let first = happens_to lives on m.past (can_tail lives on p.order m.past m.earlier p.can) in
+    let more = happens_since lives on p.order m.past m.earlier p.can in
+    let done = finish_stays lives on.epoch g h x s t (plays lives on v g first) (later lives on v (network_after on p.order) g h first more) (agrees lives on v g x first) (ap finish_of is ∙ f.finish) in
+    subst (λ (n : ℕ). (d : FinishedIn h x n) × (d.topology ≡ t)) (ap (λ (u : SwitchOf). u.epoch) is ∙ f.epoch_is) done
+
+-- lives that finished one epoch under one root hold one topology
+pub one_topology : (lives : List LifeId) (on : PowerOn) (did : LifeId → List Call) (sending : Event → Event) (x y : LifeId) (e : ℕ) (t u : TopoOf) (a b : EntryOf) → length lives ≤ 126 → IsRun lives on did sending → HasNoCycle did sending
+    → HasFinished on did x e t → HasFinished on did y e u → Contains t.entries a → Contains u.entries b → a.position.root ≡ b.position.root → t ≡ u
+one_topology lives on did sending x y e t u a b few run acyclic fx fy ia ib root =
+    let p = is_played lives on did sending run acyclic in
+    let g = game_after on p.order in
+    let dx = finished_in lives on did p x e t fx in
+    let dy = finished_in lives on did p y e u fy in
+    let play = plays lives on (network_after on p.order) g (happens_to lives on p.order p.can) in
+    finished_alike lives (slice e g) x y dx.0.node dy.0.node t u a b few (play_run lives on.epoch g e play) dx.0.joined dy.0.joined (dx.0.finish ∙ ap (λ (k : TopoOf). Some k) dx.1) (dy.0.finish ∙ ap (λ (k : TopoOf). Some k) dy.1) ia ib root
+
+-- and no member of what one has finished with is in a lower epoch
+pub no_member_behind : (lives : List LifeId) (on : PowerOn) (did : LifeId → List Call) (sending : Event → Event) (x : LifeId) (e : ℕ) (t : TopoOf) (a : EntryOf) → length lives ≤ 126 → IsRun lives on did sending → HasNoCycle did sending
+    → HasFinished on did x e t → Contains t.entries a → e ≤ (switch_after on a.life (did a.life)).epoch
+no_member_behind lives on did sending x e t a few run acyclic fx has =
+    let p = is_played lives on did sending run acyclic in
+    let w = network_after on p.order in
+    let d = finished_in lives on did p x e t fx in
+    let low = not_behind lives on w (game_after on p.order) x e d.0 a few (happens_to lives on p.order p.can) (subst (λ (k : TopoOf). Contains k.entries a) (sym d.1) has) in
+    subst (λ (s : SwitchOf). e ≤ s.epoch) (same_switch on p.order a.life ∙ ap (switch_after on a.life) (p.calls a.life)) low
+
+-- and what is quiet has settled
+pub settled : (lives : List LifeId) (on : PowerOn) (did : LifeId → List Call) (sending : Event → Event) (x : LifeId) (one : HasOneOrder lives on did sending) → length lives ≤ 126 → IsQuiet (network_after on one.order) x
+    → HasSettled lives (network_after on one.order) (game_after on one.order) x
+settled lives on did sending x one few quiet = has_settled lives on (network_after on one.order) (game_after on one.order) x few one.happens quiet

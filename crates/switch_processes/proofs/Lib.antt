@@ -1,0 +1,4 @@
+pub mod Moments
+pub mod Ready
+pub mod Ordered
+pub mod Claims

@@ -1,0 +1,65 @@
+//! What processes did, each in its own order, is one history, and what holds of them so.
+
+ghost use Rattle.std.specs.Prelude.{◌≡◌, ◌≤◌, ℕ, Contains, List, length};
+ghost use Rattle.an_base.specs.Values.{EntryOf, LifeId, TopoOf};
+ghost use Rattle.switch_game.specs.Network.{PowerOn};
+ghost use Rattle.switch_game.specs.Quiet.{HasSettled, IsQuiet};
+ghost use Rattle.switch_processes.specs.Processes.{AreTimes, Call, Event, HasFinished, HasNoCycle, IsConsistentCut, IsRun, made_by, switch_after};
+ghost use Rattle.switch_processes.specs.Orders.{HasOneOrder, Passes, game_after, network_after};
+
+/// If each process made its calls in an order of its own, each frame that came in is one that went out by an
+/// event, and no event happened before itself, then all calls have one order. It keeps the order of each
+/// process and has the sending of each frame before it comes in. It is a history of the network of all lives,
+/// in which each life is the switch that its process has.
+pub fn processes_have_one_order()
+    ensures { (lives : List LifeId) (on : PowerOn) (did : LifeId → List Call) (sending : Event → Event)
+        → IsRun lives on did sending → HasNoCycle did sending → HasOneOrder lives on did sending }
+{}
+
+/// No event happened before itself if events have times that rise in each process, and from the sending of a
+/// frame until it comes in. What was done by a time is then a consistent cut.
+pub fn events_have_times()
+    ensures no_cycle { (lives : List LifeId) (on : PowerOn) (did : LifeId → List Call)
+        (sending : Event → Event) (time : Event → ℕ)
+        → IsRun lives on did sending → AreTimes did sending time → HasNoCycle did sending }
+    ensures cut { (lives : List LifeId) (on : PowerOn) (did : LifeId → List Call) (sending : Event → Event)
+        (time : Event → ℕ) (now : ℕ)
+        → IsRun lives on did sending → AreTimes did sending time
+        → IsConsistentCut did (λ life. made_by time now life (did life)) sending }
+{}
+
+/// What processes did up to a consistent cut is itself such a run, so whatever holds of runs holds at each
+/// consistent cut. And one order of the whole passes the cut: it has all that was done up to the cut first,
+/// and the network goes on from there.
+pub fn a_consistent_cut_is_a_run()
+    ensures run { (lives : List LifeId) (on : PowerOn) (did cut : LifeId → List Call)
+        (sending : Event → Event)
+        → IsRun lives on did sending → IsConsistentCut did cut sending → IsRun lives on cut sending }
+    ensures no_cycle { (did cut : LifeId → List Call) (sending : Event → Event)
+        → HasNoCycle did sending → IsConsistentCut did cut sending → HasNoCycle cut sending }
+    ensures passed { (lives : List LifeId) (on : PowerOn) (did cut : LifeId → List Call)
+        (sending : Event → Event)
+        → IsRun lives on did sending → HasNoCycle did sending → IsConsistentCut did cut sending
+        → (one : HasOneOrder lives on did sending) × Passes lives on cut one.order }
+{}
+
+/// Of at most 126 lives, two that have finished one epoch under one root, each at some moment of its own, hold
+/// one topology. Each life of a topology with which one has finished is in that epoch or in a greater one. And
+/// where a component is quiet, in the network of the one order, it has settled.
+pub fn processes_hold_one_topology()
+    ensures one { (lives : List LifeId) (on : PowerOn) (did : LifeId → List Call) (sending : Event → Event)
+        (life other : LifeId) (epoch : ℕ) (topology other_topology : TopoOf) (entry other_entry : EntryOf)
+        → length lives ≤ 126 → IsRun lives on did sending → HasNoCycle did sending
+        → HasFinished on did life epoch topology → HasFinished on did other epoch other_topology
+        → Contains topology.entries entry → Contains other_topology.entries other_entry
+        → entry.position.root ≡ other_entry.position.root → topology ≡ other_topology }
+    ensures behind { (lives : List LifeId) (on : PowerOn) (did : LifeId → List Call) (sending : Event → Event)
+        (life : LifeId) (epoch : ℕ) (topology : TopoOf) (entry : EntryOf)
+        → length lives ≤ 126 → IsRun lives on did sending → HasNoCycle did sending
+        → HasFinished on did life epoch topology → Contains topology.entries entry
+        → epoch ≤ (switch_after on entry.life (did entry.life)).epoch }
+    ensures settled { (lives : List LifeId) (on : PowerOn) (did : LifeId → List Call)
+        (sending : Event → Event) (life : LifeId) (order : HasOneOrder lives on did sending)
+        → length lives ≤ 126 → IsQuiet (network_after on order.order) life
+        → HasSettled lives (network_after on order.order) (game_after on order.order) life }
+{}
