@@ -5,24 +5,25 @@ use Rattle.std.proofs.lemmas.Option.{none-some}
 use Rattle.std.specs.Ordering.{is_eq}
 use Rattle.an_base.specs.Values.{EntryOf, LifeId, TopoOf}
 use Rattle.an_base.specs.Order.{life_cmp}
+use Rattle.topo_graph.specs.Topology.{IsGraph, IsTree}
 use Rattle.epoch_core.specs.Log.{CardOf}
 use Rattle.epoch_core.specs.Epoch.{finish}
-use Rattle.epoch_game.specs.Slice.{Earlier}
+use Rattle.epoch_game.specs.Slice.{Earlier, Run, nobody}
 use Rattle.epoch_game.specs.Game.{Game, Play, begins, slice, HasFinished as FinishedIn}
-use Rattle.epoch_game.proofs.Lists.{earlier_nil}
-use Rattle.epoch_game.proofs.StreamLemmas.{has_grown}
-use Rattle.epoch_game.proofs.FinishLemmas.{finish_earlier, finished_alike}
-use Rattle.epoch_game.proofs.GameLemmas.{later_run, play_run}
+use Rattle.epoch_game.proofs.StreamLemmas.{has_grown, nodes}
+use Rattle.epoch_game.proofs.FinishLemmas.{finish_earlier, finished_alike, finished_under}
+use Rattle.epoch_game.proofs.TopologyLemmas.{is_tree}
+use Rattle.epoch_game.proofs.GameLemmas.{later_run, nothing_ahead, play_run}
 use Rattle.switch_core.specs.Switch.{SwitchOf, finish_of}
-use Rattle.switch_game.specs.Network.{Happens, PowerOn, dark}
+use Rattle.switch_game.specs.Network.{PowerOn}
 use Rattle.switch_game.specs.Playing.{Agrees, node_of}
 use Rattle.switch_game.proofs.Laws.{agrees, later, plays}
-use Rattle.switch_game.proofs.Members.{not_behind}
 use Rattle.switch_game.proofs.QuietLives.{has_settled}
 use Rattle.switch_game.specs.Quiet.{HasSettled, IsQuiet}
-use Rattle.switch_processes.specs.Processes.{Call, Event, HasFinished, HasNoCycle, IsRun, switch_after}
+use Rattle.switch_processes.specs.Processes.{Call, Event, HasFinished, HasNoCycle, IsJoinedBy, IsRun, switch_after}
 use Rattle.switch_processes.specs.Orders.{CallOf, HasOneOrder, calls_of, game_after, network_after}
-use Rattle.switch_processes.proofs.Ordered.{CanHappen, can_happen, can_tail, happens_since, same_switch, whole}
+use Rattle.switch_processes.proofs.Ordered.{CanHappen, can_happen, can_tail, happens_since, happens_to, same_switch, whole}
+use Rattle.switch_processes.proofs.Joined.{has_joined, members_run}
 
 -- a moment of a life is one of the order
 pub record IsMoment (order : List CallOf) (x : LifeId) (m : List Call) : Type 0 where
@@ -65,9 +66,6 @@ is_played lives on did sending run acyclic =
     let w = whole lives on did sending run acyclic in
     record { order = w.order; calls = w.interleaving; can = can_happen lives on did sending run w.order w.ordered }
 
-happens_to : (lives : List LifeId) (on : PowerOn) (order : List CallOf) → CanHappen lives on order → Happens lives (dark on) (begins on.epoch) (network_after on order) (game_after on order)
-happens_to lives on order can = happens_since lives on order [] (earlier_nil order) can
-
 -- who has finished at a moment of its own has finished in the game
 finished_in : (lives : List LifeId) (on : PowerOn) (did : LifeId → List Call) (p : IsPlayed lives on did) (x : LifeId) (e : ℕ) (t : TopoOf) → HasFinished on did x e t → (f : FinishedIn (game_after on p.order) x e) × (f.topology ≡ t)
 finished_in lives on did p x e t f =
@@ -82,26 +80,46 @@ finished_in lives on did p x e t f =
     let done = finish_stays lives on.epoch g h x s t (plays lives on v g first) (later lives on v (network_after on p.order) g h first more) (agrees lives on v g x first) (ap finish_of is ∙ f.finish) in
     subst (λ (n : ℕ). (d : FinishedIn h x n) × (d.topology ≡ t)) (ap (λ (u : SwitchOf). u.epoch) is ∙ f.epoch_is) done
 
--- lives that finished one epoch under one root hold one topology
-pub one_topology : (lives : List LifeId) (on : PowerOn) (did : LifeId → List Call) (sending : Event → Event) (x y : LifeId) (e : ℕ) (t u : TopoOf) (a b : EntryOf) → length lives ≤ 126 → IsRun lives on did sending → HasNoCycle did sending
-    → HasFinished on did x e t → HasFinished on did y e u → Contains t.entries a → Contains u.entries b → a.position.root ≡ b.position.root → t ≡ u
-one_topology lives on did sending x y e t u a b few run acyclic fx fy ia ib root =
-    let p = is_played lives on did sending run acyclic in
+-- the epoch is a run of those that join it
+joined_run : (lives members : List LifeId) (on : PowerOn) (did : LifeId → List Call) (e : ℕ) (p : IsPlayed lives on did) → IsJoinedBy members on did e → Run members nobody (slice e (game_after on p.order))
+joined_run lives members on did e p by =
     let g = game_after on p.order in
+    members_run lives members (slice e g) (play_run lives on.epoch g e (plays lives on (network_after on p.order) g (happens_to lives on p.order p.can)))
+    (λ x n is. by x (has_joined lives on did p.order p.calls p.can x e n is))
+
+-- lives that finished one epoch under one root hold one topology
+pub one_topology : (lives members : List LifeId) (on : PowerOn) (did : LifeId → List Call) (sending : Event → Event) (x y : LifeId) (e : ℕ) (t u : TopoOf) (a b : EntryOf) → IsRun lives on did sending → HasNoCycle did sending → IsJoinedBy members on did e → length members ≤ 126
+    → HasFinished on did x e t → HasFinished on did y e u → Contains t.entries a → Contains u.entries b → a.position.root ≡ b.position.root → t ≡ u
+one_topology lives members on did sending x y e t u a b run acyclic by few fx fy ia ib root =
+    let p = is_played lives on did sending run acyclic in
     let dx = finished_in lives on did p x e t fx in
     let dy = finished_in lives on did p y e u fy in
-    let play = plays lives on (network_after on p.order) g (happens_to lives on p.order p.can) in
-    finished_alike lives (slice e g) x y dx.0.node dy.0.node t u a b few (play_run lives on.epoch g e play) dx.0.joined dy.0.joined (dx.0.finish ∙ ap (λ (k : TopoOf). Some k) dx.1) (dy.0.finish ∙ ap (λ (k : TopoOf). Some k) dy.1) ia ib root
+    finished_alike members (slice e (game_after on p.order)) x y dx.0.node dy.0.node t u a b few (joined_run lives members on did e p by) dx.0.joined dy.0.joined (dx.0.finish ∙ ap (λ (k : TopoOf). Some k) dx.1) (dy.0.finish ∙ ap (λ (k : TopoOf). Some k) dy.1) ia ib root
+
+-- which is a tree
+pub tree : (lives members : List LifeId) (on : PowerOn) (did : LifeId → List Call) (sending : Event → Event) (x : LifeId) (e : ℕ) (t : TopoOf) → IsRun lives on did sending → HasNoCycle did sending → IsJoinedBy members on did e → length members ≤ 126
+    → HasFinished on did x e t → IsGraph t.entries × IsTree t.entries
+tree lives members on did sending x e t run acyclic by few fx =
+    let p = is_played lives on did sending run acyclic in
+    let d = finished_in lives on did p x e t fx in
+    is_tree members (slice e (game_after on p.order)) x d.0.node t few (joined_run lives members on did e p by) d.0.joined (d.0.finish ∙ ap (λ (k : TopoOf). Some k) d.1)
 
 -- and no member of what one has finished with is in a lower epoch
-pub no_member_behind : (lives : List LifeId) (on : PowerOn) (did : LifeId → List Call) (sending : Event → Event) (x : LifeId) (e : ℕ) (t : TopoOf) (a : EntryOf) → length lives ≤ 126 → IsRun lives on did sending → HasNoCycle did sending
+pub no_member_behind : (lives members : List LifeId) (on : PowerOn) (did : LifeId → List Call) (sending : Event → Event) (x : LifeId) (e : ℕ) (t : TopoOf) (a : EntryOf) → IsRun lives on did sending → HasNoCycle did sending → IsJoinedBy members on did e → length members ≤ 126
     → HasFinished on did x e t → Contains t.entries a → e ≤ (switch_after on a.life (did a.life)).epoch
-no_member_behind lives on did sending x e t a few run acyclic fx has =
+no_member_behind lives members on did sending x e t a run acyclic by few fx has =
     let p = is_played lives on did sending run acyclic in
     let w = network_after on p.order in
+    let g = game_after on p.order in
+    let happens = happens_to lives on p.order p.can in
+    let joined = joined_run lives members on did e p by in
     let d = finished_in lives on did p x e t fx in
-    let low = not_behind lives on w (game_after on p.order) x e d.0 a few (happens_to lives on p.order p.can) (subst (λ (k : TopoOf). Contains k.entries a) (sym d.1) has) in
-    subst (λ (s : SwitchOf). e ≤ s.epoch) (same_switch on p.order a.life ∙ ap (switch_after on a.life) (p.calls a.life)) low
+    let u = finished_under members (slice e g) few joined x d.0.node t d.0.joined (d.0.finish ∙ ap (λ (k : TopoOf). Some k) d.1) in
+    let m = (u.entries a).0 has in
+    let is : a.life ≡ m.life = ap (λ (i : EntryOf). i.life) m.is ∙ (nodes members (slice e g) joined m.life m.node m.joined).0.me in
+    let low : e ≤ g.present m.life = nothing_ahead lives on.epoch g (plays lives on w g happens) m.life e m.node m.joined in
+    let present = (agrees lives on w g m.life happens).present ∙ ap (λ (s : SwitchOf). s.epoch) (same_switch on p.order m.life ∙ ap (switch_after on m.life) (p.calls m.life)) in
+    subst (λ (z : LifeId). e ≤ (switch_after on z (did z)).epoch) (sym is) (subst (λ (k : ℕ). e ≤ k) present low)
 
 -- and what is quiet has settled
 pub settled : (lives : List LifeId) (on : PowerOn) (did : LifeId → List Call) (sending : Event → Event) (x : LifeId) (one : HasOneOrder lives on did sending) → length lives ≤ 126 → IsQuiet (network_after on one.order) x

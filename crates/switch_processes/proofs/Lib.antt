@@ -1,4 +1,5 @@
 pub mod Moments
 pub mod Ready
 pub mod Ordered
+pub mod Joined
 pub mod Claims

@@ -10,10 +10,10 @@ use Rattle.an_base.specs.declared.frame.Frame.{Frame}
 use Rattle.an_base.proofs.LifeLemmas.{life_passes, same_life}
 use Rattle.topo_report.proofs.Members.{In, in_from}
 use Rattle.epoch_game.specs.Slice.{Earlier}
-use Rattle.epoch_game.specs.Game.{Game}
+use Rattle.epoch_game.specs.Game.{Game, begins}
 use Rattle.epoch_game.proofs.Lists.{earlier_itself, earlier_nil, earlier_trans}
 use Rattle.switch_core.specs.Switch.{SwitchOf}
-use Rattle.switch_game.specs.Network.{Happens, Network, PowerOn, clocks, frames_of, hands, loads, none, stepped}
+use Rattle.switch_game.specs.Network.{Happens, Network, PowerOn, clocks, dark, frames_of, hands, loads, none, stepped}
 use Rattle.switch_processes.specs.Processes.{Call, Clocks, Event, HasNoCycle, Hears, IsConsistentCut, IsOf, IsRun, Loads, Takes, called, frames_out, switch_after}
 use Rattle.switch_processes.specs.Orders.{AreSentBefore, CallOf, HasOneOrder, IsInterleaving, Passes, call_moves, calls_of, event_of, game_after, network_after}
 use Rattle.switch_processes.proofs.Moments.{cut_has_no_cycle, cut_run, earlier_length, event_at, next_of, same_event}
@@ -26,7 +26,7 @@ calls_cases one order x P here else = cond_both (is_eq (life_cmp one.life x)) (o
 pub calls_here : (one : CallOf) (order : List CallOf) → calls_of one.life (one ∷ order) ≡ one.call ∷ calls_of one.life order
 calls_here one order = ap (λ (b : Bool). cond b (one.call ∷ calls_of one.life order) (calls_of one.life order)) (life_passes one.life one.life refl)
 
-calls_more : (one : CallOf) (order : List CallOf) (x : LifeId) → Earlier (calls_of x order) (calls_of x (one ∷ order))
+pub calls_more : (one : CallOf) (order : List CallOf) (x : LifeId) → Earlier (calls_of x order) (calls_of x (one ∷ order))
 calls_more one order x = calls_cases one order x (Earlier (calls_of x order)) (λ is. inr (earlier_itself (calls_of x order))) (earlier_itself (calls_of x order))
 
 -- Calls in an order that is a cut of what the processes did, in which frames come in after they are sent
@@ -210,13 +210,16 @@ happens_since lives on (one ∷ order) earlier (inl is) can = subst (λ (o : Lis
 happens_since lives on (one ∷ order) earlier (inr low) can =
     one_happens lives (network_after on earlier) (game_after on earlier) (network_after on order) (game_after on order) one.life one.call (happens_since lives on order earlier low can.1) can.0.among can.0.takes can.0.sent
 
+pub happens_to : (lives : List LifeId) (on : PowerOn) (order : List CallOf) → CanHappen lives on order → Happens lives (dark on) (begins on.epoch) (network_after on order) (game_after on order)
+happens_to lives on order can = happens_since lives on order [] (earlier_nil order) can
+
 -- one order of all, and of what was done up to a cut first
 with_start : (lives : List LifeId) (on : PowerOn) (did : LifeId → List Call) (sending : Event → Event) → IsRun lives on did sending → (start : List CallOf) → IsWhole did sending start → HasOneOrder lives on did sending
 with_start lives on did sending run start w = record {
   order = w.order;
   interleaving = w.interleaving;
   sent_before = w.ordered.sent;
-  happens = happens_since lives on w.order [] (earlier_nil w.order) (can_happen lives on did sending run w.order w.ordered);
+  happens = happens_to lives on w.order (can_happen lives on did sending run w.order w.ordered);
   switches = λ x. same_switch on w.order x ∙ ap (switch_after on x) (w.interleaving x);
 }
 

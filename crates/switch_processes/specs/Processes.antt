@@ -97,6 +97,17 @@ made_by time now life (call ∷ before) =
     then made_by time now life before
     else call ∷ before
 
+-- at some moment of its own a life has joined an epoch
+pub record HasJoined (on : PowerOn) (did : LifeId → List Call) (life : LifeId) (epoch : ℕ) : Type 0 where
+  pub moment : List Call
+  pub earlier : Earlier moment (did life)
+  pub joined : (switch_after on life moment).joined ≡ true
+  pub epoch_is : (switch_after on life moment).epoch ≡ epoch
+
+-- no others than these have
+abbrev pub IsJoinedBy : List LifeId → PowerOn → (LifeId → List Call) → ℕ → Type 0
+IsJoinedBy members on did epoch = (life : LifeId) → HasJoined on did life epoch → Contains members life
+
 -- at some moment of its own a life has finished an epoch with a topology
 pub record HasFinished (on : PowerOn) (did : LifeId → List Call) (life : LifeId) (epoch : ℕ)
     (topology : TopoOf) : Type 0 where

@@ -2,9 +2,10 @@
 
 ghost use Rattle.std.specs.Prelude.{◌≡◌, ◌≤◌, ℕ, Contains, List, length};
 ghost use Rattle.an_base.specs.Values.{EntryOf, LifeId, TopoOf};
+ghost use Rattle.topo_graph.specs.Topology.{IsGraph, IsTree};
 ghost use Rattle.switch_game.specs.Network.{PowerOn};
 ghost use Rattle.switch_game.specs.Quiet.{HasSettled, IsQuiet};
-ghost use Rattle.switch_processes.specs.Processes.{AreTimes, Call, Event, HasFinished, HasNoCycle, IsConsistentCut, IsRun, made_by, switch_after};
+ghost use Rattle.switch_processes.specs.Processes.{AreTimes, Call, Event, HasFinished, HasNoCycle, IsConsistentCut, IsJoinedBy, IsRun, made_by, switch_after};
 ghost use Rattle.switch_processes.specs.Orders.{HasOneOrder, Passes, game_after, network_after};
 
 /// If each process made its calls in an order of its own, each frame that came in is one that went out by an
@@ -43,23 +44,36 @@ pub fn a_consistent_cut_is_a_run()
         → (one : HasOneOrder lives on did sending) × Passes lives on cut one.order }
 {}
 
-/// Of at most 126 lives, two that have finished one epoch under one root, each at some moment of its own, hold
-/// one topology. Each life of a topology with which one has finished is in that epoch or in a greater one. And
-/// where a component is quiet, in the network of the one order, it has settled.
+/// Of lives of which at most 126 ever join an epoch, two that have finished it under one root, each at some moment
+/// of its own, hold one topology. The links of a topology with which one has finished it are a graph, and each of
+/// its lives has its place in the tree of shortest walks. And each of these lives is in that epoch or in a
+/// greater one.
 pub fn processes_hold_one_topology()
-    ensures one { (lives : List LifeId) (on : PowerOn) (did : LifeId → List Call) (sending : Event → Event)
-        (life other : LifeId) (epoch : ℕ) (topology other_topology : TopoOf) (entry other_entry : EntryOf)
-        → length lives ≤ 126 → IsRun lives on did sending → HasNoCycle did sending
+    ensures one { (lives members : List LifeId) (on : PowerOn) (did : LifeId → List Call)
+        (sending : Event → Event) (life other : LifeId) (epoch : ℕ) (topology other_topology : TopoOf)
+        (entry other_entry : EntryOf)
+        → IsRun lives on did sending → HasNoCycle did sending
+        → IsJoinedBy members on did epoch → length members ≤ 126
         → HasFinished on did life epoch topology → HasFinished on did other epoch other_topology
         → Contains topology.entries entry → Contains other_topology.entries other_entry
         → entry.position.root ≡ other_entry.position.root → topology ≡ other_topology }
-    ensures behind { (lives : List LifeId) (on : PowerOn) (did : LifeId → List Call) (sending : Event → Event)
-        (life : LifeId) (epoch : ℕ) (topology : TopoOf) (entry : EntryOf)
-        → length lives ≤ 126 → IsRun lives on did sending → HasNoCycle did sending
+    ensures tree { (lives members : List LifeId) (on : PowerOn) (did : LifeId → List Call)
+        (sending : Event → Event) (life : LifeId) (epoch : ℕ) (topology : TopoOf)
+        → IsRun lives on did sending → HasNoCycle did sending
+        → IsJoinedBy members on did epoch → length members ≤ 126
+        → HasFinished on did life epoch topology → IsGraph topology.entries × IsTree topology.entries }
+    ensures behind { (lives members : List LifeId) (on : PowerOn) (did : LifeId → List Call)
+        (sending : Event → Event) (life : LifeId) (epoch : ℕ) (topology : TopoOf) (entry : EntryOf)
+        → IsRun lives on did sending → HasNoCycle did sending
+        → IsJoinedBy members on did epoch → length members ≤ 126
         → HasFinished on did life epoch topology → Contains topology.entries entry
         → epoch ≤ (switch_after on entry.life (did entry.life)).epoch }
-    ensures settled { (lives : List LifeId) (on : PowerOn) (did : LifeId → List Call)
-        (sending : Event → Event) (life : LifeId) (order : HasOneOrder lives on did sending)
-        → length lives ≤ 126 → IsQuiet (network_after on order.order) life
-        → HasSettled lives (network_after on order.order) (game_after on order.order) life }
+{}
+
+/// Of at most 126 lives in all: where a component is quiet, in the network of the one order, it has settled.
+pub fn a_quiet_component_has_settled()
+    ensures { (lives : List LifeId) (on : PowerOn) (did : LifeId → List Call) (sending : Event → Event)
+        (life : LifeId) (one : HasOneOrder lives on did sending)
+        → length lives ≤ 126 → IsQuiet (network_after on one.order) life
+        → HasSettled lives (network_after on one.order) (game_after on one.order) life }
 {}

@@ -1,4 +1,4 @@
-use Rattle.switch_processes.proofs.Claims.{no_member_behind, one_topology, settled}
+use Rattle.switch_processes.proofs.Claims.{no_member_behind, one_topology, tree}
 use Rattle.switch_processes.proofs.law.processes_hold_one_topology.Goals as goal
 
 pub returns-clause-one : goal.returns-clause-one
@@ -7,5 +7,5 @@ returns-clause-one c = one_topology
 pub returns-clause-behind : goal.returns-clause-behind
 returns-clause-behind c = no_member_behind
 
-pub returns-clause-settled : goal.returns-clause-settled
-returns-clause-settled c = settled
+pub returns-clause-tree : goal.returns-clause-tree
+returns-clause-tree c = tree
