@@ -5,10 +5,11 @@ use Rattle.std.specs.Char.{is_digit, digit_value}
 use Rattle.std.specs.Str.Parse.{digits_value}
 use Rattle.std.proofs.lemmas.List.Folds.{list_all_at}
 use Rattle.std.proofs.lemmas.List.FromFn.{get_or-map-range_with_len}
+use Rattle.std.proofs.lemmas.Bool.{false≢true, false_from_ne_true}
 use Rattle.std.proofs.lemmas.Bool.Decides.{nat_tests}
 use Rattle.std.proofs.Math.Nat.{pow-le-pow_right}
 use Rattle.text_lines.specs.Words.{is_number_in, number_value}
-use Rattle.ib_words.specs.Digits.{is_hex, hex, guid, decimal}
+use Rattle.ib_words.specs.Digits.{digit_or_more, is_hex, hex, guid, decimal}
 
 and_false : (b : Bool) → (b && false) ≡ false
 and_false true = refl
@@ -57,28 +58,36 @@ decimal_is word None fails = rw fails refl
 decimal_is word (Some n) (passes, says) = rw passes (ap (λ (x : ℕ). Some x) says)
 
 -- the table of digits, by its rule
-abbrev pub digit_or_none : ℕ → ℕ
-digit_or_none c = if is_digit c 16 then digit_value c else 255
-
 abbrev pub digit_table : List ℕ
-digit_table = map digit_or_none (range_with_len 0 256)
+digit_table = map digit_or_more (range_with_len 0 256)
 
-in_table : (table : List ℕ) (c : ℕ) → table ≡ digit_table → c < 256 → get_or table c 0 ≡ digit_or_none c
-in_table table c is within = ap (λ (l : List ℕ). get_or l c 0) is ∙ get_or-map-range_with_len digit_or_none 0 256 c c 0 within (omega arith)
+pub in_table : (table : List ℕ) (c : ℕ) → table ≡ digit_table → c < 256 → get_or table c 0 ≡ digit_or_more c
+in_table table c is within = ap (λ (l : List ℕ). get_or l c 0) is ∙ get_or-map-range_with_len digit_or_more 0 256 c c 0 within (omega arith)
 
-of_low : (passes : Bool) (n d : ℕ) → n ≡ (if passes then d else 255) → n < 16 → (passes ≡ true) × (n ≡ d)
-of_low true n d is low = (refl, is)
-of_low false n d is low = absurd (omega (arith, is))
+if_below : (passes : Bool) (n d : ℕ) → n ≡ (if passes then d else 65536) → n < 65536 → (passes ≡ true) × (n ≡ d)
+if_below true n d is low = (refl, is)
+if_below false n d is low = absurd (omega (arith, is))
 
-of_high : (passes : Bool) (n d : ℕ) → (passes ≡ true → d < 16) → n ≡ (if passes then d else 255) → 16 ≤ n → passes ≡ false
-of_high true n d small is high = absurd (omega (arith, is, small refl))
-of_high false n d small is high = refl
+if_digit : (passes : Bool) (n d : ℕ) → n ≡ (if passes then d else 65536) → passes ≡ true → n ≡ d
+if_digit true n d is holds = is
+if_digit false n d is holds = absurd (false≢true holds)
+
+if_most : (passes : Bool) (n d : ℕ) → (passes ≡ true → d < 16) → n ≡ (if passes then d else 65536) → n ≤ 65536
+if_most true n d small is = omega (arith, is, small refl)
+if_most false n d small is = omega (arith, is)
 
 digit_low : (c : ℕ) → is_digit c 16 ≡ true → digit_value c < 16
 digit_low c digit = grind (arith, nat_tests)
 
-pub digit_of : (table : List ℕ) (c : ℕ) → table ≡ digit_table → c < 256 → get_or table c 0 < 16 → (is_digit c 16 ≡ true) × (get_or table c 0 ≡ digit_value c)
-digit_of table c is within low = of_low (is_digit c 16) _ (digit_value c) (in_table table c is within) low
+-- what is looked up is a digit, or more than four digits say
+pub digit_below : (c n : ℕ) → n ≡ digit_or_more c → n < 65536 → (is_digit c 16 ≡ true) × (n ≡ digit_value c)
+digit_below c n is low = if_below (is_digit c 16) n (digit_value c) is low
 
-pub no_digit : (table : List ℕ) (c : ℕ) → table ≡ digit_table → c < 256 → 16 ≤ get_or table c 0 → is_digit c 16 ≡ false
-no_digit table c is within high = of_high (is_digit c 16) _ (digit_value c) (digit_low c) (in_table table c is within) high
+pub digit_small : (c n : ℕ) → n ≡ digit_or_more c → is_digit c 16 ≡ true → n < 16
+digit_small c n is digit = omega (arith, if_digit (is_digit c 16) n (digit_value c) is digit, digit_low c digit)
+
+pub digit_most : (c n : ℕ) → n ≡ digit_or_more c → n ≤ 65536
+digit_most c n is = if_most (is_digit c 16) n (digit_value c) (digit_low c) is
+
+pub no_digit : (c n : ℕ) → n ≡ digit_or_more c → 16 ≤ n → is_digit c 16 ≡ false
+no_digit c n is high = false_from_ne_true (is_digit c 16) (λ digit. let low = digit_small c n is digit in omega arith)

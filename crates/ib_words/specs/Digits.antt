@@ -1,11 +1,15 @@
 use Rattle.std.specs.Prelude.{◌==◌, ◌&&◌, ◌-◌, ◌^◌, ℕ, Bool, List, length, Option, Some, None}
 use Rattle.std.specs.Prelude.{if◌then◌else◌, nat_lt, nat_le}
 use Rattle.std.specs.List.{list_all}
-use Rattle.std.specs.Char.{is_digit}
+use Rattle.std.specs.Char.{is_digit, digit_value}
 use Rattle.std.specs.Str.Parse.{digits_value}
 use Rattle.text_lines.specs.Words.{is_number_in, number_value}
 
 -- Numbers in hexadecimal and decimal digits.
+
+-- what a hexadecimal digit says, in either case, and 2^16 for any other byte
+abbrev pub digit_or_more : ℕ → ℕ
+digit_or_more c = if is_digit c 16 then digit_value c else 2 ^ 16
 
 -- whether a word is of 1 to 16 hexadecimal digits, in either case
 abbrev pub is_hex : List ℕ → Bool

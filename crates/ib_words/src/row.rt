@@ -4,7 +4,7 @@ ghost use Rattle.std.specs.Prelude.{◌≡◌, ◌+◌, ◌<◌, ◌≤◌, true
 ghost use Rattle.std.specs.Char.{is_ascii_digit};
 ghost use Rattle.ib_words.specs.Rows.{is_row, row, four_hex, three_decimal};
 
-use crate::digits::hex_digit;
+use crate::digits::digit_or_more;
 
 /// What a row says: a LID and a port. It is `0x` and four hexadecimal digits, a space and three decimal
 /// digits, and after these nothing, or a space and anything.
@@ -39,9 +39,12 @@ fn is_row(line: &[u8]) -> bool
 fn four_hex(a: u8, b: u8, c: u8, d: u8) -> Option<u16>
     ensures { result ≡ four_hex a b c d }
 {
-    let high = u16::from(hex_digit(a)?) * 16 + u16::from(hex_digit(b)?);
-    let low = u16::from(hex_digit(c)?) * 16 + u16::from(hex_digit(d)?);
-    Some(high * 256 + low)
+    let high = digit_or_more(a) * 4096 + digit_or_more(b) * 256;
+    let number = high + digit_or_more(c) * 16 + digit_or_more(d);
+    if number > 0xffff {
+        return None;
+    }
+    Some(number as u16)
 }
 
 // What three decimal digits say, at most 255.
