@@ -27,11 +27,10 @@ fn is_row(line: &[u8]) -> bool
     ensures row { result ≡ is_row line.now }
     ensures long { result ≡ true → 10 ≤ length line.now }
 {
-    if line.len() < 10 {
+    if line.len() < 10 || line[0] != b'0' || line[1] != b'x' || line[6] != b' ' {
         return false;
     }
-    let is_spaced = line[6] == b' ' && (line.len() == 10 || line[10] == b' ');
-    line[0] == b'0' && line[1] == b'x' && is_spaced
+    line.len() == 10 || line[10] == b' '
 }
 
 // What four hexadecimal digits say.
@@ -52,8 +51,8 @@ fn four_hex(a: u8, b: u8, c: u8, d: u8) -> Option<u16>
 fn three_decimal(a: u8, b: u8, c: u8) -> Option<u8>
     ensures { result ≡ three_decimal a b c }
 {
-    let hundreds = u16::from(decimal_digit(a)?) * 100;
-    let number = hundreds + u16::from(decimal_digit(b)?) * 10 + u16::from(decimal_digit(c)?);
+    let hundreds = decimal_digit(a)? * 100;
+    let number = hundreds + decimal_digit(b)? * 10 + decimal_digit(c)?;
     if number > 255 {
         return None;
     }
@@ -61,13 +60,13 @@ fn three_decimal(a: u8, b: u8, c: u8) -> Option<u8>
 }
 
 #[inline]
-fn decimal_digit(c: u8) -> Option<u8>
+fn decimal_digit(c: u8) -> Option<u32>
     ensures digit { MatchOption result (is_ascii_digit c ≡ false)
         (λ d. (is_ascii_digit c ≡ true) × (c ≡ 48 + d)) }
     ensures low { IfSome result (λ d. d < 10) }
 {
     match c {
-        b'0'..=b'9' => Some(c - b'0'),
+        b'0'..=b'9' => Some(u32::from(c) - 48),
         _ => None,
     }
 }
