@@ -1,3 +1,4 @@
+pub mod FirstLemmas
 pub mod PieceLemmas
 pub mod ReadLemmas
 pub mod SaidLemmas

@@ -17,14 +17,17 @@ use Rattle.text_lines.specs.declared.stop.Stop.TheVariants.{Fault, OutOfMemory}
 use Rattle.ib_net.specs.Fabric.{FabricOf}
 use Rattle.ib_tables.specs.declared.cause.TablesCause.{TablesCause}
 use Rattle.ib_tables.specs.declared.cause.TablesCause.TheVariants.{TooMany}
+use Rattle.ib_tables.specs.declared.line.TableLine.{TableLine}
 use Rattle.ib_tables.specs.declared.reading.Reading.{Reading}
 use Rattle.ib_tables.specs.declared.reader.TablesRefusal.{TablesRefusal}
 use Rattle.ib_tables.specs.declared.reader.TablesRefusal.TheVariants as refusal
 use Rattle.ib_tables.specs.Answers.{LedToOrWant}
 use Rattle.ib_tables.specs.Readings.{told_of}
-use Rattle.ib_tables.specs.Tables.{told_after, most_bytes}
-use Rattle.ib_tables.specs.Pieces.{IsReadTo, IsLastRead, IsStoppedLast, IsStoppedOn, IsFaultOfAll, is_feed}
+use Rattle.ib_tables.specs.Tables.{Step, told_after, told_with, most_bytes}
+use Rattle.ib_tables.specs.Pieces.{IsReadTo, BeginsWith, ReadsOn, IsFirstRead, IsLineRead, IsReadOn, IsLastRead, IsStoppedLast, IsStoppedOn}
+use Rattle.ib_tables.specs.Pieces.{IsFaultOfAll, is_feed}
 use Rattle.ib_tables.specs.Reads.{refused, GaveFault, GaveTold, GavePiece, IsRefusedBy, IsFinished, IsUnfinished}
+use Rattle.ib_tables.proofs.SaidLemmas.{told_by}
 use Rattle.ib_tables.proofs.PieceLemmas.{read_next, read_more, fault_next, last_read, last_faulty}
 
 -- the last line
@@ -35,35 +38,60 @@ last_line (Err (Fault cause)) fabric rest old new step next here none some =
     (tt, λ bytes read. rw here (last_faulty fabric bytes rest (told_of old) old.line cause read none some step))
 last_line (Err OutOfMemory) fabric rest old new step next here none some = (tt, tt)
 
--- where the next line feed is, and the line before it
-feed_at : (bytes : List ℕ) (from end : ℕ) → Some end ≡ position is_feed (take (length bytes - from) (drop from bytes)) → position is_feed (drop from bytes) ≡ Some end
-feed_at bytes from end at = ap (position is_feed) (sym (take_rest bytes from)) ∙ sym at
-
-line_at : (bytes line : List ℕ) (from end : ℕ) → line ≡ strip_carriage_return (take (from + end - from) (drop from bytes)) → line ≡ strip_carriage_return (take end (drop from bytes))
-line_at bytes line from end is =
-    let same : from + end - from ≡ end = omega arith in
-    is ∙ ap (λ (n : ℕ). strip_carriage_return (take n (drop from bytes))) same
-
--- one more line of those that are held
-pub line_more : (fabric : FabricOf) (bytes line : List ℕ) (old mid new : Reading) (from end : ℕ) → ((all : List ℕ) → IsReadTo fabric all bytes (told_of old) old.line → IsReadTo fabric all (drop from bytes) (told_of mid) mid.line) → Some end ≡ position is_feed (take (length bytes - from) (drop from bytes)) → line ≡ strip_carriage_return (take (from + end - from) (drop from bytes)) → told_after fabric (told_of mid) line ≡ Ok (told_of new) → new.line ≡ mid.line + 1 → (all : List ℕ) → IsReadTo fabric all bytes (told_of old) old.line → IsReadTo fabric all (drop (from + (end + 1)) bytes) (told_of new) new.line
-line_more fabric bytes line old mid new from end read at is step next all begun =
-    let here = ap (told_after fabric (told_of mid)) (sym (line_at bytes line from end is)) ∙ step in
-    let one = read_next fabric all (drop from bytes) (told_of mid) (told_of new) mid.line end (read all begun) (feed_at bytes from end at) here in
-    subst (λ (n : ℕ). IsReadTo fabric all (drop (from + (end + 1)) bytes) (told_of new) n) (sym next)
-    (subst (λ (rest : List ℕ). IsReadTo fabric all rest (told_of new) (mid.line + 1)) (drop-drop (end + 1) from bytes) one)
+-- the first line of what is held was read
+pub line_read : (fabric : FabricOf) (held : List ℕ) (old new : Reading) (end : ℕ) → position is_feed held ≡ Some end → told_after fabric (told_of old) (strip_carriage_return (take end held)) ≡ Ok (told_of new) → new.line ≡ old.line + 1 → IsFirstRead fabric held old new end
+line_read fabric held old new end at step next = record {
+  read = λ all begun. subst (λ (n : ℕ). IsReadTo fabric all (drop (end + 1) held) (told_of new) n) (sym next) (read_next fabric all held (told_of old) (told_of new) old.line end begun at step);
+  within = (position-Some is_feed held end 0 at).0;
+  next = next;
+}
 
 -- .. or it has a fault
-pub line_stopped : (stop : Stop TablesCause) (fabric : FabricOf) (bytes line : List ℕ) (old mid new : Reading) (from end : ℕ) → ((all : List ℕ) → IsReadTo fabric all bytes (told_of old) old.line → IsReadTo fabric all (drop from bytes) (told_of mid) mid.line) → Some end ≡ position is_feed (take (length bytes - from) (drop from bytes)) → line ≡ strip_carriage_return (take (from + end - from) (drop from bytes)) → LedToOrWant {Done = Unit {0}} (Err stop) (told_of new) (told_after fabric (told_of mid) line) → new.line ≡ mid.line → IsStoppedOn fabric bytes old new stop
-line_stopped (Fault cause) fabric bytes line old mid new from end read at is step here =
-    let faulty = ap (told_after fabric (told_of mid)) (sym (line_at bytes line from end is)) ∙ step in
-    λ all begun. subst (λ (n : ℕ). IsFaultOfAll fabric all n cause) (sym here) (fault_next fabric all (drop from bytes) (told_of mid) mid.line end cause (read all begun) (feed_at bytes from end at) faulty)
-line_stopped OutOfMemory fabric bytes line old mid new from end read at is step here = tt
+pub line_stopped : (stop : Stop TablesCause) (fabric : FabricOf) (held : List ℕ) (old new : Reading) (end : ℕ) → position is_feed held ≡ Some end → LedToOrWant {Done = Unit {0}} (Err stop) (told_of new) (told_after fabric (told_of old) (strip_carriage_return (take end held))) → new.line ≡ old.line → IsStoppedOn fabric held old new stop
+line_stopped (Fault cause) fabric held old new end at step here =
+    λ all begun. subst (λ (n : ℕ). IsFaultOfAll fabric all n cause) (sym here) (fault_next fabric all held (told_of old) old.line end cause begun at step)
+line_stopped OutOfMemory fabric held old new end at step here = tt
 
--- a line feed that is found is within
-pub feed_within : (bytes : List ℕ) (from end : ℕ) → Some end ≡ position is_feed (take (length bytes - from) (drop from bytes)) → from ≤ length bytes → from + (end + 1) ≤ length bytes
-feed_within bytes from end at low =
-    let here = position-Some is_feed (drop from bytes) end 0 (feed_at bytes from end at) in
-    omega (arith, here.0, length-drop from bytes)
+-- the same of a line that says this
+pub row_read : (fabric : FabricOf) (held : List ℕ) (old new : Reading) (end : ℕ) (said : TableLine) → BeginsWith held end said → told_with fabric (told_of old) said ≡ Ok (told_of new) → new.line ≡ old.line + 1 → IsFirstRead fabric held old new end
+row_read fabric held old new end said begins step next =
+    line_read fabric held old new end begins.ends (told_by fabric (told_of old) (strip_carriage_return (take end held)) said begins.says ∙ step) next
+
+pub row_stopped : (stop : Stop TablesCause) (fabric : FabricOf) (held : List ℕ) (old new : Reading) (end : ℕ) (said : TableLine) → BeginsWith held end said → LedToOrWant {Done = Unit {0}} (Err stop) (told_of new) (told_with fabric (told_of old) said) → new.line ≡ old.line → IsStoppedOn fabric held old new stop
+row_stopped stop fabric held old new end said begins step here =
+    line_stopped stop fabric held old new end begins.ends (subst (λ (after : Step). LedToOrWant {Done = Unit {0}} (Err stop) (told_of new) after) (sym (told_by fabric (told_of old) (strip_carriage_return (take end held)) said begins.says)) step) here
+
+-- .. and of a line of any form
+pub other_read : (fabric : FabricOf) (held line : List ℕ) (old new : Reading) (end : ℕ) → Some end ≡ position is_feed held → line ≡ strip_carriage_return (take end held) → told_after fabric (told_of old) line ≡ Ok (told_of new) → new.line ≡ old.line + 1 → IsFirstRead fabric held old new end
+other_read fabric held line old new end at is step next =
+    line_read fabric held old new end (sym at) (ap (told_after fabric (told_of old)) (sym is) ∙ step) next
+
+pub other_stopped : (stop : Stop TablesCause) (fabric : FabricOf) (held line : List ℕ) (old new : Reading) (end : ℕ) → Some end ≡ position is_feed held → line ≡ strip_carriage_return (take end held) → LedToOrWant {Done = Unit {0}} (Err stop) (told_of new) (told_after fabric (told_of old) line) → new.line ≡ old.line → IsStoppedOn fabric held old new stop
+other_stopped stop fabric held line old new end at is step here =
+    line_stopped stop fabric held old new end (sym at) (subst (λ (l : List ℕ). LedToOrWant {Done = Unit {0}} (Err stop) (told_of new) (told_after fabric (told_of old) l)) is step) here
+
+-- the first line of what is left after more was read
+pub reads_further : (fabric : FabricOf) (held : List ℕ) (old mid new : Reading) (from end : ℕ) (found : Option ℕ) → ReadsOn fabric held old mid (drop from held) → IsLineRead fabric (take (length held - from) (drop from held)) mid new found → found ≡ Some end → ReadsOn fabric held old new (drop (from + (end + 1)) held) × (from + (end + 1) ≤ length held) × (new.line ≡ mid.line + 1)
+reads_further fabric held old mid new from end found read line is =
+    let first : IsFirstRead fabric (drop from held) mid new end = subst (λ (rest : List ℕ). IsLineRead fabric rest mid new (Some end)) (take_rest held from) (subst (λ (o : Option ℕ). IsLineRead fabric (take (length held - from) (drop from held)) mid new o) is line) in (
+      λ all begun. subst (λ (rest : List ℕ). IsReadTo fabric all rest (told_of new) new.line) (drop-drop (end + 1) from held) (first.read all (read all begun)),
+      omega (arith, first.within, length-drop from held),
+      first.next,
+    )
+
+pub reads_all : (fabric : FabricOf) (held : List ℕ) (old mid new : Reading) (from : ℕ) (found : Option ℕ) → ReadsOn fabric held old mid (drop from held) → mid.line + (length held - from) ≤ old.line + length held → IsLineRead fabric (take (length held - from) (drop from held)) mid new found → found ≡ None → IsReadOn fabric held old new (drop from held)
+reads_all fabric held old mid new from found read few line is =
+    let none = subst (λ (o : Option ℕ). IsLineRead fabric (take (length held - from) (drop from held)) mid new o) is line in
+    subst (λ (at : Reading). IsReadOn fabric held old at (drop from held)) (sym none.1) (record {
+      read = read;
+      cut = ap (position is_feed) (sym (take_rest held from)) ∙ none.0;
+      few = omega (arith, few, length-drop from held);
+    })
+
+pub stops_further : (stop : Stop TablesCause) (fabric : FabricOf) (held : List ℕ) (old mid new : Reading) (from : ℕ) → ReadsOn fabric held old mid (drop from held) → IsStoppedOn fabric (take (length held - from) (drop from held)) mid new stop → IsStoppedOn fabric held old new stop
+stops_further (Fault cause) fabric held old mid new from read stopped =
+    λ all begun. stopped all (subst (λ (rest : List ℕ). IsReadTo fabric all rest (told_of mid) mid.line) (sym (take_rest held from)) (read all begun))
+stops_further OutOfMemory fabric held old mid new from read stopped = tt
 
 -- more was given
 gave_more : (start mid new : Seen) (bytes piece : List ℕ) → Gave start mid bytes → Gave mid new piece → Gave start new (bytes ++ piece)

@@ -11,8 +11,7 @@ use Rattle.ib_net.specs.Fabric.{FabricOf}
 use Rattle.ib_tables.specs.declared.cause.TablesCause.{TablesCause}
 use Rattle.ib_tables.specs.declared.line.TableLine.{TableLine}
 use Rattle.ib_tables.specs.Answers.{IsSaid, LedToOrWant}
-use Rattle.ib_words.specs.Cuts.{after}
-use Rattle.ib_tables.specs.TableLines.{begins, is_front_of_row, said_by, said_in}
+use Rattle.ib_tables.specs.TableLines.{begins, said_by, said_in}
 use Rattle.ib_tables.specs.Tables.{Told, told_with, told_after}
 
 -- a front of as many bytes as there are, and sixteen at most
@@ -21,29 +20,6 @@ front_of bytes count is = elim (cases_lt (length bytes) 16) [
   | inl few ↦ take_all count bytes (omega (arith, is)) ∙ sym (take_all 16 bytes (omega arith))
   | inr many ↦ let same : count ≡ 16 = omega (arith, is) in ap (λ (n : ℕ). take n bytes) same
 ]
-
--- a line that begins with the two bytes of a row
-if_some : (passes : Bool) (rest : List ℕ) → is_some (if passes then Some rest else None) ≡ passes
-if_some true rest = refl
-if_some false rest = refl
-
-and_false : (b : Bool) → (b && false) ≡ false
-and_false true = refl
-and_false false = refl
-
-and_true : (b : Bool) → (b && true) ≡ b
-and_true true = refl
-and_true false = refl
-
-pub front_is : (line : List ℕ) → is_front_of_row line ≡ begins (codes "0x") line
-unfolding after
-front_is [] = refl
-front_is (a ∷ []) = sym (if_some (nat_eq a 48 && false) [] ∙ and_false (nat_eq a 48))
-front_is (a ∷ b ∷ rest) =
-    let long : nat_le 2 (length (a ∷ b ∷ rest)) ≡ true = grind (arith, nat_tests) in
-    ap (λ (l : Bool). l && (nat_eq a 48 && nat_eq b 120)) long
-    ∙ ap (λ (t : Bool). nat_eq a 48 && t) (sym (and_true (nat_eq b 120)))
-    ∙ sym (if_some (nat_eq a 48 && (nat_eq b 120 && true)) rest)
 
 -- a line that is no row, no head and no warning
 pub said_by_words : (line : List ℕ) (words : List (List ℕ)) → length line ≤ 4096 → begins (codes "0x") line ≡ false → begins (codes "Unicast lids ") line ≡ false → begins (codes "*** WARNING ***") line ≡ false → words ≡ words_of line → said_in line ≡ said_by words

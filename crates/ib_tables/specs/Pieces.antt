@@ -1,13 +1,17 @@
 -- Bytes that come in pieces, and what was read of them. Only private functions cite this.
 
-use Rattle.std.specs.Prelude.{◌≡◌, ◌==◌, ◌+◌, ◌≤◌, ℕ, Bool, List, ◌++◌, length, position, None, ⊤}
+use Rattle.std.specs.Prelude.{◌≡◌, ◌==◌, ◌+◌, ◌<◌, ◌≤◌, ℕ, Bool, List, ◌++◌, length, take, drop, position, ⊤}
+use Rattle.std.specs.Prelude.{Option, Some, None, Ok}
+use Rattle.std.specs.Str.Lines.{strip_carriage_return}
 use Rattle.text_lines.specs.Lines.{lines_of}
 use Rattle.text_lines.specs.Chains.{LeadsBy}
 use Rattle.text_lines.specs.declared.stop.Stop.{Stop}
 use Rattle.text_lines.specs.declared.stop.Stop.TheVariants.{Fault, OutOfMemory}
 use Rattle.ib_net.specs.Fabric.{FabricOf}
 use Rattle.ib_tables.specs.declared.cause.TablesCause.{TablesCause}
+use Rattle.ib_tables.specs.declared.line.TableLine.{TableLine}
 use Rattle.ib_tables.specs.declared.reading.Reading.{Reading}
+use Rattle.ib_tables.specs.TableLines.{said_in}
 use Rattle.ib_tables.specs.Tables.{Told, none_told, AddsTo, IsTablesFault}
 use Rattle.ib_tables.specs.Readings.{told_of}
 
@@ -33,11 +37,31 @@ IsFaultOfAll fabric bytes line cause = (more : List ℕ) → IsTablesFault fabri
 abbrev pub is_feed : ℕ → Bool
 is_feed byte = byte == 10
 
+-- bytes begin with a line that a line feed ends at this place, and that says this
+pub record BeginsWith (bytes : List ℕ) (end : ℕ) (said : TableLine) : Type 0 where
+  pub ends : position is_feed bytes ≡ Some end
+  pub says : said_in (strip_carriage_return (take end bytes)) ≡ Ok said
+
+-- what a reader holds was read on as far as this rest
+abbrev pub ReadsOn : FabricOf → List ℕ → (old new : Reading) → List ℕ → Type 0
+ReadsOn fabric held old new rest =
+    (bytes : List ℕ) → IsReadTo fabric bytes held (told_of old) old.line
+    → IsReadTo fabric bytes rest (told_of new) new.line
+
+-- its first line was read, which a line feed ends at this place
+pub record IsFirstRead (fabric : FabricOf) (held : List ℕ) (old new : Reading) (end : ℕ) : Type 0 where
+  pub read : ReadsOn fabric held old new (drop (end + 1) held)
+  pub within : end < length held
+  pub next : new.line ≡ old.line + 1
+
+-- the same, or no line feed ends it, and nothing was read
+abbrev pub IsLineRead : FabricOf → List ℕ → (old new : Reading) → Option ℕ → Type 0
+IsLineRead fabric held old new (Some end) = IsFirstRead fabric held old new end
+IsLineRead fabric held old new None = (position is_feed held ≡ None) × (new ≡ old)
+
 -- what a reader holds was read on as far as this rest, in which no line feed is left
 pub record IsReadOn (fabric : FabricOf) (held : List ℕ) (old new : Reading) (rest : List ℕ) : Type 0 where
-  pub read :
-      (bytes : List ℕ) → IsReadTo fabric bytes held (told_of old) old.line
-      → IsReadTo fabric bytes rest (told_of new) new.line
+  pub read : ReadsOn fabric held old new rest
   pub cut : position is_feed rest ≡ None
   pub few : new.line + length rest ≤ old.line + length held
 

@@ -1,6 +1,6 @@
 -- The lines of which texts of tables consist, and what each says.
 
-use Rattle.std.specs.Prelude.{◌==◌, ◌&&◌, ℕ, Bool, List, [], ◌∷◌, length, slice_index, take, codes, nat_le, nat_lt, if◌then◌else◌}
+use Rattle.std.specs.Prelude.{◌&&◌, ℕ, Bool, List, [], ◌∷◌, length, take, codes, nat_lt, if◌then◌else◌}
 use Rattle.std.specs.Prelude.{Option, Some, None, Result, Ok, Err, option_and_then, is_some}
 use Rattle.std.specs.List.{list_all}
 use Rattle.std.specs.Str.{bytes_eq}
@@ -19,10 +19,6 @@ use Rattle.ib_tables.specs.declared.cause.TablesCause.TheVariants.{LidRange, Por
 -- whether a line begins with these bytes
 abbrev pub begins : (front line : List ℕ) → Bool
 begins front line = is_some (after front line)
-
--- the same of the two bytes with which rows begin
-abbrev pub is_front_of_row : List ℕ → Bool
-is_front_of_row line = nat_le 2 (length line) && (slice_index line 0 == 48 && slice_index line 1 == 120)
 
 -- what a line says, or the first cause why it says nothing
 abbrev pub Said : Type 0

@@ -6,6 +6,7 @@
 #![tactic(auto)]
 
 pub mod cause;
+mod first;
 pub mod law;
 mod line;
 pub mod reader;

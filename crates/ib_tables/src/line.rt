@@ -2,7 +2,7 @@
 
 ghost use Rattle.std.specs.Prelude.{◌≡◌, ◌≤◌, codes, false, length, map};
 ghost use Rattle.ib_tables.specs.Answers.{IsSaid};
-ghost use Rattle.ib_tables.specs.TableLines.{begins, is_front_of_row, dumped_row, row_for, head, head_guid, plain_guid, plain_row, plain_switch};
+ghost use Rattle.ib_tables.specs.TableLines.{begins, dumped_row, row_for, head, head_guid, plain_guid, plain_row, plain_switch};
 ghost use Rattle.ib_tables.specs.TableLines.{is_count, said_by, said_by_one, said_by_two, said_by_three, said_by_four, said_in};
 
 use crate::cause::TablesCause;
@@ -40,7 +40,6 @@ pub enum TableLine {
 pub type TablesStop = Stop<TablesCause>;
 
 /// What a line says, without what ends it.
-#[inline]
 #[tactic(auto, unfolding(crate::specs::TableLines::said_in))]
 pub fn table_line(alloc: Global, line: &[u8]) -> Result<TableLine, TablesStop>
     ensures { IsSaid result (said_in line.now) }
@@ -48,14 +47,13 @@ pub fn table_line(alloc: Global, line: &[u8]) -> Result<TableLine, TablesStop>
     if line.len() > MOST_LINE {
         return Err(Stop::Fault(TablesCause::LineTooLong));
     }
-    if begins_row(line) {
+    if begins(line, "0x") {
         return or_stop(dumped_row(line));
     }
     other_line(alloc, line)
 }
 
 // What a line says that is not too long and begins otherwise than a row.
-#[inline(never)]
 #[tactic(auto, unfolding(crate::specs::TableLines::said_in))]
 fn other_line(alloc: Global, line: &[u8]) -> Result<TableLine, TablesStop>
     requires short { length line.now ≤ 4096 }
@@ -73,7 +71,6 @@ fn other_line(alloc: Global, line: &[u8]) -> Result<TableLine, TablesStop>
 }
 
 // The same, with a cause as the reason to stop.
-#[inline]
 fn or_stop(said: Result<TableLine, TablesCause>) -> Result<TableLine, TablesStop>
     ensures { IsSaid result said }
 {
@@ -81,24 +78,6 @@ fn or_stop(said: Result<TableLine, TablesCause>) -> Result<TableLine, TablesStop
         Ok(said) => Ok(said),
         Err(cause) => Err(Stop::Fault(cause)),
     }
-}
-
-// Whether a line begins as a row does: nearly all do, so the bytes are compared in place.
-#[inline]
-fn begins_row(line: &[u8]) -> bool
-    ensures { result ≡ begins (codes "0x") line.now }
-{
-    is_front_of_row(line)
-}
-
-#[inline]
-fn is_front_of_row(line: &[u8]) -> bool
-    ensures { result ≡ is_front_of_row line.now }
-{
-    if line.len() < 2 {
-        return false;
-    }
-    line[0] == b'0' && line[1] == b'x'
 }
 
 // Whether a line begins with these bytes.
@@ -109,7 +88,6 @@ fn begins(line: &[u8], front: &str) -> bool
 }
 
 // What a row says that is printed as the tools do.
-#[inline]
 fn dumped_row(line: &[u8]) -> Result<TableLine, TablesCause>
     ensures { result ≡ dumped_row line.now }
 {
@@ -120,7 +98,6 @@ fn dumped_row(line: &[u8]) -> Result<TableLine, TablesCause>
 }
 
 // A row for a LID, which is to be a unicast LID.
-#[inline]
 fn row_for(lid: u16, port: u8) -> Result<TableLine, TablesCause>
     ensures { result ≡ row_for lid port }
 {

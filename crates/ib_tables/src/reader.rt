@@ -7,16 +7,16 @@ ghost use Rattle.outside.specs.Answers.{IfPart, OnEnd, OnFailed};
 ghost use Rattle.ib_tables.specs.declared.reader.TablesRefusal.TheVariants as refusal;
 ghost use Rattle.ib_tables.specs.Readings.{IsFit, IsReady, told_of};
 ghost use Rattle.ib_tables.specs.Tables.{none_told};
-ghost use Rattle.ib_tables.specs.Pieces.{is_feed, IsReadOn, IsStoppedOn, IsLastRead, IsStoppedLast};
+ghost use Rattle.ib_tables.specs.Pieces.{is_feed, IsLineRead, IsReadOn, IsStoppedOn, IsLastRead, IsStoppedLast};
 ghost use Rattle.ib_tables.specs.Reads.{refused, GavePiece, GaveTables, GaveTold, HasCells, IsRefusedBy, IsFinished, IsUnfinished};
 
 use crate::cause::TablesCause;
+use crate::first::{first_feed, first_row};
 use crate::line::{MOST_LINE, TablesStop};
 use crate::reading::Reading;
 use an_base::memory::OutOfMemory;
 use ib_cells::cells::Cells;
 use ib_net::fabric::Fabric;
-use memchr::memchr;
 use outside::source::{Got, Source};
 use std::alloc::Global;
 use text_lines::stop::Stop;
@@ -181,6 +181,7 @@ fn read_held(
 }
 
 // Adds what the whole lines of the bytes say. The answer is how many bytes these lines have.
+#[inline(never)]
 fn read_lines(
     reading: &mut Reading,
     alloc: Global,
@@ -196,24 +197,39 @@ fn read_lines(
     ensures stopped { IfErr result (IsStoppedOn fabric.now bytes.now reading.old reading.new) }
 {
     let mut from = 0;
-    'lines: while let Some(end) = first_feed(&bytes[from..]) {
-        let line = without_return(&bytes[from..from + end]);
-        reading.add_line(alloc, fabric, line)?;
+    'lines: while let Some(end) = read_line(reading, alloc, fabric, &bytes[from..])? {
         from += end + 1;
     }
     Ok(from)
 }
 
-// Where the first line feed stands.
+// Adds what the first line says, if a line feed ends it: the answer is where. Nearly all lines are rows, so a
+// row is looked for first.
 #[inline]
-fn first_feed(bytes: &[u8]) -> Option<usize>
-    ensures { result ≡ position is_feed bytes.now }
+fn read_line(
+    reading: &mut Reading,
+    alloc: Global,
+    fabric: &Fabric,
+    bytes: &[u8],
+) -> Result<Option<usize>, TablesStop>
+    requires ready { IsReady fabric.now reading.old }
+    requires few { reading.old.line < 2 ^ 64 - 1 }
+    ensures read { IfOk result (IsLineRead fabric.now bytes.now reading.old reading.new) }
+    ensures ready { OnOk result (IsReady fabric.now reading.new) }
+    ensures stopped { IfErr result (IsStoppedOn fabric.now bytes.now reading.old reading.new) }
 {
-    memchr(b'\n', bytes)
+    if let Some(row) = first_row(bytes) {
+        reading.add_row_line(fabric, row.lid, row.port)?;
+        return Ok(Some(row.end));
+    }
+    let Some(end) = first_feed(bytes) else {
+        return Ok(None);
+    };
+    reading.add_line(alloc, fabric, without_return(&bytes[..end]))?;
+    Ok(Some(end))
 }
 
 // The bytes without the one carriage return at their end, if they have one.
-#[inline]
 fn without_return(bytes: &[u8]) -> &[u8]
     ensures { result.now ≡ strip_carriage_return bytes.now }
 {

@@ -3,6 +3,7 @@
 ghost use Rattle.std.specs.Prelude.{◌≡◌, ◌+◌, ◌<◌, ◌≤◌, ◌^◌, ◌-◌, ◌↔◌, IfOk, OnOk, OnErr, IsTrue, None, Some, Ok, MatchResult};
 ghost use Rattle.ib_net.specs.Fabric.{switch_count, switch_with};
 ghost use Rattle.ib_tables.specs.declared.cause.TablesCause.TheVariants.{UnknownSwitch};
+ghost use Rattle.ib_tables.specs.declared.line.TableLine.TheVariants.{Row};
 ghost use Rattle.ib_tables.specs.declared.reading.Part.TheVariants.{Between, Dumped, Plain, PlainOf};
 ghost use Rattle.ib_tables.specs.Answers.{LedTo, LedToOrWant};
 ghost use Rattle.ib_tables.specs.Tables.{is_dump, is_plain, may_begin, switch_in, none_told, told_with, told_after, IsEnded};
@@ -129,7 +130,7 @@ impl Reading {
     }
 
     /// Adds what the next line says, without what ends it.
-    #[inline]
+    #[inline(never)]
     pub fn add_line(
         &mut self,
         alloc: Global,
@@ -151,8 +152,25 @@ impl Reading {
         Ok(())
     }
 
-    // Adds what a line says.
+    /// Adds what the next line says, which is this row.
     #[inline]
+    pub fn add_row_line(&mut self, fabric: &Fabric, lid: u16, port: u8) -> Result<(), TablesStop>
+        requires ready { IsReady fabric.now self.old }
+        requires few { self.old.line < 2 ^ 64 - 1 }
+        ensures step { LedToOrWant result (told_of self.new)
+            (told_with fabric.now (told_of self.old) (Row lid port)) }
+        ensures ready { OnOk result (IsReady fabric.now self.new) }
+        ensures next { OnOk result (self.new.line ≡ self.old.line + 1) }
+        ensures here { OnErr result (self.new.line ≡ self.old.line) }
+    {
+        if let Err(cause) = self.add_row(fabric, lid, port) {
+            return Err(Stop::Fault(cause));
+        }
+        self.line += 1;
+        Ok(())
+    }
+
+    // Adds what a line says.
     fn add(&mut self, fabric: &Fabric, said: TableLine) -> Result<(), TablesCause>
         requires fit { IsFit fabric.now self.old }
         requires few { AreFewRows self.old (2 ^ 64 - 1) }

@@ -68,8 +68,8 @@ const DIGITS: [u32; 256] = [
     NONE, NONE, NONE, NONE, NONE, NONE, NONE,
 ];
 
-/// What a byte says as a hexadecimal digit, in either case, and 2^16 if it is none: so of four digits that are looked up one
-/// test tells whether all are digits.
+/// What a byte says as a hexadecimal digit, in either case, and 2^16 if it is none. So one test tells of four
+/// bytes whether all are digits.
 #[inline]
 pub fn digit_or_more(c: u8) -> u32
     ensures digit { result ≡ digit_or_more c }
