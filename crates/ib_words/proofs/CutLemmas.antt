@@ -1,11 +1,11 @@
-use Rattle.std.proofs.Common.{◌≡◌, sym, ap, refl, ℕ, zero, suc, ◌+◌, ◌-◌, ◌<◌, ◌≤◌, List, arith, length, take, drop, Option, Some, None, Bool, true, false, eqb, ◌⊎◌, inl, inr}
+use Rattle.std.proofs.Common.{◌≡◌, ◌∙◌, sym, ap, subst, refl, ℕ, zero, suc, ◌+◌, ◌-◌, ◌<◌, ◌≤◌, List, arith, length, length-drop, take, drop, get_or, Option, Some, None, Bool, true, false, eqb, ◌⊎◌, inl, inr}
 use Rattle.std.specs.Prelude.{MatchOption, find}
 use Rattle.std.specs.List.{position, range_with_len}
 use Rattle.std.specs.Str.{bytes_eq}
-use Rattle.std.proofs.lemmas.List.{take_rest}
-use Rattle.std.proofs.lemmas.Bool.{false_from_ne_true}
+use Rattle.std.proofs.lemmas.List.{get_or-drop, take_rest}
+use Rattle.std.proofs.lemmas.Bool.{cases_eq, false_from_ne_true}
 use denote.Ref.{Bor}
-use Rattle.memchr.specs.Find.{OccursAt, occurs_at, FindsNeedle, FindsLastNeedle}
+use Rattle.memchr.specs.Find.{OccursAt, occurs_at, FindsNeedle, FindsLastNeedle, Nowhere}
 use Rattle.memchr.proofs.lemmas.MatchLemmas.{occurs_at-true, OccursAt-true}
 use Rattle.ib_words.specs.Cuts.{after, cut, greatest_below, first_place, last_place, cut_first, cut_last}
 
@@ -65,6 +65,34 @@ first_place_is text bytes (Some k) (first, here) = find_some (occurs_at text byt
 pub last_place_is : (text bytes : List ℕ) (r : Option ℕ) → FindsLastNeedle text bytes r → last_place bytes text ≡ r
 last_place_is text bytes None none = greatest_none (occurs_at text bytes) (length text + 1) (λ k high. miss text bytes k (none k (omega arith) high))
 last_place_is text bytes (Some k) (last, here) = greatest_some (occurs_at text bytes) (length text + 1) k last.high (λ j low high. miss text bytes j (last.after j (omega arith) high)) (occurs_at-true text bytes k here)
+
+-- the bytes stand at a place if what begins there begins with them
+pub from_there : (text bytes : List ℕ) (place : ℕ) → place ≤ length text → OccursAt (take (length text - place) (drop place text)) bytes 0 → OccursAt text bytes place
+from_there text bytes place low is =
+    let there : OccursAt (drop place text) bytes 0 = subst (λ (l : List ℕ). OccursAt l bytes 0) (take_rest text place) is in
+    let size = length-drop place text in
+    let fits = there.fits in
+    record {
+      fits = omega arith;
+      reads = λ j within. ap (λ (k : ℕ). get_or text k 0) (let e : place + j ≡ place + (0 + j) = omega arith in e) ∙ sym (get_or-drop place text (0 + j) 0) ∙ there.reads j within;
+    }
+
+pub to_there : (text bytes : List ℕ) (place : ℕ) → OccursAt text bytes place → OccursAt (take (length text - place) (drop place text)) bytes 0
+to_there text bytes place is =
+    let size = length-drop place text in
+    let fits = is.fits in
+    let there : OccursAt (drop place text) bytes 0 = record {
+      fits = omega arith;
+      reads = λ j within. get_or-drop place text (0 + j) 0 ∙ ap (λ (k : ℕ). get_or text k 0) (let e : place + (0 + j) ≡ place + j = omega arith in e) ∙ is.reads j within;
+    } in
+    subst (λ (l : List ℕ). OccursAt l bytes 0) (sym (take_rest text place)) there
+
+-- nowhere from one place less on
+pub nowhere_more : (text bytes : List ℕ) (end : ℕ) → 0 < end → ¬ OccursAt text bytes (end - 1) → Nowhere (OccursAt text bytes) end (length text + 1) → Nowhere (OccursAt text bytes) (end - 1) (length text + 1)
+nowhere_more text bytes end some not past k low high is = elim (cases_eq k (end - 1)) [
+  | inl same ↦ not (subst (OccursAt text bytes) same is)
+  | inr differs ↦ past k (omega arith) high is
+]
 
 -- around bytes
 pub cut_first_none : (bytes text : List ℕ) → first_place bytes text ≡ None → cut_first bytes text ≡ None

@@ -1,11 +1,15 @@
 //! Cuts of a text around what stands in it.
 
-ghost use Rattle.std.specs.Prelude.{◌≡◌, ◌==◌, Some, None, position, MatchOption};
+ghost use Rattle.std.specs.Prelude.{◌≡◌, Some, None, MatchOption};
+ghost use Rattle.memchr.specs.Find.{FindsLastNeedle};
 ghost use Rattle.ib_words.specs.Cuts.{after, cut, cut_first, cut_last};
 
-use memchr::{memchr, memmem};
+use memchr::arch::all::is_prefix;
+use memchr::memmem;
+use text_lines::line::first_of;
 
 /// What stands after a front with which the text begins.
+#[inline(always)]
 pub fn after<'a>(text: &'a [u8], front: &str) -> Option<&'a [u8]>
     ensures { MatchOption result (after front.now text.now ≡ None)
         (λ rest. after front.now text.now ≡ Some rest.now) }
@@ -13,20 +17,14 @@ pub fn after<'a>(text: &'a [u8], front: &str) -> Option<&'a [u8]>
     text.strip_prefix(front.as_bytes())
 }
 
-/// What stands before the first such byte, and after it.
+/// What stands before the first such byte, and after it. In a line it is a few bytes away.
+#[inline]
 pub fn cut(text: &[u8], byte: u8) -> Option<(&[u8], &[u8])>
     ensures { MatchOption result (cut byte text.now ≡ None)
         (λ parts. cut byte text.now ≡ Some (parts.0.now, parts.1.now)) }
 {
-    let place = first_place(text, byte)?;
+    let place = first_of(text, byte)?;
     Some((&text[..place], &text[place + 1..]))
-}
-
-// Where the byte stands first.
-fn first_place(text: &[u8], byte: u8) -> Option<usize>
-    ensures { result ≡ position (λ other. other == byte) text.now }
-{
-    memchr(byte, text)
 }
 
 /// What stands before the first place of these bytes in the text, and after it.
@@ -39,10 +37,27 @@ pub fn cut_first<'a>(text: &'a [u8], bytes: &str) -> Option<(&'a [u8], &'a [u8])
 }
 
 /// What stands before the last place of these bytes in the text, and after it.
+#[inline]
 pub fn cut_last<'a>(text: &'a [u8], bytes: &str) -> Option<(&'a [u8], &'a [u8])>
     ensures { MatchOption result (cut_last bytes.now text.now ≡ None)
         (λ parts. cut_last bytes.now text.now ≡ Some (parts.0.now, parts.1.now)) }
 {
-    let place = memmem::rfind(text, bytes.as_bytes())?;
+    let place = last_place(text, bytes.as_bytes())?;
     Some((&text[..place], &text[place + bytes.len()..]))
+}
+
+// Where the bytes stand last. In a line they are near its end, so to step back to them takes less time than to make a
+// searcher.
+#[inline]
+fn last_place(text: &[u8], bytes: &[u8]) -> Option<usize>
+    ensures { FindsLastNeedle text.now bytes.now result }
+{
+    let mut end = text.len() + 1;
+    'places: while end > 0 {
+        end -= 1;
+        if is_prefix(&text[end..], bytes) {
+            return Some(end);
+        }
+    }
+    None
 }
