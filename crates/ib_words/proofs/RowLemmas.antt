@@ -44,13 +44,13 @@ pub no_three : (a b c : ℕ) → (is_ascii_digit a && (is_ascii_digit b && is_as
 unfolding three_decimal
 no_three a b c fails = rw fails refl
 
-pub three_over : (a b c n : ℕ) → is_ascii_digit a ≡ true → is_ascii_digit b ≡ true → is_ascii_digit c ≡ true → n ≡ (a - 48) * 100 + (b - 48) * 10 + (c - 48) → 255 < n → None ≡ three_decimal a b c
+pub three_over : (a b c n : ℕ) → (is_ascii_digit a && (is_ascii_digit b && is_ascii_digit c)) ≡ true → n ≡ (a - 48) * 100 + (b - 48) * 10 + (c - 48) → 255 < n → None ≡ three_decimal a b c
 unfolding three_decimal
-three_over a b c n ta tb tc says over = let t : nat_le ((a - 48) * 100 + (b - 48) * 10 + (c - 48)) 255 ≡ false = rw (← says) (grind (arith, nat_tests)) in rw (ta, tb, tc, t) refl
+three_over a b c n digits says over = let t : nat_le ((a - 48) * 100 + (b - 48) * 10 + (c - 48)) 255 ≡ false = rw (← says) (grind (arith, nat_tests)) in rw (digits, t) refl
 
-pub three : (a b c n : ℕ) → is_ascii_digit a ≡ true → is_ascii_digit b ≡ true → is_ascii_digit c ≡ true → n ≡ (a - 48) * 100 + (b - 48) * 10 + (c - 48) → n ≤ 255 → Some n ≡ three_decimal a b c
+pub three : (a b c n : ℕ) → (is_ascii_digit a && (is_ascii_digit b && is_ascii_digit c)) ≡ true → n ≡ (a - 48) * 100 + (b - 48) * 10 + (c - 48) → n ≤ 255 → Some n ≡ three_decimal a b c
 unfolding three_decimal
-three a b c n ta tb tc says fits = let t : nat_le ((a - 48) * 100 + (b - 48) * 10 + (c - 48)) 255 ≡ true = rw (← says) (grind (arith, nat_tests)) in rw (ta, tb, tc, t) (ap (λ (x : ℕ). Some x) says)
+three a b c n digits says fits = let t : nat_le ((a - 48) * 100 + (b - 48) * 10 + (c - 48)) 255 ≡ true = rw (← says) (grind (arith, nat_tests)) in rw (digits, t) (ap (λ (x : ℕ). Some x) says)
 
 -- rows
 pub no_row : (line : List ℕ) → is_row line ≡ false → None ≡ row line

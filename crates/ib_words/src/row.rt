@@ -1,6 +1,6 @@
 //! The rows of forwarding tables.
 
-ghost use Rattle.std.specs.Prelude.{◌≡◌, ◌+◌, ◌<◌, ◌≤◌, true, false, length, MatchOption, IfSome};
+ghost use Rattle.std.specs.Prelude.{◌≡◌, ◌≤◌, ◌&&◌, true, length};
 ghost use Rattle.std.specs.Char.{is_ascii_digit};
 ghost use Rattle.ib_words.specs.Rows.{is_row, row, four_hex, three_decimal};
 
@@ -51,8 +51,10 @@ fn four_hex(a: u8, b: u8, c: u8, d: u8) -> Option<u16>
 fn three_decimal(a: u8, b: u8, c: u8) -> Option<u8>
     ensures { result ≡ three_decimal a b c }
 {
-    let hundreds = decimal_digit(a)? * 100;
-    let number = hundreds + decimal_digit(b)? * 10 + decimal_digit(c)?;
+    if !are_digits(a, b, c) {
+        return None;
+    }
+    let number = (u32::from(a) - 48) * 100 + (u32::from(b) - 48) * 10 + (u32::from(c) - 48);
     if number > 255 {
         return None;
     }
@@ -60,13 +62,8 @@ fn three_decimal(a: u8, b: u8, c: u8) -> Option<u8>
 }
 
 #[inline]
-fn decimal_digit(c: u8) -> Option<u32>
-    ensures digit { MatchOption result (is_ascii_digit c ≡ false)
-        (λ d. (is_ascii_digit c ≡ true) × (c ≡ 48 + d)) }
-    ensures low { IfSome result (λ d. d < 10) }
+fn are_digits(a: u8, b: u8, c: u8) -> bool
+    ensures { result ≡ (is_ascii_digit a && (is_ascii_digit b && is_ascii_digit c)) }
 {
-    match c {
-        b'0'..=b'9' => Some(u32::from(c) - 48),
-        _ => None,
-    }
+    a.is_ascii_digit() && b.is_ascii_digit() && c.is_ascii_digit()
 }
