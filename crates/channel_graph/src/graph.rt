@@ -55,6 +55,7 @@ pub struct Cursor {
 }
 
 // The bits of a word from one on.
+#[inline]
 fn bits_from(word: u64, from: usize) -> u64
     requires { from < 64 }
     ensures { IsMasked word from result }
@@ -75,6 +76,7 @@ impl Graph {
     }
 
     /// How many nodes there are: fewer than 2^31, and they lead to nodes alone.
+    #[inline]
     pub fn count(&self) -> usize
         ensures count { result ≡ length self.now.bases }
         ensures few { result < 2 ^ 31 }
@@ -84,6 +86,7 @@ impl Graph {
     }
 
     /// How many words a row has, at most 64.
+    #[inline]
     pub fn wide(&self) -> usize
         ensures wide { result ≡ self.now.wide }
         ensures most { result ≤ 64 }
@@ -92,6 +95,7 @@ impl Graph {
     }
 
     /// The base of a node.
+    #[inline]
     pub fn base(&self, node: usize) -> usize
         requires { node < length self.now.bases }
         ensures base { result ≡ slice_index self.now.bases node }
@@ -101,6 +105,7 @@ impl Graph {
     }
 
     // A word of the row of a node.
+    #[inline]
     fn word(&self, node: usize, part: usize) -> u64
         requires node { node < length self.now.bases }
         requires part { part < self.now.wide }
@@ -110,6 +115,7 @@ impl Graph {
     }
 
     // The place at the end of a row.
+    #[inline]
     fn end(&self, from: usize) -> Cursor
         ensures end { result ≡ record { from = from; part = self.now.wide; first = 0; rest = 0 } }
         ensures few { self.now.wide ≤ 64 }
@@ -123,6 +129,7 @@ impl Graph {
     }
 
     /// The place in the row of a node at which the nodes from a number on are still to come.
+    #[inline]
     pub fn cursor(&self, node: usize, from: usize) -> Cursor
         ensures stands { StandsAt self.now node result }
         ensures from { result.from ≡ from }
@@ -146,6 +153,7 @@ impl Graph {
 
     // Goes on to the next word with bits left, if the one that the cursor stands at has none. Answers
     // whether there is one.
+    #[inline]
     fn find_bits(&self, node: usize, cursor: &mut Cursor) -> bool
         requires { StandsAt self.now node cursor.old }
         ensures { FindsBits self.now node cursor.old cursor.new result }
@@ -163,6 +171,7 @@ impl Graph {
     }
 
     /// The next node to which one leads from the place of a cursor on, which comes past it.
+    #[inline]
     pub fn advance(&self, node: usize, cursor: &mut Cursor) -> Option<usize>
         requires { StandsAt self.now node cursor.old }
         ensures next { MatchOption result (HasNoNext self.now node cursor.old.from)
@@ -203,6 +212,7 @@ impl Graph {
     }
 
     /// Lets a node lead to the one that is so far from its base, and changes nothing else.
+    #[inline]
     pub fn insert(&mut self, node: usize, offset: usize)
         requires node { node < length self.old.bases }
         requires offset { offset < 64 * self.old.wide }

@@ -6,6 +6,7 @@ use an_base::memory::OutOfMemory;
 use std::alloc::Global;
 
 // How far a node is from the start, which is 0; u32::MAX where no steps have led to it.
+#[inline]
 fn distance_of(distances: &[u32], node: usize) -> u32 {
     distances.get(node).copied().unwrap_or(0)
 }

@@ -7,6 +7,7 @@ use crate::graph::{Graph, Step};
 use crate::table::value_of;
 
 // The rank that a list has for a node.
+#[inline]
 fn rank_of(ranks: &[u32], node: usize) -> Option<u32>
     ensures { result ≡ slice_get ranks.now node }
 {

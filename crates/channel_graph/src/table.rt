@@ -14,6 +14,7 @@ pub fn filled(alloc: Global, count: usize, value: u32) -> Result<Vec<u32>, OutOf
 }
 
 /// What a table has for a node, 0 where it has nothing.
+#[inline]
 pub fn value_of(table: &[u32], node: usize) -> u32
     ensures { result ≡ value_at table.now node }
 {
@@ -21,6 +22,7 @@ pub fn value_of(table: &[u32], node: usize) -> u32
 }
 
 /// Puts a value into a table, if it has a place for the node.
+#[inline]
 pub fn put(table: &mut Vec<u32>, node: usize, value: u32) {
     if let Some(place) = table.get_mut(node) {
         *place = value;
