@@ -8,7 +8,7 @@ use Rattle.an_base.specs.Order.{life_cmp}
 use Rattle.topo_graph.specs.Topology.{IsGraph, IsTree}
 use Rattle.epoch_core.specs.Log.{CardOf}
 use Rattle.epoch_core.specs.Epoch.{finish}
-use Rattle.epoch_game.specs.Slice.{Earlier, Run, nobody}
+use Rattle.epoch_game.specs.Slice.{Earlier, Node, Run, nobody}
 use Rattle.epoch_game.specs.Game.{Game, Play, begins, slice, HasFinished as FinishedIn}
 use Rattle.epoch_game.proofs.StreamLemmas.{has_grown, nodes}
 use Rattle.epoch_game.proofs.FinishLemmas.{finish_earlier, finished_alike, finished_under}
@@ -20,10 +20,10 @@ use Rattle.switch_game.specs.Playing.{Agrees, node_of}
 use Rattle.switch_game.proofs.Laws.{agrees, later, plays}
 use Rattle.switch_game.proofs.QuietLives.{has_settled}
 use Rattle.switch_game.specs.Quiet.{HasSettled, IsQuiet}
-use Rattle.switch_processes.specs.Processes.{Call, Event, HasFinished, HasNoCycle, IsJoinedBy, IsRun, switch_after}
+use Rattle.switch_processes.specs.Processes.{Call, Event, HasFinished, HasJoined, HasNoCycle, IsJoinedBy, IsRun, switch_after}
 use Rattle.switch_processes.specs.Orders.{CallOf, HasOneOrder, calls_of, game_after, network_after}
 use Rattle.switch_processes.proofs.Ordered.{CanHappen, can_happen, can_tail, happens_since, happens_to, same_switch, whole}
-use Rattle.switch_processes.proofs.Joined.{has_joined, members_run}
+use Rattle.switch_processes.proofs.Joined.{IsIn, has_joined, members_run}
 
 -- a moment of a life is one of the order
 pub record IsMoment (order : List CallOf) (x : LifeId) (m : List Call) : Type 0 where
@@ -66,19 +66,57 @@ is_played lives on did sending run acyclic =
     let w = whole lives on did sending run acyclic in
     record { order = w.order; calls = w.interleaving; can = can_happen lives on did sending run w.order w.ordered }
 
+-- the network at a moment of a life
+record IsSeen (lives : List LifeId) (on : PowerOn) (p : List CallOf) (x : LifeId) (m : List Call) : Type 0 where
+  switch : SwitchOf
+  is : switch ≡ switch_after on x m
+  game : Game
+  agrees_with : Agrees x switch game
+  play : Play lives (begins on.epoch) game
+  more : Play lives game (game_after on p)
+
+seen : (lives : List LifeId) (on : PowerOn) (did : LifeId → List Call) (p : IsPlayed lives on did) (x : LifeId) (m : List Call) → Earlier m (did x) → IsSeen lives on p.order x m
+seen lives on did p x m e =
+    let w = moment_in p.order x m (subst (Earlier m) (sym (p.calls x)) e) in
+    let v = network_after on w.past in
+    let g = game_after on w.past in
+    let first = happens_to lives on w.past (can_tail lives on p.order w.past w.earlier p.can) in
+    record {
+      switch = v.switches x;
+      is = same_switch on w.past x ∙ ap (switch_after on x) w.calls;
+      game = g;
+      agrees_with = agrees lives on v g x first;
+      play = plays lives on v g first;
+      more = later lives on v (network_after on p.order) g (game_after on p.order) first (happens_since lives on p.order w.past w.earlier p.can);
+    }
+
 -- who has finished at a moment of its own has finished in the game
 finished_in : (lives : List LifeId) (on : PowerOn) (did : LifeId → List Call) (p : IsPlayed lives on did) (x : LifeId) (e : ℕ) (t : TopoOf) → HasFinished on did x e t → (f : FinishedIn (game_after on p.order) x e) × (f.topology ≡ t)
 finished_in lives on did p x e t f =
-    let m = moment_in p.order x f.moment (subst (Earlier f.moment) (sym (p.calls x)) f.earlier) in
-    let v = network_after on m.past in
-    let g = game_after on m.past in
+    let m = seen lives on did p x f.moment f.earlier in
     let h = game_after on p.order in
-    let s = v.switches x in
-    let is : s ≡ switch_after on x f.moment = same_switch on m.past x ∙ ap (switch_after on x) m.calls in
-    let first = happens_to lives on m.past (can_tail lives on p.order m.past m.earlier p.can) in
-    let more = happens_since lives on p.order m.past m.earlier p.can in
-    let done = finish_stays lives on.epoch g h x s t (plays lives on v g first) (later lives on v (network_after on p.order) g h first more) (agrees lives on v g x first) (ap finish_of is ∙ f.finish) in
-    subst (λ (n : ℕ). (d : FinishedIn h x n) × (d.topology ≡ t)) (ap (λ (u : SwitchOf). u.epoch) is ∙ f.epoch_is) done
+    let done = finish_stays lives on.epoch m.game h x m.switch t m.play m.more m.agrees_with (ap finish_of m.is ∙ f.finish) in
+    subst (λ (n : ℕ). (d : FinishedIn h x n) × (d.topology ≡ t)) (ap (λ (u : SwitchOf). u.epoch) m.is ∙ f.epoch_is) done
+
+-- and who has joined has joined in the game
+pub joined_in : (lives : List LifeId) (on : PowerOn) (did : LifeId → List Call) (p : IsPlayed lives on did) (x : LifeId) (e : ℕ) → HasJoined on did x e → IsIn (game_after on p.order) x e
+joined_in lives on did p x e j =
+    let m = seen lives on did p x j.moment j.earlier in
+    let s = m.switch in
+    let h = game_after on p.order in
+    let there = m.agrees_with.joined (ap (λ (u : SwitchOf). u.joined) m.is ∙ j.joined) in
+    let w = has_grown lives (slice s.epoch m.game) (slice s.epoch h) x (node_of s) (later_run lives on.epoch m.game h s.epoch m.play m.more) there in
+    subst (IsIn h x) (ap (λ (u : SwitchOf). u.epoch) m.is ∙ j.epoch_is) (w.node, w.joined)
+
+-- an epoch that a life has joined is not above its last one
+pub not_above : (lives : List LifeId) (on : PowerOn) (did : LifeId → List Call) (p : IsPlayed lives on did) (x : LifeId) (e : ℕ) (n : Node) → (game_after on p.order).nodes x e ≡ Some n → e ≤ (switch_after on x (did x)).epoch
+not_above lives on did p x e n is =
+    let w = network_after on p.order in
+    let g = game_after on p.order in
+    let happens = happens_to lives on p.order p.can in
+    let low = nothing_ahead lives on.epoch g (plays lives on w g happens) x e n is in
+    let present = (agrees lives on w g x happens).present ∙ ap (λ (s : SwitchOf). s.epoch) (same_switch on p.order x ∙ ap (switch_after on x) (p.calls x)) in
+    subst (λ (k : ℕ). e ≤ k) present low
 
 -- the epoch is a run of those that join it
 joined_run : (lives members : List LifeId) (on : PowerOn) (did : LifeId → List Call) (e : ℕ) (p : IsPlayed lives on did) → IsJoinedBy members on did e → Run members nobody (slice e (game_after on p.order))
@@ -109,17 +147,13 @@ pub no_member_behind : (lives members : List LifeId) (on : PowerOn) (did : LifeI
     → HasFinished on did x e t → Contains t.entries a → e ≤ (switch_after on a.life (did a.life)).epoch
 no_member_behind lives members on did sending x e t a run acyclic by few fx has =
     let p = is_played lives on did sending run acyclic in
-    let w = network_after on p.order in
-    let g = game_after on p.order in
-    let happens = happens_to lives on p.order p.can in
+    let s = slice e (game_after on p.order) in
     let joined = joined_run lives members on did e p by in
     let d = finished_in lives on did p x e t fx in
-    let u = finished_under members (slice e g) few joined x d.0.node t d.0.joined (d.0.finish ∙ ap (λ (k : TopoOf). Some k) d.1) in
+    let u = finished_under members s few joined x d.0.node t d.0.joined (d.0.finish ∙ ap (λ (k : TopoOf). Some k) d.1) in
     let m = (u.entries a).0 has in
-    let is : a.life ≡ m.life = ap (λ (i : EntryOf). i.life) m.is ∙ (nodes members (slice e g) joined m.life m.node m.joined).0.me in
-    let low : e ≤ g.present m.life = nothing_ahead lives on.epoch g (plays lives on w g happens) m.life e m.node m.joined in
-    let present = (agrees lives on w g m.life happens).present ∙ ap (λ (s : SwitchOf). s.epoch) (same_switch on p.order m.life ∙ ap (switch_after on m.life) (p.calls m.life)) in
-    subst (λ (z : LifeId). e ≤ (switch_after on z (did z)).epoch) (sym is) (subst (λ (k : ℕ). e ≤ k) present low)
+    let is : a.life ≡ m.life = ap (λ (i : EntryOf). i.life) m.is ∙ (nodes members s joined m.life m.node m.joined).0.me in
+    subst (λ (z : LifeId). e ≤ (switch_after on z (did z)).epoch) (sym is) (not_above lives on did p m.life e m.node m.joined)
 
 -- and what is quiet has settled
 pub settled : (lives : List LifeId) (on : PowerOn) (did : LifeId → List Call) (sending : Event → Event) (x : LifeId) (one : HasOneOrder lives on did sending) → length lives ≤ 126 → IsQuiet (network_after on one.order) x

@@ -26,14 +26,14 @@ use Rattle.switch_processes.specs.Orders.{CallOf, call_moves, calls_of, game_aft
 use Rattle.switch_processes.proofs.Ordered.{CanHappen, calls_more, happens_to, same_switch}
 
 -- a life is in an epoch of the game
-abbrev IsIn : Game → LifeId → ℕ → Type 0
+abbrev pub IsIn : Game → LifeId → ℕ → Type 0
 IsIn g x e = (n : Node) × (g.nodes x e ≡ Some n)
 
 -- by these moves of a life it alone comes into an epoch, its present one
 abbrev PutsIn : LifeId → Game → Game → Type 0
 PutsIn x g h = (y : LifeId) (f : ℕ) → IsIn h y f → ((x ≡ y) × (f ≡ h.present x)) ⊎ IsIn g y f
 
-put_cases : (g : Game) (e : ℕ) (x : LifeId) (n : Node) (y : LifeId) (f : ℕ) (m : Node) → with_node_in g e x n y f ≡ Some m → ((x ≡ y) × (e ≡ f)) ⊎ IsIn g y f
+pub put_cases : (g : Game) (e : ℕ) (x : LifeId) (n : Node) (y : LifeId) (f : ℕ) (m : Node) → with_node_in g e x n y f ≡ Some m → ((x ≡ y) × (e ≡ f)) ⊎ IsIn g y f
 put_cases g e x n y f m is = by (e == f) refl is
   where
     here : e ≡ f → ((x ≡ y) × (n ≡ m)) ⊎ ((x ≡ y → ⊥) × (g.nodes y f ≡ Some m)) → ((x ≡ y) × (e ≡ f)) ⊎ IsIn g y f

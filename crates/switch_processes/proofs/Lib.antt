@@ -3,3 +3,4 @@ pub mod Ready
 pub mod Ordered
 pub mod Joined
 pub mod Claims
+pub mod Switches

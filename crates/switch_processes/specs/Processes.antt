@@ -108,6 +108,16 @@ pub record HasJoined (on : PowerOn) (did : LifeId → List Call) (life : LifeId)
 abbrev pub IsJoinedBy : List LifeId → PowerOn → (LifeId → List Call) → ℕ → Type 0
 IsJoinedBy members on did epoch = (life : LifeId) → HasJoined on did life epoch → Contains members life
 
+-- these are lives of switches with these identifiers
+abbrev pub AreLivesOf : List ℕ → List LifeId → Type 0
+AreLivesOf uids lives = (life : LifeId) → Contains lives life → Contains uids life.uid
+
+-- Switches go on where they were: a later life of one is started with an epoch that is not below the last one
+-- of each earlier life of it
+abbrev pub GoOn : List LifeId → PowerOn → (LifeId → List Call) → Type 0
+GoOn lives on did = (life next : LifeId) → Contains lives life → Contains lives next → life.uid ≡ next.uid
+    → life.boot < next.boot → (switch_after on life (did life)).epoch ≤ on.epoch next
+
 -- at some moment of its own a life has finished an epoch with a topology
 pub record HasFinished (on : PowerOn) (did : LifeId → List Call) (life : LifeId) (epoch : ℕ)
     (topology : TopoOf) : Type 0 where

@@ -5,7 +5,7 @@ ghost use Rattle.an_base.specs.Values.{EntryOf, LifeId, TopoOf};
 ghost use Rattle.topo_graph.specs.Topology.{IsGraph, IsTree};
 ghost use Rattle.switch_game.specs.Network.{PowerOn};
 ghost use Rattle.switch_game.specs.Quiet.{HasSettled, IsQuiet};
-ghost use Rattle.switch_processes.specs.Processes.{AreTimes, Call, Event, HasFinished, HasNoCycle, IsConsistentCut, IsJoinedBy, IsRun, made_by, switch_after};
+ghost use Rattle.switch_processes.specs.Processes.{AreLivesOf, AreTimes, Call, Event, GoOn, HasFinished, HasNoCycle, IsConsistentCut, IsJoinedBy, IsRun, made_by, switch_after};
 ghost use Rattle.switch_processes.specs.Orders.{HasOneOrder, Passes, game_after, network_after};
 
 /// If each process made its calls in an order of its own, each frame that came in is one that went out by an
@@ -76,4 +76,14 @@ pub fn a_quiet_component_has_settled()
         (life : LifeId) (one : HasOneOrder lives on did sending)
         → length lives ≤ 126 → IsQuiet (network_after on one.order) life
         → HasSettled lives (network_after on one.order) (game_after on one.order) life }
+{}
+
+/// If switches go on where they were, each later life of one from no lower epoch, then at most as many lives join
+/// an epoch as there are switches, however many lives there are.
+pub fn an_epoch_is_joined_once_by_a_switch()
+    ensures { (lives : List LifeId) (on : PowerOn) (did : LifeId → List Call) (sending : Event → Event)
+        (uids : List ℕ) (epoch : ℕ)
+        → IsRun lives on did sending → HasNoCycle did sending
+        → AreLivesOf uids lives → GoOn lives on did
+        → (members : List LifeId) × (length members ≤ length uids) × IsJoinedBy members on did epoch }
 {}
