@@ -1,6 +1,6 @@
-mod RankLemmas
+pub mod RankLemmas
 mod OneAnswer
-mod NumberLemmas
+pub mod NumberLemmas
 mod ArriveLemmas
 mod PassLemmas
 mod PacketLemmas
@@ -11,3 +11,4 @@ mod WitnessLemmas
 mod CountLemmas
 mod EndLemmas
 mod LinkLemmas
+mod VerifyLemmas

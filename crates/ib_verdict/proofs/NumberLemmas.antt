@@ -48,7 +48,7 @@ module _ (fabric : FabricOf) where
       let most = low.1 in
       same_parts (channel_at fabric.most (number fabric channel)) channel (div-mul-add channel.switch fabric.most (channel.port - 1) (omega arith)) (let e = mod-mul-add channel.switch fabric.most (channel.port - 1) (omega arith) in omega arith)
 
-  in_order : (one other : Channel) → IsChannel fabric one → IsChannel fabric other → channel_cmp one other ≡ nat_cmp (number fabric one) (number fabric other)
+  pub in_order : (one other : Channel) → IsChannel fabric one → IsChannel fabric other → channel_cmp one other ≡ nat_cmp (number fabric one) (number fabric other)
   in_order one other is too =
       let a = channel_low fabric one is in
       let b = channel_low fabric other too in

@@ -11,7 +11,7 @@ use Rattle.ib_verdict.specs.Verdict.{IsVerdict, PassesBy}
 use Rattle.ib_verdict.proofs.ArriveLemmas.{arrive}
 use Rattle.ib_verdict.proofs.RankLemmas.{rank_of, ranks_fall}
 
-none_stops : (stops : Bool) (Some : Type 0) → (IsTrue stops ↔ Some) → stops ≡ false → Some → ⊥
+pub none_stops : (stops : Bool) (Some : Type 0) → (IsTrue stops ↔ Some) → stops ≡ false → Some → ⊥
 none_stops stops Some tells none some = absurd (let told = tells.1 some in cc)
 
 pub pass : (fabric : FabricOf) (tables : TablesOf) (traffic : Traffic) (stops : Bool) → (IsTrue stops ↔ SomeIsStopped fabric tables traffic) → (verdict : Verdict) → IsVerdict fabric tables traffic verdict → stops ≡ false → PassesBy fabric tables traffic verdict

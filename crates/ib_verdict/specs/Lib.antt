@@ -2,3 +2,4 @@ pub mod Verdict
 pub mod Packets
 pub mod Count
 pub mod Judgements
+pub mod Verified

@@ -32,8 +32,8 @@ pub struct Judgement {
     pub dependencies: u64,
 }
 
-// The port of a place.
-fn spot_of(most: usize, place: u32) -> Spot
+/// The port of a place: port p of switch s has the place s times the most ports of a switch, plus p - 1.
+pub fn spot_of(most: usize, place: u32) -> Spot
     requires some { 0 < most }
     requires few { most < 255 }
     ensures { result ≡ spot_at most place }
@@ -59,7 +59,7 @@ fn spots_of(alloc: Global, most: usize, places: &[u32]) -> Result<Vec<Spot>, Out
 }
 
 // The least route by which a channel depends on another.
-fn witness_of(
+pub(crate) fn witness_of(
     alloc: Global,
     fabric: &Fabric,
     cells: &Cells,

@@ -1,6 +1,6 @@
 //! What passing means, and what a credit loop means. No function here has code.
 
-ghost use Rattle.std.specs.Prelude.{◌≡◌, ◌≢◌, ◌<◌, ◌≤◌, ◌+◌, ℕ, List, [], ◌∷◌, Contains, length};
+ghost use Rattle.std.specs.Prelude.{◌≡◌, ◌≢◌, ◌<◌, ◌≤◌, ◌+◌, ℕ, List, [], ◌∷◌, None, Contains, length};
 ghost use Rattle.channel_graph.specs.Cycles.{HasNoCycle, IsCycle};
 ghost use Rattle.ib_cells.specs.Cells.{TablesOf};
 ghost use Rattle.ib_net.specs.declared.node.EndPort.{EndPort};
@@ -13,6 +13,8 @@ ghost use Rattle.ib_routes.specs.Routes.{Channel, DependsOn, IsStopped, Sends, h
 ghost use Rattle.ib_verdict.specs.Count.{IsChannelCount, IsDependencyCount, IsLinkCount};
 ghost use Rattle.ib_verdict.specs.Packets.{AllFit, AllStand, ComesFree, FirstCanGo, Leaves, Packet, QueuesOf, StandsIn};
 ghost use Rattle.ib_verdict.specs.declared.verdict.LoopChannel.{LoopChannel};
+ghost use Rattle.ib_verdict.specs.declared.verify.Verified.{Verified};
+ghost use Rattle.ib_verdict.specs.Verified.{Fall, IsVerified};
 ghost use Rattle.ib_verdict.specs.Verdict.{AllArrive, AreAtMost, ArrivesBy, CycleIs, HasRanks, rank_in, spots_in};
 
 /// Routes arrive, and soon: where there is no credit loop and no route of the traffic stops, each arrives, by
@@ -64,6 +66,15 @@ pub fn ranks_suffice()
     ensures { (fabric : FabricOf) (tables : TablesOf) (traffic : Traffic) (rank : Channel → ℕ)
         → ((channel next : Channel) → DependsOn fabric tables traffic channel next → rank next < rank channel)
         → HasNoCycle (DependsOn fabric tables traffic) }
+{}
+
+/// Ranks that `judge` gives fall along each dependency; and of ranks that fall `verify` never tells a dependency along
+/// which they do not.
+pub fn ranks_that_fall()
+    ensures given { (fabric : FabricOf) (tables : TablesOf) (traffic : Traffic) (ranks : List ℕ)
+        → HasRanks fabric tables traffic ranks → Fall fabric tables traffic ranks }
+    ensures accepted { (fabric : FabricOf) (tables : TablesOf) (traffic : Traffic) (ranks : List ℕ) (found : Verified)
+        → Fall fabric tables traffic ranks → IsVerified fabric tables traffic ranks found → found.rise ≡ None }
 {}
 
 /// Fewer routes, fewer dependencies: what a traffic depends on, `lids` does too if it is `hosts`, and `all` in any

@@ -2,7 +2,8 @@
 //!
 //! It stands on an_base, channel_graph, ib_net, ib_cells and ib_routes. Its contract: `judge` answers ranks exactly where
 //! no credit loop is, else the least one with the least route that makes each of its dependencies, and how many
-//! dependencies there are; where no route stops either, each route arrives. `links` counts links and channels. Its laws
+//! dependencies there are; where no route stops either, each route arrives. `verify` judges ranks from anywhere: whether
+//! they fall along each dependency, so that there is no credit loop. `links` counts links and channels. Its laws
 //! say what that means: routes arrive soon, some packet can always move, a cycle can be full, and tables have one
 //! verdict.
 #![tactic(auto)]
@@ -12,3 +13,4 @@ pub mod judge;
 pub mod law;
 pub mod links;
 pub mod verdict;
+pub mod verify;
