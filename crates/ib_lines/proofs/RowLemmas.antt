@@ -1,5 +1,5 @@
 -- The rows of an answer, one after another.
-use Rattle.std.proofs.Common.{◌≡◌, ◌∙◌, sym, ap, refl, ℕ, List, [], ◌∷◌, ◌++◌, append_assoc, map}
+use Rattle.std.proofs.Common.{◌≡◌, ◌∙◌, sym, ap, refl, ℕ, List, [], ◌∷◌, ◌++◌, append_assoc, append-nil, map, Some, None}
 use Rattle.std.specs.Prelude.{codes}
 use Rattle.std.specs.Fmt.{decimal}
 use Rattle.std.specs.List.{flat_map}
@@ -7,7 +7,10 @@ use Rattle.std.proofs.lemmas.Grind.{flat_map-append}
 use Rattle.text_lines.specs.Lines.{line_text, lines_text}
 use Rattle.ib_lines.specs.declared.answer.Answer.{Answer}
 use Rattle.ib_lines.specs.declared.answer.Read.{Read}
-use Rattle.ib_lines.specs.Answers.{Row, answer_rows, answer_text, read_row, judged_row, routes_row, channels_row, cycle_rows, lost_rows, name_row}
+use Rattle.ib_lines.specs.declared.ranks.Risen.{Risen}
+use Rattle.ib_lines.specs.declared.ranks.Verified.{Verified}
+use Rattle.ib_lines.specs.Ranks.{rank_row, risen_rows, verified_rows, verified_text}
+use Rattle.ib_lines.specs.Answers.{Row, answer_rows, answer_text, read_row, judged_row, routes_row, channel_row, channels_row, cycle_rows, lost_rows, name_row}
 
 -- the words for what was read
 pub read_words : (read : Read) (a b c d e : List ℕ) → a ≡ decimal read.switches → b ≡ decimal read.ends → c ≡ decimal read.links → d ≡ decimal read.rows → e ≡ decimal read.unowned → (codes "read" ∷ codes "switches" ∷ a ∷ codes "ends" ∷ b ∷ codes "links" ∷ c ∷ codes "rows" ∷ d ∷ codes "unowned" ∷ e ∷ []) ≡ read_row read
@@ -53,3 +56,29 @@ answer_is a t0 t1 t2 t3 t4 t5 t6 t7 t8 traffic word none h1 h2 h3 h4 h5 h6 h7 h8
     let e18 = onward t0 p1 (p2 ++ (p3 ++ (p4 ++ (p5 ++ (p6 ++ (p7 ++ p8)))))) t1 t8 h1 e28 in
     e18 ∙ ap (λ (t : List ℕ). t ++ (p1 ++ (p2 ++ (p3 ++ (p4 ++ (p5 ++ (p6 ++ (p7 ++ p8)))))))) none
     ∙ ap (λ (t : List ℕ). p1 ++ (p2 ++ (p3 ++ (p4 ++ (p5 ++ t))))) (sym (last_rows a))
+
+-- the lines of a dependency along which ranks do not fall
+pub risen_is : (rise : Risen) (t0 t1 t2 t3 t4 : List ℕ) → t1 ≡ t0 ++ line_text (codes "ranks" ∷ codes "rise" ∷ []) → t2 ≡ t1 ++ line_text (channel_row rise.step) → t3 ≡ t2 ++ line_text (rank_row rise.own) → t4 ≡ t3 ++ line_text (rank_row rise.next) → t4 ≡ t0 ++ lines_text (risen_rows (Some rise))
+risen_is rise t0 t1 t2 t3 t4 h1 h2 h3 h4 =
+    let p1 = line_text (codes "ranks" ∷ codes "rise" ∷ []) in
+    let p2 = line_text (channel_row rise.step) in
+    let p3 = line_text (rank_row rise.own) in
+    let p4 = line_text (rank_row rise.next) in
+    let last = h4 ∙ ap (λ (t : List ℕ). t3 ++ t) (sym (append-nil p4)) in
+    let e24 = onward t2 p3 (p4 ++ []) t3 t4 h3 last in
+    let e14 = onward t1 p2 (p3 ++ (p4 ++ [])) t2 t4 h2 e24 in
+    onward t0 p1 (p2 ++ (p3 ++ (p4 ++ []))) t1 t4 h1 e14
+
+pub fall_is : (t0 t1 : List ℕ) → t1 ≡ t0 ++ line_text (codes "ranks" ∷ codes "fall" ∷ []) → t1 ≡ t0 ++ lines_text (risen_rows None)
+fall_is t0 t1 h1 = h1 ∙ ap (λ (t : List ℕ). t0 ++ t) (sym (append-nil (line_text (codes "ranks" ∷ codes "fall" ∷ []))))
+
+pub verified_is : (a : Verified) (t0 t1 t2 t3 traffic : List ℕ) → traffic ≡ a.traffic → t0 ≡ [] → t1 ≡ t0 ++ line_text (codes "fabric" ∷ codes "1" ∷ []) → t2 ≡ t1 ++ line_text (judged_row traffic) → t3 ≡ t2 ++ lines_text (risen_rows a.rise) → t3 ≡ verified_text a
+unfolding verified_rows
+verified_is a t0 t1 t2 t3 traffic word none h1 h2 h3 =
+    let p1 = line_text (codes "fabric" ∷ codes "1" ∷ []) in
+    let p2 = line_text (judged_row a.traffic) in
+    let p3 = lines_text (risen_rows a.rise) in
+    let judged : t2 ≡ t1 ++ p2 = h2 ∙ ap (λ (w : List ℕ). t1 ++ line_text (judged_row w)) word in
+    let e13 = onward t1 p2 p3 t2 t3 judged h3 in
+    let e03 = onward t0 p1 (p2 ++ p3) t1 t3 h1 e13 in
+    e03 ∙ ap (λ (t : List ℕ). t ++ (p1 ++ (p2 ++ p3))) none

@@ -107,7 +107,7 @@ fn cycle_word(alloc: Global, many: usize) -> Result<Vec<u8>, OutOfMemory>
     decimal(alloc, many as u64)
 }
 
-fn push_channel(alloc: Global, text: &mut Vec<u8>, step: Step) -> Result<(), OutOfMemory>
+pub(crate) fn push_channel(alloc: Global, text: &mut Vec<u8>, step: Step) -> Result<(), OutOfMemory>
     ensures { OnOk result (text.new.items ≡ text.old.items ++ line_text (channel_row step)) }
 {
     let guid = guid_word(alloc, step.guid)?;
@@ -195,7 +195,7 @@ fn push_name(alloc: Global, text: &mut Vec<u8>, name: &Name) -> Result<(), OutOf
 }
 
 // A GUID as a word.
-fn guid_word(alloc: Global, guid: u64) -> Result<Vec<u8>, OutOfMemory>
+pub(crate) fn guid_word(alloc: Global, guid: u64) -> Result<Vec<u8>, OutOfMemory>
     ensures { IfOk result (λ word. word.items ≡ guid_word guid) }
 {
     let mut word = Vec::from_slice(alloc, b"0x")?;
