@@ -1,0 +1,2 @@
+mod StopLemmas
+pub mod RankLemmas

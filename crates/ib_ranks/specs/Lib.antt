@@ -1,0 +1,4 @@
+pub mod Causes
+pub mod RankLines
+pub mod Ranks
+pub mod Readings
