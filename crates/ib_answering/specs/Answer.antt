@@ -16,6 +16,7 @@ use Rattle.ib_tables.specs.declared.reader.TablesRefusal.TheVariants as tables_r
 use Rattle.ib_tables.specs.Reads.{GaveTables, IsRefusedBy}
 use Rattle.ib_answering.specs.declared.status.Status.{Status}
 use Rattle.ib_answering.specs.declared.status.Status.TheVariants.{Ok, Usage, TopologyRefused, TopologyTooLong, TablesRefused, ReadFault, WriteFault, RoutesLost, Cycle, OutOfMemory}
+use Rattle.ib_answering.specs.declared.status.Status.TheVariants.{RanksRefused, RanksRise}
 use Rattle.ib_answering.specs.Status.{IsToldOf}
 
 -- the sources of a call at one moment
@@ -87,11 +88,13 @@ pub data IsStop (old new : Sources) (status : Status) : Type 0 where
   no_tables : AreNoTables old new status → IsStop old new status
   wanting : status ≡ OutOfMemory → IsStop old new status
 
--- the statuses of a call that wrote its text
+-- the statuses that a command gives; of a file of its own that it refuses too
 abbrev pub IsEnding : Status → Type 0
 IsEnding Ok = Unit {0}
 IsEnding RoutesLost = Unit {0}
 IsEnding Cycle = Unit {0}
+IsEnding RanksRise = Unit {0}
+IsEnding (RanksRefused line cause) = Unit {0}
 IsEnding status = ⊥
 
 -- both sources were read to their ends, and this is given for them

@@ -6,8 +6,10 @@ use Rattle.outside.specs.Told.{Seen}
 use Rattle.calling.specs.Ended.{IsLineTold}
 use Rattle.ib_fabric.specs.Causes.{cause_text as topology_cause}
 use Rattle.ib_tables.specs.Causes.{cause_text as tables_cause}
+use Rattle.ib_ranks.specs.Causes.{cause_text as ranks_cause}
 use Rattle.ib_answering.specs.declared.status.Status.{Status}
 use Rattle.ib_answering.specs.declared.status.Status.TheVariants.{Ok, Usage, TopologyRefused, TopologyTooLong, TablesRefused, ReadFault, WriteFault, RoutesLost, Cycle, OutOfMemory}
+use Rattle.ib_answering.specs.declared.status.Status.TheVariants.{RanksRefused, RanksTooLong, RanksRise}
 
 -- the number of a status
 abbrev pub code_of : Status → ℕ
@@ -16,10 +18,13 @@ code_of Usage = 2
 code_of (TopologyRefused line cause) = 3
 code_of (TopologyTooLong line) = 3
 code_of (TablesRefused line cause) = 3
+code_of (RanksRefused line cause) = 3
+code_of (RanksTooLong line) = 3
 code_of ReadFault = 4
 code_of WriteFault = 5
 code_of RoutesLost = 7
 code_of Cycle = 8
+code_of RanksRise = 8
 code_of OutOfMemory = 9
 
 -- the line for a fault of a file
@@ -30,14 +35,20 @@ refusal_line file line cause =
 -- the line of a status
 abbrev pub line_of : Status → List ℕ
 line_of Ok = []
-line_of Usage = codes "usage: fabric judge TOPOLOGY TABLES [hosts|lids|all]\n"
+line_of Usage =
+    codes "usage: fabric judge TOPOLOGY TABLES [hosts|lids|all]\n"
+    ++ codes "       fabric ranks TOPOLOGY TABLES [hosts|lids|all]\n"
+    ++ codes "       fabric verify TOPOLOGY TABLES RANKS [hosts|lids|all]\n"
 line_of (TopologyRefused line cause) = refusal_line (codes "topology") line (topology_cause cause)
 line_of (TopologyTooLong line) = refusal_line (codes "topology") line (codes "too many")
 line_of (TablesRefused line cause) = refusal_line (codes "tables") line (tables_cause cause)
+line_of (RanksRefused line cause) = refusal_line (codes "ranks") line (ranks_cause cause)
+line_of (RanksTooLong line) = refusal_line (codes "ranks") line (codes "too many")
 line_of ReadFault = codes "fabric: read fault\n"
 line_of WriteFault = codes "fabric: write fault\n"
 line_of RoutesLost = codes "fabric: routes lost\n"
 line_of Cycle = codes "fabric: cycle\n"
+line_of RanksRise = codes "fabric: ranks rise\n"
 line_of OutOfMemory = codes "fabric: out of memory\n"
 
 -- a status was told: the answer is its number, and err gained its line, unless err failed

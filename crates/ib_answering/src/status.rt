@@ -9,6 +9,7 @@ ghost use Rattle.ib_answering.specs.Status.{IsToldOf, code_of, line_of};
 use an_base::memory::OutOfMemory;
 use calling::end::tell;
 use ib_fabric::cause::FabricCause;
+use ib_ranks::cause::RanksCause;
 use ib_tables::cause::TablesCause;
 use ib_tables::reader::TablesRefusal;
 use itoa::Buffer;
@@ -41,6 +42,18 @@ pub enum Status {
         /// The first cause in that line.
         cause: TablesCause,
     },
+    /// The bytes of ranks are no text of ranks for the fabric.
+    RanksRefused {
+        /// The first faulty line, from 1.
+        line: u32,
+        /// The first cause in that line.
+        cause: RanksCause,
+    },
+    /// The ranks have more bytes than the limit.
+    RanksTooLong {
+        /// The line of the first byte too many, from 1.
+        line: u32,
+    },
     /// A source failed.
     ReadFault,
     /// A sink failed.
@@ -49,6 +62,8 @@ pub enum Status {
     RoutesLost,
     /// There is a cycle, whether or not routes are lost.
     Cycle,
+    /// Ranks do not fall along some dependency.
+    RanksRise,
     /// No memory was found.
     OutOfMemory,
 }
@@ -95,10 +110,13 @@ impl Status {
             Status::TopologyRefused { line: _, cause: _ } => 3,
             Status::TopologyTooLong { line: _ } => 3,
             Status::TablesRefused { line: _, cause: _ } => 3,
+            Status::RanksRefused { line: _, cause: _ } => 3,
+            Status::RanksTooLong { line: _ } => 3,
             Status::ReadFault => 4,
             Status::WriteFault => 5,
             Status::RoutesLost => 7,
             Status::Cycle => 8,
+            Status::RanksRise => 8,
             Status::OutOfMemory => 9,
         }
     }
@@ -123,7 +141,11 @@ pub fn finish<E: Sink>(err: &mut E, status: Status) -> u8
         Status::Usage => tell_line(
             err,
             status,
-            &[b"usage: fabric judge TOPOLOGY TABLES [hosts|lids|all]\n"],
+            &[
+                b"usage: fabric judge TOPOLOGY TABLES [hosts|lids|all]\n",
+                b"       fabric ranks TOPOLOGY TABLES [hosts|lids|all]\n",
+                b"       fabric verify TOPOLOGY TABLES RANKS [hosts|lids|all]\n",
+            ],
         ),
         Status::TopologyRefused { line, cause } => {
             let line = digits.format(line).as_bytes();
@@ -151,10 +173,28 @@ pub fn finish<E: Sink>(err: &mut E, status: Status) -> u8
                 &[b"fabric: tables line ", line, b": ", cause, b"\n"],
             )
         }
+        Status::RanksRefused { line, cause } => {
+            let line = digits.format(line).as_bytes();
+            let cause = cause.text().as_bytes();
+            tell_line(
+                err,
+                status,
+                &[b"fabric: ranks line ", line, b": ", cause, b"\n"],
+            )
+        }
+        Status::RanksTooLong { line } => {
+            let line = digits.format(line).as_bytes();
+            tell_line(
+                err,
+                status,
+                &[b"fabric: ranks line ", line, b": too many\n"],
+            )
+        }
         Status::ReadFault => tell_line(err, status, &[b"fabric: read fault\n"]),
         Status::WriteFault => tell_line(err, status, &[b"fabric: write fault\n"]),
         Status::RoutesLost => tell_line(err, status, &[b"fabric: routes lost\n"]),
         Status::Cycle => tell_line(err, status, &[b"fabric: cycle\n"]),
+        Status::RanksRise => tell_line(err, status, &[b"fabric: ranks rise\n"]),
         Status::OutOfMemory => tell_line(err, status, &[b"fabric: out of memory\n"]),
     }
 }
