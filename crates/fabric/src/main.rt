@@ -15,16 +15,18 @@ use input::Input;
 use outside::standard::{StdSink, StdSource};
 use std::process::ExitCode;
 
-// Answers the words over the files that the second and the third of them name.
+// Answers the words over the files that those after the first name.
 fn answer(rt: &HostRuntime, words: &[Word]) -> u8 {
     let mut topology = StdSource::new(Input::named(rt, rt.stdin(), words.get(1)));
     let mut tables = StdSource::new(Input::named(rt, rt.stdin(), words.get(2)));
+    let mut ranks = StdSource::new(Input::named(rt, rt.stdin(), words.get(3)));
     let mut out = StdSink::new(rt.stdout());
     let mut err = StdSink::new(rt.stderr());
     fabric(
         rt.alloc(),
         &mut topology,
         &mut tables,
+        &mut ranks,
         &mut out,
         &mut err,
         words,

@@ -1,17 +1,19 @@
 -- The answer to words.
-use Rattle.std.proofs.Common.{subst, ℕ, List}
-use Rattle.ib_routes.specs.declared.traffic.Traffic.{Traffic}
-use Rattle.ib_answering.specs.Answer.{IsAnswer, IsUsageAnswer, Streams}
-use Rattle.ib_commands.specs.Call.{IsAnswerTo, gives_judged}
+use Rattle.std.proofs.Common.{◌≡◌, sym, subst, ℕ, List}
+use Rattle.outside.specs.Told.{Seen}
+use Rattle.ib_answering.specs.Answer.{IsUsageAnswer, Streams}
+use Rattle.ib_commands.specs.declared.words.Call.{Call}
+use Rattle.ib_commands.specs.declared.words.Task.{Task}
+use Rattle.ib_commands.specs.Call.{IsAnswerOf, IsAnswerTo}
 use Rattle.ib_commands.specs.Words.{AreNoCall, IsCall}
-use Rattle.ib_commands.proofs.WordLemmas.{one_traffic}
+use Rattle.ib_commands.proofs.WordLemmas.{one_call}
 
-module _ (words : List (List ℕ)) (old new : Streams) (answer : ℕ) where
-  pub answers_call : (traffic : Traffic) → IsCall words traffic → IsAnswer (gives_judged traffic) old new answer → IsAnswerTo words old new answer
-  answers_call traffic is answers = record {
-    judge = λ other too. subst (λ (t : Traffic). IsAnswer (gives_judged t) old new answer) (one_traffic words traffic other is too) answers;
-    usage = λ none. absurd (none traffic is);
+module _ (words : List (List ℕ)) (ranks ranks' : Seen) (old new : Streams) (answer : ℕ) where
+  pub answers_call : (call : Call) (task : Task) → IsCall words call → call.task ≡ task → IsAnswerOf task call.traffic ranks ranks' old new answer → IsAnswerTo words ranks ranks' old new answer
+  answers_call call task is same answers = record {
+    call = λ other too. subst (λ (c : Call). IsAnswerOf c.task c.traffic ranks ranks' old new answer) (one_call words call other is too) (subst (λ (t : Task). IsAnswerOf t call.traffic ranks ranks' old new answer) (sym same) answers);
+    usage = λ none. absurd (none call is);
   }
 
-  pub answers_usage : AreNoCall words → IsUsageAnswer old new answer → IsAnswerTo words old new answer
-  answers_usage none usage = record { judge = λ traffic is. absurd (none traffic is); usage = λ _. usage }
+  pub answers_usage : AreNoCall words → ranks' ≡ ranks → IsUsageAnswer old new answer → IsAnswerTo words ranks ranks' old new answer
+  answers_usage none kept usage = record { call = λ call is. absurd (none call is); usage = λ _. (kept, usage) }

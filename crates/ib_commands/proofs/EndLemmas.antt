@@ -1,11 +1,18 @@
 -- How a judgement ends.
-use Rattle.std.proofs.Common.{List, [], ◌∷◌}
+use Rattle.std.proofs.Common.{◌≡◌, sym, subst, refl, ℕ, List, [], ◌∷◌, Option, Some, None, true, false, inl, inr}
 use Rattle.ib_cells.specs.Cells.{TablesOf}
 use Rattle.ib_net.specs.Fabric.{FabricOf}
 use Rattle.ib_routes.specs.declared.traffic.Traffic.{Traffic}
 use Rattle.ib_verdict.specs.declared.verdict.LoopChannel.{LoopChannel}
+use Rattle.ib_verdict.specs.declared.verify.Rise.{Rise}
+use Rattle.ib_verdict.specs.declared.verify.Verified.{Verified}
+use Rattle.ib_verdict.specs.Verified.{IsVerified}
 use Rattle.ib_verdict.specs.Verdict.{CycleIs}
-use Rattle.ib_answering.specs.declared.status.Status.TheVariants.{Cycle}
+use Rattle.ib_answering.specs.declared.status.Status.{Status}
+use Rattle.ib_answering.specs.declared.status.Status.TheVariants.{Ok, Usage, TopologyRefused, TopologyTooLong, TablesRefused, RanksRefused, RanksTooLong}
+use Rattle.ib_answering.specs.declared.status.Status.TheVariants.{ReadFault, WriteFault, RoutesLost, Cycle, RanksRise, OutOfMemory}
+use Rattle.ib_answering.specs.Answer.{IsEnding}
+use Rattle.ib_commands.specs.Certified.{IsEndBy}
 use Rattle.ib_commands.specs.Judged.{IsEndOf, IsLoop}
 
 module _ (fabric : FabricOf) (tables : TablesOf) (traffic : Traffic) where
@@ -17,3 +24,49 @@ module _ (fabric : FabricOf) (tables : TablesOf) (traffic : Traffic) where
   pub cycle_ends : (found : List LoopChannel) → CycleIs fabric tables traffic found → IsEndOf fabric tables traffic Cycle
   cycle_ends [] is = absurd is.least
   cycle_ends (one ∷ rest) is = (_, _, is.least.from.closed)
+
+  -- what ends a judgement ends a command
+  pub is_ending : (status : Status) → IsEndOf fabric tables traffic status → IsEnding status
+  is_ending Ok is = tt
+  is_ending Usage is = absurd is
+  is_ending (TopologyRefused line cause) is = absurd is
+  is_ending (TopologyTooLong line) is = absurd is
+  is_ending (TablesRefused line cause) is = absurd is
+  is_ending (RanksRefused line cause) is = absurd is
+  is_ending (RanksTooLong line) is = absurd is
+  is_ending ReadFault is = absurd is
+  is_ending WriteFault is = absurd is
+  is_ending RoutesLost is = tt
+  is_ending Cycle is = tt
+  is_ending RanksRise is = absurd is
+  is_ending OutOfMemory is = absurd is
+
+  pub is_ending_by : (rise : Option Rise) (status : Status) → IsEndBy fabric tables traffic rise status → IsEnding status
+  is_ending_by None status (no_cycle, inl (ok, arrive)) = subst IsEnding (sym ok) tt
+  is_ending_by None status (no_cycle, inr (lost, stopped)) = subst IsEnding (sym lost) tt
+  is_ending_by (Some rise) status is = subst IsEnding (sym is) tt
+
+  -- of ranks that fall
+  module _ (ranks : List ℕ) (found : Verified) (is : IsVerified fabric tables traffic ranks found) (none : found.rise ≡ None) where
+    pub ends_lost : found.stops ≡ true → IsEndBy fabric tables traffic found.rise RoutesLost
+    ends_lost stops = subst (λ (rise : Option Rise). IsEndBy fabric tables traffic rise RoutesLost) (sym none) (is.no_cycle none, inr (refl, is.stops.0 stops))
+
+    pub ends_well : found.stops ≡ false → IsEndBy fabric tables traffic found.rise Ok
+    ends_well goes = subst (λ (rise : Option Rise). IsEndBy fabric tables traffic rise Ok) (sym none) (is.no_cycle none, inl (refl, is.passes none goes))
+
+  -- where there is a credit loop, that is told
+  pub cycle_status : (found : List LoopChannel) → CycleIs fabric tables traffic found → (status : Status) → IsEndOf fabric tables traffic status → status ≡ Cycle
+  cycle_status [] is status ends = absurd is.least
+  cycle_status (one ∷ rest) is Ok ends = absurd (ends.1.ranked.no_cycle _ _ is.least.from.closed)
+  cycle_status (one ∷ rest) is Usage ends = absurd ends
+  cycle_status (one ∷ rest) is (TopologyRefused line cause) ends = absurd ends
+  cycle_status (one ∷ rest) is (TopologyTooLong line) ends = absurd ends
+  cycle_status (one ∷ rest) is (TablesRefused line cause) ends = absurd ends
+  cycle_status (one ∷ rest) is (RanksRefused line cause) ends = absurd ends
+  cycle_status (one ∷ rest) is (RanksTooLong line) ends = absurd ends
+  cycle_status (one ∷ rest) is ReadFault ends = absurd ends
+  cycle_status (one ∷ rest) is WriteFault ends = absurd ends
+  cycle_status (one ∷ rest) is RoutesLost ends = absurd (ends.1.no_cycle _ _ is.least.from.closed)
+  cycle_status (one ∷ rest) is Cycle ends = refl
+  cycle_status (one ∷ rest) is RanksRise ends = absurd ends
+  cycle_status (one ∷ rest) is OutOfMemory ends = absurd ends

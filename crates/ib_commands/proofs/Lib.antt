@@ -2,3 +2,4 @@ mod WordLemmas
 mod EndLemmas
 mod NameLemmas
 mod CallLemmas
+mod RankLemmas

@@ -1,35 +1,84 @@
 -- Words are those of one call at most.
-use Rattle.std.proofs.Common.{◌≡◌, ◌∙◌, sym, ap, refl, ℕ, List, length, false, true, eqb, eq-eqb, arith, inl, inr}
+use Rattle.std.proofs.Common.{◌≡◌, ◌∙◌, sym, ap, subst, refl, ℕ, ◌<◌, ◌↔◌, List, [], ◌∷◌, ◌++◌, Bool, true, false, cond, eqb, length, get_or, take, drop, ◌-◌, inl, inr}
+use Rattle.std.specs.Prelude.{IsTrue, codes, slice_index}
+use Rattle.std.proofs.lemmas.Bool.{false_from_ne_true}
+use Rattle.std.proofs.lemmas.List.{drop_at}
+use Rattle.std.proofs.lemmas.Slice.{first_rest}
+use Rattle.std.proofs.lemmas.Slice.Eq.{bytes_eq-Decides}
 use Rattle.ib_routes.specs.declared.traffic.Traffic.{Traffic}
 use Rattle.ib_routes.specs.declared.traffic.Traffic.TheVariants.{Hosts, Lids, All}
-use Rattle.ib_commands.specs.Words.{IsCall, traffic_word}
-
-unlike : (one other : ℕ) → one ≡ other → eqb one other ≡ false → ⊥
-unlike one other same differ = let is : eqb one other ≡ true = eq-eqb one other same in absurd (cc)
+use Rattle.ib_commands.specs.declared.words.Task.{Task}
+use Rattle.ib_commands.specs.declared.words.Task.TheVariants.{Judge, Ranks, Verify}
+use Rattle.ib_commands.specs.declared.words.Call.{Call}
+use Rattle.ib_commands.specs.Words.{AreNoCall, IsCall, NameTraffic, file_count, is_standard, task_word, traffic_word}
 
 -- no two words of traffics are equally long
+traffic_of_length : ℕ → Traffic
+traffic_of_length count = cond (eqb count 5) Hosts (cond (eqb count 4) Lids All)
+
+by_length : (traffic : Traffic) → traffic_of_length (length (traffic_word traffic)) ≡ traffic
+unfolding traffic_of_length
+by_length Hosts = refl
+by_length Lids = refl
+by_length All = refl
+
 one_word : (one other : Traffic) → traffic_word one ≡ traffic_word other → one ≡ other
-one_word Hosts Hosts same = refl
-one_word Hosts Lids same = absurd (unlike 5 4 (ap length same) refl)
-one_word Hosts All same = absurd (unlike 5 3 (ap length same) refl)
-one_word Lids Hosts same = absurd (unlike 4 5 (ap length same) refl)
-one_word Lids Lids same = refl
-one_word Lids All same = absurd (unlike 4 3 (ap length same) refl)
-one_word All Hosts same = absurd (unlike 3 5 (ap length same) refl)
-one_word All Lids same = absurd (unlike 3 4 (ap length same) refl)
-one_word All All same = refl
+one_word one other same = sym (by_length one) ∙ ap (λ (w : List ℕ). traffic_of_length (length w)) same ∙ by_length other
 
-short_or_long : (words : List (List ℕ)) → length words ≡ 3 → length words ≡ 4 → ⊥
-short_or_long words short long = omega arith
+-- the words of tasks begin with different letters
+task_of_letter : ℕ → Task
+task_of_letter letter = cond (eqb letter 106) Judge (cond (eqb letter 114) Ranks Verify)
 
-pub one_traffic : (words : List (List ℕ)) (one other : Traffic) → IsCall words one → IsCall words other → one ≡ other
-one_traffic words one other is too = elim is.are [
-  | inl (hosts, words_are) ↦ elim too.are [
-    | inl (hosts', words_are') ↦ hosts ∙ sym hosts'
-    | inr words_are' ↦ absurd (short_or_long words (ap length words_are) (ap length words_are'))
-  ]
-  | inr words_are ↦ elim too.are [
-    | inl (hosts', words_are') ↦ absurd (short_or_long words (ap length words_are') (ap length words_are))
-    | inr words_are' ↦ one_word one other (let both = sym words_are ∙ words_are' in cc)
-  ]
-]
+by_letter : (task : Task) → task_of_letter (slice_index (task_word task) 0) ≡ task
+unfolding task_of_letter
+by_letter Judge = refl
+by_letter Ranks = refl
+by_letter Verify = refl
+
+one_task : (one other : Task) → task_word one ≡ task_word other → one ≡ other
+one_task one other same = sym (by_letter one) ∙ ap (λ (w : List ℕ). task_of_letter (slice_index w 0)) same ∙ by_letter other
+
+one_traffic : (words : List (List ℕ)) (one other : Traffic) → NameTraffic words one → NameTraffic words other → one ≡ other
+one_traffic words one other (inl (none, hosts)) (inl (none', hosts')) = hosts ∙ sym hosts'
+one_traffic words one other (inl (none, hosts)) (inr named) = absurd (let both : [] ≡ traffic_word other ∷ [] = sym none ∙ named in cc)
+one_traffic words one other (inr named) (inl (none, hosts)) = absurd (let both : [] ≡ traffic_word one ∷ [] = sym none ∙ named in cc)
+one_traffic words one other (inr named) (inr named') = one_word one other (let both : traffic_word one ∷ [] ≡ traffic_word other ∷ [] = sym named ∙ named' in cc)
+
+same_call : (one other : Call) → one.task ≡ other.task → one.traffic ≡ other.traffic → one ≡ other
+same_call one other task traffic = ap (λ (t : Task). let c : Call = record { task = t; traffic = one.traffic } in c) task ∙ ap (λ (t : Traffic). let c : Call = record { task = other.task; traffic = t } in c) traffic
+
+pub one_call : (words : List (List ℕ)) (one other : Call) → IsCall words one → IsCall words other → one ≡ other
+one_call words one other is too =
+    let both : task_word one.task ∷ (is.files ++ is.last) ≡ task_word other.task ∷ (too.files ++ too.last) = sym is.are ∙ too.are in
+    let task : one.task ≡ other.task = one_task one.task other.task (cc) in
+    let rest : is.files ++ is.last ≡ too.files ++ too.last = cc in
+    let count : length too.files ≡ file_count one.task = too.count ∙ ap file_count (sym task) in
+    let last : is.last ≡ too.last = sym (drop_at is.files is.last (file_count one.task) is.count) ∙ ap (drop (file_count one.task)) rest ∙ drop_at too.files too.last (file_count one.task) count in
+    same_call one other task (one_traffic too.last one.traffic other.traffic (subst (λ (ws : List (List ℕ)). NameTraffic ws one.traffic) last is.names) too.names)
+
+-- the test of a word for standard input
+pub standard_is : (told : Bool) (word : List ℕ) → (IsTrue told ↔ (word ≡ codes "-")) → told ≡ is_standard word
+standard_is true word tells = sym ((bytes_eq-Decides word (codes "-")).1 (tells.0 refl))
+standard_is false word tells = sym (false_from_ne_true (is_standard word) (λ is. absurd (let told : false ≡ true = tells.1 ((bytes_eq-Decides word (codes "-")).0 is) in cc)))
+
+-- words by the first one
+pub cut_first : (words : List (List ℕ)) (first : List ℕ) → 0 < length words → first ≡ get_or words 0 first → words ≡ first ∷ take (length words - 1) (drop 1 words)
+cut_first words first some is = first_rest words first some ∙ ap (λ (w : List ℕ). w ∷ take (length words - 1) (drop 1 words)) (sym is)
+
+module _ (first : List ℕ) (rest : List (List ℕ)) where
+  -- after the word of a task
+  module _ (task : Task) (is_task : first ≡ task_word task) where
+    same_task : (call : Call) → IsCall (first ∷ rest) call → call.task ≡ task
+    same_task call is = one_task call.task task (let are = is.are in cc)
+
+    parts : (call : Call) (is : IsCall (first ∷ rest) call) → rest ≡ is.files ++ is.last
+    parts call is = let are = is.are in cc
+
+    count : (call : Call) (is : IsCall (first ∷ rest) call) → length is.files ≡ file_count task
+    count call is = is.count ∙ ap file_count (same_task call is)
+
+    last_are : (call : Call) (is : IsCall (first ∷ rest) call) → drop (file_count task) rest ≡ is.last
+    last_are call is = ap (drop (file_count task)) (parts call is) ∙ drop_at is.files is.last (file_count task) (count call is)
+
+    pub no_traffic : ((traffic : Traffic) → ¬ NameTraffic (drop (file_count task) rest) traffic) → AreNoCall (first ∷ rest)
+    no_traffic none call is = none call.traffic (subst (λ (ws : List (List ℕ)). NameTraffic ws call.traffic) (sym (last_are call is)) is.names)

@@ -1,4 +1,6 @@
 pub mod Words
 pub mod Names
 pub mod Judged
+pub mod Certified
+pub mod Verifying
 pub mod Call

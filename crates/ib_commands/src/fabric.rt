@@ -1,64 +1,82 @@
 //! The call.
 
+ghost use Rattle.std.specs.Prelude.{◌≡◌};
 ghost use Rattle.ib_answering.specs.Answer.{streams};
-ghost use Rattle.ib_commands.specs.Call.{IsAnswerTo, gives_judged};
+ghost use Rattle.ib_commands.specs.Call.{IsAnswerTo, IsVerifyAnswer, ranks_unread_as};
 
-use crate::answer::{answer_for, status_of};
-use crate::words::traffic_of;
-use an_base::memory::OutOfMemory;
+use crate::commands::{Judge, Ranks};
+use crate::verify::Verify;
+use crate::words::{Task, call_of};
 use an_base::text::Word;
-use ib_answering::command::{Command, Given, answer};
-use ib_answering::input::Topology;
+use calling::input::{Unread, read_input};
+use ib_answering::command::answer;
 use ib_answering::status::{Status, finish};
-use ib_lines::printer::print;
 use ib_routes::traffic::Traffic;
-use ib_tables::reader::Tables;
-use ib_verdict::judge::judge;
 use outside::sink::Sink;
 use outside::source::Source;
 use std::alloc::Global;
 
-// The command `judge`: the verdict on the routes of a traffic.
-#[derive(Clone, Copy)]
-struct Judge {
-    traffic: Traffic,
-}
+/// The most bytes of ranks.
+pub const RANKS_LIMIT: usize = 1 << 28;
 
-impl Command for Judge {
-    ghost gives = { λ judge. gives_judged judge.traffic };
-
-    fn given(
-        &self,
-        alloc: Global,
-        topology: &Topology,
-        tables: &Tables,
-    ) -> Result<Given, OutOfMemory> {
-        let judged = judge(alloc, &topology.fabric, &tables.cells, self.traffic)?;
-        let answer = answer_for(alloc, topology, tables, self.traffic, &judged)?;
-        Ok(Given {
-            status: status_of(&judged),
-            text: print(alloc, &answer)?,
-        })
+// The status of ranks that were not read.
+fn ranks_unread(why: Unread) -> Status
+    ensures { result ≡ ranks_unread_as why }
+{
+    match why {
+        Unread::Fault => Status::ReadFault,
+        Unread::TooLong { line } => Status::RanksTooLong { line },
+        Unread::OutOfMemory => Status::OutOfMemory,
     }
 }
 
-/// Answers a call. The words are `judge TOPOLOGY TABLES`, or these with `hosts`, `lids` or `all` after them: the call
-/// reads a topology and tables from the sources to their ends, and writes the verdict to out. The answer is the number
-/// of a status, whose line goes to err. For other words the sources and out are left alone.
-pub fn fabric<T: Source, S: Source, O: Sink, E: Sink>(
+// Answers `verify`.
+fn answer_verify<T: Source, S: Source, R: Source, O: Sink, E: Sink>(
     alloc: Global,
     topology: &mut T,
     tables: &mut S,
+    ranks: &mut R,
+    out: &mut O,
+    err: &mut E,
+    traffic: Traffic,
+) -> u8
+    ensures { IsVerifyAnswer traffic (R.seen ranks.old) (R.seen ranks.new)
+        (streams (T.seen topology.old) (S.seen tables.old) (O.seen out.old) (E.seen err.old))
+        (streams (T.seen topology.new) (S.seen tables.new) (O.seen out.new) (E.seen err.new)) result }
+{
+    match read_input(alloc, ranks, RANKS_LIMIT) {
+        Ok(ranks) => {
+            let command = Verify { traffic, ranks };
+            answer(&command, alloc, topology, tables, out, err)
+        }
+        Err(why) => finish(err, ranks_unread(why)),
+    }
+}
+
+/// Answers a call. The words are `judge TOPOLOGY TABLES`, `ranks TOPOLOGY TABLES` or `verify TOPOLOGY TABLES RANKS`, or
+/// these with `hosts`, `lids` or `all` after them: the call reads the sources that they name to their ends, the ranks
+/// first, and writes to out the verdict, the ranks, or whether the ranks fall. The answer is the number of a status,
+/// whose line goes to err. For other words the sources and out are left alone.
+pub fn fabric<T: Source, S: Source, R: Source, O: Sink, E: Sink>(
+    alloc: Global,
+    topology: &mut T,
+    tables: &mut S,
+    ranks: &mut R,
     out: &mut O,
     err: &mut E,
     words: &[Word],
 ) -> u8
-    ensures { IsAnswerTo words.now
+    ensures { IsAnswerTo words.now (R.seen ranks.old) (R.seen ranks.new)
         (streams (T.seen topology.old) (S.seen tables.old) (O.seen out.old) (E.seen err.old))
         (streams (T.seen topology.new) (S.seen tables.new) (O.seen out.new) (E.seen err.new)) result }
 {
-    match traffic_of(words) {
-        Some(traffic) => answer(&Judge { traffic }, alloc, topology, tables, out, err),
-        None => finish(err, Status::Usage),
+    let Some(call) = call_of(words) else {
+        return finish(err, Status::Usage);
+    };
+    let traffic = call.traffic;
+    match call.task {
+        Task::Judge => answer(&Judge { traffic }, alloc, topology, tables, out, err),
+        Task::Ranks => answer(&Ranks { traffic }, alloc, topology, tables, out, err),
+        Task::Verify => answer_verify(alloc, topology, tables, ranks, out, err, traffic),
     }
 }

@@ -9,8 +9,11 @@
 #![tactic(auto)]
 
 mod answer;
+mod commands;
 pub mod fabric;
 mod losses;
 mod names;
+mod ranks;
 mod steps;
+mod verify;
 pub mod words;

@@ -25,7 +25,8 @@ pub fn steps_of(
     Ok(steps)
 }
 
-fn step_of(fabric: &Fabric, one: LoopChannel) -> Step
+/// The same of one channel.
+pub fn step_of(fabric: &Fabric, one: LoopChannel) -> Step
     ensures { result ≡ step_of fabric.now one }
 {
     Step {

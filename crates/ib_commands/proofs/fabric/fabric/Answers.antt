@@ -1,9 +1,16 @@
 use Rattle.std.proofs.Common.{refl}
+use Rattle.ib_commands.specs.declared.words.Task.TheVariants.{Judge, Ranks, Verify}
 use Rattle.ib_commands.proofs.CallLemmas.{answers_call, answers_usage}
 use Rattle.ib_commands.proofs.fabric.fabric.Goals as goal
 
-pub returns-in-Some : goal.returns-in-Some
-returns-in-Some g c = answers_call _ _ _ _ c.in-Some.traffic c.in-Some.ensures c.answer.ensures
+pub returns-in-Judge : goal.returns-in-Judge
+returns-in-Judge g c = answers_call _ _ _ _ _ _ c.in-Some.call Judge c.in-Some.ensures c.in-Judge.is (refl, c.answer.ensures)
 
-pub returns-in-None : goal.returns-in-None
-returns-in-None g c = answers_usage _ _ _ _ c.in-None.ensures (record { read = refl; out = refl; told = c.finish.ensures })
+pub returns-in-Ranks : goal.returns-in-Ranks
+returns-in-Ranks g c = answers_call _ _ _ _ _ _ c.in-Some.call Ranks c.in-Some.ensures c.in-Ranks.is (refl, c.answer-in-Ranks.ensures)
+
+pub returns-in-Verify : goal.returns-in-Verify
+returns-in-Verify g c = answers_call _ _ _ _ _ _ c.in-Some.call Verify c.in-Some.ensures c.in-Verify.is c.answer_verify.ensures
+
+pub returns-in_default : goal.returns-in_default
+returns-in_default g c = answers_usage _ _ _ _ _ _ c.in_default.ensures refl (record { read = refl; out = refl; told = c.finish.ensures })

@@ -1,0 +1,34 @@
+use Rattle.std.proofs.Common.{◌∙◌, ap, subst, inl, inr, ℕ, List}
+use Rattle.std.proofs.lemmas.Result.{IfOk-weaker}
+use Rattle.ib_cells.specs.Cells.{tables_of}
+use Rattle.ib_verdict.specs.Verdict.{IsVerdict}
+use Rattle.ib_lines.specs.declared.ranks.Rank.{Rank}
+use Rattle.ib_lines.specs.Ranks.{ranks_text}
+use Rattle.ib_commands.specs.Certified.{ranks_of}
+use Rattle.ib_commands.proofs.EndLemmas.{cycle_status, is_ending}
+use Rattle.ib_commands.proofs.commands.RanksCommand.given.Goals as goal
+
+pub returns-in-Ranks-clause-given : goal.returns-in-Ranks-clause-given
+returns-in-Ranks-clause-given c =
+    let fabric = c.args.topology.now.fabric in
+    let tables = tables_of c.args.tables.now.cells in
+    inl (record {
+      ends = c.status_of.ensures fabric tables c.args.self.now.traffic c.in_ok-judged.ensures;
+      ranks = c.in-Ranks.ranks.items;
+      has = subst (IsVerdict fabric tables c.args.self.now.traffic) c.in-Ranks.is c.in_ok-judged.ensures.verdict;
+      says = c.in_ok-print_ranks-in-Ranks.ensures ∙ ap (λ (told : List Rank). ranks_text told) (c.deref-in-Ranks.ensures.value ∙ c.in_ok-told-in-Ranks.ensures ∙ ap (λ (ranks : List ℕ). ranks_of fabric ranks) c.deref.ensures.value);
+    })
+
+pub returns-in-Ranks-clause-ends : goal.returns-in-Ranks-clause-ends
+returns-in-Ranks-clause-ends c =
+    let fabric = c.args.topology.now.fabric in
+    let tables = tables_of c.args.tables.now.cells in
+    is_ending fabric tables c.args.self.now.traffic c.status_of.result (c.status_of.ensures fabric tables c.args.self.now.traffic c.in_ok-judged.ensures)
+
+pub returns-clause-given : goal.returns-clause-given
+returns-clause-given c =
+    let fabric = c.args.topology.now.fabric in
+    let tables = tables_of c.args.tables.now.cells in
+    let traffic = c.args.self.now.traffic in
+    let is = subst (IsVerdict fabric tables traffic) c.in-Cycle.is c.in_ok-judged.ensures.verdict in
+    IfOk-weaker c.given_judged.result _ _ (λ given told. inr (cycle_status fabric tables traffic c.in-Cycle.channels.items is given.status told.ends, told)) c.given_judged.ensures.given

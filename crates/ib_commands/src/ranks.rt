@@ -1,0 +1,89 @@
+//! The ranks of channels, as an answer tells them.
+
+ghost use Rattle.std.specs.Prelude.{◌≡◌, ◌++◌, ◌<◌, ◌*◌, IfOk, OnOk, slice_get};
+ghost use Rattle.ib_net.specs.Fabric.{switch_count};
+ghost use Rattle.ib_routes.specs.Found.{channel_of};
+ghost use Rattle.ib_verdict.specs.Verdict.{rank_in, spot_at};
+ghost use Rattle.ib_commands.specs.Certified.{rank_at, rank_of, ranks_of, risen_of};
+
+use crate::steps::step_of;
+use an_base::memory::OutOfMemory;
+use ib_lines::ranks::{Rank, Risen};
+use ib_net::fabric::Fabric;
+use ib_net::node::{EndPort, Side, Spot};
+use ib_verdict::judge::spot_of;
+use ib_verdict::verdict::LoopChannel;
+use ib_verdict::verify::Rise;
+use std::alloc::Global;
+
+/// The ranks of the channels, by switch, then by port.
+pub fn ranks_of(alloc: Global, fabric: &Fabric, ranks: &[u32]) -> Result<Vec<Rank>, OutOfMemory>
+    ensures { IfOk result (λ told. told.items ≡ ranks_of fabric.now ranks.now) }
+{
+    let mut told = Vec::new(alloc);
+    'places: for place in 0..fabric.switches() * fabric.most() {
+        push_rank(&mut told, fabric, ranks, place)?;
+    }
+    Ok(told)
+}
+
+// Appends the rank of the channel at a place, if the port there leads to a switch.
+fn push_rank(
+    told: &mut Vec<Rank>,
+    fabric: &Fabric,
+    ranks: &[u32],
+    place: usize,
+) -> Result<(), OutOfMemory>
+    requires { place < switch_count fabric.now * fabric.now.most }
+    ensures { OnOk result (told.new.items ≡ told.old.items
+        ++ rank_at fabric.now ranks.now (spot_at fabric.now.most place)) }
+{
+    let Some(rank) = rank_in(fabric, ranks, place) else {
+        return Ok(());
+    };
+    let spot = spot_of(fabric.most(), place as u32);
+    told.push(rank_of(fabric, spot, rank))?;
+    Ok(())
+}
+
+// The rank that a list has for the channel at a place, if the port there leads to a switch.
+fn rank_in(fabric: &Fabric, ranks: &[u32], place: usize) -> Option<u32>
+    requires { place < switch_count fabric.now * fabric.now.most }
+    ensures { result ≡ rank_in fabric.now ranks.now (channel_of (spot_at fabric.now.most place)) }
+{
+    match fabric.side_at(place) {
+        Side::To(_, _) => listed(ranks, place),
+        Side::Bare | Side::End(_) => None,
+    }
+}
+
+// What a list has at a place.
+fn listed(ranks: &[u32], place: usize) -> Option<u32>
+    ensures { result ≡ slice_get ranks.now place }
+{
+    ranks.get(place).copied()
+}
+
+// The rank of the channel out of a port.
+fn rank_of(fabric: &Fabric, spot: Spot, rank: u32) -> Rank
+    ensures { result ≡ rank_of fabric.now spot rank }
+{
+    Rank {
+        guid: fabric.guid(EndPort::Switch(spot.switch)),
+        port: spot.port,
+        rank,
+    }
+}
+
+/// A dependency along which ranks do not fall.
+pub fn risen_of(fabric: &Fabric, rise: Rise) -> Risen
+    ensures { result ≡ risen_of fabric.now rise }
+{
+    let channel = rise.channel;
+    let witness = rise.witness;
+    Risen {
+        step: step_of(fabric, LoopChannel { channel, witness }),
+        own: rank_of(fabric, channel, rise.rank),
+        next: rank_of(fabric, rise.next, rise.next_rank),
+    }
+}
