@@ -1,5 +1,6 @@
 #!/usr/bin/env python3
 """Whether ranks fall along each dependency of a fabric's tables: `tests/verify.py TOPOLOGY TABLES RANKS [hosts|lids|all]`.
+By hand, or by tests/ranks.
 
 It shares nothing with `fabric`, not its language, its code or its way: for each LID it goes along the tables from the
 switches at which its routes begin, and compares the ranks of each two channels that follow each other. It takes files
@@ -73,4 +74,4 @@ def main(topology, tables, ranks, traffic="hosts"):
                 todo.append(then)
     print("ranks fall along", steps, "steps")
 
-main(*sys.argv[1:])
+print(__doc__) if sys.argv[1:] in (["-h"], ["--help"]) else main(*sys.argv[1:])
