@@ -1,5 +1,5 @@
 -- The first line of bytes: where it ends, and the row that it may be.
-use Rattle.std.proofs.Common.{◌≡◌, ◌∙◌, sym, ap, refl, ℕ, ◌+◌, ◌-◌, ◌<◌, ◌≤◌, inl, inr, List, [], ◌∷◌, arith, length, length-take, get_or, take, Option, Some, None, Ok, Bool, true, false, eqb, ltb, cond, ◌&&◌}
+use Rattle.std.proofs.Common.{◌≡◌, ◌∙◌, sym, ap, refl, ℕ, ◌-◌, ◌<◌, ◌≤◌, inl, inr, List, [], ◌∷◌, arith, length, length-take, get_or, take, Option, Some, None, Ok, Bool, true, false, eqb, ltb, cond, ◌&&◌}
 use Rattle.std.specs.Prelude.{codes, is_some, IsSome, if◌then◌else◌}
 use borrow.Author.Count.{below_more}
 use Rattle.std.specs.List.{position}

@@ -4,7 +4,7 @@ use Rattle.std.specs.List.{slice_split, position, copy_within}
 use Rattle.std.specs.Str.Lines.{lines_of_parts, strip_carriage_return}
 use Rattle.std.proofs.lemmas.Bool.Decides.{nat_tests, Decides-eqb}
 use Rattle.std.proofs.lemmas.Bool.{cases_lt}
-use Rattle.std.proofs.lemmas.List.{take-append-drop, get_or_append_left, get_or-take, nil_from_length, drop-take, drop-drop}
+use Rattle.std.proofs.lemmas.List.{take-append-drop, get_or_append_left, get_or-take, nil_from_length, drop-take}
 use Rattle.std.proofs.lemmas.List.Edits.{take-paste}
 use Rattle.std.proofs.lemmas.List.Elements.{All-from_get_or}
 use Rattle.std.proofs.lemmas.List.Quantifiers.{position-Some}

@@ -1,6 +1,6 @@
 -- What lines say, and what they add.
-use Rattle.std.proofs.Common.{◌≡◌, ◌∙◌, sym, ap, refl, ℕ, ◌<◌, ◌≤◌, inl, inr, List, [], ◌∷◌, arith, length, length-take, take, min, Option, Some, None, Result, Ok, Err, Bool, true, false, ltb, nat_le, ◌&&◌}
-use Rattle.std.specs.Prelude.{codes, is_some, nat_eq, if◌then◌else◌}
+use Rattle.std.proofs.Common.{◌≡◌, ◌∙◌, sym, ap, refl, ℕ, ◌≤◌, inl, inr, List, arith, length, take, min, Ok, Err, false, ltb}
+use Rattle.std.specs.Prelude.{codes}
 use Rattle.std.proofs.lemmas.Bool.{cases_lt}
 use Rattle.std.proofs.lemmas.Bool.Decides.{nat_tests}
 use Rattle.std.proofs.lemmas.List.{take_all}

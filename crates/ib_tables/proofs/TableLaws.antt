@@ -8,7 +8,7 @@ use Rattle.ib_tables.specs.declared.cause.TablesCause.{TablesCause}
 use Rattle.ib_tables.specs.declared.cause.TablesCause.TheVariants.{NoEnd}
 use Rattle.ib_tables.specs.declared.reading.Part.{Part}
 use Rattle.ib_tables.specs.declared.reading.Part.TheVariants.{Start, Between, Dumped, Plain, PlainOf}
-use Rattle.ib_tables.specs.Tables.{Told, Step, none_told, told_after, AddsTo, IsFaultyAfter, IsEnded, IsTablesText, IsTablesFault}
+use Rattle.ib_tables.specs.Tables.{Told, none_told, told_after, AddsTo, IsFaultyAfter, IsEnded, IsTablesText, IsTablesFault}
 
 -- an answer is one
 ok_once : {A C : Type 0} (r : Result A C) (a b : A) → r ≡ Ok a → r ≡ Ok b → a ≡ b

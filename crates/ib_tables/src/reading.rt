@@ -19,7 +19,7 @@ use std::alloc::Global;
 use text_lines::stop::Stop;
 
 /// The part of a text in which the next line stands.
-#[derive(Clone, Copy, PartialEq, Eq)]
+#[derive(Clone, Copy)]
 pub enum Part {
     /// No part began.
     Start,
@@ -126,7 +126,10 @@ impl Reading {
     pub fn is_ended(&self) -> bool
         ensures { IsTrue result ↔ IsEnded (told_of self.now) }
     {
-        self.part == Part::Between
+        match self.part {
+            Part::Between => true,
+            Part::Start | Part::Dumped(_) | Part::Plain | Part::PlainOf(_) => false,
+        }
     }
 
     /// Adds what the next line says, without what ends it.

@@ -1,4 +1,4 @@
-use Rattle.std.proofs.Common.{◌≡◌, ◌∙◌, sym, ap, refl, ℕ, ◌+◌, ◌-◌, ◌*◌, ◌^◌, ◌<◌, ◌≤◌, List, arith, length, get_or, take, map, lit<, Option, Some, None, Bool, true, false, eqb, ◌&&◌, nat_lt, nat_le}
+use Rattle.std.proofs.Common.{◌≡◌, ◌∙◌, ap, refl, ℕ, ◌-◌, ◌^◌, ◌<◌, ◌≤◌, List, arith, length, get_or, map, lit<, Option, Some, None, Bool, true, false, eqb, ◌&&◌, nat_lt, nat_le}
 use Rattle.std.specs.Prelude.{MatchOption, if◌then◌else◌}
 use Rattle.std.specs.List.{list_all, range_with_len}
 use Rattle.std.specs.Char.{is_digit, digit_value}

@@ -1,6 +1,6 @@
-use Rattle.std.proofs.Common.{◌≡◌, ◌∙◌, sym, ap, subst, map}
+use Rattle.std.proofs.Common.{◌∙◌, sym, ap, subst, map}
 use Rattle.ib_tables.specs.Answers.{IsSaid}
-use Rattle.ib_tables.specs.TableLines.{Said, said_by}
+use Rattle.ib_tables.specs.TableLines.{Said}
 use Rattle.ib_tables.proofs.SaidLemmas.{said_by_words}
 use Rattle.ib_tables.proofs.line.other_line.Goals as goal
 

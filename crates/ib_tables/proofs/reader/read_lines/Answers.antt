@@ -1,4 +1,4 @@
-use Rattle.std.proofs.Common.{arith, length}
+use Rattle.std.proofs.Common.{arith}
 use Rattle.std.proofs.lemmas.Result.{err_from_is_err_and}
 use Rattle.ib_tables.proofs.ReadLemmas.{reads_further, reads_all, stops_further}
 use Rattle.ib_tables.proofs.reader.read_lines.Goals as goal

@@ -1,4 +1,4 @@
-use Rattle.std.proofs.Common.{ℕ, List, ◌+◌, ◌-◌, ◌≤◌, length, drop}
+use Rattle.std.proofs.Common.{◌+◌, ◌-◌, ◌≤◌, length, drop}
 use Rattle.ib_tables.specs.Readings.{IsReady}
 use Rattle.ib_tables.specs.Pieces.{ReadsOn}
 use Rattle.ib_tables.proofs.reader.read_lines.Given as goal

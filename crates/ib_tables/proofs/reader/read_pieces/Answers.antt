@@ -1,4 +1,4 @@
-use Rattle.std.proofs.Common.{◌++◌, [], List, ℕ, refl, sym, subst, rules, arith, length, length-append, length-take, ◌+◌}
+use Rattle.std.proofs.Common.{◌++◌, [], refl, sym, subst, rules, arith, length-append, length-take, ◌+◌}
 use Rattle.outside.proofs.ToldLemmas.{with_front_none}
 use Rattle.ib_tables.specs.Tables.{Told}
 use Rattle.ib_tables.specs.Pieces.{IsReadTo}
