@@ -1,10 +1,12 @@
 -- What a reader keeps of the lines so far. Only private functions cite this.
 
-use Rattle.std.specs.Prelude.{◌≡◌, ◌<◌, ◌≤◌, ◌+◌, ◌*◌, ℕ, length, IfSome}
+use Rattle.std.specs.Prelude.{◌≡◌, ◌<◌, ◌≤◌, ◌+◌, ◌*◌, ℕ, length, Option, Some, None, IfSome}
 use Rattle.ib_net.specs.Fabric.{FabricOf, switch_count}
 use Rattle.ib_cells.specs.Cells.{tables_of}
 use Rattle.ib_tables.specs.declared.reading.Reading.{Reading}
-use Rattle.ib_tables.specs.Tables.{Told, switch_in}
+use Rattle.ib_tables.specs.declared.reading.Part.{Part}
+use Rattle.ib_tables.specs.declared.reading.Part.TheVariants.{Dumped, PlainOf}
+use Rattle.ib_tables.specs.Tables.{Told}
 
 -- what it has of them
 abbrev pub told_of : Reading → Told
@@ -15,6 +17,12 @@ told_of reading =
       rows = reading.rows;
       unowned = reading.unowned;
     }
+
+-- the switch of which the next rows are
+abbrev pub switch_in : Part → Option ℕ
+switch_in (Dumped switch) = Some switch
+switch_in (PlainOf switch) = Some switch
+switch_in part = None
 
 -- there is a cell for each switch and each LID that has an owner, and rows belong to a switch that there is
 pub record IsFit (fabric : FabricOf) (reading : Reading) : Type 0 where

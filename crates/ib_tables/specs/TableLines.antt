@@ -11,7 +11,7 @@ use Rattle.ib_words.specs.Digits.{hex, guid, decimal}
 use Rattle.ib_words.specs.Rows.{row}
 use Rattle.ib_tables.specs.declared.line.TableLine.{TableLine}
 use Rattle.ib_tables.specs.declared.line.TableLine.TheVariants.{Nothing, Head, Row, End, PlainHead, PlainSwitch}
-use Rattle.ib_tables.specs.declared.line.TableLine.TheVariants.{PlainEnd}
+use Rattle.ib_tables.specs.declared.line.TableLine.TheVariants.{PlainRow, PlainEnd}
 use Rattle.ib_tables.specs.declared.cause.TablesCause.{TablesCause}
 use Rattle.ib_tables.specs.declared.cause.TablesCause.TheVariants.{LineTooLong, UnknownLine, BadRow, BadGuid}
 use Rattle.ib_tables.specs.declared.cause.TablesCause.TheVariants.{LidRange, PortRange}
@@ -29,13 +29,13 @@ abbrev pub or_cause : {A : Type 0} → Option A → TablesCause → (A → Said)
 or_cause None cause says = Err cause
 or_cause (Some value) cause says = says value
 
--- a row for a LID: unicast LIDs end with 0xbfff
-abbrev pub row_for : ℕ → ℕ → Said
-row_for lid port = if nat_lt 0xbfff lid then Err LidRange else Ok (Row lid port)
+-- what says something of a LID: unicast LIDs end with 0xbfff
+abbrev pub unicast : ℕ → TableLine → Said
+unicast lid line = if nat_lt 0xbfff lid then Err LidRange else Ok line
 
 -- a row as the tools print it: the LID in four hexadecimal digits, the port in three decimal ones
 abbrev pub dumped_row : List ℕ → Said
-dumped_row line = or_cause (row line) BadRow (λ found. row_for found.0 found.1)
+dumped_row line = or_cause (row line) BadRow (λ found. unicast found.0 (Row found.0 found.1))
 
 -- the head of a switch's table: its GUID stands in 16 digits after the first ` guid 0x`
 abbrev pub head_guid : List ℕ → Option ℕ
@@ -46,7 +46,7 @@ head line = or_cause (head_guid line) BadGuid (λ found. Ok (Head found))
 
 -- a row in plain words: a LID and a port, both in decimal
 abbrev pub plain_port : ℕ → ℕ → Said
-plain_port lid port = if nat_lt 255 port then Err PortRange else row_for lid port
+plain_port lid port = if nat_lt 255 port then Err PortRange else unicast lid (PlainRow lid port)
 
 abbrev pub plain_row : (lid port : List ℕ) → Said
 plain_row lid port =

@@ -8,11 +8,12 @@ use Rattle.ib_net.specs.Fabric.{FabricOf, owner_of, switch_with}
 use Rattle.ib_cells.specs.Cells.{TablesOf, with_port}
 use Rattle.ib_tables.specs.declared.line.TableLine.{TableLine}
 use Rattle.ib_tables.specs.declared.line.TableLine.TheVariants.{Nothing, Head, Row, End, PlainHead, PlainSwitch}
-use Rattle.ib_tables.specs.declared.line.TableLine.TheVariants.{PlainEnd}
+use Rattle.ib_tables.specs.declared.line.TableLine.TheVariants.{PlainRow, PlainEnd}
 use Rattle.ib_tables.specs.declared.reading.Part.{Part}
 use Rattle.ib_tables.specs.declared.reading.Part.TheVariants.{Start, Between, Dumped, Plain, PlainOf}
 use Rattle.ib_tables.specs.declared.cause.TablesCause.{TablesCause}
-use Rattle.ib_tables.specs.declared.cause.TablesCause.TheVariants.{UnknownSwitch, OutOfPlace, NoEnd, PortDiffers}
+use Rattle.ib_tables.specs.declared.cause.TablesCause.TheVariants.{UnknownLine, UnknownSwitch, OutOfPlace, NoEnd}
+use Rattle.ib_tables.specs.declared.cause.TablesCause.TheVariants.{PortDiffers}
 use Rattle.ib_tables.specs.TableLines.{said_in}
 
 -- What lines say so far: in which part of the text the next one stands, the ports, and how many rows named a
@@ -41,11 +42,15 @@ is_plain Plain = true
 is_plain (PlainOf switch) = true
 is_plain part = false
 
--- the switch to which a row belongs
-abbrev pub switch_in : Part → Option ℕ
-switch_in (Dumped switch) = Some switch
-switch_in (PlainOf switch) = Some switch
-switch_in part = None
+-- the switch to which a row belongs that is printed as the tools do, and one in plain words: the one form is unknown in
+-- a plain text, and the other in a dump
+abbrev pub switch_dumped : Part → Result ℕ TablesCause
+switch_dumped (Dumped switch) = Ok switch
+switch_dumped part = if is_plain part then Err UnknownLine else Err OutOfPlace
+
+abbrev pub switch_plain : Part → Result ℕ TablesCause
+switch_plain (PlainOf switch) = Ok switch
+switch_plain part = if is_dump part then Err UnknownLine else Err OutOfPlace
 
 -- what is told after a line, or why the line is faulty
 abbrev pub Step : Type 0
@@ -79,9 +84,8 @@ port_told told switch lid port (Some other) =
     if other == port then Ok (owned_row told switch lid port) else Err PortDiffers
 
 -- 255 is no port: such a row says nothing
-abbrev pub row_told : FabricOf → Told → (lid port : ℕ) → Option ℕ → Step
-row_told fabric told lid port None = Err OutOfPlace
-row_told fabric told lid port (Some switch) =
+abbrev pub row_told : FabricOf → Told → (lid port switch : ℕ) → Step
+row_told fabric told lid port switch =
     if port == 255 then Ok told
     else (if is_none (owner_of fabric lid) then Ok (unowned_row told)
     else port_told told switch lid port (told.tables switch lid))
@@ -99,7 +103,8 @@ if_open is_open step = if is_open then step else Err OutOfPlace
 -- what is told after what a line says
 abbrev pub told_with : FabricOf → Told → TableLine → Step
 told_with fabric told Nothing = Ok told
-told_with fabric told (Row lid port) = row_told fabric told lid port (switch_in told.part)
+told_with fabric told (Row lid port) = and_then (switch_dumped told.part) (row_told fabric told lid port)
+told_with fabric told (PlainRow lid port) = and_then (switch_plain told.part) (row_told fabric told lid port)
 told_with fabric told (Head guid) = begins_told told (rows_of told Dumped (switch_with fabric guid))
 told_with fabric told End = if_open (is_dump told.part) (Ok (at_part told Between))
 told_with fabric told PlainHead = begins_told told (Ok (at_part told Plain))

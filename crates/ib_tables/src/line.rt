@@ -2,7 +2,8 @@
 
 ghost use Rattle.std.specs.Prelude.{◌≡◌, ◌≤◌, codes, false, length, map};
 ghost use Rattle.ib_tables.specs.Answers.{IsSaid};
-ghost use Rattle.ib_tables.specs.TableLines.{begins, dumped_row, row_for, head, head_guid, plain_guid, plain_row, plain_switch};
+ghost use Rattle.ib_tables.specs.TableLines.{begins, dumped_row, unicast, head, head_guid, plain_guid, plain_row, plain_switch};
+ghost use Rattle.ib_tables.specs.declared.line.TableLine.TheVariants.{Row};
 ghost use Rattle.ib_tables.specs.TableLines.{is_count, said_by, said_by_one, said_by_two, said_by_three, said_by_four, said_in};
 
 use crate::cause::TablesCause;
@@ -24,7 +25,7 @@ pub enum TableLine {
     Nothing,
     /// The table of the switch with this GUID begins, in a dump.
     Head(u64),
-    /// The port by which a LID's packets leave, 255 for none.
+    /// The port by which a LID's packets leave, 255 for none, as the tools print it.
     Row(u16, u8),
     /// The table of a switch ends, in a dump.
     End,
@@ -32,6 +33,8 @@ pub enum TableLine {
     PlainHead,
     /// The rows that follow are of the switch with this GUID.
     PlainSwitch(u64),
+    /// The same as of `Row`, in plain words.
+    PlainRow(u16, u8),
     /// A plain text ends.
     PlainEnd,
 }
@@ -99,7 +102,7 @@ fn dumped_row(line: &[u8]) -> Result<TableLine, TablesCause>
 
 // A row for a LID, which is to be a unicast LID.
 fn row_for(lid: u16, port: u8) -> Result<TableLine, TablesCause>
-    ensures { result ≡ row_for lid port }
+    ensures { result ≡ unicast lid (Row lid port) }
 {
     if lid > 0xbfff {
         return Err(TablesCause::LidRange);
@@ -230,5 +233,5 @@ fn plain_row(lid: &[u8], port: &[u8]) -> Result<TableLine, TablesCause>
     if lid > 0xbfff {
         return Err(TablesCause::LidRange);
     }
-    Ok(TableLine::Row(lid as u16, port as u8))
+    Ok(TableLine::PlainRow(lid as u16, port as u8))
 }

@@ -6,9 +6,9 @@ ghost use Rattle.ib_tables.specs.declared.cause.TablesCause.TheVariants.{Unknown
 ghost use Rattle.ib_tables.specs.declared.line.TableLine.TheVariants.{Row};
 ghost use Rattle.ib_tables.specs.declared.reading.Part.TheVariants.{Between, Dumped, Plain, PlainOf};
 ghost use Rattle.ib_tables.specs.Answers.{LedTo, LedToOrWant};
-ghost use Rattle.ib_tables.specs.Tables.{is_dump, is_plain, may_begin, switch_in, none_told, told_with, told_after, IsEnded};
-ghost use Rattle.ib_tables.specs.Tables.{at_part, begins_told, if_open, row_told, rows_of};
-ghost use Rattle.ib_tables.specs.Readings.{told_of, IsFit, IsReady, AreFewRows, GrewByOne};
+ghost use Rattle.ib_tables.specs.Tables.{is_dump, is_plain, may_begin, none_told, told_with, told_after, IsEnded};
+ghost use Rattle.ib_tables.specs.Tables.{and_then, at_part, begins_told, if_open, row_told, rows_of, switch_dumped, switch_plain};
+ghost use Rattle.ib_tables.specs.Readings.{switch_in, told_of, IsFit, IsReady, AreFewRows, GrewByOne};
 
 use crate::cause::TablesCause;
 use crate::line::{TableLine, TablesStop, table_line};
@@ -67,14 +67,28 @@ impl Part {
         }
     }
 
-    // The switch to which a row belongs.
+    // The switch to which a row belongs that is printed as the tools do; else the cause why it may not stand here.
     #[inline]
-    fn switch(self) -> Option<usize>
-        ensures { result ≡ switch_in self }
+    fn switch_dumped(self) -> Result<usize, TablesCause>
+        ensures switch { result ≡ switch_dumped self }
+        ensures here { IfOk result (λ switch. switch_in self ≡ Some switch) }
     {
         match self {
-            Part::Dumped(switch) | Part::PlainOf(switch) => Some(switch),
-            Part::Start | Part::Between | Part::Plain => None,
+            Part::Dumped(switch) => Ok(switch),
+            Part::Plain | Part::PlainOf(_) => Err(TablesCause::UnknownLine),
+            Part::Start | Part::Between => Err(TablesCause::OutOfPlace),
+        }
+    }
+
+    // The same of a row in plain words.
+    fn switch_plain(self) -> Result<usize, TablesCause>
+        ensures switch { result ≡ switch_plain self }
+        ensures here { IfOk result (λ switch. switch_in self ≡ Some switch) }
+    {
+        match self {
+            Part::PlainOf(switch) => Ok(switch),
+            Part::Dumped(_) => Err(TablesCause::UnknownLine),
+            Part::Start | Part::Between | Part::Plain => Err(TablesCause::OutOfPlace),
         }
     }
 }
@@ -166,7 +180,7 @@ impl Reading {
         ensures next { OnOk result (self.new.line ≡ self.old.line + 1) }
         ensures here { OnErr result (self.new.line ≡ self.old.line) }
     {
-        if let Err(cause) = self.add_row(fabric, lid, port) {
+        if let Err(cause) = self.add_row(fabric, self.part.switch_dumped(), lid, port) {
             return Err(Stop::Fault(cause));
         }
         self.line += 1;
@@ -183,7 +197,13 @@ impl Reading {
     {
         match said {
             TableLine::Nothing => Ok(()),
-            TableLine::Row(lid, port) => self.add_row(fabric, lid, port),
+            TableLine::Row(lid, port) => self.add_row(fabric, self.part.switch_dumped(), lid, port),
+            TableLine::PlainRow(lid, port) => self.add_row(
+                fabric,
+                self.part.switch_plain(),
+                lid,
+                port,
+            ),
             TableLine::Head(guid) => self.begin_dump(fabric, guid),
             TableLine::End => self.end_dump(),
             TableLine::PlainHead => self.begin_plain(),
@@ -192,19 +212,24 @@ impl Reading {
         }
     }
 
-    // Adds what a row says.
+    // Adds what a row says that belongs to this switch, if it may stand here.
     #[inline]
-    fn add_row(&mut self, fabric: &Fabric, lid: u16, port: u8) -> Result<(), TablesCause>
+    fn add_row(
+        &mut self,
+        fabric: &Fabric,
+        switch: Result<usize, TablesCause>,
+        lid: u16,
+        port: u8,
+    ) -> Result<(), TablesCause>
         requires fit { IsFit fabric.now self.old }
         requires few { AreFewRows self.old (2 ^ 64 - 1) }
+        requires here { IfOk switch (λ switch. switch_in self.old.part ≡ Some switch) }
         ensures step { LedTo result (told_of self.new)
-            (row_told fabric.now (told_of self.old) lid port (switch_in self.old.part)) }
+            (and_then switch (row_told fabric.now (told_of self.old) lid port)) }
         ensures fit { OnOk result (IsFit fabric.now self.new) }
         ensures rows { GrewByOne self.old self.new }
     {
-        let Some(switch) = self.part.switch() else {
-            return Err(TablesCause::OutOfPlace);
-        };
+        let switch = switch?;
         if port == 255 {
             return Ok(());
         }
