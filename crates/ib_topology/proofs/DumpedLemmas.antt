@@ -5,9 +5,9 @@ use Rattle.ib_topology.specs.declared.fact.Fact.TheVariants as fact
 use Rattle.ib_topology.specs.declared.fact.PortTold.{PortTold}
 use Rattle.ib_topology.specs.declared.fact.Part.TheVariants as part
 use Rattle.ib_topology.specs.Facts.{telling_three}
-use Rattle.ib_topology.specs.Dumped.{near_side, side, dumped}
+use Rattle.ib_topology.specs.Dumped.{far_parts, near_side, side, dumped}
 
 -- a line of both sides
-pub dumped_is : (line both speed front numbers heads guids near head : List ℕ) (one other : Fact × PortTold) → cut_last (codes " } PHY=") line ≡ Some (both, speed) → cut_last (codes "} LID:") both ≡ Some (front, numbers) → cut_last (codes " SystemGUID:") front ≡ Some (heads, guids) → cut_last (codes " } { ") heads ≡ Some (near, head) → Some one ≡ near_side near → Some other ≡ side head guids numbers → Some (telling_three part.Dumped one.0 other.0 (fact.Link one.1 other.1)) ≡ dumped line
+pub dumped_is : (line heads guids numbers near head : List ℕ) (one other : Fact × PortTold) → far_parts line ≡ Some (heads, guids, numbers) → cut_last (codes " } { ") heads ≡ Some (near, head) → Some one ≡ near_side near → Some other ≡ side head guids numbers → Some (telling_three part.Dumped one.0 other.0 (fact.Link one.1 other.1)) ≡ dumped line
 unfolding dumped
-dumped_is line both speed front numbers heads guids near head one other e1 e2 e3 e4 e5 e6 = rw (e1, e2, e3, e4, ← e5, ← e6) refl
+dumped_is line heads guids numbers near head one other e1 e2 e3 e4 = rw (e1, e2, ← e3, ← e4) refl

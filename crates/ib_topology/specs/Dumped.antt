@@ -63,21 +63,33 @@ side head rest numbers = do
   place ← at numbers
   told_by kind.0 ports both place
 
--- what the first side of a line tells
-unfoldable pub near_side : List ℕ → Option (Fact × PortTold)
-near_side text = do
+-- the parts of the first side: its head, what stands after ` SystemGUID:`, and what after the description
+unfoldable pub near_parts : List ℕ → Option (List ℕ × List ℕ × List ℕ)
+near_parts text = do
   numbers ← cut_last (codes "} LID:") text
   both ← cut_first (codes " SystemGUID:") numbers.0
-  head ← after (codes "{ ") both.0
-  side head both.1 numbers.1
+  Some (both.0, both.1, numbers.1)
 
--- what a line says: the second side is found from the right, and the first in what stands before it
-unfoldable pub dumped : List ℕ → Option Line
-dumped line = do
+-- those of the second side, which is found from the right: its head with all before it, and the same two
+unfoldable pub far_parts : List ℕ → Option (List ℕ × List ℕ × List ℕ)
+far_parts line = do
   both ← cut_last (codes " } PHY=") line
   numbers ← cut_last (codes "} LID:") both.0
   heads ← cut_last (codes " SystemGUID:") numbers.0
-  sides ← cut_last (codes " } { ") heads.0
-  one ← near_side sides.0
-  other ← side sides.1 heads.1 numbers.1
+  Some (heads.0, heads.1, numbers.1)
+
+-- what the first side of a line tells
+unfoldable pub near_side : List ℕ → Option (Fact × PortTold)
+near_side text = do
+  parts ← near_parts text
+  head ← after (codes "{ ") parts.0
+  side head parts.1 parts.2
+
+-- what a line says: the first side is found in what stands before the second
+unfoldable pub dumped : List ℕ → Option Line
+dumped line = do
+  parts ← far_parts line
+  heads ← cut_last (codes " } { ") parts.0
+  one ← near_side heads.0
+  other ← side heads.1 parts.1 parts.2
   Some (telling_three part.Dumped one.0 other.0 (fact.Link one.1 other.1))

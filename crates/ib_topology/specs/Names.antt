@@ -12,6 +12,7 @@ use Rattle.ib_topology.specs.declared.fact.Line.{Line}
 use Rattle.ib_topology.specs.declared.fact.Part.{Part}
 use Rattle.ib_topology.specs.declared.fact.Part.TheVariants as part
 use Rattle.ib_topology.specs.Discovered.{quoted}
+use Rattle.ib_topology.specs.Dumped.{far_parts, near_parts}
 use Rattle.ib_topology.specs.Texts.{says}
 
 -- the description in the head of a node, after the first word:
@@ -38,16 +39,8 @@ braced side = option_map (λ parts. parts.1) (cut_first (codes " {") side)
 unfoldable pub near_braced : List ℕ → Option (List ℕ)
 near_braced heads = do
   sides ← cut_last (codes " } { ") heads
-  numbers ← cut_last (codes "} LID:") sides.0
-  guids ← cut_first (codes " SystemGUID:") numbers.0
-  braced guids.1
-
--- what stands before the second ` SystemGUID:` of such a line, and from it to the second description's end
-unfoldable pub halves : List ℕ → Option (List ℕ × List ℕ)
-halves line = do
-  both ← cut_last (codes " } PHY=") line
-  numbers ← cut_last (codes "} LID:") both.0
-  cut_last (codes " SystemGUID:") numbers.0
+  parts ← near_parts sides.0
+  braced parts.1
 
 -- what stands after the first space
 unfoldable pub past : List ℕ → Option (List ℕ)
@@ -67,14 +60,14 @@ plain_name line =
 unfoldable pub near_name : Part → Option (List ℕ) → List ℕ → Option (List ℕ)
 near_name (part.Switch guid) section line = after (codes "Switch\t") line >>= head_name
 near_name part.Adapter section line = section
-near_name part.Dumped section line = halves line >>= λ parts. near_braced parts.0
+near_name part.Dumped section line = far_parts line >>= λ parts. near_braced parts.0
 near_name part.Plain section line = plain_name line
 near_name part.Start section line = None
 near_name part.Outside section line = None
 near_name part.Ended section line = None
 
 unfoldable pub far_name : Part → List ℕ → Option (List ℕ)
-far_name part.Dumped line = halves line >>= λ parts. braced parts.1
+far_name part.Dumped line = far_parts line >>= λ parts. braced parts.1
 far_name (part.Switch guid) line = None
 far_name part.Adapter line = None
 far_name part.Plain line = None

@@ -1,7 +1,8 @@
 //! The lines of `opensm-subnet.lst`.
 
 ghost use Rattle.std.specs.Prelude.{◌≡◌, Some, None, MatchOption};
-ghost use Rattle.ib_topology.specs.Dumped.{hex_then, guid_then, guids, at, told_by, side, near_side, dumped};
+ghost use Rattle.ib_topology.specs.Dumped.{hex_then, guid_then, guids, at, told_by, side};
+ghost use Rattle.ib_topology.specs.Dumped.{near_parts, far_parts, near_side, dumped};
 
 use crate::fact::{Fact, Line, Part, PortTold};
 use crate::front::begins;
@@ -94,13 +95,35 @@ fn side(head: &[u8], rest: &[u8], numbers: &[u8]) -> Option<(Fact, PortTold)>
     told_by(kind, ports, guids, at)
 }
 
+/// The parts of the first side: its head, what stands after ` SystemGUID:`, and what after the description.
+#[tactic(auto, unfolding(crate::specs::Dumped::near_parts))]
+pub fn near_parts(text: &[u8]) -> Option<(&[u8], &[u8], &[u8])>
+    ensures { MatchOption result (near_parts text.now ≡ None)
+        (λ r. near_parts text.now ≡ Some (r.0.now, r.1.now, r.2.now)) }
+{
+    let (front, numbers) = cut_last(text, "} LID:")?;
+    let (head, guids) = cut_first(front, " SystemGUID:")?;
+    Some((head, guids, numbers))
+}
+
+/// Those of the second side: its head with all that stands before it, and the same two.
+#[tactic(auto, unfolding(crate::specs::Dumped::far_parts))]
+pub fn far_parts(line: &[u8]) -> Option<(&[u8], &[u8], &[u8])>
+    ensures { MatchOption result (far_parts line.now ≡ None)
+        (λ r. far_parts line.now ≡ Some (r.0.now, r.1.now, r.2.now)) }
+{
+    let (both, _speed) = cut_last(line, " } PHY=")?;
+    let (front, numbers) = cut_last(both, "} LID:")?;
+    let (heads, guids) = cut_last(front, " SystemGUID:")?;
+    Some((heads, guids, numbers))
+}
+
 // What the first side of a line tells.
 #[tactic(auto, unfolding(crate::specs::Dumped::near_side))]
 fn near_side(text: &[u8]) -> Option<(Fact, PortTold)>
     ensures { result ≡ near_side text.now }
 {
-    let (front, numbers) = cut_last(text, "} LID:")?;
-    let (front, guids) = cut_first(front, " SystemGUID:")?;
+    let (front, guids, numbers) = near_parts(text)?;
     let head = after(front, "{ ")?;
     side(head, guids, numbers)
 }
@@ -110,9 +133,7 @@ fn near_side(text: &[u8]) -> Option<(Fact, PortTold)>
 pub fn dumped(line: &[u8]) -> Option<Line>
     ensures { result ≡ dumped line.now }
 {
-    let (both, _speed) = cut_last(line, " } PHY=")?;
-    let (front, numbers) = cut_last(both, "} LID:")?;
-    let (heads, guids) = cut_last(front, " SystemGUID:")?;
+    let (heads, guids, numbers) = far_parts(line)?;
     let (near, head) = cut_last(heads, " } { ")?;
     let one = near_side(near)?;
     let other = side(head, guids, numbers)?;

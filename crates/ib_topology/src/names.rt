@@ -1,13 +1,14 @@
 //! The names of nodes, which the facts of a text leave out.
 
-ghost use Rattle.std.specs.Prelude.{◌≡◌, ◌++◌, [], ℕ, List, Some, None, MatchOption, IfOk, OnOk, nat_eq};
+ghost use Rattle.std.specs.Prelude.{◌≡◌, ◌++◌, [], ℕ, List, IfOk, OnOk, nat_eq};
 ghost use Rattle.std.specs.Map.{lookup};
 ghost use Rattle.std.specs.Option.{option_copied};
-ghost use Rattle.ib_topology.specs.Names.{AreNamesBy, AreNamesOf, braced, far_name, halves, head_name, named};
+ghost use Rattle.ib_topology.specs.Names.{AreNamesBy, AreNamesOf, braced, far_name, head_name, named};
 ghost use Rattle.ib_topology.specs.Names.{near_braced, near_name, node_told, past, past_four, plain_name};
 ghost use Rattle.ib_topology.specs.Names.{section_name};
 
 use crate::discovered::quoted;
+use crate::dumped::{far_parts, near_parts};
 use crate::fact::{Fact, Part};
 use crate::reader::says;
 use an_base::memory::OutOfMemory;
@@ -133,7 +134,7 @@ fn near_name<'a>(part: Part, section: Option<&'a [u8]>, line: &'a [u8]) -> Optio
         }
         Part::Adapter => section,
         Part::Dumped => {
-            let (heads, _far) = halves(line)?;
+            let (heads, _guids, _numbers) = far_parts(line)?;
             near_braced(heads)
         }
         Part::Plain => plain_name(line),
@@ -150,8 +151,8 @@ fn far_name(part: Part, line: &[u8]) -> Option<&[u8]>
 {
     match part {
         Part::Dumped => {
-            let (_heads, far) = halves(line)?;
-            braced(far)
+            let (_heads, guids, _numbers) = far_parts(line)?;
+            braced(guids)
         }
         Part::Switch { guid: _ } => None,
         Part::Adapter => None,
@@ -187,26 +188,13 @@ fn section_name<'a>(before: Option<&'a [u8]>, line: &'a [u8]) -> Option<&'a [u8]
     before
 }
 
-// What stands before the second ` SystemGUID:` of a line of `opensm-subnet.lst`, and from it up to the end of
-// the second description.
-#[tactic(auto, unfolding(crate::specs::Names::halves))]
-fn halves(line: &[u8]) -> Option<(&[u8], &[u8])>
-    ensures { MatchOption result (halves line.now ≡ None)
-        (λ parts. halves line.now ≡ Some (parts.0.now, parts.1.now)) }
-{
-    let (both, _speed) = cut_last(line, " } PHY=")?;
-    let (front, _numbers) = cut_last(both, "} LID:")?;
-    cut_last(front, " SystemGUID:")
-}
-
-// The description in the first side of such a line.
+// The description in the first side of a line of `opensm-subnet.lst`.
 #[tactic(auto, unfolding(crate::specs::Names::near_braced))]
 fn near_braced(heads: &[u8]) -> Option<&[u8]>
     ensures { option_copied result ≡ near_braced heads.now }
 {
     let (near, _head) = cut_last(heads, " } { ")?;
-    let (near, _numbers) = cut_last(near, "} LID:")?;
-    let (_head, guids) = cut_first(near, " SystemGUID:")?;
+    let (_front, guids, _numbers) = near_parts(near)?;
     braced(guids)
 }
 
