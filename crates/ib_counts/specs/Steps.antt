@@ -1,6 +1,6 @@
 -- How routes are counted, LID by LID and end port by end port. Only private functions cite this.
 use Rattle.std.specs.Prelude.{◌≡◌, ◌<◌, ◌≤◌, ◌≢◌, ◌+◌, ◌*◌, ◌^◌, ◌⊎◌, ℕ}
-use Rattle.std.specs.Prelude.{List, [], Option, Some, None, length}
+use Rattle.std.specs.Prelude.{List, Option, Some, None, length}
 use Rattle.ib_cells.specs.Cells.{TablesOf}
 use Rattle.ib_counts.specs.Counts.{AreCountsOf, IsOf, Route, RouteEnds}
 use Rattle.ib_counts.specs.declared.counts.Counts.{Counts}
@@ -52,9 +52,8 @@ pub record AreCountsUntil (fabric : FabricOf) (tables : TablesOf) (traffic : Tra
 -- rooms for so many switches
 pub record AreRooms (count : ℕ) (rooms : Rooms) : Type 0 where
   pub heights : length rooms.heights.items ≡ count
-  pub way : length rooms.way.items ≡ count
   pub marks : length rooms.marks.items ≡ count
-  pub path : rooms.path.items ≡ []
+  pub path : length rooms.path.items ≡ count
 
 -- a LID to which some end ports may send
 abbrev pub IsTargeted : FabricOf → Traffic → ℕ → Type 0

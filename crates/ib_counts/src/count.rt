@@ -1,6 +1,6 @@
 //! How the routes of a traffic end, and how many do.
 
-ghost use Rattle.std.specs.Prelude.{◌≡◌, ◌<◌, ◌≤◌, ◌+◌, ◌*◌, ◌/◌, ◌%◌, ◌^◌, [], length, replicate, IfOk, IfSome};
+ghost use Rattle.std.specs.Prelude.{◌≡◌, ◌<◌, ◌≤◌, ◌+◌, ◌*◌, ◌/◌, ◌%◌, ◌^◌, length, replicate, IfOk, IfSome};
 ghost use Rattle.ib_net.specs.Fabric.{switch_count};
 ghost use Rattle.ib_cells.specs.Cells.{tables_of};
 ghost use Rattle.ib_routes.specs.declared.trace.Mark.TheVariants.{New};
@@ -39,19 +39,18 @@ fn end_from(
     cells: &Cells,
     lid: u16,
     marks: &mut [Mark],
-    path: &mut Vec<usize>,
+    path: &mut [u32],
     start: usize,
-) -> Result<Outcome, OutOfMemory>
+) -> Outcome
     requires same { switch_count fabric.now ≡ cells.now.switches }
     requires few { switch_count fabric.now ≤ 2 ^ 14 }
     requires lid { lid < 64 * cells.now.blocks }
     requires start { start < switch_count fabric.now }
+    requires room { switch_count fabric.now ≤ length path.old }
     requires ready { IsReady (hop_to fabric.now (tables_of cells.now) (whole lid)) (switch_count fabric.now)
-        marks.old path.old.items }
-    ensures ready { IfOk result (λ _. IsReady (hop_to fabric.now (tables_of cells.now) (whole lid))
-        (switch_count fabric.now) marks.new path.new.items) }
-    ensures ends { IfOk result (λ outcome. EndsAs (hop_for fabric.now (tables_of cells.now) lid) start
-        outcome) }
+        marks.old }
+    ensures ready { IsReady (hop_to fabric.now (tables_of cells.now) (whole lid)) (switch_count fabric.now) marks.new }
+    ensures ends { EndsAs (hop_for fabric.now (tables_of cells.now) lid) start result }
 {
     let target = Target {
         block: lid as usize / 64,
@@ -97,29 +96,29 @@ impl Counts {
         traffic: Traffic,
         lid: u16,
         marks: &mut [Mark],
-        path: &mut Vec<usize>,
+        path: &mut [u32],
         source: EndPort,
-    ) -> Result<(), OutOfMemory>
+    )
         requires same { switch_count fabric.now ≡ cells.now.switches }
         requires few { switch_count fabric.now ≤ 2 ^ 14 }
         requires lid { lid < 64 * cells.now.blocks }
-        requires ready { IsReady (hop_to fabric.now (tables_of cells.now) (whole lid))
-            (switch_count fabric.now) marks.old path.old.items }
+        requires room { switch_count fabric.now ≤ length path.old }
+        requires ready { IsReady (hop_to fabric.now (tables_of cells.now) (whole lid)) (switch_count fabric.now)
+            marks.old }
         requires source { IsEndPort fabric.now source }
         requires low { place_of fabric.now source ≤ 2 ^ 17 }
         requires counts { AreCountsUntil fabric.now (tables_of cells.now) traffic lid
             (place_of fabric.now source) self.old }
-        ensures ready { IfOk result (λ _. IsReady (hop_to fabric.now (tables_of cells.now) (whole lid))
-            (switch_count fabric.now) marks.new path.new.items) }
-        ensures counts { IfOk result (λ _. AreCountsUntil fabric.now (tables_of cells.now) traffic lid
-            (place_of fabric.now source + 1) self.new) }
+        ensures ready { IsReady (hop_to fabric.now (tables_of cells.now) (whole lid)) (switch_count fabric.now)
+            marks.new }
+        ensures counts { AreCountsUntil fabric.now (tables_of cells.now) traffic lid (place_of fabric.now source + 1)
+            self.new }
     {
         let Some(start) = sender_start(fabric, traffic, lid as usize, source) else {
-            return Ok(());
+            return;
         };
-        let outcome = end_from(fabric, cells, lid, marks, path, start as usize)?;
+        let outcome = end_from(fabric, cells, lid, marks, path, start as usize);
         self.add(fabric, cells, lid, source, start, outcome);
-        Ok(())
     }
 
     // The routes of all end ports to a LID, one after the other.
@@ -130,24 +129,23 @@ impl Counts {
         traffic: Traffic,
         lid: u16,
         marks: &mut [Mark],
-        path: &mut Vec<usize>,
-    ) -> Result<Counts, OutOfMemory>
+        path: &mut [u32],
+    ) -> Counts
         requires same { switch_count fabric.now ≡ cells.now.switches }
         requires few { switch_count fabric.now ≤ 2 ^ 14 }
         requires lid { lid < 64 * cells.now.blocks }
         requires size { length marks.old ≡ switch_count fabric.now }
-        requires empty { path.old.items ≡ [] }
+        requires room { switch_count fabric.now ≤ length path.old }
         requires counts { AreCountsUntil fabric.now (tables_of cells.now) traffic lid 0 self }
-        ensures empty { IfOk result (λ _. path.new.items ≡ []) }
-        ensures counts { IfOk result (AreCountsUntil fabric.now (tables_of cells.now) traffic (lid + 1) 0) }
+        ensures { AreCountsUntil fabric.now (tables_of cells.now) traffic (lid + 1) 0 result }
     {
         forget(marks);
         let mut counts = self;
         'places: for place in 0..end_ports(fabric) {
             let source = end_port_at(fabric, place);
-            counts.add_source(fabric, cells, traffic, lid, marks, path, source)?;
+            counts.add_source(fabric, cells, traffic, lid, marks, path, source);
         }
-        Ok(counts)
+        counts
     }
 }
 
@@ -161,7 +159,7 @@ fn count_target(
     starts: &[u64],
     rooms: &mut Rooms,
     counts: Counts,
-) -> Result<Counts, OutOfMemory>
+) -> Counts
     requires same { switch_count fabric.now ≡ cells.now.switches }
     requires switches { switch_count fabric.now ≤ 2 ^ 14 }
     requires lid { lid < 64 * cells.now.blocks }
@@ -172,8 +170,8 @@ fn count_target(
     requires starts { AreStarts fabric.now traffic (lid / 64) starts.now }
     requires rooms { AreRooms (switch_count fabric.now) rooms.old }
     requires counts { AreCountsUntil fabric.now (tables_of cells.now) traffic lid 0 counts }
-    ensures rooms { IfOk result (λ _. AreRooms (switch_count fabric.now) rooms.new) }
-    ensures counts { IfOk result (AreCountsUntil fabric.now (tables_of cells.now) traffic (lid + 1) 0) }
+    ensures rooms { AreRooms (switch_count fabric.now) rooms.new }
+    ensures counts { AreCountsUntil fabric.now (tables_of cells.now) traffic (lid + 1) 0 result }
 {
     match longest_to(
         fabric,
@@ -181,11 +179,11 @@ fn count_target(
         lid,
         starts,
         &mut rooms.heights,
-        &mut rooms.way,
+        &mut rooms.path,
     ) {
         Some(hops) => {
             let senders = count_senders(fabric, traffic, lid as usize, sources);
-            Ok(counts.with_arrived(senders, hops))
+            counts.with_arrived(senders, hops)
         }
         None => counts.with_sources(
             fabric,
@@ -208,7 +206,7 @@ fn count_lid(
     starts: &[u64],
     rooms: &mut Rooms,
     counts: Counts,
-) -> Result<Counts, OutOfMemory>
+) -> Counts
     requires same { switch_count fabric.now ≡ cells.now.switches }
     requires switches { switch_count fabric.now ≤ 2 ^ 14 }
     requires lid { lid < 64 * cells.now.blocks }
@@ -218,11 +216,11 @@ fn count_lid(
     requires starts { AreStarts fabric.now traffic (lid / 64) starts.now }
     requires rooms { AreRooms (switch_count fabric.now) rooms.old }
     requires counts { AreCountsUntil fabric.now (tables_of cells.now) traffic lid 0 counts }
-    ensures rooms { IfOk result (λ _. AreRooms (switch_count fabric.now) rooms.new) }
-    ensures counts { IfOk result (AreCountsUntil fabric.now (tables_of cells.now) traffic (lid + 1) 0) }
+    ensures rooms { AreRooms (switch_count fabric.now) rooms.new }
+    ensures counts { AreCountsUntil fabric.now (tables_of cells.now) traffic (lid + 1) 0 result }
 {
     if !is_target(fabric, traffic, lid as usize) {
-        return Ok(counts);
+        return counts;
     }
     count_target(fabric, cells, traffic, lid, sources, starts, rooms, counts)
 }
@@ -237,7 +235,7 @@ fn count_block(
     starts: &[u64],
     rooms: &mut Rooms,
     counts: Counts,
-) -> Result<Counts, OutOfMemory>
+) -> Counts
     requires same { switch_count fabric.now ≡ cells.now.switches }
     requires switches { switch_count fabric.now ≤ 2 ^ 14 }
     requires block { block < cells.now.blocks }
@@ -248,15 +246,15 @@ fn count_block(
     requires starts { AreStarts fabric.now traffic block starts.now }
     requires rooms { AreRooms (switch_count fabric.now) rooms.old }
     requires counts { AreCountsUntil fabric.now (tables_of cells.now) traffic (64 * block) 0 counts }
-    ensures rooms { IfOk result (λ _. AreRooms (switch_count fabric.now) rooms.new) }
-    ensures counts { IfOk result (AreCountsUntil fabric.now (tables_of cells.now) traffic (64 * (block + 1)) 0) }
+    ensures rooms { AreRooms (switch_count fabric.now) rooms.new }
+    ensures counts { AreCountsUntil fabric.now (tables_of cells.now) traffic (64 * (block + 1)) 0 result }
 {
     let mut counts = counts;
     'bits: for bit in 0..64usize {
         let lid = (64 * block + bit) as u16;
-        counts = count_lid(fabric, cells, traffic, lid, sources, starts, rooms, counts)?;
+        counts = count_lid(fabric, cells, traffic, lid, sources, starts, rooms, counts);
     }
-    Ok(counts)
+    counts
 }
 
 // The counts of the routes to all LIDs. The words are a room for bits of each switch.
@@ -267,15 +265,14 @@ fn count_blocks(
     senders: &[Senders],
     starts: &mut [u64],
     rooms: &mut Rooms,
-) -> Result<Counts, OutOfMemory>
+) -> Counts
     requires same { switch_count fabric.now ≡ cells.now.switches }
     requires switches { switch_count fabric.now ≤ 2 ^ 14 }
     requires senders { AreAllSenders fabric.now traffic senders.now }
     requires starts { length starts.old ≡ switch_count fabric.now }
     requires rooms { AreRooms (switch_count fabric.now) rooms.old }
-    ensures counts { IfOk result (AreCountsUntil fabric.now (tables_of cells.now) traffic
-        (64 * cells.now.blocks) 0) }
-    ensures low { IfOk result (λ _. cells.now.blocks ≤ 1024) }
+    ensures counts { AreCountsUntil fabric.now (tables_of cells.now) traffic (64 * cells.now.blocks) 0 result }
+    ensures low { cells.now.blocks ≤ 1024 }
 {
     let sources = count_sources(fabric, traffic);
     let mut counts = Counts::none();
@@ -283,9 +280,9 @@ fn count_blocks(
         put_starts(fabric, traffic, block, senders, starts);
         counts = count_block(
             fabric, cells, traffic, block, sources, starts, rooms, counts,
-        )?;
+        );
     }
-    Ok(counts)
+    counts
 }
 
 /// How many routes of a traffic there are, how many arrive, through how many switches the longest of these
@@ -304,6 +301,5 @@ pub fn count_routes(
     let senders = find_senders(alloc, fabric, traffic)?;
     let mut starts = vec![in alloc; 0u64; fabric.switches()]?;
     let mut rooms = Rooms::new(alloc, fabric.switches())?;
-    let counts = count_blocks(fabric, cells, traffic, &senders, &mut starts, &mut rooms)?;
-    Ok(counts)
+    Ok(count_blocks(fabric, cells, traffic, &senders, &mut starts, &mut rooms))
 }

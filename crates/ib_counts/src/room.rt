@@ -10,14 +10,12 @@ use std::alloc::Global;
 /// The rooms.
 #[derive(Drop)]
 pub struct Rooms {
-    /// Through how many switches the route from each switch goes ..
+    /// Through how many switches the route from each switch goes.
     pub heights: Vec<u32>,
-    /// .. and the switches of a route along which this is found.
-    pub way: Vec<u32>,
-    /// How the route from each switch ends, where some are lost ..
+    /// How the route from each switch ends, where some are lost.
     pub marks: Vec<Mark>,
-    /// .. and the switches of a route along which this is found.
-    pub path: Vec<usize>,
+    /// The switches of a route.
+    pub path: Vec<u32>,
 }
 
 impl Rooms {
@@ -26,12 +24,10 @@ impl Rooms {
         ensures { IfOk result (AreRooms switches) }
     {
         let heights = vec![in alloc; 0u32; switches]?;
-        let way = vec![in alloc; 0u32; switches]?;
         let marks = vec![in alloc; Mark::New; switches]?;
-        let path = Vec::new(alloc);
+        let path = vec![in alloc; 0u32; switches]?;
         Ok(Rooms {
             heights,
-            way,
             marks,
             path,
         })

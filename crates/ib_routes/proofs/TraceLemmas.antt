@@ -375,11 +375,11 @@ settled hop_at start marks path whole old beyond outcome none size opened short 
       subst (λ (s : ℕ). EndsAs hop_at s outcome) (ap (λ (k : ℕ). get_or whole k 0) none ∙ followed.reached.first) done),
 )
 
-pub no_elements : (xs : List ℕ) → length xs ≡ 0 → xs ≡ []
-no_elements [] is = refl
-no_elements (x ∷ xs) is = absurd (omega arith)
-
 pub short_within : (few most : ℕ) (outcome : Outcome) → few ≤ most → IsShort few outcome → IsShort most outcome
 short_within few most (Arrives switches) le is = omega arith
 short_within few most (Stops cause) le is = tt
 short_within few most Loops le is = tt
+
+-- new switches are no more than all
+pub few_new : (marks : List Mark) → 0 + count_by is_new marks ≤ length marks
+few_new marks = let most = count_by-le-length is_new marks in omega arith

@@ -1,41 +1,22 @@
 -- The least route that makes a dependency.
-use Rattle.std.proofs.Common.{◌≡◌, sym, subst, refl, ℕ, ◌+◌, ◌*◌, ◌/◌, ◌%◌, ◌<◌, ◌≤◌, [], Option, None, Some, arith, length, replicate, get_or, inl, inr}
+use Rattle.std.proofs.Common.{◌≡◌, sym, subst, ℕ, ◌+◌, ◌*◌, ◌/◌, ◌%◌, ◌<◌, ◌≤◌, Option, None, Some, arith, length, inl, inr}
 use Rattle.std.specs.Prelude.{MatchOption}
 use Rattle.std.proofs.lemmas.Bool.{cases_lt}
-use Rattle.std.proofs.lemmas.List.{get_or-replicate, get_or_past, length-replicate}
+use Rattle.std.proofs.lemmas.List.{get_or_past}
 use Rattle.ib_net.specs.declared.node.EndPort.{EndPort}
 use Rattle.ib_net.specs.declared.node.EndPort.TheVariants.{Host, Switch}
 use Rattle.ib_net.specs.Fabric.{FabricOf, IsFabric, guid_of, start_of, switch_count}
 use Rattle.ib_net.proofs.FabricLemmas.{host_guids, switch_guids}
 use Rattle.ib_cells.specs.Cells.{TablesOf}
 use Rattle.ib_routes.specs.declared.hop.Cause.{Cause}
-use Rattle.ib_routes.specs.declared.hop.Hop.{Hop}
 use Rattle.ib_routes.specs.declared.hop.Outcome.TheVariants.{Arrives, Stops, Loops}
-use Rattle.ib_routes.specs.declared.trace.Mark.{Mark}
-use Rattle.ib_routes.specs.declared.trace.Mark.TheVariants.{New}
 use Rattle.ib_routes.specs.declared.traffic.Traffic.{Traffic}
 use Rattle.ib_routes.specs.Routes.{Channel, ComesBy, ComesTo, EndsAs, Sends, Takes}
 use Rattle.ib_routes.specs.Found.{IsLeastWitness}
-use Rattle.ib_routes.specs.Trace.{IsReady, hop_to, way}
+use Rattle.ib_routes.specs.Trace.{hop_to, way}
 use Rattle.ib_routes.specs.Witness.{GoesBy, IsFirstHost, IsFirstSource, IsFirstSwitch, IsLeastAt, IsLesser, NoHostComes, NoSourceComes, NoSourceTakes, NoSwitchComes}
 use Rattle.ib_routes.proofs.StartLemmas.{cabled_low, source_low}
 use Rattle.ib_routes.proofs.UntilLemmas.{arrives_alone, arrives_comes, arrives_soon, comes_arrives}
-
--- at first nothing is known
-new_at : (count at : ℕ) → get_or (replicate count New) at New ≡ New
-new_at count at = elim (cases_lt at count) [
-  | inl low ↦ get_or-replicate count at New New low
-  | inr past ↦ (let l = length-replicate {A = Mark} count New in get_or_past (replicate count New) at New (omega arith))
-]
-
-pub ready_first : (hop_at : ℕ → Hop) (count : ℕ) → IsReady hop_at count (replicate count New) []
-ready_first hop_at count = record {
-  size = length-replicate {A = Mark} count New;
-  ends = λ at outcome is. absurd (let none = new_at count at in cc);
-  short = λ at outcome is. absurd (let none = new_at count at in cc);
-  settled = λ at is. absurd (let none = new_at count at in cc);
-  empty = refl;
-}
 
 module _ (fabric : FabricOf) (tables : TablesOf) (traffic : Traffic) (lid via : ℕ) where
   same_lid : 64 * (lid / 64) + lid % 64 ≡ lid

@@ -1,5 +1,5 @@
 -- What is known of the switches while the routes to a LID are followed. Only private functions cite this.
-use Rattle.std.specs.Prelude.{◌≡◌, ◌<◌, ◌≤◌, ◌+◌, ◌-◌, ◌*◌, ◌/◌, ◌%◌, ◌==◌, ℕ, Bool, true, false, List, [], Option, Some, None}
+use Rattle.std.specs.Prelude.{◌≡◌, ◌<◌, ◌≤◌, ◌+◌, ◌-◌, ◌*◌, ◌/◌, ◌%◌, ◌==◌, ℕ, Bool, true, false, List, Option, Some, None}
 use Rattle.std.specs.Prelude.{length, slice_index, slice_index_or, count_by, if◌then◌else◌}
 use Rattle.ib_net.specs.Fabric.{FabricOf}
 use Rattle.ib_cells.specs.Cells.{TablesOf}
@@ -124,12 +124,11 @@ pub record IsSettling (hop_at : ℕ → Hop) (marks : List Mark) (path whole : L
   pub done : length path < length whole → EndsAs hop_at (slice_index whole (length path)) outcome
 
 -- all that is known is so, and no route is being followed
-pub record IsReady (hop_at : ℕ → Hop) (count : ℕ) (marks : List Mark) (path : List ℕ) : Type 0 where
+pub record IsReady (hop_at : ℕ → Hop) (count : ℕ) (marks : List Mark) : Type 0 where
   pub size : length marks ≡ count
   pub ends : AreEnds hop_at marks
   pub short : AreShort marks
   pub settled : AreSettled marks
-  pub empty : path ≡ []
 
 -- a hop leads to a switch that there is
 abbrev pub LandsWithin : ℕ → Hop → Type 0

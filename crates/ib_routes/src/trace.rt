@@ -1,6 +1,6 @@
 //! Follows the routes to a LID, past each switch once.
 
-ghost use Rattle.std.specs.Prelude.{◌≡◌, ◌<◌, ◌≤◌, ◌^◌, ℕ, length, count_by, IfOk};
+ghost use Rattle.std.specs.Prelude.{◌≡◌, ◌<◌, ◌≤◌, ◌^◌, ℕ, length, count_by, take};
 ghost use Rattle.ib_net.specs.Fabric.{switch_count};
 ghost use Rattle.ib_cells.specs.Cells.{tables_of};
 ghost use Rattle.ib_routes.specs.declared.hop.Hop.{Hop};
@@ -10,7 +10,6 @@ ghost use Rattle.ib_routes.specs.Trace.{AreShort, IsFollowed, IsOpenPath, IsRead
 ghost use Rattle.ib_routes.specs.Trace.{hop_to, is_known, longer, mark_at, not_there};
 
 use crate::hop::{Cause, Hop, Outcome, find_hop};
-use an_base::memory::OutOfMemory;
 use ib_cells::cells::Cells;
 use ib_net::fabric::Fabric;
 
@@ -66,36 +65,61 @@ fn not_there(does: Hop) -> Hop
     }
 }
 
-// Follows the route from a switch that is new until it ends or comes to a switch that is not. Answers how it ends there.
+// A path along which a route was followed.
+#[derive(Clone, Copy)]
+struct Followed {
+    // How many switches it has.
+    count: usize,
+    // How the route ends after the last one.
+    beyond: Outcome,
+}
+
+// Follows the route from a switch that is new until it ends or comes to a switch that is not. Puts the switches by which
+// it came into the path, and answers how it ends there.
 fn follow(
     fabric: &Fabric,
     cells: &Cells,
     target: Target,
     marks: &mut [Mark],
-    path: &mut Vec<usize>,
+    path: &mut [u32],
     start: usize,
-) -> Result<Outcome, OutOfMemory>
+) -> Followed
     requires same { switch_count fabric.now ≡ cells.now.switches }
     requires few { switch_count fabric.now ≤ 2 ^ 14 }
     requires start { start < switch_count fabric.now }
     requires block { target.block < cells.now.blocks }
     requires bit { target.bit < 64 }
+    requires room { switch_count fabric.now ≤ length path.old }
     requires new { mark_at marks.old start ≡ New }
-    requires ready { IsReady (hop_to fabric.now (tables_of cells.now) target) (switch_count fabric.now)
-        marks.old path.old.items }
-    ensures { IfOk result (λ beyond. IsFollowed (hop_to fabric.now (tables_of cells.now) target) start
-        marks.new path.new.items beyond) }
+    requires ready { IsReady (hop_to fabric.now (tables_of cells.now) target) (switch_count fabric.now) marks.old }
+    ensures followed { IsFollowed (hop_to fabric.now (tables_of cells.now) target) start
+        marks.new (take result.count path.new) result.beyond }
+    ensures low { result.count ≤ length path.new }
 {
     let mut at = start;
+    let mut count = 0usize;
     'hops: loop {
         marks[at] = Mark::Open;
-        path.push(at)?;
+        path[count] = at as u32;
+        count += 1;
         match hop_to(fabric, cells, target, at) {
-            Hop::Arrive => return Ok(Outcome::Arrives(0)),
-            Hop::Stop(cause) => return Ok(Outcome::Stops(cause)),
+            Hop::Arrive => return Followed {
+                count,
+                beyond: Outcome::Arrives(0),
+            },
+            Hop::Stop(cause) => return Followed {
+                count,
+                beyond: Outcome::Stops(cause),
+            },
             Hop::On(_, next) => match marks[next as usize] {
-                Mark::Known(outcome) => return Ok(outcome),
-                Mark::Open => return Ok(Outcome::Loops),
+                Mark::Known(outcome) => return Followed {
+                    count,
+                    beyond: outcome,
+                },
+                Mark::Open => return Followed {
+                    count,
+                    beyond: Outcome::Loops,
+                },
                 Mark::New => at = next as usize,
             },
         }
@@ -116,49 +140,52 @@ fn longer(outcome: Outcome) -> Outcome
 }
 
 // Marks the switches of a path, from the last on, with how the routes from them end. Answers that of the first.
-fn settle(marks: &mut [Mark], path: &mut Vec<usize>, beyond: Outcome) -> Outcome
+fn settle(marks: &mut [Mark], path: &[u32], followed: Followed) -> Outcome
     requires few { length marks.old < 2 ^ 31 }
-    requires opened { IsOpenPath marks.old path.old.items }
+    requires low { followed.count ≤ length path.now }
+    requires opened { IsOpenPath marks.old (take followed.count path.now) }
     requires short { AreShort marks.old }
-    requires beyond { IsShort (count_by is_known marks.old) beyond }
-    ensures { (hop_at : ℕ → Hop) (start : ℕ) → IsFollowed hop_at start marks.old path.old.items beyond
-        → IsReady hop_at (length marks.old) marks.new path.new.items × EndsAs hop_at start result }
+    requires beyond { IsShort (count_by is_known marks.old) followed.beyond }
+    ensures { (hop_at : ℕ → Hop) (start : ℕ)
+        → IsFollowed hop_at start marks.old (take followed.count path.now) followed.beyond
+        → IsReady hop_at (length marks.old) marks.new × EndsAs hop_at start result }
 {
-    let mut outcome = beyond;
-    'path: while let Some(at) = path.pop() {
+    let mut left = followed.count;
+    let mut outcome = followed.beyond;
+    'path: while left > 0 {
+        left -= 1;
         outcome = longer(outcome);
-        marks[at] = Mark::Known(outcome);
+        marks[path[left] as usize] = Mark::Known(outcome);
     }
     outcome
 }
 
-/// How the route from a switch ends. The marks are of the same target, and the path is a room that is empty before and
-/// after.
+/// How the route from a switch ends. The marks are of the same target, and the path is a room for the switches of a
+/// route.
 pub fn trace(
     fabric: &Fabric,
     cells: &Cells,
     target: Target,
     marks: &mut [Mark],
-    path: &mut Vec<usize>,
+    path: &mut [u32],
     start: usize,
-) -> Result<Outcome, OutOfMemory>
+) -> Outcome
     requires same { switch_count fabric.now ≡ cells.now.switches }
     requires few { switch_count fabric.now ≤ 2 ^ 14 }
     requires start { start < switch_count fabric.now }
     requires block { target.block < cells.now.blocks }
     requires bit { target.bit < 64 }
-    requires ready { IsReady (hop_to fabric.now (tables_of cells.now) target) (switch_count fabric.now)
-        marks.old path.old.items }
-    ensures ready { IfOk result (λ _. IsReady (hop_to fabric.now (tables_of cells.now) target) (switch_count fabric.now)
-        marks.new path.new.items) }
-    ensures ends { IfOk result (λ outcome. EndsAs (hop_to fabric.now (tables_of cells.now) target) start outcome) }
+    requires room { switch_count fabric.now ≤ length path.old }
+    requires ready { IsReady (hop_to fabric.now (tables_of cells.now) target) (switch_count fabric.now) marks.old }
+    ensures ready { IsReady (hop_to fabric.now (tables_of cells.now) target) (switch_count fabric.now) marks.new }
+    ensures ends { EndsAs (hop_to fabric.now (tables_of cells.now) target) start result }
 {
     match marks[start] {
-        Mark::Known(outcome) => Ok(outcome),
-        Mark::Open => Ok(Outcome::Loops),
+        Mark::Known(outcome) => outcome,
+        Mark::Open => Outcome::Loops,
         Mark::New => {
-            let beyond = follow(fabric, cells, target, marks, path, start)?;
-            Ok(settle(marks, path, beyond))
+            let followed = follow(fabric, cells, target, marks, path, start);
+            settle(marks, path, followed)
         }
     }
 }

@@ -68,34 +68,33 @@ fn comes(
     lid: usize,
     via: u32,
     marks: &mut [Mark],
-    path: &mut Vec<usize>,
+    path: &mut [u32],
     source: EndPort,
-) -> Result<bool, OutOfMemory>
+) -> bool
     requires same { switch_count fabric.now ≡ cells.now.switches }
     requires few { switch_count fabric.now ≤ 2 ^ 14 }
     requires lid { lid < 64 * cells.now.blocks }
+    requires room { switch_count fabric.now ≤ length path.old }
     requires ready { IsReady (hop_to fabric.now (tables_of cells.now) (way lid via)) (switch_count fabric.now)
-        marks.old path.old.items }
-    ensures ready { IfOk result (λ _. IsReady (hop_to fabric.now (tables_of cells.now) (way lid via))
-        (switch_count fabric.now) marks.new path.new.items) }
-    ensures comes { IfOk result (λ yes. IsTrue yes ↔ ComesTo fabric.now (tables_of cells.now) traffic lid source via) }
+        marks.old }
+    ensures ready { IsReady (hop_to fabric.now (tables_of cells.now) (way lid via)) (switch_count fabric.now) marks.new }
+    ensures comes { IsTrue result ↔ ComesTo fabric.now (tables_of cells.now) traffic lid source via }
 {
     if !sends(fabric, traffic, lid, source) {
-        return Ok(false);
+        return false;
     }
     let Some(start) = begins_at(fabric, source) else {
-        return Ok(false);
+        return false;
     };
     let target = Target {
         block: lid / 64,
         bit: lid % 64,
         until: Some(via),
     };
-    let outcome = trace(fabric, cells, target, marks, path, start as usize)?;
-    match outcome {
-        Outcome::Arrives(_) => Ok(true),
-        Outcome::Stops(_) => Ok(false),
-        Outcome::Loops => Ok(false),
+    match trace(fabric, cells, target, marks, path, start as usize) {
+        Outcome::Arrives(_) => true,
+        Outcome::Stops(_) => false,
+        Outcome::Loops => false,
     }
 }
 
@@ -107,27 +106,25 @@ fn first_host(
     lid: usize,
     via: u32,
     marks: &mut [Mark],
-    path: &mut Vec<usize>,
-) -> Result<Option<u32>, OutOfMemory>
+    path: &mut [u32],
+) -> Option<u32>
     requires same { switch_count fabric.now ≡ cells.now.switches }
     requires few { switch_count fabric.now ≤ 2 ^ 14 }
     requires lid { lid < 64 * cells.now.blocks }
+    requires room { switch_count fabric.now ≤ length path.old }
     requires ready { IsReady (hop_to fabric.now (tables_of cells.now) (way lid via)) (switch_count fabric.now)
-        marks.old path.old.items }
-    ensures ready { IfOk result (λ _. IsReady (hop_to fabric.now (tables_of cells.now) (way lid via))
-        (switch_count fabric.now) marks.new path.new.items) }
-    ensures first { IfOk result (λ found. MatchOption found
-        (NoHostComes fabric.now (tables_of cells.now) traffic lid via)
-        (IsFirstHost fabric.now (tables_of cells.now) traffic lid via)) }
+        marks.old }
+    ensures ready { IsReady (hop_to fabric.now (tables_of cells.now) (way lid via)) (switch_count fabric.now) marks.new }
+    ensures first { MatchOption result (NoHostComes fabric.now (tables_of cells.now) traffic lid via)
+        (IsFirstHost fabric.now (tables_of cells.now) traffic lid via) }
 {
     'ends: for end in 0..fabric.ends() {
         let source = EndPort::Host(end as u32);
-        let yes = comes(fabric, cells, traffic, lid, via, marks, path, source)?;
-        if yes {
-            return Ok(Some(end as u32));
+        if comes(fabric, cells, traffic, lid, via, marks, path, source) {
+            return Some(end as u32);
         }
     }
-    Ok(None)
+    None
 }
 
 // The same of the switches.
@@ -138,25 +135,24 @@ fn first_switch(
     lid: usize,
     via: u32,
     marks: &mut [Mark],
-    path: &mut Vec<usize>,
-) -> Result<Option<u32>, OutOfMemory>
+    path: &mut [u32],
+) -> Option<u32>
     requires same { switch_count fabric.now ≡ cells.now.switches }
     requires few { switch_count fabric.now ≤ 2 ^ 14 }
     requires lid { lid < 64 * cells.now.blocks }
+    requires room { switch_count fabric.now ≤ length path.old }
     requires ready { IsReady (hop_to fabric.now (tables_of cells.now) (way lid via)) (switch_count fabric.now)
-        marks.old path.old.items }
-    ensures { IfOk result (λ found. MatchOption found
-        (NoSwitchComes fabric.now (tables_of cells.now) traffic lid via)
-        (IsFirstSwitch fabric.now (tables_of cells.now) traffic lid via)) }
+        marks.old }
+    ensures { MatchOption result (NoSwitchComes fabric.now (tables_of cells.now) traffic lid via)
+        (IsFirstSwitch fabric.now (tables_of cells.now) traffic lid via) }
 {
     'switches: for switch in 0..fabric.switches() {
         let source = EndPort::Switch(switch as u32);
-        let yes = comes(fabric, cells, traffic, lid, via, marks, path, source)?;
-        if yes {
-            return Ok(Some(switch as u32));
+        if comes(fabric, cells, traffic, lid, via, marks, path, source) {
+            return Some(switch as u32);
         }
     }
-    Ok(None)
+    None
 }
 
 // Of an end port of an adapter or router and a switch the one of lesser GUID.
@@ -202,9 +198,9 @@ fn first_source(
         (IsFirstSource fabric.now (tables_of cells.now) traffic lid via)) }
 {
     let mut marks = vec![in alloc; Mark::New; fabric.switches()]?;
-    let mut path = Vec::new(alloc);
-    let host = first_host(fabric, cells, traffic, lid, via, &mut marks, &mut path)?;
-    let switch = first_switch(fabric, cells, traffic, lid, via, &mut marks, &mut path)?;
+    let mut path = vec![in alloc; 0u32; fabric.switches()]?;
+    let host = first_host(fabric, cells, traffic, lid, via, &mut marks, &mut path);
+    let switch = first_switch(fabric, cells, traffic, lid, via, &mut marks, &mut path);
     Ok(lesser(fabric, host, switch))
 }
 

@@ -12,12 +12,12 @@ bits-init c = record {
 
 pub bits-preserved : goal.bits-preserved
 bits-preserved c = record {
-  rooms = c.in_ok-counts.ensures.rooms;
-  counts = subst (λ (n : ℕ). AreCountsUntil c.args.fabric.now (tables_of c.args.cells.now) c.args.traffic n 0 c.in_ok-counts.counts) (let e : 64 * c.args.block + c.bits.bit + 1 ≡ 64 * c.args.block + (c.bits.bit + 1) = omega arith in e) c.in_ok-counts.ensures.counts;
+  rooms = c.count_lid-counts.ensures.rooms;
+  counts = subst (λ (n : ℕ). AreCountsUntil c.args.fabric.now (tables_of c.args.cells.now) c.args.traffic n 0 c.count_lid-counts.result) (let e : 64 * c.args.block + c.bits.bit + 1 ≡ 64 * c.args.block + (c.bits.bit + 1) = omega arith in e) c.count_lid-counts.ensures.counts;
 }
 
-pub count_lid-requires-clause-starts : goal.count_lid-requires-clause-starts
-count_lid-requires-clause-starts c = subst (λ (b : ℕ). AreStarts c.args.fabric.now c.args.traffic b c.args.starts.now) (let e : c.args.block ≡ (64 * c.args.block + c.bits.bit) / 64 = omega arith in e) c.requires.starts
+pub count_lid-counts-requires-clause-starts : goal.count_lid-counts-requires-clause-starts
+count_lid-counts-requires-clause-starts c = subst (λ (b : ℕ). AreStarts c.args.fabric.now c.args.traffic b c.args.starts.now) (let e : c.args.block ≡ (64 * c.args.block + c.bits.bit) / 64 = omega arith in e) c.requires.starts
 
 pub returns-clause-counts : goal.returns-clause-counts
 returns-clause-counts c = subst (λ (n : ℕ). AreCountsUntil c.args.fabric.now (tables_of c.args.cells.now) c.args.traffic n 0 c.bits.counts) (omega arith) c.bits.invariant.counts

@@ -1,5 +1,4 @@
 use Rattle.std.proofs.Common.{◌≡◌, ◌+◌, ◌*◌, ◌/◌, ◌%◌, subst, ℕ, arith}
-use Rattle.std.specs.Prelude.{IfOk}
 use Rattle.ib_cells.specs.Cells.{tables_of}
 use Rattle.ib_counts.specs.Counts.{hop_for}
 use Rattle.ib_routes.specs.Routes.{EndsAs}
@@ -8,4 +7,4 @@ use Rattle.ib_counts.proofs.count.end_from.Goals as goal
 pub returns-clause-ends : goal.returns-clause-ends
 returns-clause-ends c =
     let same : 64 * (c.args.lid / 64) + c.args.lid % 64 ≡ c.args.lid = omega arith in
-    subst (λ (l : ℕ). IfOk c.trace.result (λ outcome. EndsAs (hop_for c.args.fabric.now (tables_of c.args.cells.now) l) c.args.start outcome)) same c.trace.ensures.ends
+    subst (λ (l : ℕ). EndsAs (hop_for c.args.fabric.now (tables_of c.args.cells.now) l) c.args.start c.trace.result) same c.trace.ensures.ends

@@ -1,12 +1,17 @@
-use Rattle.std.proofs.Common.{◌≡◌, ◌∙◌, sym, refl, arith, length}
+use Rattle.std.proofs.Common.{◌≡◌, ◌∙◌, ◌+◌, ◌-◌, ◌++◌, ◌∷◌, [], ◌<◌, ◌≤◌, ℕ, List, ap, sym, refl, arith, get_or, length, take}
 use Rattle.std.specs.List.{count_by}
+use Rattle.std.proofs.lemmas.List.{take_more}
 use Rattle.std.proofs.lemmas.List.Sums.{count_by-le-length}
 use Rattle.ib_routes.specs.Trace.{is_known}
-use Rattle.ib_routes.proofs.TraceLemmas.{no_elements, path_count, path_old, settle_next, settle_step, settled, short_within}
+use Rattle.ib_routes.proofs.TraceLemmas.{path_count, path_old, last_low, settle_next, settle_step, settled, short_within}
 use Rattle.ib_routes.proofs.trace.settle.Goals as goal
+
+last_off : (path : List ℕ) (left : ℕ) → 0 < left → left ≤ length path → take left path ≡ take (left - 1) path ++ get_or path (left - 1) 0 ∷ []
+last_off path left some low = ap (λ (n : ℕ). take n path) (let e : left ≡ left - 1 + 1 = omega arith in e) ∙ take_more path (left - 1) 0 (omega arith)
 
 pub path-init : goal.path-init
 path-init c = record {
+  low = omega arith;
   opened = c.requires.opened;
   short = c.requires.short;
   few = c.requires.beyond;
@@ -22,18 +27,20 @@ path-init c = record {
 
 pub path-preserved : goal.path-preserved
 path-preserved c =
-    let whole = c.in-Some.ensures.items in
+    let whole = last_off c.args.path.now c.path.left (omega arith) (let low = c.path.invariant.low in omega arith) in
     let inv = c.path.invariant in
-    let step = settle_step c.path.marks c.path.path.items c.pop.new.self.items c.in-Some.at c.in-Some.ensures.items inv.opened c.args.path.now.items c.path.outcome c.longer-outcome.result c.longer-outcome.ensures inv.short inv.few in
-    let count = path_count c.path.marks c.path.path.items c.pop.new.self.items c.in-Some.at c.in-Some.ensures.items inv.opened in
+    let at = get_or c.args.path.now (c.path.left - 1) 0 in
+    let step = settle_step c.path.marks (take c.path.left c.args.path.now) (take (c.path.left - 1) c.args.path.now) at whole inv.opened (take c.args.followed.count c.args.path.now) c.path.outcome c.longer-outcome.result c.longer-outcome.ensures inv.short inv.few in
+    let count = path_count c.path.marks (take c.path.left c.args.path.now) (take (c.path.left - 1) c.args.path.now) at whole inv.opened in
     let shorter = inv.shorter in
     record {
+      low = (let low = inv.low in omega arith);
       opened = step.0;
       short = step.1;
       few = step.2;
       shorter = omega arith;
-      front = λ place low. sym (path_old c.path.marks c.path.path.items c.pop.new.self.items c.in-Some.at c.in-Some.ensures.items inv.opened place low) ∙ inv.front place (omega arith);
-      settling = λ hop_at start followed. settle_next c.path.marks c.path.path.items c.pop.new.self.items c.in-Some.at c.in-Some.ensures.items inv.opened hop_at c.args.path.now.items c.path.outcome c.longer-outcome.result c.longer-outcome.ensures inv.front (inv.settling hop_at start followed);
+      front = λ place low. sym (path_old c.path.marks (take c.path.left c.args.path.now) (take (c.path.left - 1) c.args.path.now) at whole inv.opened place low) ∙ inv.front place (omega arith);
+      settling = λ hop_at start followed. settle_next c.path.marks (take c.path.left c.args.path.now) (take (c.path.left - 1) c.args.path.now) at whole inv.opened hop_at (take c.args.followed.count c.args.path.now) c.path.outcome c.longer-outcome.result c.longer-outcome.ensures inv.front (inv.settling hop_at start followed);
     }
 
 pub longer-outcome-requires : goal.longer-outcome-requires
@@ -43,13 +50,15 @@ longer-outcome-requires c =
     let size = c.path.auto.marks in
     short_within (count_by is_known c.path.marks) 2147483648 c.path.outcome (omega arith) c.path.invariant.few
 
+pub bounds-marks-path : goal.bounds-marks-path
+bounds-marks-path c = (
+    let whole = last_off c.args.path.now c.path.left (omega arith) (let low = c.path.invariant.low in omega arith) in
+    last_low c.path.marks (take c.path.left c.args.path.now) (take (c.path.left - 1) c.args.path.now) (get_or c.args.path.now (c.path.left - 1) 0) whole c.path.invariant.opened)
+
 pub returns : goal.returns
 returns c = λ hop_at start followed.
-    let ok = c.path.path.ok.0 in
-    let ok_new = c.pop.new.self.ok.0 in
-    let empty = c.in_default.ensures.cases in
-    let none : length c.path.path.items ≡ 0 = omega arith in
-    let all = settled hop_at start c.path.marks c.path.path.items c.args.path.now.items c.args.marks.now c.args.beyond c.path.outcome none c.path.auto.marks c.path.invariant.opened c.path.invariant.short followed (c.path.invariant.settling hop_at start followed) in (
-      record { size = c.path.auto.marks; ends = all.0; short = c.path.invariant.short; settled = all.1; empty = no_elements c.pop.new.self.items (omega arith) },
+    let none : length (take c.path.left c.args.path.now) ≡ 0 = ap (λ (n : ℕ). length (take n c.args.path.now)) (let e : c.path.left ≡ 0 = omega arith in e) in
+    let all = settled hop_at start c.path.marks (take c.path.left c.args.path.now) (take c.args.followed.count c.args.path.now) c.args.marks.now c.args.followed.beyond c.path.outcome none c.path.auto.marks c.path.invariant.opened c.path.invariant.short followed (c.path.invariant.settling hop_at start followed) in (
+      record { size = c.path.auto.marks; ends = all.0; short = c.path.invariant.short; settled = all.1 },
       all.2,
     )

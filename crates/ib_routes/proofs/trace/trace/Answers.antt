@@ -6,14 +6,14 @@ use Rattle.ib_routes.proofs.trace.trace.Goals as goal
 pub settle-requires-clause-few : goal.settle-requires-clause-few
 settle-requires-clause-few c =
     let size = c.requires.ready.size in
-    let kept = c.follow.auto.marks in
+    let kept = c.follow-followed.auto.marks in
     let few = c.requires.few in
     omega arith
 
-pub returns-in_ok-beyond-in-New-clause-ready : goal.returns-in_ok-beyond-in-New-clause-ready
-returns-in_ok-beyond-in-New-clause-ready c =
-    subst (λ (n : ℕ). IsReady (hop_to c.args.fabric.now (tables_of c.args.cells.now) c.args.target) n c.settle.new.marks c.settle.new.path.items) (c.follow.auto.marks ∙ c.requires.ready.size)
-    (c.settle.ensures (hop_to c.args.fabric.now (tables_of c.args.cells.now) c.args.target) c.args.start c.in_ok-beyond-in-New.ensures).0
+pub returns-in-New-clause-ready : goal.returns-in-New-clause-ready
+returns-in-New-clause-ready c =
+    subst (λ (n : ℕ). IsReady (hop_to c.args.fabric.now (tables_of c.args.cells.now) c.args.target) n c.settle.new.marks) (c.follow-followed.auto.marks ∙ c.requires.ready.size)
+    (c.settle.ensures (hop_to c.args.fabric.now (tables_of c.args.cells.now) c.args.target) c.args.start c.follow-followed.ensures.followed).0
 
-pub returns-in_ok-beyond-in-New-clause-ends : goal.returns-in_ok-beyond-in-New-clause-ends
-returns-in_ok-beyond-in-New-clause-ends c = (c.settle.ensures (hop_to c.args.fabric.now (tables_of c.args.cells.now) c.args.target) c.args.start c.in_ok-beyond-in-New.ensures).1
+pub returns-in-New-clause-ends : goal.returns-in-New-clause-ends
+returns-in-New-clause-ends c = (c.settle.ensures (hop_to c.args.fabric.now (tables_of c.args.cells.now) c.args.target) c.args.start c.follow-followed.ensures.followed).1

@@ -17,18 +17,18 @@ returns-in_default-clause-comes c = (λ e. absurd (cc), λ comes. absurd (no_sta
 
 pub returns-in-Arrives-clause-comes : goal.returns-in-Arrives-clause-comes
 returns-in-Arrives-clause-comes c = (
-  λ _. arrives_to c.args.fabric.now (tables_of c.args.cells.now) c.args.traffic c.args.lid c.args.via c.args.source c.in-Some.start c.in-Arrives.field-0 (c.sends.ensures.0 c.if-not-sends.false) (sym c.begins_at.ensures.start ∙ c.in-Some.is) (subst (λ (o : Outcome). EndsAs (hop_to c.args.fabric.now (tables_of c.args.cells.now) (way c.args.lid c.args.via)) c.in-Some.start o) c.in-Arrives.is c.in_ok-outcome.ensures.ends),
+  λ _. arrives_to c.args.fabric.now (tables_of c.args.cells.now) c.args.traffic c.args.lid c.args.via c.args.source c.in-Some.start c.in-Arrives.field-0 (c.sends.ensures.0 c.if-not-sends.false) (sym c.begins_at.ensures.start ∙ c.in-Some.is) (subst (λ (o : Outcome). EndsAs (hop_to c.args.fabric.now (tables_of c.args.cells.now) (way c.args.lid c.args.via)) c.in-Some.start o) c.in-Arrives.is c.trace.ensures.ends),
   λ _. refl,
 )
 
 pub returns-in-Stops-clause-comes : goal.returns-in-Stops-clause-comes
 returns-in-Stops-clause-comes c = (
   λ e. absurd (cc),
-  λ comes. absurd (no_stop c.args.fabric.now (tables_of c.args.cells.now) c.args.traffic c.args.lid c.args.via c.args.source c.in-Some.start c.in-Stops.field-0 (sym c.begins_at.ensures.start ∙ c.in-Some.is) (subst (λ (o : Outcome). EndsAs (hop_to c.args.fabric.now (tables_of c.args.cells.now) (way c.args.lid c.args.via)) c.in-Some.start o) c.in-Stops.is c.in_ok-outcome.ensures.ends) comes),
+  λ comes. absurd (no_stop c.args.fabric.now (tables_of c.args.cells.now) c.args.traffic c.args.lid c.args.via c.args.source c.in-Some.start c.in-Stops.field-0 (sym c.begins_at.ensures.start ∙ c.in-Some.is) (subst (λ (o : Outcome). EndsAs (hop_to c.args.fabric.now (tables_of c.args.cells.now) (way c.args.lid c.args.via)) c.in-Some.start o) c.in-Stops.is c.trace.ensures.ends) comes),
 )
 
 pub returns-in-Loops-clause-comes : goal.returns-in-Loops-clause-comes
 returns-in-Loops-clause-comes c = (
   λ e. absurd (cc),
-  λ comes. absurd (no_loop c.args.fabric.now (tables_of c.args.cells.now) c.args.traffic c.args.lid c.args.via c.args.source c.in-Some.start (sym c.begins_at.ensures.start ∙ c.in-Some.is) (subst (λ (o : Outcome). EndsAs (hop_to c.args.fabric.now (tables_of c.args.cells.now) (way c.args.lid c.args.via)) c.in-Some.start o) c.in-Loops.is c.in_ok-outcome.ensures.ends) comes),
+  λ comes. absurd (no_loop c.args.fabric.now (tables_of c.args.cells.now) c.args.traffic c.args.lid c.args.via c.args.source c.in-Some.start (sym c.begins_at.ensures.start ∙ c.in-Some.is) (subst (λ (o : Outcome). EndsAs (hop_to c.args.fabric.now (tables_of c.args.cells.now) (way c.args.lid c.args.via)) c.in-Some.start o) c.in-Loops.is c.trace.ensures.ends) comes),
 )

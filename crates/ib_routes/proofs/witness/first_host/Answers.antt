@@ -11,15 +11,15 @@ ends-init c = record { ready = c.requires.ready; none = λ other low. absurd (om
 
 pub ends-preserved : goal.ends-preserved
 ends-preserved c = record {
-  ready = c.in_ok-yes.ensures.ready;
+  ready = c.comes.ensures.ready;
   none = λ other low comes. elim (cases_eq other c.ends.end) [
     | inr before ↦ c.ends.invariant.none other (omega arith) comes
-    | inl same ↦ absurd (let t = c.in_ok-yes.ensures.comes.1 (subst (λ (e : ℕ). ComesTo c.args.fabric.now (tables_of c.args.cells.now) c.args.traffic c.args.lid (Host e) c.args.via) same comes) in let f = c.if-yes.false in cc)
+    | inl same ↦ absurd (let t = c.comes.ensures.comes.1 (subst (λ (e : ℕ). ComesTo c.args.fabric.now (tables_of c.args.cells.now) c.args.traffic c.args.lid (Host e) c.args.via) same comes) in let f = c.if-comes.false in cc)
   ];
 }
 
-pub returns-then-yes-clause-first : goal.returns-then-yes-clause-first
-returns-then-yes-clause-first c = record { comes = c.in_ok-yes.ensures.comes.0 c.if-yes.true; first = c.ends.invariant.none }
+pub returns-then-comes-clause-first : goal.returns-then-comes-clause-first
+returns-then-comes-clause-first c = record { comes = c.comes.ensures.comes.0 c.if-comes.true; first = c.ends.invariant.none }
 
 pub returns-clause-first : goal.returns-clause-first
 returns-clause-first c = λ other comes. c.ends.invariant.none other (let low = host_low c.args.fabric.now (tables_of c.args.cells.now) c.args.traffic c.args.lid c.args.via other comes in omega arith) comes

@@ -9,6 +9,6 @@ use Rattle.ib_routes.proofs.witness.first_host.Given as goal
 -- none of those so far comes
 abbrev pub invariant-ends : goal.invariant-ends
 invariant-ends l = record {
-  ready : IsReady (hop_to l.fabric (tables_of l.cells) (way l.lid l.via)) (switch_count l.fabric) l.marks l.path.items;
+  ready : IsReady (hop_to l.fabric (tables_of l.cells) (way l.lid l.via)) (switch_count l.fabric) l.marks;
   none : (other : ℕ) → other < l.end → ComesTo l.fabric (tables_of l.cells) l.traffic l.lid (Host other) l.via → ⊥;
 }

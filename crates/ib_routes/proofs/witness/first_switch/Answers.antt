@@ -11,15 +11,15 @@ switches-init c = record { ready = c.requires.ready; none = λ other low. absurd
 
 pub switches-preserved : goal.switches-preserved
 switches-preserved c = record {
-  ready = c.in_ok-yes.ensures.ready;
+  ready = c.comes.ensures.ready;
   none = λ other low comes. elim (cases_eq other c.switches.switch) [
     | inr before ↦ c.switches.invariant.none other (omega arith) comes
-    | inl same ↦ absurd (let t = c.in_ok-yes.ensures.comes.1 (subst (λ (e : ℕ). ComesTo c.args.fabric.now (tables_of c.args.cells.now) c.args.traffic c.args.lid (Switch e) c.args.via) same comes) in let f = c.if-yes.false in cc)
+    | inl same ↦ absurd (let t = c.comes.ensures.comes.1 (subst (λ (e : ℕ). ComesTo c.args.fabric.now (tables_of c.args.cells.now) c.args.traffic c.args.lid (Switch e) c.args.via) same comes) in let f = c.if-comes.false in cc)
   ];
 }
 
-pub returns-then-yes : goal.returns-then-yes
-returns-then-yes c = record { comes = c.in_ok-yes.ensures.comes.0 c.if-yes.true; first = c.switches.invariant.none }
+pub returns-then-comes : goal.returns-then-comes
+returns-then-comes c = record { comes = c.comes.ensures.comes.0 c.if-comes.true; first = c.switches.invariant.none }
 
 pub returns : goal.returns
 returns c = λ other comes. c.switches.invariant.none other (let low = switch_low c.args.fabric.now (tables_of c.args.cells.now) c.args.traffic c.args.lid c.args.via other comes in omega arith) comes

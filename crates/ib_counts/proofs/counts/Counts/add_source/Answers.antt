@@ -8,7 +8,7 @@ returns-in_default-clause-counts c = silent_counts c.args.fabric.now (tables_of 
 
 pub returns-clause-counts : goal.returns-clause-counts
 returns-clause-counts c = record {
-  exact = c.add.ensures.counts c.args.traffic c.in-Some.ensures.start.0 c.in_ok-outcome.ensures.ends c.requires.counts.exact;
+  exact = c.add.ensures.counts c.args.traffic c.in-Some.ensures.start.0 c.end_from-outcome.ensures.ends c.requires.counts.exact;
   few = (let few = c.requires.counts.few in let more = c.add.ensures.routes in omega arith);
 }
 

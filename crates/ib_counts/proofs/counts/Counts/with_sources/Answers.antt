@@ -9,9 +9,9 @@ add_source-requires-clause-counts c = subst (λ (n : ℕ). AreCountsUntil c.args
 
 pub places-preserved : goal.places-preserved
 places-preserved c = record {
-  ready = c.in_ok-add_source.ensures.ready;
-  counts = subst (λ (n : ℕ). AreCountsUntil c.args.fabric.now (tables_of c.args.cells.now) c.args.traffic c.args.lid (n + 1) c.add_source.new.self) c.end_port_at-source.ensures.place c.in_ok-add_source.ensures.counts;
+  ready = c.add_source.ensures.ready;
+  counts = subst (λ (n : ℕ). AreCountsUntil c.args.fabric.now (tables_of c.args.cells.now) c.args.traffic c.args.lid (n + 1) c.add_source.new.self) c.end_port_at-source.ensures.place c.add_source.ensures.counts;
 }
 
-pub returns-clause-counts : goal.returns-clause-counts
-returns-clause-counts c = next_counts c.args.fabric.now (tables_of c.args.cells.now) c.args.traffic c.args.lid c.places.counts c.places.place (omega arith) (omega arith) c.places.invariant.counts
+pub returns : goal.returns
+returns c = next_counts c.args.fabric.now (tables_of c.args.cells.now) c.args.traffic c.args.lid c.places.counts c.places.place (omega arith) (omega arith) c.places.invariant.counts

@@ -7,6 +7,6 @@ use Rattle.ib_counts.proofs.counts.Counts.with_sources.Given as goal
 -- the counts with the end ports so far
 abbrev pub invariant-places : goal.invariant-places
 invariant-places l = record {
-  ready : IsReady (hop_to l.fabric (tables_of l.cells) (whole l.lid)) (switch_count l.fabric) l.marks l.path.items;
+  ready : IsReady (hop_to l.fabric (tables_of l.cells) (whole l.lid)) (switch_count l.fabric) l.marks;
   counts : AreCountsUntil l.fabric (tables_of l.cells) l.traffic l.lid l.place l.counts;
 }
