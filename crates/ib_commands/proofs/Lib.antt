@@ -3,3 +3,6 @@ mod EndLemmas
 mod NameLemmas
 mod CallLemmas
 mod RankLemmas
+mod TextLemmas
+mod ReadLemmas
+mod AcceptLemmas

@@ -1,6 +1,6 @@
 -- What `ranks` and `verify` give for the text of a topology, its fabric and tables.
 
-use Rattle.std.specs.Prelude.{◌≡◌, ◌*◌, ◌⊎◌, ℕ, List, [], map, Option, Some, None}
+use Rattle.std.specs.Prelude.{◌≡◌, ◌<◌, ◌*◌, ◌/◌, ◌^◌, ◌⊎◌, ℕ, List, [], map, Option, Some, None}
 use Rattle.std.specs.List.{flat_map, range_with_len}
 use Rattle.std.specs.Option.{option_map, option_to_list}
 use Rattle.channel_graph.specs.Cycles.{HasNoCycle}
@@ -15,7 +15,7 @@ use Rattle.ib_tables.specs.declared.reader.Tables.{Tables}
 use Rattle.ib_verdict.specs.declared.verify.Rise.{Rise}
 use Rattle.ib_verdict.specs.declared.verify.Verified.{Verified}
 use Rattle.ib_verdict.specs.Verdict.{AllArrive, HasRanks, rank_in, spot_at}
-use Rattle.ib_verdict.specs.Verified.{IsVerified}
+use Rattle.ib_verdict.specs.Verified.{Fall, IsVerified}
 use Rattle.ib_ranks.specs.declared.cause.RanksCause.{RanksCause}
 use Rattle.ib_ranks.specs.Ranks.{IsRanksFault, IsRanksText}
 use Rattle.ib_lines.specs.declared.ranks.Rank.{Rank}
@@ -41,13 +41,24 @@ ranks_of fabric ranks =
     flat_map (λ place. rank_at fabric ranks (spot_at fabric.most place))
     (range_with_len 0 (switch_count fabric * fabric.most))
 
--- there is no credit loop, and what is written are the ranks of the channels
+-- GUIDs and ranks are below what words of the program hold
+abbrev pub AreSmall : FabricOf → List ℕ → Type 0
+AreSmall fabric ranks =
+    (place rank : ℕ) → place < switch_count fabric * fabric.most
+    → rank_in fabric ranks (channel_of (spot_at fabric.most place)) ≡ Some rank
+    → (guid_of fabric (Switch (place / fabric.most)) < 2 ^ 64) × (rank < 2 ^ 32)
+
+-- There is no credit loop, and what is written are the ranks of the channels. Read again, it is the text of ranks, and
+-- they fall along each dependency.
 pub record TellsRanks (fabric : FabricOf) (tables : TablesOf) (traffic : Traffic) (status : Status) (written : List ℕ)
     : Type 0 where
   pub ends : IsEndOf fabric tables traffic status
   pub ranks : List ℕ
   pub has : HasRanks fabric tables traffic ranks
   pub says : written ≡ ranks_text (ranks_of fabric ranks)
+  pub told : List ℕ
+  pub reads : IsRanksText fabric written told
+  pub falls : Fall fabric tables traffic told
 
 -- `ranks` tells them, or where there is a credit loop, what `judge` does
 abbrev pub AreRanksTold : Traffic → List ℕ → FabricOf → Tables → Status → List ℕ → Type 0

@@ -11,6 +11,7 @@
 mod answer;
 mod commands;
 pub mod fabric;
+pub mod law;
 mod losses;
 mod names;
 mod ranks;

@@ -1,10 +1,11 @@
 //! The ranks of channels, as an answer tells them.
 
-ghost use Rattle.std.specs.Prelude.{◌≡◌, ◌++◌, ◌<◌, ◌*◌, IfOk, OnOk, slice_get};
-ghost use Rattle.ib_net.specs.Fabric.{switch_count};
+ghost use Rattle.std.specs.Prelude.{◌≡◌, ◌++◌, ◌<◌, ◌*◌, ◌/◌, ◌^◌, ℕ, Some, IfOk, OnOk, slice_get};
+ghost use Rattle.ib_net.specs.declared.node.EndPort.TheVariants.{Switch};
+ghost use Rattle.ib_net.specs.Fabric.{IsFabric, guid_of, switch_count};
 ghost use Rattle.ib_routes.specs.Found.{channel_of};
 ghost use Rattle.ib_verdict.specs.Verdict.{rank_in, spot_at};
-ghost use Rattle.ib_commands.specs.Certified.{rank_at, rank_of, ranks_of, risen_of};
+ghost use Rattle.ib_commands.specs.Certified.{AreSmall, rank_at, rank_of, ranks_of, risen_of};
 
 use crate::steps::step_of;
 use an_base::memory::OutOfMemory;
@@ -18,7 +19,9 @@ use std::alloc::Global;
 
 /// The ranks of the channels, by switch, then by port.
 pub fn ranks_of(alloc: Global, fabric: &Fabric, ranks: &[u32]) -> Result<Vec<Rank>, OutOfMemory>
-    ensures { IfOk result (λ told. told.items ≡ ranks_of fabric.now ranks.now) }
+    ensures told { IfOk result (λ told. told.items ≡ ranks_of fabric.now ranks.now) }
+    ensures small { IfOk result (λ _. AreSmall fabric.now ranks.now) }
+    ensures fabric { IfOk result (λ _. IsFabric fabric.now) }
 {
     let mut told = Vec::new(alloc);
     'places: for place in 0..fabric.switches() * fabric.most() {
@@ -35,8 +38,11 @@ fn push_rank(
     place: usize,
 ) -> Result<(), OutOfMemory>
     requires { place < switch_count fabric.now * fabric.now.most }
-    ensures { OnOk result (told.new.items ≡ told.old.items
+    ensures told { OnOk result (told.new.items ≡ told.old.items
         ++ rank_at fabric.now ranks.now (spot_at fabric.now.most place)) }
+    ensures small { OnOk result ((rank : ℕ) →
+        rank_in fabric.now ranks.now (channel_of (spot_at fabric.now.most place)) ≡ Some rank →
+        (guid_of fabric.now (Switch (place / fabric.now.most)) < 2 ^ 64) × (rank < 2 ^ 32)) }
 {
     let Some(rank) = rank_in(fabric, ranks, place) else {
         return Ok(());
@@ -66,7 +72,8 @@ fn listed(ranks: &[u32], place: usize) -> Option<u32>
 
 // The rank of the channel out of a port.
 fn rank_of(fabric: &Fabric, spot: Spot, rank: u32) -> Rank
-    ensures { result ≡ rank_of fabric.now spot rank }
+    ensures rank { result ≡ rank_of fabric.now spot rank }
+    ensures small { guid_of fabric.now (Switch spot.switch) < 2 ^ 64 }
 {
     Rank {
         guid: fabric.guid(EndPort::Switch(spot.switch)),

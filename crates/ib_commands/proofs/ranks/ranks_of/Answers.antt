@@ -1,6 +1,10 @@
-use Rattle.std.proofs.Common.{◌∙◌, sym, ap, ◌++◌, List}
+use Rattle.std.proofs.Common.{◌≡◌, ◌∙◌, sym, ap, subst, ℕ, ◌<◌, ◌/◌, ◌^◌, ◌++◌, List, Some, inl, inr, arith}
+use Rattle.std.proofs.lemmas.Bool.{cases_eq}
+use Rattle.ib_net.specs.declared.node.EndPort.TheVariants.{Switch}
+use Rattle.ib_net.specs.Fabric.{guid_of}
+use Rattle.ib_routes.specs.Found.{channel_of}
 use Rattle.ib_lines.specs.declared.ranks.Rank.{Rank}
-use Rattle.ib_verdict.specs.Verdict.{spot_at}
+use Rattle.ib_verdict.specs.Verdict.{rank_in, spot_at}
 use Rattle.ib_commands.specs.Certified.{rank_at}
 use Rattle.ib_commands.proofs.RankLemmas.{flat_range_more}
 use Rattle.ib_commands.proofs.ranks.ranks_of.Goals as goal
@@ -8,6 +12,14 @@ use Rattle.ib_commands.proofs.ranks.ranks_of.Goals as goal
 pub places-preserved : goal.places-preserved
 places-preserved c =
     let fabric = c.args.fabric.now in
-    c.in_ok-push_rank.ensures
-    ∙ ap (λ (told : List Rank). told ++ rank_at fabric c.args.ranks.now (spot_at fabric.most c.places.place)) c.places.invariant
-    ∙ sym (flat_range_more (λ place. rank_at fabric c.args.ranks.now (spot_at fabric.most place)) c.places.place)
+    let ranks = c.args.ranks.now in
+    record {
+      told =
+          c.in_ok-push_rank.ensures.told
+          ∙ ap (λ (told : List Rank). told ++ rank_at fabric ranks (spot_at fabric.most c.places.place)) c.places.invariant.told
+          ∙ sym (flat_range_more (λ place. rank_at fabric ranks (spot_at fabric.most place)) c.places.place);
+      small = λ place rank low has. elim (cases_eq place c.places.place) [
+        | inl same ↦ subst (λ (p : ℕ). (guid_of fabric (Switch (p / fabric.most)) < 2 ^ 64) × (rank < 2 ^ 32)) (sym same) (c.in_ok-push_rank.ensures.small rank (subst (λ (p : ℕ). rank_in fabric ranks (channel_of (spot_at fabric.most p)) ≡ Some rank) same has))
+        | inr differs ↦ c.places.invariant.small place rank (omega arith) has
+      ];
+    }

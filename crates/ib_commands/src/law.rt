@@ -1,0 +1,22 @@
+//! What the answers of `ranks` and `verify` come to. No function here has code.
+
+ghost use Rattle.std.specs.Prelude.{◌≡◌, ℕ, List, None};
+ghost use Rattle.ib_cells.specs.Cells.{tables_of};
+ghost use Rattle.ib_net.specs.Fabric.{FabricOf};
+ghost use Rattle.ib_routes.specs.declared.traffic.Traffic.{Traffic};
+ghost use Rattle.ib_tables.specs.declared.reader.Tables.{Tables};
+ghost use Rattle.ib_lines.specs.Ranks.{verified_text};
+ghost use Rattle.ib_answering.specs.declared.status.Status.{Status};
+ghost use Rattle.ib_commands.specs.Certified.{AreRanksVerified, IsEndBy, TellsRanks};
+ghost use Rattle.ib_commands.specs.Words.{traffic_word};
+
+/// What `ranks` writes where there is no credit loop, `verify` accepts: it answers that the ranks fall, with the status of
+/// tables without a credit loop.
+pub fn ranks_are_accepted()
+    ensures { (traffic : Traffic) (text : List ℕ) (fabric : FabricOf) (found : Tables) (status again : Status)
+        (written answer : List ℕ)
+        → TellsRanks fabric (tables_of found.cells) traffic status written
+        → AreRanksVerified traffic written text fabric found again answer
+        → IsEndBy fabric (tables_of found.cells) traffic None again
+        × (answer ≡ verified_text (record { traffic = traffic_word traffic; rise = None })) }
+{}
