@@ -21,6 +21,8 @@
  *     is on stable storage before autonet_start. After a call that answered that the life is over
  *     (AUTONET_OUT_OF_MEMORY of a clock or a frame, AUTONET_SPENT, AUTONET_OVER) the switch goes on with
  *     autonet_end and a start with the next boot;
+ *   - in a network of more than 126 lives each is started with an epoch that no earlier life of its switch has
+ *     passed, so that a greater one is on stable storage before step 2;
  *   - what is passed to autonet_frame came by this port. It may be lost, late, repeated or out of order, and
  *     be any bytes that are no frame; but bytes that are a frame were sent by a switch of this network;
  *   - step 1 comes before step 2. */
@@ -120,8 +122,8 @@ typedef struct {
     uint8_t port;  /* the port by which it goes out, 1 to 12 */
 } autonet_frame_shown;
 
-/* Starts a switch: identifier `uid` below 2^48, `boot` from 1, an `epoch` that it has not joined (any will
- * do, as 0), the number `had` that it wishes for, 1 to 126 (the `number` that it had, else 1), and whether
+/* Starts a switch: identifier `uid` below 2^48, `boot` from 1, an `epoch` (0 at first, then one that no
+ * earlier life of this switch has passed; docs/EMBED.md says what for), the number `had` that it wishes for, 1 to 126 (the `number` that it had, else 1), and whether
  * its tables have all legal routes (`any`) or the least ones alone. It takes memory, which autonet_end
  * gives back. AUTONET_STARTED, AUTONET_ARGUMENT, AUTONET_OUT_OF_MEMORY: nothing was started. */
 uint32_t autonet_start(autonet_switch *s, uint64_t uid, uint32_t boot, uint64_t epoch, uint8_t had, bool any);

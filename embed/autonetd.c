@@ -2,8 +2,10 @@
  *
  *   autonetd [--loss PERCENT] [--again PERCENT] [--epoch N] NAME UID BOOTFILE TICK_MS LINK ..
  *
- * UID is hexadecimal, below 2^48. BOOTFILE keeps the number of the last boot: the next one is on stable
- * storage before the switch starts. TICK_MS is the tick in milliseconds. A LINK is one of
+ * UID is hexadecimal, below 2^48. BOOTFILE keeps the number of the last boot, and an epoch that the switch has
+ * not passed: both are on stable storage before the switch starts, and a greater epoch before a frame leaves in
+ * one above that. The next life starts with the epoch that is kept, or with that of --epoch if this is greater,
+ * so it joins no epoch that an earlier life of the switch joined. TICK_MS is the tick in milliseconds. A LINK is one of
  *   PORT=udp:LOCAL:REMOTE[:FILE]   datagrams on 127.0.0.1 between these two UDP ports; while FILE exists the
  *                                  cable is cut: the port shows no link, and what comes or goes is lost
  *   PORT=if:NAME                   an Ethernet interface: frames of type 0x88b5, with their length in two bytes
@@ -20,6 +22,7 @@
 #include <arpa/inet.h>
 #include <errno.h>
 #include <fcntl.h>
+#include <inttypes.h>
 #include <libgen.h>
 #include <linux/if_packet.h>
 #include <net/ethernet.h>
@@ -37,6 +40,7 @@
 
 #define ETHER_TYPE 0x88b5
 #define ETHER_FRONT 16 /* two addresses, the type, and the length of what follows */
+#define SPARE 1000     /* how many epochs ahead one is kept, so that it is seldom written */
 
 struct cable {
     int fd; /* 0: there is none */
@@ -49,6 +53,8 @@ static const char *const states[] = {"dead", "checking", "host", "who", "loop", 
 static const char *name;
 static const char *boot_file;
 static uint64_t uid;
+static uint32_t boot;       /* of this life */
+static uint64_t kept_epoch; /* the one in the file */
 static int loss, again;
 static struct cable cables[AUTONET_PORTS + 1];
 
@@ -86,28 +92,37 @@ static void sync_of(const char *path, int flags) {
     if (fd < 0 || fsync(fd) || close(fd)) die(path);
 }
 
-/* The next boot, which is on stable storage when this returns. */
-static uint32_t next_boot(void) {
-    unsigned boot = 0;
-    char next[4096], folder[4096];
+/* Reads what the file keeps, if there is one. (A file with a boot alone keeps epoch 0.) */
+static void read_kept(void) {
+    unsigned long long epoch = 0;
     FILE *file = fopen(boot_file, "r");
-    if (file) {
-        if (fscanf(file, "%u", &boot) != 1) die(boot_file);
-        fclose(file);
-    } else if (errno != ENOENT) die(boot_file);
-    if (++boot == 0) die("no boot is left");
+    if (!file && errno == ENOENT) return;
+    if (!file || fscanf(file, "%" SCNu32 " %llu", &boot, &epoch) < 1) die(boot_file);
+    fclose(file);
+    kept_epoch = epoch;
+}
+
+/* Keeps the boot and this epoch, which are on stable storage when this returns. */
+static void keep(uint64_t epoch) {
+    char next[4096], folder[4096];
     snprintf(next, sizeof next, "%s.next", boot_file);
     snprintf(folder, sizeof folder, "%s", boot_file);
-    file = fopen(next, "w");
-    if (!file || fprintf(file, "%u\n", boot) < 0 || fclose(file)) die(next);
+    FILE *file = fopen(next, "w");
+    if (!file || fprintf(file, "%" PRIu32 " %llu\n", boot, (unsigned long long)epoch) < 0 || fclose(file)) die(next);
     sync_of(next, O_WRONLY);
     if (rename(next, boot_file)) die(boot_file);
     sync_of(dirname(folder), O_RDONLY | O_DIRECTORY);
-    return boot;
+    kept_epoch = epoch;
 }
 
-static void start(uint64_t epoch) {
-    uint32_t boot = next_boot();
+static uint64_t ahead_of(uint64_t epoch) { return epoch < UINT64_MAX - SPARE ? epoch + SPARE : UINT64_MAX; }
+
+/* Starts the next life, with at least this epoch. */
+static void start(uint64_t least) {
+    read_kept();
+    uint64_t epoch = kept_epoch < least ? least : kept_epoch;
+    if (++boot == 0) die("no boot is left");
+    keep(ahead_of(epoch));
     uint32_t status = autonet_start(&sw, uid, boot, epoch, had, false);
     if (status != AUTONET_DONE) {
         say("over %u", status);
@@ -218,8 +233,8 @@ static void load(void) {
     say("rows%s", text);
 }
 
-/* What follows a clock or a frame, in this order: a table of another epoch goes out of use, the frames go
- * out, a table that is due is loaded. Then a life that is over goes on with the next boot. */
+/* What follows a clock or a frame, in this order: a table of another epoch goes out of use, an epoch is kept
+ * that this one has not passed, the frames go out, a table that is due is loaded. Then a life that is over goes on with the next boot. */
 static void after(uint32_t status) {
     static uint8_t bytes[AUTONET_MOST_FRAME];
     autonet_frame_shown frame;
@@ -230,6 +245,7 @@ static void after(uint32_t status) {
         in_use = 0;
         say("epoch %llu", (unsigned long long)now.epoch);
     }
+    if (now.epoch > kept_epoch) keep(ahead_of(now.epoch));
     int finished = now.members && (now.epoch != shown.epoch || !shown.members);
     shown = now;
     while (autonet_next(&sw, &frame, bytes, sizeof bytes) == AUTONET_DONE) transmit(frame.port, bytes, frame.length);
