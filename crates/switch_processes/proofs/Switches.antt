@@ -11,7 +11,7 @@ use Rattle.an_base.proofs.LifeLemmas.{same_life}
 use Rattle.topo_report.proofs.Members.{In, contains_from, in_from, in_left, in_right}
 use Rattle.epoch_core.specs.Log.{CardOf}
 use Rattle.epoch_game.specs.Slice.{Node}
-use Rattle.epoch_game.specs.Game.{Game, Play, accepts, after_accept, after_join, begins, joins, loads, none, slice, with_present}
+use Rattle.epoch_game.specs.Game.{Game, Play, accepts, after_accept, after_join, begins, joins, loads, none, slice}
 use Rattle.epoch_game.proofs.StreamLemmas.{nodes}
 use Rattle.epoch_game.proofs.GameLemmas.{play_run}
 use Rattle.switch_game.specs.Network.{PowerOn}
