@@ -86,22 +86,30 @@ function choose(name) {
   mark();
 }
 
-// Shows what belongs to the chosen switch.
+// Shows what belongs to the chosen switch: a ring around its box, which stays as it is; its links and their ports.
 function mark() {
-  document.querySelectorAll(".chosen").forEach((element) => element.classList.remove("chosen", "self"));
+  picture.querySelectorAll(".chosen").forEach((element) => element.classList.remove("chosen"));
+  picture.querySelectorAll(".ring").forEach((element) => element.remove());
   picture.classList.toggle("choosing", chosen !== null);
   byId("chosen-words").textContent = "No switch is chosen.";
   byId("chosen-facts").textContent = "";
   if (chosen === null) return;
   const add = (id) => byId(id) && byId(id).classList.add("chosen");
-  byId(`switch-${chosen}`).classList.add("chosen", "self");
+  picture.append(ring(byId(`switch-${chosen}`).querySelector("rect")));
   data.links.forEach(([one, other], k) => {
     if (one[0] !== chosen && other[0] !== chosen) return;
     [`link-${k}`, `port-${one[0]}-${one[1]}`, `port-${other[0]}-${other[1]}`].forEach(add);
-    [one, other].forEach(([name]) => add(`switch-${name}`));
   });
   byId("chosen-words").textContent = byId(`switch-${chosen}`).getAttribute("aria-label");
   byId("chosen-facts").textContent = facts(chosen);
+}
+
+// A ring around a box.
+function ring(box) {
+  const found = box.cloneNode(), sides = { x: -7, y: -7, width: 14, height: 14, rx: 5 };
+  for (const side in sides) found.setAttribute(side, Number(box.getAttribute(side)) + sides[side]);
+  found.setAttribute("class", "ring");
+  return found;
 }
 
 // What is told of a switch: its ports, and its rows where they are known.
@@ -112,14 +120,34 @@ function facts(name) {
   return [...ports.sort((a, b) => number(a) - number(b)), "", rows < 0 ? "" : values[rows]].join("\n").trim();
 }
 
-// Chooses the switch of this name, and brings it to the middle.
-function find(label) {
+// Chooses the switch of this name, and brings it into the frame; else says, of a whole name, why there is none. A
+// name is whole if no other one goes on as it does.
+function find(label, isWhole = !Object.keys(data.switches).some((name) => name.startsWith(label))) {
   const name = data.switches[label];
+  byId("found").textContent = name === undefined && isWhole && label ? missing(label) : "";
   if (name === undefined) return;
   choose(name);
-  const box = byId(`switch-${name}`).getBBox(), side = Math.max(whole[2], whole[3]);
-  const share = Math.min(1, 900 / side);
-  look(box.x + box.width / 2 - whole[2] * share / 2, box.y + box.height / 2 - whole[3] * share / 2, share);
+  bring(byId(`switch-${name}`).querySelector("rect").getBBox());
+}
+
+// Why no switch of this name can be chosen.
+function missing(label) {
+  return data.undrawn.includes(label) ? `${label} is a switch that is not drawn here.` : `No switch is named ${label}.`;
+}
+
+// Brings a box into the frame. A picture that fits into it stays as it is, or is shown whole; of a larger one a part
+// is shown that has the box in its middle, or near an end of the picture.
+function bring(box) {
+  const share = Math.min(1, 900 / Math.max(whole[2], whole[3])), middle = [box.x + box.width / 2, box.y + box.height / 2];
+  if (share === 1) {
+    const seen = middle.every((at, k) => view[k] < at && at < view[k] + view[k + 2]);
+    return seen ? undefined : look(whole[0], whole[1], 1);
+  }
+  const corner = middle.map((at, k) => {
+    const most = whole[k] + whole[k + 2] * (1 - share);
+    return Math.max(whole[k], Math.min(most, at - whole[k + 2] * share / 2));
+  });
+  look(...corner, share);
 }
 
 // --- Zoom
@@ -191,6 +219,7 @@ function listen() {
   document.addEventListener("keydown", key);
   slider.addEventListener("input", () => go(Number(slider.value)));
   byId("search").addEventListener("input", (event) => find(event.target.value));
+  byId("search").addEventListener("change", (event) => find(event.target.value, true));
   picture.addEventListener("pointerdown", drag);
   picture.addEventListener("wheel", (event) => {
     event.preventDefault();
@@ -218,7 +247,7 @@ function offerKinds() {
 // `page.html#57` begins after 57 steps, `page.html#57,A` with the switch A chosen too.
 function start() {
   const [step, name] = decodeURIComponent(location.hash.slice(1)).split(",");
-  if (name) find(name);
+  if (name) find(name, true);
   go(Number(step) || 0);
 }
 

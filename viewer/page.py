@@ -15,6 +15,10 @@ DENSE = 150
 GAP = 40
 CAPTION = 44
 LEAST = 900, 520
+CHOSEN = [
+    ("ring", "around the switch that is chosen"),
+    ("port chosen", "a port of a link of the switch that is chosen"),
+]
 
 
 def picture_of(story, many=0):
@@ -38,7 +42,7 @@ def page(story):
         last=len(story.scene.steps),
         strip=Strip(story.strip, story.last).svg() if story.strip else "",
         strip_hidden="" if story.strip else "hidden",
-        legend="".join(legend_row(*row) for row in story.legend),
+        legend="".join(legend_row(*row) for row in story.legend + CHOSEN),
         notes="".join(f"<li>{escape(note)}</li>" for note in story.notes),
         names="".join(f'<option value="{escape(story.plan.label(name))}">' for name in story.plan.at),
         counts="".join(f'<p id="{slot}">{escape(value)}</p>' for slot, value in counts(story)),
@@ -56,6 +60,8 @@ def counts(story):
 def legend_row(kind, words):
     """A line of the legend: how something is drawn, and what it is."""
     shape = '<path class="line" d="M4 9L52 9"/>' if kind.startswith("wire") else box(28, 9, 44, 13, rx=4)
+    if kind.startswith("port"):
+        shape = box(28, 9, 16, 15, rx=4)
     drawn = f'<g class="{kind}">{shape}</g>'
     sample = f'<svg viewBox="0 0 60 18" width="60" height="18" aria-hidden="true">{drawn}</svg>'
     return f"<div>{sample} {escape(words)}</div>"
@@ -79,6 +85,7 @@ def data(story):
         "steps": steps,
         "links": [[list(one), list(other)] for one, other in story.network.links],
         "switches": {story.plan.label(name): name for name in story.plan.at},
+        "undrawn": [story.plan.label(name) for name in story.network.switches if name not in story.plan.at],
         "strip": [LEFT, WIDE, story.last] if story.strip else None,
     }
     return json.dumps(found, separators=(",", ":")).replace("</", "<\\/")
