@@ -1,6 +1,7 @@
 """What `flow` and `flood` print: packets in channels, and the hops of a broadcast, step by step."""
 
 from .story import Story, listed, plural
+from .tables import components
 
 
 class Flow(Story):
@@ -20,6 +21,8 @@ class Flow(Story):
             self.wait(place, sender, target)
         self.put_waiting()
         self.tell_count()
+        self.verdict = "plain", f"{plural(len(self.network.sends), 'packet')} to send."
+        self.reasons.append(self.who_sends(enumerate(self.network.sends, 1)))
         self.note_tree()
         self.legend.append(("wire hop ahead", "the packet that moved last"))
         self.notes.append("▸ 3, 5 at a port: the channel that leaves there holds packets 3 and 5, and 3 goes first.")
@@ -70,7 +73,6 @@ class Flow(Story):
         outside = plural(sum(map(len, self.waiting.values())), "packet")
         words = f"{outside} not yet in, {inside} in channels, {self.arrived} arrived"
         self.scene.put("count", "text", words)
-        self.headline = self.of_network() + f" {plural(len(self.network.sends), 'packet')} to send."
 
     def move(self, line, packet, switch, port):
         """A packet goes into a channel."""
@@ -112,9 +114,13 @@ class Flow(Story):
 
     def end(self, _line, moves, arrived, local, unjoined):
         """All moves are done."""
-        words = f"{plural(moves, 'move')}, {arrived} arrived, {local} within one switch, {unjoined} between hosts that no way joins"
-        self.headline = f"{self.of_network()} {plural(len(self.network.sends), 'packet')} to send: {words}."
-        return f"the end: {words}"
+        sent = len(self.network.sends)
+        words = [f"{arrived} of {plural(sent, 'packet')} arrived, with {plural(moves, 'move')} into channels"]
+        words += [f"{local} needed no channel, since both hosts are at one switch"] * bool(local)
+        words += [f"{unjoined} could not enter, since no way joins the hosts"] * bool(unjoined)
+        good = sent and arrived + local == sent
+        self.verdict = "good" if good else "plain", "✓ " * bool(good) + "; ".join(words) + "."
+        return f"the end: {'; '.join(words)}"
 
 
 class Flood(Story):
@@ -127,19 +133,35 @@ class Flood(Story):
         """Puts the network, and then each hop."""
         self.put_links()
         self.put_switches()
-        self.headline = self.of_network() + " A broadcast from each switch goes up the tree to its root, and down."
+        self.verdict = "plain", "A broadcast from each switch goes up the tree to its root, and down."
         self.note_tree()
         self.legend.append(("wire hop ahead", "a hop of the broadcast"))
         self.notes.append("A box says broadcast at the switch that sends it, and copy at each that has got it.")
         self.scene.begin()
         self.gone = {}
+        self.begins, self.short = {}, []
+        self.members = {switch: len(members) for members in components(self.network) for switch in members}
         for form, values, line in self.files.flood.told:
             taker = {"flood": self.flood, "copies": self.copies, "end": self.end}.get(form.split()[0], self.hop)
             self.scene.step(taker(line, *values), form.split()[0], len(self.scene.steps) + 1)
+        self.tell_end()
+
+    def tell_end(self):
+        """Whether all broadcasts came to all switches, and where each begins."""
+        many = plural(len(self.begins), "broadcast")
+        if self.short:
+            self.verdict = "bad", f"✕ Of {many} not all came to each switch of the component: those from {listed(self.short)}."
+        elif self.begins:
+            whose = "the broadcast" if len(self.begins) == 1 else f"each of the {many}"
+            self.verdict = "good", f"✓ Every switch of the component has one copy of {whose}."
+        self.reasons.append("Each goes up the tree to its root, and from there down.")
+        begins = listed((f"from {switch} at step {step}" for switch, step in self.begins.items()), 8)
+        self.reasons += [f"They begin: {begins}."] * bool(self.begins)
 
     def flood(self, _line, switch):
         """A broadcast begins."""
         self.clear()
+        self.begins[switch] = len(self.scene.steps) + 1
         self.scene.put(f"switch-{switch}-3", "text", "broadcast")
         self.sender = switch
         return f"a broadcast from {switch}"
@@ -172,7 +194,9 @@ class Flood(Story):
         self.scene.put(f"switch-{switch}-3", "text", "broadcast · copy" if switch == self.sender else "copy")
 
     def copies(self, _line, many):
-        """All have their copies."""
+        """So many have their copies."""
+        if many != self.members[self.sender]:
+            self.short.append(self.sender)
         return f"{plural(many, 'switch')} of the component {'has its copy' if many == 1 else 'have one copy each'}"
 
     def end(self, _line):

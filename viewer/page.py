@@ -29,11 +29,13 @@ def picture_of(story, many=0):
 def page(story):
     """The whole page."""
     dense = "dense" if len(story.network.links) > DENSE else ""
-    about = {"id": "picture", "role": "group", "class": dense, "aria-label": story.headline}
+    about = {"id": "picture", "role": "group", "class": dense, "aria-label": story.words()}
     svg, _, _ = picture_of(story).svg(LEAST, **about)
     return Template((HERE / "page.html").read_text()).substitute(
         title=escape(f"{story.what}: {' and '.join(Path(name).name for name in story.files.names)}"),
-        headline=escape(story.headline),
+        verdict_kind=story.verdict[0],
+        verdict=escape(story.verdict[1]),
+        reasons=escape(story.words().replace(story.verdict[1], "", 1).strip()),
         style=STYLE + (HERE / "page.css").read_text(),
         marks=f'<svg width="0" height="0" aria-hidden="true">{MARKS}</svg>',
         picture=svg,
@@ -115,7 +117,7 @@ def pictures(story, places):
         left, low = left + wide + GAP, max(low, top + high)
     about = {"xmlns": "http://www.w3.org/2000/svg", "viewBox": f"0 0 {left - GAP:.0f} {low:.0f}",
              "width": f"{left - GAP:.0f}", "role": "img"}
-    return tag("svg", about, title(story.headline), f"<style>{STYLE}</style>", MARKS, *drawn) + "\n"
+    return tag("svg", about, title(story.words()), f"<style>{STYLE}</style>", MARKS, *drawn) + "\n"
 
 
 def placed(svg, x, y, wide, high):

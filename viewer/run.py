@@ -29,7 +29,7 @@ class Run(Story):
         self.port = {end: ("s.dead", None) for end in [*net.link_at, *net.host_at]}
         self.down = set()
         self.lost, self.sent, self.delivered, self.dropped = {}, 0, 0, 0
-        self.here = {}
+        self.here, self.packets = {}, {}
         self.spans, self.place = {switch: [] for switch in net.switches}, 0
         self.faults = []
         for switch in net.switches:
@@ -56,13 +56,8 @@ class Run(Story):
         self.end_spans()
 
     def tell_words(self):
-        """The headline, and what signs mean."""
-        ended = " It ended {} at tick {} after {} events.".format(*self.files.report.end)
-        faults = f" {' '.join(self.faults[:3])}" if self.faults else ""
-        parts = plural(len(self.network.switches), "switch"), plural(len(self.network.links), "link")
-        self.headline = (
-            f"A run of {parts[0]} and {parts[1]}.{faults} {plural(self.sent, 'packet')} sent, "
-            f"{self.delivered} delivered; {plural(sum(self.lost.values()), 'frame')} lost.{ended}")
+        """How it ended, and what signs mean."""
+        self.tell_end()
         self.legend += [
             ("wire good", "a link that is good at both ends"),
             ("wire asked", "a link of which an end is not good (yet)"),
@@ -85,6 +80,48 @@ class Run(Story):
             "Levels are those of the tree with all links up, and stay so: the tree of an epoch is not in the report, "
             "but its root is, in the step in which a switch has finished the epoch.",
         ]
+
+    def tell_end(self):
+        """How the run ended, and what happened in it."""
+        end, tick, events = self.files.report.end
+        self.tell_verdict(end)
+        self.reasons += self.faults[:3]
+        self.reasons += [f"{len(self.faults) - 3} more faults and repairs are in the steps."] * (len(self.faults) > 3)
+        self.reasons.append(self.who_sends((packet, ends) for packet, ends in self.packets.items()))
+        sent = f"{plural(self.sent, 'packet')} sent, {self.delivered} delivered, {self.dropped} dropped"
+        lost = f"{plural(sum(self.lost.values()), 'frame')} lost"
+        self.reasons.append(f"{sent}; {lost}. The end is at tick {tick}, after {plural(events, 'event')}.")
+        self.reasons = [reason for reason in self.reasons if reason]
+
+    def tell_verdict(self, end):
+        """What an end says of the network: whether it is settled, and in how many parts."""
+        parts = [listed(part, 6) + " alone" * (len(part) == 1) for part in self.parts()]
+        apart = f"{len(parts)} parts that no cable joins: {listed(parts, 4)}"
+        settled = "Nothing is left to do, and every port shows what is at its link."
+        if end != "settled":
+            why = {
+                "unsettled": "the last tick came while the network was not settled",
+                "full": "the journal had no room for more events",
+                "spent": f"no epoch is left for {listed(sorted(self.spent))}",
+            }[end]
+            self.verdict = "bad", f"✕ Not settled: {why}."
+        elif len(parts) > 1:
+            self.verdict = "good", f"✓ Settled, in {apart}."
+            self.reasons.append(settled)
+        else:
+            self.verdict = "good", f"✓ Settled: {settled[0].lower()}{settled[1:]}"
+
+    def parts(self):
+        """The switches in the end, in parts that links join of which the cable is up."""
+        left, found = list(self.network.switches), []
+        up = [link for link in self.network.links if not self.down.intersection(link)]
+        while left:
+            part = [left[0]]
+            for switch in part:
+                part += [t for (s, _), (t, _) in up + [link[::-1] for link in up] if s == switch and t not in part]
+            found.append([switch for switch in left if switch in part])
+            left = [switch for switch in left if switch not in part]
+        return found
 
     # What is put
 
@@ -219,16 +256,23 @@ class Run(Story):
     def at_fail(self, line, _form, life, p, dropped):
         """A cable failed."""
         self.cable(self.end(line, life, p), True)
-        self.faults.append(f"The cable at port {p} of {named(life)} fails at event {self.place}.")
-        return f"the cable at port {p} of {named(life)} fails; {plural(dropped, 'frame')} on it dropped"
+        cable = self.cable_name(life, p)
+        self.faults.append(f"The {cable} fails at event {self.place}.")
+        return f"the {cable} fails; {plural(dropped, 'frame')} on it dropped"
+
+    def cable_name(self, life, p):
+        """A cable by both of its ends."""
+        far = self.network.far(life[0], p)
+        other = f"port {far[1]} of {far[0]}" if far else f"host {self.network.host_at[life[0], p]}"
+        return f"cable from port {p} of {named(life)} to {other}"
 
     def at_repair(self, line, _form, life, p):
         """A cable is up again."""
         self.cable(self.end(line, life, p), False)
-        cable = f"The cable at port {p} of {named(life)}"
+        cable = f"The {self.cable_name(life, p)}"
         it = "It" if len(self.faults) == 1 and self.faults[0].startswith(f"{cable} fails") else cable
         self.faults.append(f"{it} is repaired at event {self.place}.")
-        return f"the cable at port {p} of {named(life)} is repaired"
+        return f"the {self.cable_name(life, p)} is repaired"
 
     def cable(self, end, is_down):
         """The cable at an end goes down or up, at its other end too."""
@@ -259,6 +303,7 @@ class Run(Story):
     def at_packet(self, line, form, packet, sender, target, address):
         """A host sends a packet."""
         self.sent += 1
+        self.packets[packet] = sender, target
         dropped = "drop" in form
         self.dropped += dropped
         self.scene.flash(f"host-{sender}", "class", "host got")

@@ -33,9 +33,12 @@ class Story:
         self.told_tree = bool(told.level)
         self.tables = told if self.told_tree else shortest_trees(self.network)
         self.numbers, self.rows = told.numbers, told.rows
+        self.tables.numbers, self.tables.rows = told.numbers, told.rows
         self.tree = tree_links(self.network, self.tables)
         self.scene = Scene()
         self.strip, self.last = None, 0
+        self.verdict = "plain", ""
+        self.reasons = []
         self.legend = []
         self.notes = []
         self.plan = self.make_plan(layout)
@@ -52,9 +55,19 @@ class Story:
         """Puts all that the page tells."""
         self.put_links()
         self.put_switches()
-        self.headline = self.of_network()
+        self.verdict = "plain", self.of_network()
+        if self.told_tree:
+            roots = listed((switch for switch, parent in self.tables.parent.items() if parent is None), 6)
+            self.reasons.append(f"Its spanning tree has the root {roots}.")
+        if self.rows:
+            self.reasons.append("The rows of a switch say by which ports it sends what is for another one.")
         self.scene.begin()
         self.note_tree()
+
+    def words(self):
+        """The verdict and what is told with it, for those who hear it."""
+        network = [] if self.verdict[1] == self.of_network() else [self.of_network()]
+        return " ".join([self.verdict[1], *self.reasons, *network])
 
     def of_network(self):
         """What the network is, in a sentence."""
@@ -62,6 +75,17 @@ class Story:
         parts = [plural(len(net.switches), "switch"), plural(len(net.links), "link"), plural(len(net.hosts), "host")]
         kind = f", {roots} components" if roots > 1 else ""
         return f"A network of {parts[0]}, {parts[1]} and {parts[2]}{kind}."
+
+    def who_sends(self, packets):
+        """Who sends which packets to whom: of each packet its number and its two hosts."""
+        sent = {}
+        for packet, ends in packets:
+            sent.setdefault(ends, []).append(packet)
+        ways = [
+            f"{sender} sends packet{'s' * (len(numbers) > 1)} {listed(numbers, 5)} to {target}"
+            for (sender, target), numbers in sent.items()
+        ]
+        return f"{listed(ways, 5)}." if ways else ""
 
     def note_tree(self):
         """Says where the tree comes from."""
