@@ -69,7 +69,7 @@ class Judged(Story):
         others = [end for end in [*far, *self.network.host_at] if end[0] == switch and end not in drawn]
         for end in drawn:
             self.put_port(end)
-        self.scene.put(f"rows-{switch}", "text", "\n".join(map(self.port_words, sorted(others))))
+        self.scene.put(f"more-{switch}", "text", "\n".join(map(self.port_words, sorted(others))))
 
     def note_channel(self, place, end, source, lid):
         """A channel of the cycle in words."""

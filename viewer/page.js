@@ -101,7 +101,7 @@ function mark() {
     [`link-${k}`, `port-${one[0]}-${one[1]}`, `port-${other[0]}-${other[1]}`].forEach(add);
   });
   byId("chosen-words").textContent = byId(`switch-${chosen}`).getAttribute("aria-label");
-  byId("chosen-facts").textContent = facts(chosen);
+  byId("chosen-facts").append(...facts(chosen));
 }
 
 // A ring around a box.
@@ -112,12 +112,75 @@ function ring(box) {
   return found;
 }
 
-// What is told of a switch: its ports, and its rows where they are known.
+// An element with words or further elements in it.
+function made(kind, ...inner) {
+  const found = document.createElement(kind);
+  found.append(...inner);
+  return found;
+}
+
+// A list with these words.
+function list(lines) {
+  return made("ul", ...lines.map((line) => made("li", line)));
+}
+
+// What is told of a switch: its ports, and its rows where they are known, in words and as they were printed.
 function facts(name) {
   const ports = [...picture.querySelectorAll(`[id^="port-${name}-"] > title`)].map((title) => title.textContent);
   const number = (words) => Number(words.match(/\d+/)[0]);
-  const rows = data.slots.findIndex(([id]) => id === `rows-${name}`);
-  return [...ports.sort((a, b) => number(a) - number(b)), "", rows < 0 ? "" : values[rows]].join("\n").trim();
+  const told = (what) => values[data.slots.findIndex(([id]) => id === `${what}-${name}`)] || "";
+  const found = ports.length ? [made("h3", "Ports"), list(ports.sort((a, b) => number(a) - number(b)))] : [];
+  if (told("more")) found.push(made("h3", "Ports to what is not drawn"), list(told("more").split("\n")));
+  const rows = told("rows"), printed = /^\d/.test(rows);
+  if (rows) found.push(made("h3", "Rows: where it sends what comes in"));
+  if (rows && !printed) found.push(made("p", rows));
+  if (printed) found.push(...entries(name, rows, told("names")));
+  if (printed) found.push(made("details", made("summary", "As printed: entry, then number:exits"), made("pre", rows)));
+  return found;
+}
+
+// The rows of a switch in words, entry by entry: those that are printed, and those of its links that have none.
+function entries(name, rows, names) {
+  const printed = new Map(rows.split("\n").map((line) => [Number(line.split(" ")[0]), line.split(" ").slice(1)]));
+  const linked = data.links.flat().filter(([at]) => at === name).map(([, port]) => port);
+  const all = [...new Set([...printed.keys(), ...linked])].sort((a, b) => a - b);
+  return all.flatMap((entry) => [made("h4", cameIn(name, entry)), targets(name, entry, printed.get(entry), names)]);
+}
+
+// What comes in at an entry: from whom, and where.
+function cameIn(name, entry) {
+  if (entry === 0) return "From its own hosts:";
+  const link = data.links.find((ends) => ends.some(([at, port]) => at === name && port === entry));
+  const far = link && (link[0][0] === name && link[0][1] === entry ? link[1] : link[0]);
+  const host = data.hosts.find(([, at, port]) => at === name && port === entry);
+  return `By port ${entry}, ${far ? `from ${far[0]}` : host ? `from host ${host[0]}` : "which has no link"}:`;
+}
+
+// Where a row sends what is for whom: the targets with the same exits together.
+function targets(name, entry, pairs, names) {
+  if (!pairs) return list(["nowhere: there is no row"]);
+  const words = names.split(" "), called = {}, ways = new Map();
+  for (let k = 0; k + 1 < words.length; k += 2) called[words[k]] = words[k + 1];
+  const others = Object.keys(called).filter((number) => called[number].split(".")[0] !== name);
+  const exits = new Map(others.map((number) => [number, "-"]));
+  for (const pair of pairs) exits.set(...pair.split(":"));
+  for (const number of [...exits.keys()].sort((a, b) => a - b)) {
+    const marked = data.marked.some(([at, of, to]) => at === name && of === entry && to === number);
+    const way = `${exits.get(number)}${marked ? " marked" : ""}`;
+    ways.set(way, [...(ways.get(way) || []), called[number] ? `${called[number]} (no. ${number})` : `no. ${number}`]);
+  }
+  const last = ways.get("-");
+  if (last) { ways.delete("-"); ways.set("-", last); }
+  const found = list([...ways].map(([way, whom]) => `${whom.join(", ")}: ${leaves(way.replace(" marked", ""))}`));
+  [...ways.keys()].forEach((way, k) => found.children[k].classList.toggle("marked", way.endsWith("marked")));
+  found.querySelectorAll(".marked").forEach((line) => line.append(" – see the verdict"));
+  return ways.size ? found : list(["nowhere: the row is empty"]);
+}
+
+// By which ports something leaves.
+function leaves(exits) {
+  const ports = exits.split("/");
+  return exits === "-" || !exits ? "nowhere" : `by port ${ports.join(" or ")}`;
 }
 
 // Chooses the switch of this name, and brings it into the frame; else says, of a whole name, why there is none. A

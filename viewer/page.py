@@ -15,6 +15,7 @@ DENSE = 150
 GAP = 40
 CAPTION = 44
 LEAST = 900, 520
+CHOSEN_TELLS = "rows", "names", "more"
 CHOSEN = [
     ("ring", "around the switch that is chosen"),
     ("port chosen", "a port of a link of the switch that is chosen"),
@@ -87,6 +88,8 @@ def data(story):
         "steps": steps,
         "links": [[list(one), list(other)] for one, other in story.network.links],
         "switches": {story.plan.label(name): name for name in story.plan.at},
+        "hosts": [[story.plan.label(host), *end] for host, end in story.plan.hosts.items()],
+        "marked": story.marked,
         "undrawn": [story.plan.label(name) for name in story.network.switches if name not in story.plan.at],
         "strip": [LEFT, WIDE, story.last] if story.strip else None,
     }
@@ -94,9 +97,9 @@ def data(story):
 
 
 def all_slots(scene):
-    """The slots that the page's script needs: those that change, and the rows of switches."""
+    """The slots that the page's script needs: those that change, and what is told of a switch that is chosen."""
     changed = [slot for step in scene.steps for slot, _, _ in step["changes"]]
-    return dict.fromkeys([slot for slot in scene.first if slot[0].startswith("rows-")] + changed)
+    return dict.fromkeys([slot for slot in scene.first if slot[0].split("-")[0] in CHOSEN_TELLS] + changed)
 
 
 def tick(story, step):

@@ -1,6 +1,6 @@
 """A run, as `run` and `replay` print it: epochs, what ports show, tables, cables, packets, frames lost."""
 
-from .story import ROWS, Story, listed, plural
+from .story import Story, listed, plural
 
 SIGNS = {
     "s.dead": ("✕", "dead"),
@@ -32,6 +32,7 @@ class Run(Story):
         self.here, self.packets = {}, {}
         self.spans, self.place = {switch: [] for switch in net.switches}, 0
         self.faults = []
+        self.names, self.finished = self.all_names(), {}
         for switch in net.switches:
             self.put_switch(switch)
             self.put_packets(switch)
@@ -44,6 +45,16 @@ class Run(Story):
         self.tell_lines()
         self.strip = self.spans
         self.tell_words()
+
+    def all_names(self):
+        """The numbers and names of each epoch under its root, by the loads of the whole run."""
+        finished, found = {}, {}
+        for form, values, _ in self.files.report.lines.told:
+            if form.startswith("LIFE finish"):
+                finished[values[0]] = tuple(values[1:3])
+            elif form.startswith("LIFE load") and values[0] in finished:
+                found.setdefault(finished[values[0]], {})[values[2]] = named(values[0])
+        return {of: " ".join(f"{number} {names[number]}" for number in sorted(names)) for of, names in found.items()}
 
     def tell_lines(self):
         """A step for each line of the report, by the word that is its own."""
@@ -137,8 +148,8 @@ class Run(Story):
         self.scene.put(f"switch-{switch}-2", "text", second)
         self.scene.put(f"switch-{switch}-3", "text", third)
         self.scene.put(f"switch-{switch}", "title", f"switch {switch}: {second}, {third}")
-        rows = table[2] if table else []
-        self.scene.put(f"rows-{switch}", "text", "\n".join([ROWS, *rows]) if rows else "")
+        self.scene.put(f"rows-{switch}", "text", "\n".join(table[2]) if table else "No table is in use.")
+        self.scene.put(f"names-{switch}", "text", self.names.get(table[3], "") if table else "")
 
     def port_state(self, switch, p):
         """The state of a port in words."""
@@ -231,12 +242,13 @@ class Run(Story):
 
     def at_finish(self, _line, _form, life, epoch, root, members):
         """A switch finished an epoch."""
+        self.finished[life] = epoch, root
         return f"{named(life)} has finished epoch {epoch}: {plural(members, 'switch')} under the root {named(root)}"
 
     def at_load(self, _line, _form, life, epoch, number):
         """A table came into use."""
         switch = life[0]
-        self.table[switch] = epoch, number, self.rows_now
+        self.table[switch] = epoch, number, self.rows_now, self.finished.get(life)
         self.span(switch)
         self.put_switch(switch)
         return f"{named(life)} loads the table of epoch {epoch}, in which it is number {number}"

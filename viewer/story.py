@@ -5,7 +5,7 @@ from .scene import Scene
 from .tables import Tables, components, shortest_trees, tree_links
 
 
-ROWS = "rows (entry, then number:exits):"
+NO_ROWS = "There are no rows."
 
 
 def plural(many, one):
@@ -39,6 +39,7 @@ class Story:
         self.strip, self.last = None, 0
         self.verdict = "plain", ""
         self.reasons = []
+        self.marked = []
         self.legend = []
         self.notes = []
         self.plan = self.make_plan(layout)
@@ -115,12 +116,20 @@ class Story:
             self.scene.put(f"switch-{switch}", "class", "switch root" if root else "switch")
             self.scene.put(f"switch-{switch}-2", "text", words)
             self.scene.put(f"switch-{switch}", "title", self.words_of(switch, number))
-            rows = self.rows.get(switch)
-            self.scene.put(f"rows-{switch}", "text", "\n".join([ROWS, *rows]) if rows else "")
+        self.put_rows()
         for host in self.network.hosts:
             self.scene.put(f"host-{host}", "class", "host")
         for end in [*self.network.link_at, *self.network.host_at]:
             self.put_port(end)
+
+    def put_rows(self):
+        """The rows of each switch as they were printed, and the numbers and names that they mean; where none are told
+        of any switch, nothing."""
+        for members in components(self.network) if self.rows else []:
+            names = " ".join(f"{self.numbers[switch]} {switch}" for switch in members if switch in self.numbers)
+            for switch in members:
+                self.scene.put(f"rows-{switch}", "text", "\n".join(self.rows.get(switch, [NO_ROWS])))
+                self.scene.put(f"names-{switch}", "text", names)
 
     def put_port(self, end):
         """The words of a port."""

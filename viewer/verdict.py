@@ -73,6 +73,7 @@ class Verdict(Story):
         before = self.tables.by_entry(s).values()
         onward = [number for number, ports in self.tables.by_entry(t).get(entry, {}).items() if q in ports]
         both = [number for number in onward if any(p in exits.get(number, []) for exits in before)]
+        self.marked.append([t, entry, (both or onward or ["0"])[0]])
         if both:
             return f"Rows let what is for {self.target(s, both[0])} out of {s} by port {p}, and then out of {t} by port {q}."
         if onward:
@@ -96,6 +97,7 @@ class Verdict(Story):
         if entry:
             self.scene.put(f"port-{at}-{entry}", "class", "port red")
         why = self.dead_end(other, at, entry)
+        self.marked.append([at, entry, str(self.numbers.get(other, 0))])
         if entry:
             stuck = f"a packet from {one} to {other} can get stuck at {at}", f"There {self.came(at, entry)} {why}."
         else:
@@ -128,6 +130,7 @@ class Verdict(Story):
         self.redden(switch)
         if entry:
             self.scene.put(f"port-{switch}-{entry}", "class", "port red")
+        self.marked.append([switch, entry, str(number)])
         came = self.came(switch, entry) if entry else "what comes from the switch itself"
         may = f"At {switch} {came} and is for {self.target(switch, number)} may leave by port {port}"
         words = f"{switch} has an exit up the tree for what came down" if has_link else f"{switch} has an exit without a link"
