@@ -5,6 +5,7 @@ const data = JSON.parse(document.getElementById("data").textContent);
 const byId = (id) => document.getElementById(id);
 const picture = byId("picture"), slider = byId("slider");
 const values = data.slots.map(([, , first]) => data.texts[first]);
+const SEE = " – see the verdict";
 let now = 0, chosen = null, playing = null;
 
 // --- Slots and steps
@@ -119,9 +120,11 @@ function made(kind, ...inner) {
   return found;
 }
 
-// A list with these words.
+// A list with these words, of which those that the verdict is about stand out.
 function list(lines) {
-  return made("ul", ...lines.map((line) => made("li", line)));
+  const found = made("ul", ...lines.map((line) => made("li", line)));
+  lines.forEach((line, k) => found.children[k].classList.toggle("marked", line.endsWith(SEE)));
+  return found;
 }
 
 // What is told of a switch: its ports, and its rows where they are known, in words and as they were printed.
@@ -139,11 +142,11 @@ function facts(name) {
   return found;
 }
 
-// The rows of a switch in words, entry by entry: those that are printed, and those of its links that have none.
+// The rows of a switch in words, entry by entry: those that are printed, and those of its hosts and links that have none.
 function entries(name, rows, names) {
   const printed = new Map(rows.split("\n").map((line) => [Number(line.split(" ")[0]), line.split(" ").slice(1)]));
   const linked = data.links.flat().filter(([at]) => at === name).map(([, port]) => port);
-  const all = [...new Set([...printed.keys(), ...linked])].sort((a, b) => a - b);
+  const all = [...new Set([0, ...printed.keys(), ...linked])].sort((a, b) => a - b);
   return all.flatMap((entry) => [made("h4", cameIn(name, entry)), targets(name, entry, printed.get(entry), names)]);
 }
 
@@ -156,31 +159,29 @@ function cameIn(name, entry) {
   return `By port ${entry}, ${far ? `from ${far[0]}` : host ? `from host ${host[0]}` : "which has no link"}:`;
 }
 
-// Where a row sends what is for whom: the targets with the same exits together.
+// Where a row sends what is for whom: the targets with the same exits together, those without any last. The verdict
+// may be about one of them.
 function targets(name, entry, pairs, names) {
-  if (!pairs) return list(["nowhere: there is no row"]);
+  const about = data.marked.filter(([at, of]) => at === name && of === entry).map(([, , to]) => to);
+  if (!pairs) return list([`nowhere: there is no row${about.length ? SEE : ""}`]);
   const words = names.split(" "), called = {}, ways = new Map();
   for (let k = 0; k + 1 < words.length; k += 2) called[words[k]] = words[k + 1];
   const others = Object.keys(called).filter((number) => called[number].split(".")[0] !== name);
   const exits = new Map(others.map((number) => [number, "-"]));
   for (const pair of pairs) exits.set(...pair.split(":"));
   for (const number of [...exits.keys()].sort((a, b) => a - b)) {
-    const marked = data.marked.some(([at, of, to]) => at === name && of === entry && to === number);
-    const way = `${exits.get(number)}${marked ? " marked" : ""}`;
+    const way = exits.get(number) + (about.includes(number) ? SEE : "");
     ways.set(way, [...(ways.get(way) || []), called[number] ? `${called[number]} (no. ${number})` : `no. ${number}`]);
   }
   const last = ways.get("-");
   if (last) { ways.delete("-"); ways.set("-", last); }
-  const found = list([...ways].map(([way, whom]) => `${whom.join(", ")}: ${leaves(way.replace(" marked", ""))}`));
-  [...ways.keys()].forEach((way, k) => found.children[k].classList.toggle("marked", way.endsWith("marked")));
-  found.querySelectorAll(".marked").forEach((line) => line.append(" – see the verdict"));
-  return ways.size ? found : list(["nowhere: the row is empty"]);
+  return list(ways.size ? [...ways].map(([way, whom]) => `${whom.join(", ")}: ${leaves(way)}`) : ["nowhere: the row is empty"]);
 }
 
 // By which ports something leaves.
-function leaves(exits) {
-  const ports = exits.split("/");
-  return exits === "-" || !exits ? "nowhere" : `by port ${ports.join(" or ")}`;
+function leaves(way) {
+  const exits = way.replace(SEE, ""), ports = exits.split("/").join(" or ");
+  return (exits === "-" || !exits ? "nowhere" : `by port ${ports}`) + (way === exits ? "" : SEE);
 }
 
 // Chooses the switch of this name, and brings it into the frame; else says, of a whole name, why there is none. A
