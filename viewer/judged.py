@@ -51,9 +51,10 @@ class Judged(Story):
         if self.cycle:
             red = "a channel of the cycle, with the LID of a route that takes it and the next"
             self.legend.append(("wire red ahead", red))
-            self.legend.append(("wire", "another link between switches of the cycle"))
+        self.legend.append(("wire", "another link between switches of the cycle" if self.cycle else "a link"))
         if self.judgement and self.judgement.lost:
             self.legend.append(("switch red", "a switch where a route is lost"))
+        self.legend.append(("port", "a port", "1"))
         facts = self.judgement.facts if self.judgement else []
         self.notes += [fact for fact in map(in_words, facts) if fact]
         self.scene.begin()
@@ -126,8 +127,8 @@ def in_words(fact):
     if form.startswith("routes"):
         return f"Of {plural(values[0], 'route')} {values[1]} arrive, over {plural(values[2], 'switch')} at most."
     if form.startswith("channels"):
-        return (f"A channel is a port of a switch that leads to a switch: there are {values[0]}. Some route takes one and "
-                f"then directly the next for {plural(values[1], 'pair')} of them.")
+        pairs = plural(values[1], "pair")
+        return f"There are {plural(values[0], 'channel')}, and {pairs} of which some route takes the one and then the other."
     if form.startswith("lost"):
         kinds = zip(("missing", "dead", "wrong", "loop"), values[1:])
         return f"Routes lost: {values[0]}, which are " + ", ".join(f"{many} {kind}" for kind, many in kinds) + "."

@@ -25,7 +25,11 @@ class Flow(Story):
         self.reasons.append(self.who_sends(enumerate(self.network.sends, 1)))
         self.note_tree()
         self.legend.append(("wire hop ahead", "the packet that moved last"))
-        self.notes.append("▸ 3, 5 at a port: the channel that leaves there holds packets 3 and 5, and 3 goes first.")
+        moves = any(form.startswith("move") for form, _, _ in self.files.flow.told)
+        self.legend += [("text", "at a channel: it holds packets 3 and 5, and 3 goes first", "▸ 3, 5")] * moves
+        self.legend.append(("host got", "a host to which a packet comes now"))
+        self.notes.append("Each channel has room for some packets. One packet moves in a step: the first of a channel, or "
+                          "one that waits to enter, if there is room for it or it is at its target.")
         self.scene.begin()
         takers = {"local": self.local, "unjoined": self.unjoined, "move": self.move, "arrive": self.arrive}
         for form, values, line in self.files.flow.told:
@@ -136,7 +140,9 @@ class Flood(Story):
         self.verdict = "plain", "A broadcast from each switch goes up the tree to its root, and down."
         self.note_tree()
         self.legend.append(("wire hop ahead", "a hop of the broadcast"))
-        self.notes.append("A box says broadcast at the switch that sends it, and copy at each that has got it.")
+        self.legend.append(("text", "the switch that sends it", "broadcast"))
+        self.legend.append(("text", "a switch that has got it", "copy"))
+        self.notes.append("A root has its copy when the way up ends, every other switch from the hop down to it.")
         self.scene.begin()
         self.gone = {}
         self.begins, self.short = {}, []

@@ -53,7 +53,7 @@ function tell() {
 
 // The kinds of steps that `change` goes to, for each word of the list.
 const KINDS = {
-  "any": ["join", "load", "fail", "repair", "restart", "spent", "packet", "lost", "flood", "arrive"],
+  "all but ports and hops": ["join", "load", "fail", "repair", "restart", "spent", "packet", "lost", "flood", "arrive"],
   "an epoch": ["join", "finish", "spent"],
   "a table": ["load"],
   "a cable or switch": ["fail", "repair", "restart"],

@@ -7,7 +7,8 @@ from pathlib import Path
 from string import Template
 from textwrap import wrap
 
-from .picture import MARKS, STYLE, Picture, box, tag, text, title
+from .picture import MARKS, STYLE, Picture, tag, text, title
+from .signs import explained, legend
 from .strip import LEFT, WIDE, Strip
 
 HERE = Path(__file__).parent
@@ -16,10 +17,6 @@ GAP = 40
 CAPTION = 44
 LEAST = 900, 520
 CHOSEN_TELLS = "rows", "names", "more"
-CHOSEN = [
-    ("ring", "around the switch that is chosen"),
-    ("port chosen", "a port of a link of the switch that is chosen"),
-]
 
 
 def picture_of(story, many=0):
@@ -33,7 +30,7 @@ def page(story):
     about = {"id": "picture", "role": "group", "class": dense, "aria-label": story.words()}
     svg, _, _ = picture_of(story).svg(LEAST, **about)
     return Template((HERE / "page.html").read_text()).substitute(
-        title=escape(f"{story.what}: {' and '.join(Path(name).name for name in story.files.names)}"),
+        title=escape(heading(story)),
         verdict_kind=story.verdict[0],
         verdict=escape(story.verdict[1]),
         reasons=escape(story.words().replace(story.verdict[1], "", 1).strip()),
@@ -45,8 +42,9 @@ def page(story):
         last=len(story.scene.steps),
         strip=Strip(story.strip, story.last).svg() if story.strip else "",
         strip_hidden="" if story.strip else "hidden",
-        legend="".join(legend_row(*row) for row in story.legend + CHOSEN),
-        notes="".join(f"<li>{escape(note)}</li>" for note in story.notes),
+        legend=legend(story),
+        notes="".join(f"<li>{escape(note)}</li>" for note in story.notes + explained(story)),
+        tells="its ports and rows" if has_rows(story) else "its ports",
         names="".join(f'<option value="{escape(story.plan.label(name))}">' for name in story.plan.at),
         counts="".join(f'<p id="{slot}">{escape(value)}</p>' for slot, value in counts(story)),
         data=data(story),
@@ -54,20 +52,23 @@ def page(story):
     )
 
 
+def heading(story):
+    """What is shown, and of which files: one that has no name of its own goes by that of its folder."""
+    names = [Path(name) for name in story.files.names]
+    own = [name.parent.name if name.name in ("-", "stdin", "stdout") else name.name for name in names]
+    named = " and ".join(dict.fromkeys(name for name in own if name))
+    return f"{story.what}: {named}" if named else story.what
+
+
+def has_rows(story):
+    """Whether rows of some switch are told."""
+    return any(element.startswith("rows-") for element, _ in story.scene.first)
+
+
 def counts(story):
     """The lines of counts below the slider, with what they say at first."""
     first = story.scene.first
     return [(slot, first[slot, "text"]) for slot in ("epochs", "count") if (slot, "text") in first]
-
-
-def legend_row(kind, words):
-    """A line of the legend: how something is drawn, and what it is."""
-    shape = '<path class="line" d="M4 9L52 9"/>' if kind.startswith("wire") else box(28, 9, 44, 13, rx=4)
-    if kind.startswith("port"):
-        shape = box(28, 9, 16, 15, rx=4)
-    drawn = f'<g class="{kind}">{shape}</g>'
-    sample = f'<svg viewBox="0 0 60 18" width="60" height="18" aria-hidden="true">{drawn}</svg>'
-    return f"<div>{sample} {escape(words)}</div>"
 
 
 def data(story):

@@ -2,7 +2,7 @@
 
 from .story import Story, listed, plural
 
-SIGNS = {
+STATES = {
     "s.dead": ("✕", "dead"),
     "s.checking": ("…", "checking"),
     "s.host": ("h", "a host's"),
@@ -18,6 +18,7 @@ class Run(Story):
 
     what = "run"
     lines = 3
+    SIGNS = [sign for sign in Story.SIGNS if sign[0] != "port"]
     port_width = 27
 
     def tell(self):
@@ -30,6 +31,7 @@ class Run(Story):
         self.down = set()
         self.lost, self.sent, self.delivered, self.dropped = {}, 0, 0, 0
         self.here, self.packets = {}, {}
+        self.epochs, self.states = set(), {"s.dead"} if self.port else set()
         self.spans, self.place = {switch: [] for switch in net.switches}, 0
         self.faults = []
         self.names, self.finished = self.all_names(), {}
@@ -75,22 +77,43 @@ class Run(Story):
             ("wire down", "a cable that failed"),
             ("wire hop ahead", "the hop of a packet"),
             ("wire lost ahead", "a frame that is lost"),
-            ("switch epoch-2", "a switch in the colour of its epoch"),
-            ("switch epoch-2 no-table", "a switch that uses no table"),
+            *self.epoch_signs(),
+            ("switch no-table", "a switch that uses no table"),
+            ("switch spent", "a switch for which no epoch is left"),
+            *self.SIGNS,
             ("host got", "a host that sends or gets a packet now"),
+            *[("port", f"a port with its number: {words}", f"1 {sign}")
+              for state, (sign, words) in STATES.items() if state in self.states],
+            ("port red", "a port at which what comes is no frame"),
         ]
+        self.legend += [("text", "packet 2 is at this switch, or on the way to it", "✉ 2")] * bool(self.sent)
         self.notes += [
-            "An event is one step of a switch, a cable or a host. A frame is what switches send each other, a packet what "
+            "An event is one thing that a switch, a cable, a host or the clock does. A step of the slider is a line that the "
+            "program printed of an event, which may have none or several. A frame is what switches send each other, a packet what "
             "hosts send. A tick is one beat of the network's clock.",
             "An epoch is one agreement of the switches on how they are cabled. A switch whose links changed begins "
-            "the next epoch, and those that hear of it join it. To load is to bring the routes of an epoch into use.",
-            "At a port stand its number and a sign: "
-            + ", ".join(f"{sign} {words}" for sign, words in SIGNS.values()) + ".",
-            "A box has the switch, its epoch, and the table in use with the switch's own number (no.) in it. "
-            "✉ 2 beside it: packet 2 is there, or on the way to it.",
-            "Levels are those of the tree with all links up, and stay so: the tree of an epoch is not in the report, "
-            "but its root is, in the step in which a switch has finished the epoch.",
+            "the next epoch, and those that hear of it join it. To load is to bring the routes of an epoch into use. Parts "
+            "that no cable joins can have epochs of one number, which have nothing to do with each other.",
+            "A box has the switch, its epoch, and the table in use with the switch's own number (no.) in it.",
         ]
+        if self.plan.bands:
+            self.notes.append(
+                "Levels are those of the tree with all links up, and stay so: the tree of an epoch is not in the report, "
+                "but its root is, in the step in which a switch has finished the epoch.")
+        if self.files.report.end[0] != "settled":
+            self.notes.append("Settled means that nothing is left to do, and every port shows what is at its link.")
+        lives = [values[0] for form, values, _ in self.files.report.lines.told if form == "restart LIFE"]
+        if lives:
+            now = named(lives[0])
+            self.notes.append(f"{now} is {lives[0][0]} in its life {lives[0][1]}: each time that a switch is switched off "
+                              "and on, another life begins.")
+
+    def epoch_signs(self):
+        """The signs of the epochs, each colour with all that have it."""
+        shown = {}
+        for epoch in sorted(self.epochs):
+            shown.setdefault((epoch - 1) % TINTS + 1, []).append(epoch)
+        return [(f"switch epoch-{tint}", f"a switch in epoch {listed(epochs, 5)}") for tint, epochs in shown.items()]
 
     def tell_end(self):
         """How the run ended, and what happened in it."""
@@ -154,12 +177,12 @@ class Run(Story):
     def port_state(self, switch, p):
         """The state of a port in words."""
         state, far = self.port[switch, p]
-        return SIGNS[state][1] + (f", at port {far[1]} of {far[0]}" if far else "")
+        return STATES[state][1] + (f", at port {far[1]} of {far[0]}" if far else "")
 
     def put_port(self, end):
         """The sign of a port."""
         switch, p = end
-        self.scene.put(f"port-{switch}-{p}-sign", "text", f"{p} {SIGNS[self.port[end][0]][0]}")
+        self.scene.put(f"port-{switch}-{p}-sign", "text", f"{p} {STATES[self.port[end][0]][0]}")
         self.scene.put(f"port-{switch}-{p}", "class", "port")
         self.scene.put(f"port-{switch}-{p}", "title", f"port {p} of {switch}: {self.port_state(switch, p)}")
         host = self.network.host_at.get(end)
@@ -208,6 +231,7 @@ class Run(Story):
         """A port changed its state: a good one has the other end in place of a state."""
         end = self.end(line, life, p)
         self.port[end] = (what[0], None) if len(what) == 1 else ("s.switch.good", (named(what[0]), what[1]))
+        self.states.add(self.port[end][0])
         self.put_port(end)
         if end in self.network.link_at:
             self.put_link(self.network.link_at[end])
@@ -229,6 +253,7 @@ class Run(Story):
         """A switch joined an epoch, and uses no table."""
         switch = life[0]
         self.epoch[switch], self.table[switch] = epoch, None
+        self.epochs.add(epoch)
         self.span(switch)
         self.put_switch(switch)
         self.put_counts()

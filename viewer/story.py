@@ -26,6 +26,11 @@ class Story:
     port_width = 16
     channels = False
     what = "network"
+    SIGNS = (
+        ("host", "a host, with the port of its switch"),
+        ("port", "a port", "1"),
+        ("band", "a level: the switches as far from the root as each other"),
+    )
 
     def __init__(self, files, layout=None):
         self.files, self.network = files, files.network
@@ -91,13 +96,15 @@ class Story:
     def note_tree(self):
         """Says where the tree comes from."""
         whose = "as the program printed it" if self.told_tree else (
-            "worked out by ./view from the network file, with all links up; nothing of it is proved (give what "
-            "autonet expect prints too, and its tree is shown)")
-        self.legend.append(("wire tree", "a link of the spanning tree"))
-        self.legend.append(("wire other", "another link"))
-        self.notes.append(f"The tree is {whose}.")
-        self.notes.append("The small boxes at the ends of links, and at hosts, are ports."
-                          + " Rows name a switch by its number (no.)." * bool(self.numbers))
+            "worked out by this page, with all links up: the program did not print it")
+        self.legend += [
+            ("wire tree", "a link of the spanning tree"),
+            ("wire other", "another link"),
+            ("switch root", "the root of a tree"),
+            *self.SIGNS,
+        ]
+        self.legend += [("text", "the number by which rows name a switch", "no. 3")] * bool(self.numbers)
+        self.notes += [f"The tree is {whose}."] * bool(self.tree)
 
     def put_links(self):
         """The classes and words of links."""

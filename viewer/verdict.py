@@ -20,7 +20,6 @@ class Verdict(Story):
         self.put_switches()
         self.passed()
         self.note_tree()
-        self.notes.append("A channel is a port with a link. It leads to another one if a row takes packets on to that.")
         takers = {"rank": self.rank, "cycle": self.cycle, "pair": self.pair, "exit": self.exit}
         for form, values, _ in self.files.verdict.told:
             kind = form.replace("refused ", "").split()[0]
@@ -34,7 +33,8 @@ class Verdict(Story):
         if self.files.verdict.told[0][0].startswith("rank"):
             falls = "Ranks fall along every way that packets take, so no way leads round, and no cycle closes."
             self.reasons.append(falls)
-            self.notes.append("The rank of a channel is above the ranks of all channels to which it leads.")
+            self.legend.append(("text", "at a channel: its rank, above the ranks of all channels to which it leads", "rank 2"))
+            self.notes.append("A channel leads to another one if some row takes what came by the one out by the other.")
         self.reasons.append("Each exit has a link, and none goes up the tree after a way down.")
 
     def refused(self, words, *reasons, sign="wire red ahead", of_sign="refused: packets go as the arrow shows"):
@@ -58,6 +58,7 @@ class Verdict(Story):
         """Channels that wait for one another in a ring."""
         many, ways = len(channels), listed(f"{switch} by port {port}" for switch, port in channels)
         turns = [self.turn(one, other) for one, other in zip(channels, channels[1:] + channels[:1])]
+        self.legend.append(("text", f"at a channel of the cycle: its place in it", f"1 of {many}"))
         for place, end in enumerate(channels, 1):
             self.put_red(end, f"{place} of {many}")
             self.notes.append(f"Channel {place} of {many}: {end[0]} by port {end[1]}. {turns[place - 1]}")
