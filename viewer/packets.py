@@ -132,6 +132,7 @@ class Flood(Story):
 
     what = "flood"
     lines = 3
+    channels = True
 
     def tell(self):
         """Puts the network, and then each hop."""
@@ -139,12 +140,14 @@ class Flood(Story):
         self.put_switches()
         self.verdict = "plain", "A broadcast from each switch goes up the tree to its root, and down."
         self.note_tree()
-        self.legend.append(("wire hop ahead", "a hop of the broadcast"))
+        self.legend.append(("wire hop ahead", "the newest hop of the broadcast"))
+        self.legend.append(("wire was was-ahead", "an older hop of it"))
+        self.legend.append(("text", "at a port from which it went: by its hop 3", "3"))
         self.legend.append(("text", "the switch that sends it", "broadcast"))
         self.legend.append(("text", "a switch that has got it", "copy"))
         self.notes.append("A root has its copy when the way up ends, every other switch from the hop down to it.")
         self.scene.begin()
-        self.gone = {}
+        self.gone, self.hops, self.newest = {}, 0, None
         self.begins, self.short = {}, []
         self.members = {switch: len(members) for members in components(self.network) for switch in members}
         for form, values, line in self.files.flood.told:
@@ -178,16 +181,20 @@ class Flood(Story):
             self.scene.put(f"link-{k}", "class", f"wire {'tree' if k in self.tree else 'other'}")
         for switch in self.network.switches:
             self.scene.put(f"switch-{switch}-3", "text", "")
-        self.gone = {}
+        for end in self.network.link_at:
+            self.scene.put(f"channel-{end[0]}-{end[1]}", "text", "")
+        self.gone, self.hops, self.newest = {}, 0, None
 
     def hop(self, line, switch, port):
         """The broadcast goes over a link."""
         k = self.network.link_at.get((switch, port))
         if k is None:
             raise line.fault("no link")
-        way = self.network.way((switch, port))
-        self.gone[k] = f"{self.gone[k]} {way}" if k in self.gone else way
-        self.scene.put(f"link-{k}", "class", f"wire hop {self.gone[k]}")
+        self.age()
+        self.newest = k, self.network.way((switch, port))
+        self.scene.put(f"link-{k}", "class", f"{self.older(k)} hop {self.newest[1]}")
+        self.hops += 1
+        self.scene.put(f"channel-{switch}-{port}", "text", str(self.hops))
         far, _ = self.network.far(switch, port)
         kind = line.words[0]
         if kind == "down":
@@ -195,12 +202,25 @@ class Flood(Story):
             self.put_copy(far)
         return f"the broadcast from {self.sender} goes {kind} from {switch} by port {port} to {far}"
 
+    def age(self):
+        """The newest hop is an older one from now on."""
+        if self.newest:
+            k, way = self.newest
+            self.gone.setdefault(k, []).append(way)
+            self.scene.put(f"link-{k}", "class", self.older(k))
+            self.newest = None
+
+    def older(self, k):
+        """How a link is drawn over which older hops went, or none."""
+        return " ".join(["wire", *["was"] * (k in self.gone), *(f"was-{way}" for way in self.gone.get(k, []))])
+
     def put_copy(self, switch):
         """A switch has its copy; the one that sends stays told."""
         self.scene.put(f"switch-{switch}-3", "text", "broadcast · copy" if switch == self.sender else "copy")
 
     def copies(self, _line, many):
         """So many have their copies."""
+        self.age()
         if many != self.members[self.sender]:
             self.short.append(self.sender)
         return f"{plural(many, 'switch')} of the component {'has its copy' if many == 1 else 'have one copy each'}"

@@ -294,11 +294,12 @@ function listen() {
   if (data.strip) byId("strip").addEventListener("click", goToEvent);
 }
 
-// Goes to the last step that is told of an event up to the one under the pointer.
+// Goes to the last step that is told of an event up to the one under the pointer, or of that of a mark.
 function goToEvent(event) {
   const strip = byId("strip"), [left, wide, last] = data.strip;
   const { x } = new DOMPoint(event.clientX, event.clientY).matrixTransform(strip.getScreenCTM().inverse());
-  const place = (x - left) / wide * last;
+  const mark = event.target.closest("[data-place]");
+  const place = mark ? Number(mark.dataset.place) : (x - left) / wide * last;
   go(data.steps.filter((step) => step[2] <= place).length);
 }
 

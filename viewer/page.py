@@ -9,7 +9,7 @@ from textwrap import wrap
 
 from .picture import MARKS, STYLE, Picture, tag, text, title
 from .signs import explained, legend
-from .strip import LEFT, WIDE, Strip
+from .strip import LEFT, WIDE, Strip, strip_words
 
 HERE = Path(__file__).parent
 DENSE = 150
@@ -40,7 +40,8 @@ def page(story):
         counts_hidden="" if counts(story) else "hidden",
         player="" if story.scene.steps else "hidden",
         last=len(story.scene.steps),
-        strip=Strip(story.strip, story.last).svg() if story.strip else "",
+        strip=Strip(story.strip, story.last, story.marks).svg() if story.strip else "",
+        strip_words=escape(strip_words(story.strip, story.marks)) if story.strip else "",
         strip_hidden="" if story.strip else "hidden",
         legend=legend(story),
         notes="".join(f"<li>{escape(note)}</li>" for note in story.notes + explained(story)),

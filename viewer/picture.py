@@ -13,7 +13,7 @@ MARK = (
     '<marker id="arrow-{0}" class="arrow-{0}" viewBox="0 0 10 10" refX="9" refY="5" markerWidth="13" '
     'markerHeight="13" markerUnits="userSpaceOnUse" orient="auto-start-reverse"><path d="M0 0L10 5L0 10z"/></marker>'
 )
-MARKS = f"<defs>{''.join(map(MARK.format, ('red', 'hop', 'lost')))}</defs>"
+MARKS = f"<defs>{''.join(map(MARK.format, ('red', 'was', 'hop', 'lost')))}</defs>"
 
 
 def tag(name, attributes, *inner):

@@ -66,6 +66,8 @@ class Run(Story):
             words = form.split()
             kind = words[1] if words[0] == "LIFE" else words[0]
             self.scene.step(getattr(self, f"at_{kind}")(line, form, *values), kind, self.place)
+            mark = self.mark(form, kind, values)
+            self.marks += [(self.place, *mark)] if mark else []
         self.end_spans()
 
     def tell_words(self):
@@ -380,6 +382,23 @@ class Run(Story):
         return f"{words}, by the table of epoch {epoch}"
 
     # The strip of epochs
+
+    def mark(self, form, kind, values):
+        """What is marked on the strip: failures, repairs, restarts, losses, and packets that are sent, delivered or
+        dropped; of each its kind and words."""
+        if kind in ("fail", "repair"):
+            end = values[0][0], values[1]
+            far = self.network.far(*end)
+            other = far[0] if far else self.network.host_at[end]
+            return "fault", f"cable {end[0]}–{other} {'fails' if kind == 'fail' else 'repaired'}"
+        if kind == "restart":
+            return "fault", f"{values[0][0]} off and on"
+        if kind == "lost":
+            return "lost", f"frame of {values[0][0]} lost"
+        if kind in ("packet", "move"):
+            done = "dropped" if "drop" in form else "sent" if kind == "packet" else "delivered"
+            return None if done == "delivered" and "deliver" not in form else ("packet", f"packet {values[0]} {done}")
+        return None
 
     def span(self, switch):
         """From this place on the switch is in its epoch with its table."""

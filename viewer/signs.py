@@ -5,7 +5,7 @@ from html import escape
 
 from .picture import box, tag, text
 
-ARROWS = {"ahead", "back"}
+ARROWS = {"ahead", "back", "was-ahead", "was-back"}
 CHOSEN = [
     ("ring", "around the switch that is chosen"),
     ("port chosen", "a port of a link of the switch that is chosen"),

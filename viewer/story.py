@@ -41,7 +41,7 @@ class Story:
         self.tables.numbers, self.tables.rows = told.numbers, told.rows
         self.tree = tree_links(self.network, self.tables)
         self.scene = Scene()
-        self.strip, self.last = None, 0
+        self.strip, self.last, self.marks = None, 0, []
         self.verdict = "plain", ""
         self.reasons = []
         self.marked = []
