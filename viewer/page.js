@@ -103,6 +103,8 @@ function mark() {
   });
   byId("chosen-words").textContent = byId(`switch-${chosen}`).getAttribute("aria-label");
   byId("chosen-facts").append(...facts(chosen));
+  const about = byId("chosen-facts").querySelector(".marked");
+  byId("chosen-facts").scrollTop = about ? about.offsetTop - byId("chosen-facts").offsetTop - 40 : 0;
 }
 
 // A ring around a box.

@@ -8,6 +8,7 @@ from .curves import Room, along, at_way, leaves, link_curve, loop_curve, part, p
 
 MARGIN = 26
 CHIP = 20
+RING = 10
 STYLE = Path(__file__).with_name("picture.css").read_text()
 MARK = (
     '<marker id="arrow-{0}" class="arrow-{0}" viewBox="0 0 10 10" refX="9" refY="5" markerWidth="13" '
@@ -161,7 +162,7 @@ class Picture:
         for switch in self.plan.at:
             (x, y), (wide, high) = self.box_of(switch)
             self.reach(x, y, wide + 70 * ((f"tag-{switch}", "text") in self.values), high + 24)
-            self.room.take(x, y, wide, high)
+            self.room.take(x, y, wide + 2 * RING, high + 2 * RING)
             here = [(p, host) for host, (s, p) in self.plan.hosts.items() if s == switch]
             for k, (p, host) in enumerate(sorted(here)):
                 found.append(self.host(switch, p, host, k, len(here)))
@@ -230,8 +231,8 @@ class Picture:
         name = f"channel-{end[0]}-{end[1]}"
         words = self.value(name, "text")
         wide = max(24, len(words) * 6.8)
-        first = max(40, int(0.3 * points[-1][1]))
-        x, y = self.room.first_free(beside(points, wide / 2, 7), range(first, first + 160, 8), wide, 15)
+        first = int(14 + self.port_width / 2)
+        x, y = self.room.first_free(beside(points, wide / 2, 13), range(first, first + 160, 6), wide, 15)
         return text(x, y + 4, words, id=name, **{"class": self.value(name, "class", "channel")})
 
 

@@ -43,6 +43,13 @@ class Verdict(Story):
         self.reasons = list(reasons)
         self.legend.append((sign, of_sign))
 
+    def fade_tree(self):
+        """The verdict is not about the tree, which steps back."""
+        self.legend = [(f"{kind} faint" if kind in ("wire tree", "wire other") else kind, *of) for kind, *of in self.legend]
+        for k in range(len(self.network.links)):
+            old = self.scene.lasting[f"link-{k}", "class"]
+            self.scene.put(f"link-{k}", "class", old if "red" in old else f"{old} faint")
+
     def rank(self, switch, port, rank):
         """A channel has a rank."""
         self.scene.put(f"channel-{switch}-{port}", "text", f"rank {rank}")
@@ -57,6 +64,7 @@ class Verdict(Story):
     def cycle(self, channels):
         """Channels that wait for one another in a ring."""
         many, ways = len(channels), listed(f"{switch} by port {port}" for switch, port in channels)
+        self.fade_tree()
         turns = [self.turn(one, other) for one, other in zip(channels, channels[1:] + channels[:1])]
         self.legend.append(("text", f"at a channel of the cycle: its place in it", f"1 of {many}"))
         for place, end in enumerate(channels, 1):
@@ -97,6 +105,7 @@ class Verdict(Story):
             self.scene.put(f"switch-{switch}-3", "text", f"{old} · {words}" if old else words)
         if entry:
             self.scene.put(f"port-{at}-{entry}", "class", "port red")
+        self.fade_tree()
         why = self.dead_end(other, at, entry)
         self.marked.append([at, entry, str(self.numbers.get(other, 0))])
         if entry:
