@@ -44,6 +44,7 @@ function tell() {
   byId("says").textContent = says;
   byId("where").textContent = `step ${now} of ${data.steps.length}${event}${tick === null ? "" : ` · tick ${tick}`}`;
   slider.value = now;
+  listSteps();
   slider.setAttribute("aria-valuetext", says);
   if (!data.strip) return;
   const x = data.strip[0] + data.strip[1] * place / data.strip[2];
@@ -293,6 +294,7 @@ function listen() {
     zoom(event.deltaY > 0 ? 1.15 : 0.87, x, y);
   }, { passive: false });
   window.addEventListener("hashchange", start);
+  byId("all").addEventListener("toggle", listSteps);
   if (data.strip) byId("strip").addEventListener("click", goToEvent);
 }
 
@@ -303,6 +305,22 @@ function goToEvent(event) {
   const mark = event.target.closest("[data-place]");
   const place = mark ? Number(mark.dataset.place) : (x - left) / wide * last;
   go(data.steps.filter((step) => step[2] <= place).length);
+}
+
+// Fills the list of all steps when it is opened, and brings the present one into it.
+function listSteps() {
+  const steps = byId("steps");
+  if (!byId("all").open) return;
+  if (!steps.children.length) steps.append(...data.steps.map(([says, , place], k) => {
+    const button = made("button", data.strip ? `${says} (event ${place})` : says);
+    button.addEventListener("click", () => go(k + 1));
+    return made("li", button);
+  }));
+  steps.querySelectorAll(".now").forEach((line) => line.classList.remove("now"));
+  if (!now) return;
+  const line = steps.children[now - 1];
+  line.firstChild.classList.add("now");
+  steps.scrollTop = line.offsetTop - steps.offsetTop - 80;
 }
 
 // The list of kinds has those of which there is a step.
