@@ -120,15 +120,16 @@ def in_words(fact):
     """A line of counts in words; none of what the verdict says."""
     form, values = fact
     if form.startswith("read"):
-        rows = f"{values[3]} rows, of which {values[4]} are for LIDs that nobody owns"
-        return f"Read: {plural(values[0], 'switch')}, {plural(values[1], 'end port')}, {plural(values[2], 'link')}, {rows}."
+        parts = [plural(many, one) for many, one in zip(values, ("switch", "end port", "link", "row"))]
+        return f"Read: {', '.join(parts)}, of which {values[4]} are for LIDs that nobody owns."
     if form.startswith("judged"):
         return f"Judged: routes {TRAFFIC.get(values[0], values[0])}."
     if form.startswith("routes"):
         return f"Of {plural(values[0], 'route')} {values[1]} arrive, over {plural(values[2], 'switch')} at most."
     if form.startswith("channels"):
         pairs = plural(values[1], "pair")
-        return f"There are {plural(values[0], 'channel')}, and {pairs} of which some route takes the one and then the other."
+        takes = "of which some route takes the one and then the other"
+        return f"There are {plural(values[0], 'channel')}, and {pairs} {takes}."
     if form.startswith("lost"):
         kinds = zip(("missing", "dead", "wrong", "loop"), values[1:])
         return f"Routes lost: {values[0]}, which are " + ", ".join(f"{many} {kind}" for kind, many in kinds) + "."

@@ -159,7 +159,8 @@ class Flood(Story):
         """Whether all broadcasts came to all switches, and where each begins."""
         many = plural(len(self.begins), "broadcast")
         if self.short:
-            self.verdict = "bad", f"✕ Of {many} not all came to each switch of the component: those from {listed(self.short)}."
+            from_whom = f"those from {listed(self.short)}"
+            self.verdict = "bad", f"✕ Of {many} not all came to each switch of the component: {from_whom}."
         elif self.begins:
             whose = "the broadcast" if len(self.begins) == 1 else f"each of the {many}"
             self.verdict = "good", f"✓ Every switch of the component has one copy of {whose}."

@@ -178,7 +178,8 @@ function targets(name, entry, pairs, names) {
   }
   const last = ways.get("-");
   if (last) { ways.delete("-"); ways.set("-", last); }
-  return list(ways.size ? [...ways].map(([way, whom]) => `${whom.join(", ")}: ${leaves(way)}`) : ["nowhere: the row is empty"]);
+  if (!ways.size) return list(["nowhere: the row is empty"]);
+  return list([...ways].map(([way, whom]) => `${whom.join(", ")}: ${leaves(way)}`));
 }
 
 // By which ports something leaves.
@@ -205,7 +206,8 @@ function missing(label) {
 // Brings a box into the frame. A picture that fits into it stays as it is, or is shown whole; of a larger one a part
 // is shown that has the box in its middle, or near an end of the picture.
 function bring(box) {
-  const share = Math.min(1, 900 / Math.max(whole[2], whole[3])), middle = [box.x + box.width / 2, box.y + box.height / 2];
+  const share = Math.min(1, 900 / Math.max(whole[2], whole[3]));
+  const middle = [box.x + box.width / 2, box.y + box.height / 2];
   if (share === 1) {
     const seen = middle.every((at, k) => view[k] < at && at < view[k] + view[k + 2]);
     return seen ? undefined : look(whole[0], whole[1], 1);

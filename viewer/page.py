@@ -43,7 +43,7 @@ def page(story):
         strip=Strip(story.strip, story.last, story.marks).svg() if story.strip else "",
         strip_words=escape(strip_words(story.strip, story.marks)) if story.strip else "",
         strip_hidden="" if story.strip else "hidden",
-        legend=legend(story),
+        legend=legend(story, bool(dense)),
         notes="".join(f"<li>{escape(note)}</li>" for note in story.notes + explained(story)),
         tells="its ports and rows" if has_rows(story) else "its ports",
         names="".join(f'<option value="{escape(story.plan.label(name))}">' for name in story.plan.at),

@@ -162,7 +162,7 @@ class Picture:
         for switch in self.plan.at:
             (x, y), (wide, high) = self.box_of(switch)
             self.reach(x, y, wide + 70 * ((f"tag-{switch}", "text") in self.values), high + 24)
-            self.room.take(x, y, wide + 2 * RING, high + 2 * RING)
+            self.room.take(x, y, wide, high)
             here = [(p, host) for host, (s, p) in self.plan.hosts.items() if s == switch]
             for k, (p, host) in enumerate(sorted(here)):
                 found.append(self.host(switch, p, host, k, len(here)))
@@ -231,9 +231,17 @@ class Picture:
         name = f"channel-{end[0]}-{end[1]}"
         words = self.value(name, "text")
         wide = max(24, len(words) * 6.8)
-        first = int(14 + self.port_width / 2)
-        x, y = self.room.first_free(beside(points, wide / 2, 13), range(first, first + 160, 6), wide, 15)
+        first, spots = int(14 + self.port_width / 2), beside(points, wide / 2, 13)
+        clear = (way for way in range(first, first + 60, 6) if self.is_clear(end[0], at_way(spots, way), wide))
+        first = next(clear, first)
+        x, y = self.room.first_free(spots, range(first, first + 160, 6), wide, 15)
         return text(x, y + 4, words, id=name, **{"class": self.value(name, "class", "channel")})
+
+    def is_clear(self, switch, spot, wide):
+        """Whether words of this width there leave room for a ring around the box of a switch."""
+        (x, y), (box_wide, box_high) = self.box_of(switch)
+        beside_it = abs(spot[0] - x) >= (wide + box_wide) / 2 + RING
+        return beside_it or abs(spot[1] - y) >= (15 + box_high) / 2 + RING
 
 
 def beside(points, wide, high):

@@ -90,12 +90,12 @@ class Run(Story):
         ]
         self.legend += [("text", "packet 2 is at this switch, or on the way to it", "✉ 2")] * bool(self.sent)
         self.notes += [
-            "An event is one thing that a switch, a cable, a host or the clock does. A step of the slider is a line that the "
-            "program printed of an event, which may have none or several. A frame is what switches send each other, a packet what "
-            "hosts send. A tick is one beat of the network's clock.",
+            "An event is one thing that a switch, a cable, a host or the clock does. A step of the slider is a line that "
+            "the program printed of an event, which may have none or several. A frame is what switches send each other, "
+            "a packet what hosts send. A tick is one beat of the network's clock.",
             "An epoch is one agreement of the switches on how they are cabled. A switch whose links changed begins "
-            "the next epoch, and those that hear of it join it. To load is to bring the routes of an epoch into use. Parts "
-            "that no cable joins can have epochs of one number, which have nothing to do with each other.",
+            "the next epoch, and those that hear of it join it. To load is to bring the routes of an epoch into use. "
+            "Parts that no cable joins can have epochs of one number, which have nothing to do with each other.",
             "A box has the switch, its epoch, and the table in use with the switch's own number (no.) in it.",
         ]
         if self.plan.bands:

@@ -9,6 +9,7 @@ ARROWS = {"ahead", "back", "was-ahead", "was-back"}
 CHOSEN = [
     ("ring", "around the switch that is chosen"),
     ("port chosen", "a port of a link of the switch that is chosen"),
+    ("wire chosen", "a link of the switch that is chosen"),
 ]
 WORDS = {
     "component": "A component is a set of switches that links join, directly or by way of others.",
@@ -17,11 +18,13 @@ WORDS = {
 }
 
 
-def legend(story):
-    """The lines of the legend: the signs that are used in the picture of a story, at first or after some step."""
+def legend(story, is_dense):
+    """The lines of the legend: the signs that are used in the picture of a story, at first or after some step; in a
+    dense one links of a switch that is chosen have a colour."""
     classes = used_classes(story)
     signs = [sign for sign in story.legend if is_used(sign[0], classes)]
-    return "".join(line(*sign) for sign in signs + CHOSEN[: len(story.plan.at) and (2 if story.network.links else 1)])
+    chosen = 0 if not story.plan.at else 1 if not story.network.links else 3 if is_dense else 2
+    return "".join(line(*sign) for sign in signs + CHOSEN[:chosen])
 
 
 def used_classes(story):

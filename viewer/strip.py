@@ -53,7 +53,8 @@ class Strip:
 
     def ticks(self):
         """The events of which the numbers stand below, at round distances, and the last one."""
-        by = next(by for power in range(20) for by in (10**power, 2 * 10**power, 5 * 10**power) if by * TICKS >= self.last)
+        round_ones = (digit * 10**power for power in range(20) for digit in (1, 2, 5))
+        by = next(by for by in round_ones if by * TICKS >= self.last)
         return [place for place in range(0, self.last, by) if self.last - place > by / 3] + [self.last]
 
     def line(self, k, place, kind, high):

@@ -33,7 +33,8 @@ class Verdict(Story):
         if self.files.verdict.told[0][0].startswith("rank"):
             falls = "Ranks fall along every way that packets take, so no way leads round, and no cycle closes."
             self.reasons.append(falls)
-            self.legend.append(("text", "at a channel: its rank, above the ranks of all channels to which it leads", "rank 2"))
+            words = "at a channel: its rank, above the ranks of all channels to which it leads"
+            self.legend.append(("text", words, "rank 2"))
             self.notes.append("A channel leads to another one if some row takes what came by the one out by the other.")
         self.reasons.append("Each exit has a link, and none goes up the tree after a way down.")
 
@@ -45,7 +46,8 @@ class Verdict(Story):
 
     def fade_tree(self):
         """The verdict is not about the tree, which steps back."""
-        self.legend = [(f"{kind} faint" if kind in ("wire tree", "wire other") else kind, *of) for kind, *of in self.legend]
+        faint = {kind: f"{kind} faint" for kind in ("wire tree", "wire other")}
+        self.legend = [(faint.get(kind, kind), *of) for kind, *of in self.legend]
         for k in range(len(self.network.links)):
             old = self.scene.lasting[f"link-{k}", "class"]
             self.scene.put(f"link-{k}", "class", old if "red" in old else f"{old} faint")
@@ -84,7 +86,8 @@ class Verdict(Story):
         both = [number for number in onward if any(p in exits.get(number, []) for exits in before)]
         self.marked.append([t, entry, (both or onward or ["0"])[0]])
         if both:
-            return f"Rows let what is for {self.target(s, both[0])} out of {s} by port {p}, and then out of {t} by port {q}."
+            target = self.target(s, both[0])
+            return f"Rows let what is for {target} out of {s} by port {p}, and then out of {t} by port {q}."
         if onward:
             came = f"what came into {t} by port {entry} and is for {self.target(t, onward[0])}"
             return f"A row lets {came} out by port {q}."
@@ -143,7 +146,7 @@ class Verdict(Story):
         self.marked.append([switch, entry, str(number)])
         came = self.came(switch, entry) if entry else "what comes from the switch itself"
         may = f"At {switch} {came} and is for {self.target(switch, number)} may leave by port {port}"
-        words = f"{switch} has an exit up the tree for what came down" if has_link else f"{switch} has an exit without a link"
+        words = f"{switch} has an exit " + ("up the tree for what came down" if has_link else "without a link")
         why = "which goes up the tree after a way down" if has_link else "which has no link"
         sign = {} if has_link else {"sign": "port red", "of_sign": "refused: the ports by which it comes and leaves"}
         self.refused(words, f"{may}, {why}.", "Only the first fault is told.", **sign)
