@@ -190,7 +190,7 @@ class Judgement:
         elif kind == "name":
             self.names[values[0]] = " ".join(values[1])
         else:
-            self.facts.append(line.text.strip())
+            self.facts.append((JUDGED[which], values))
 
     def take_channel(self, line, switch, port, lid, source):
         """Takes a channel of the cycle."""

@@ -47,16 +47,16 @@ class Judged(Story):
             self.scene.put(f"switch-{at}", "class", "switch red")
             ends = self.plan.label(source), self.plan.label(at)
             self.notes.append(f"Lost ({cause}): what {ends[0]} sends to LID {lid}, at {ends[1]}.")
-        self.headline = self.of_fabric()
+        self.judge()
         if self.cycle:
             red = "a channel of the cycle, with the LID of a route that takes it and the next"
             self.legend.append(("wire red ahead", red))
-            self.legend.append(("wire", "another link between switches of the cycle"))
+        self.legend.append(("wire", "another link between switches of the cycle" if self.cycle else "a link"))
         if self.judgement and self.judgement.lost:
             self.legend.append(("switch red", "a switch where a route is lost"))
-        if self.cycle:
-            self.notes.append("All was judged on one lane. If the routing engine uses several, this does not settle it.")
-        self.notes += [f"Printed: {fact}" for fact in self.judgement.facts] if self.judgement else []
+        self.legend.append(("port", "a port", "1"))
+        facts = self.judgement.facts if self.judgement else []
+        self.notes += [fact for fact in map(in_words, facts) if fact]
         self.scene.begin()
 
     def put_switch(self, switch):
@@ -70,7 +70,7 @@ class Judged(Story):
         others = [end for end in [*far, *self.network.host_at] if end[0] == switch and end not in drawn]
         for end in drawn:
             self.put_port(end)
-        self.scene.put(f"rows-{switch}", "text", "\n".join(map(self.port_words, sorted(others))))
+        self.scene.put(f"more-{switch}", "text", "\n".join(map(self.port_words, sorted(others))))
 
     def note_channel(self, place, end, source, lid):
         """A channel of the cycle in words."""
@@ -78,24 +78,62 @@ class Judged(Story):
         route = f"a route that takes it and the next one goes to LID {lid} from {self.plan.label(source)}"
         self.notes.append(f"Channel {place} of {of}: {at} by port {end[1]}; {route}.")
 
-    def of_fabric(self):
-        """What was judged, in sentences."""
+    def of_network(self):
+        """What was judged, in a sentence."""
         net = self.network
         switches, links = plural(len(net.switches), "switch"), plural(len(net.links), "link")
         words = f"A fabric of {switches}, {links} between them and {plural(len(net.hosts), 'end port')}."
+        left = len(net.switches) - len(self.plan.at)
+        others = "The other switch is" if left == 1 else f"The other {left} switches are"
+        return f"{words} {others} not drawn." if left else words
+
+    def judge(self):
+        """The verdict, with the lane on which all was judged."""
+        self.verdict = "plain", self.of_network()
         if not self.judgement:
-            return words
+            return
+        lost = sum(values[0] for form, values in self.judgement.facts if form.startswith("lost"))
+        ends = f"{plural(lost, 'route')} {'is' if lost == 1 else 'are'} lost"
         if self.cycle:
-            left = len(net.switches) - len(self.plan.at)
-            others = "The other switch is" if left == 1 else f"The other {left} switches are"
-            rest = f" {others} not drawn." if left else ""
-            names = listed(self.plan.label(end[0]) for end, _, _ in self.cycle)
             many = plural(len(self.cycle), "channel")
-            why = "in which each can wait for the next"
-            loop = f"a credit loop, which is a cycle of {many}, {why}"
-            return f"{words} Its tables make {loop}: {names}, and round again.{rest}"
-        lost = " Some routes are lost." if self.judgement.lost else ""
-        return f"{words} Its tables make no credit loop.{lost}"
+            names = listed(f"{self.plan.label(end[0])} by port {end[1]}" for end, _, _ in self.cycle)
+            self.verdict = "bad", f"✕ Judged on one lane, the tables make a credit loop of {many}."
+            self.reasons += [
+                "If the routing engine uses several lanes, this does not settle it.",
+                f"In a credit loop each channel can wait for the next: {names}, and round again. For each step a route "
+                "is told that takes a channel and then the next."]
+            self.reasons += [f"And {ends}."] * bool(lost)
+        elif lost:
+            self.verdict = "bad", f"✕ {ends[0].upper()}{ends[1:]}; judged on one lane, there is no credit loop."
+        else:
+            self.verdict = "good", "✓ Judged on one lane, the tables make no credit loop, and all routes arrive."
+
+
+TRAFFIC = {
+    "hosts": "from end ports to end ports",
+    "lids": "from end ports to end ports and switches",
+    "all": "from end ports and switches to both",
+}
+
+
+def in_words(fact):
+    """A line of counts in words; none of what the verdict says."""
+    form, values = fact
+    if form.startswith("read"):
+        parts = [plural(many, one) for many, one in zip(values, ("switch", "end port", "link", "row"))]
+        return f"Read: {', '.join(parts)}, of which {values[4]} are for LIDs that nobody owns."
+    if form.startswith("judged"):
+        return f"Judged: routes {TRAFFIC.get(values[0], values[0])}."
+    if form.startswith("routes"):
+        return f"Of {plural(values[0], 'route')} {values[1]} arrive, over {plural(values[2], 'switch')} at most."
+    if form.startswith("channels"):
+        pairs = plural(values[1], "pair")
+        takes = "of which some route takes the one and then the other"
+        return f"There are {plural(values[0], 'channel')}, and {pairs} {takes}."
+    if form.startswith("lost"):
+        kinds = zip(("missing", "dead", "wrong", "loop"), values[1:])
+        return f"Routes lost: {values[0]}, which are " + ", ".join(f"{many} {kind}" for kind, many in kinds) + "."
+    return None
 
 
 def short(name):

@@ -1,6 +1,7 @@
 """What `flow` and `flood` print: packets in channels, and the hops of a broadcast, step by step."""
 
 from .story import Story, listed, plural
+from .tables import components
 
 
 class Flow(Story):
@@ -20,9 +21,15 @@ class Flow(Story):
             self.wait(place, sender, target)
         self.put_waiting()
         self.tell_count()
+        self.verdict = "plain", f"{plural(len(self.network.sends), 'packet')} to send."
+        self.reasons.append(self.who_sends(enumerate(self.network.sends, 1)))
         self.note_tree()
         self.legend.append(("wire hop ahead", "the packet that moved last"))
-        self.notes.append("▸ 3, 5 at a port: the channel that leaves there holds packets 3 and 5, and 3 goes first.")
+        moves = any(form.startswith("move") for form, _, _ in self.files.flow.told)
+        self.legend += [("text", "at a channel: it holds packets 3 and 5, and 3 goes first", "▸ 3, 5")] * moves
+        self.legend.append(("host got", "a host to which a packet comes now"))
+        self.notes.append("Each channel has room for some packets. One packet moves in a step: the first of a channel, or "
+                          "one that waits to enter, if there is room for it or it is at its target.")
         self.scene.begin()
         takers = {"local": self.local, "unjoined": self.unjoined, "move": self.move, "arrive": self.arrive}
         for form, values, line in self.files.flow.told:
@@ -70,7 +77,6 @@ class Flow(Story):
         outside = plural(sum(map(len, self.waiting.values())), "packet")
         words = f"{outside} not yet in, {inside} in channels, {self.arrived} arrived"
         self.scene.put("count", "text", words)
-        self.headline = self.of_network() + f" {plural(len(self.network.sends), 'packet')} to send."
 
     def move(self, line, packet, switch, port):
         """A packet goes into a channel."""
@@ -112,9 +118,13 @@ class Flow(Story):
 
     def end(self, _line, moves, arrived, local, unjoined):
         """All moves are done."""
-        words = f"{plural(moves, 'move')}, {arrived} arrived, {local} within one switch, {unjoined} between hosts that no way joins"
-        self.headline = f"{self.of_network()} {plural(len(self.network.sends), 'packet')} to send: {words}."
-        return f"the end: {words}"
+        sent = len(self.network.sends)
+        words = [f"{arrived} of {plural(sent, 'packet')} arrived, with {plural(moves, 'move')} into channels"]
+        words += [f"{local} needed no channel, since both hosts are at one switch"] * bool(local)
+        words += [f"{unjoined} could not enter, since no way joins the hosts"] * bool(unjoined)
+        good = sent and arrived + local == sent
+        self.verdict = "good" if good else "plain", "✓ " * bool(good) + "; ".join(words) + "."
+        return f"the end: {'; '.join(words)}"
 
 
 class Flood(Story):
@@ -122,24 +132,46 @@ class Flood(Story):
 
     what = "flood"
     lines = 3
+    channels = True
 
     def tell(self):
         """Puts the network, and then each hop."""
         self.put_links()
         self.put_switches()
-        self.headline = self.of_network() + " A broadcast from each switch goes up the tree to its root, and down."
+        self.verdict = "plain", "A broadcast from each switch goes up the tree to its root, and down."
         self.note_tree()
-        self.legend.append(("wire hop ahead", "a hop of the broadcast"))
-        self.notes.append("A box says broadcast at the switch that sends it, and copy at each that has got it.")
+        self.legend.append(("wire hop ahead", "the newest hop of the broadcast"))
+        self.legend.append(("wire was was-ahead", "an older hop of it"))
+        self.legend.append(("text", "at a port from which it went: by its hop 3", "3"))
+        self.legend.append(("text", "the switch that sends it", "broadcast"))
+        self.legend.append(("text", "a switch that has got it", "copy"))
+        self.notes.append("A root has its copy when the way up ends, every other switch from the hop down to it.")
         self.scene.begin()
-        self.gone = {}
+        self.gone, self.hops, self.newest = {}, 0, None
+        self.begins, self.short = {}, []
+        self.members = {switch: len(members) for members in components(self.network) for switch in members}
         for form, values, line in self.files.flood.told:
             taker = {"flood": self.flood, "copies": self.copies, "end": self.end}.get(form.split()[0], self.hop)
             self.scene.step(taker(line, *values), form.split()[0], len(self.scene.steps) + 1)
+        self.tell_end()
+
+    def tell_end(self):
+        """Whether all broadcasts came to all switches, and where each begins."""
+        many = plural(len(self.begins), "broadcast")
+        if self.short:
+            from_whom = f"those from {listed(self.short)}"
+            self.verdict = "bad", f"✕ Of {many} not all came to each switch of the component: {from_whom}."
+        elif self.begins:
+            whose = "the broadcast" if len(self.begins) == 1 else f"each of the {many}"
+            self.verdict = "good", f"✓ Every switch of the component has one copy of {whose}."
+        self.reasons.append("Each goes up the tree to its root, and from there down.")
+        begins = listed((f"from {switch} at step {step}" for switch, step in self.begins.items()), 8)
+        self.reasons += [f"They begin: {begins}."] * bool(self.begins)
 
     def flood(self, _line, switch):
         """A broadcast begins."""
         self.clear()
+        self.begins[switch] = len(self.scene.steps) + 1
         self.scene.put(f"switch-{switch}-3", "text", "broadcast")
         self.sender = switch
         return f"a broadcast from {switch}"
@@ -150,16 +182,20 @@ class Flood(Story):
             self.scene.put(f"link-{k}", "class", f"wire {'tree' if k in self.tree else 'other'}")
         for switch in self.network.switches:
             self.scene.put(f"switch-{switch}-3", "text", "")
-        self.gone = {}
+        for end in self.network.link_at:
+            self.scene.put(f"channel-{end[0]}-{end[1]}", "text", "")
+        self.gone, self.hops, self.newest = {}, 0, None
 
     def hop(self, line, switch, port):
         """The broadcast goes over a link."""
         k = self.network.link_at.get((switch, port))
         if k is None:
             raise line.fault("no link")
-        way = self.network.way((switch, port))
-        self.gone[k] = f"{self.gone[k]} {way}" if k in self.gone else way
-        self.scene.put(f"link-{k}", "class", f"wire hop {self.gone[k]}")
+        self.age()
+        self.newest = k, self.network.way((switch, port))
+        self.scene.put(f"link-{k}", "class", f"{self.older(k)} hop {self.newest[1]}")
+        self.hops += 1
+        self.scene.put(f"channel-{switch}-{port}", "text", str(self.hops))
         far, _ = self.network.far(switch, port)
         kind = line.words[0]
         if kind == "down":
@@ -167,12 +203,27 @@ class Flood(Story):
             self.put_copy(far)
         return f"the broadcast from {self.sender} goes {kind} from {switch} by port {port} to {far}"
 
+    def age(self):
+        """The newest hop is an older one from now on."""
+        if self.newest:
+            k, way = self.newest
+            self.gone.setdefault(k, []).append(way)
+            self.scene.put(f"link-{k}", "class", self.older(k))
+            self.newest = None
+
+    def older(self, k):
+        """How a link is drawn over which older hops went, or none."""
+        return " ".join(["wire", *["was"] * (k in self.gone), *(f"was-{way}" for way in self.gone.get(k, []))])
+
     def put_copy(self, switch):
         """A switch has its copy; the one that sends stays told."""
         self.scene.put(f"switch-{switch}-3", "text", "broadcast · copy" if switch == self.sender else "copy")
 
     def copies(self, _line, many):
-        """All have their copies."""
+        """So many have their copies."""
+        self.age()
+        if many != self.members[self.sender]:
+            self.short.append(self.sender)
         return f"{plural(many, 'switch')} of the component {'has its copy' if many == 1 else 'have one copy each'}"
 
     def end(self, _line):

@@ -7,14 +7,16 @@ from pathlib import Path
 from string import Template
 from textwrap import wrap
 
-from .picture import MARKS, STYLE, Picture, box, tag, text, title
-from .strip import LEFT, WIDE, Strip
+from .picture import MARKS, STYLE, Picture, tag, text, title
+from .signs import explained, legend
+from .strip import LEFT, WIDE, Strip, strip_words
 
 HERE = Path(__file__).parent
 DENSE = 150
 GAP = 40
 CAPTION = 44
 LEAST = 900, 520
+CHOSEN_TELLS = "rows", "names", "more"
 
 
 def picture_of(story, many=0):
@@ -25,21 +27,25 @@ def picture_of(story, many=0):
 def page(story):
     """The whole page."""
     dense = "dense" if len(story.network.links) > DENSE else ""
-    about = {"id": "picture", "role": "group", "class": dense, "aria-label": story.headline}
+    about = {"id": "picture", "role": "group", "class": dense, "aria-label": story.words()}
     svg, _, _ = picture_of(story).svg(LEAST, **about)
     return Template((HERE / "page.html").read_text()).substitute(
-        title=escape(f"{story.what}: {' and '.join(Path(name).name for name in story.files.names)}"),
-        headline=escape(story.headline),
+        title=escape(heading(story)),
+        verdict_kind=story.verdict[0],
+        verdict=escape(story.verdict[1]),
+        reasons=escape(story.words().replace(story.verdict[1], "", 1).strip()),
         style=STYLE + (HERE / "page.css").read_text(),
         marks=f'<svg width="0" height="0" aria-hidden="true">{MARKS}</svg>',
         picture=svg,
         counts_hidden="" if counts(story) else "hidden",
         player="" if story.scene.steps else "hidden",
         last=len(story.scene.steps),
-        strip=Strip(story.strip, story.last).svg() if story.strip else "",
+        strip=Strip(story.strip, story.last, story.marks).svg() if story.strip else "",
+        strip_words=escape(strip_words(story.strip, story.marks)) if story.strip else "",
         strip_hidden="" if story.strip else "hidden",
-        legend="".join(legend_row(*row) for row in story.legend),
-        notes="".join(f"<li>{escape(note)}</li>" for note in story.notes),
+        legend=legend(story, bool(dense)),
+        notes="".join(f"<li>{escape(note)}</li>" for note in story.notes + explained(story)),
+        tells="its ports and rows" if has_rows(story) else "its ports",
         names="".join(f'<option value="{escape(story.plan.label(name))}">' for name in story.plan.at),
         counts="".join(f'<p id="{slot}">{escape(value)}</p>' for slot, value in counts(story)),
         data=data(story),
@@ -47,18 +53,23 @@ def page(story):
     )
 
 
+def heading(story):
+    """What is shown, and of which files: one that has no name of its own goes by that of its folder."""
+    names = [Path(name) for name in story.files.names]
+    own = [name.parent.name if name.name in ("-", "stdin", "stdout") else name.name for name in names]
+    named = " and ".join(dict.fromkeys(name for name in own if name))
+    return f"{story.what}: {named}" if named else story.what
+
+
+def has_rows(story):
+    """Whether rows of some switch are told."""
+    return any(element.startswith("rows-") for element, _ in story.scene.first)
+
+
 def counts(story):
     """The lines of counts below the slider, with what they say at first."""
     first = story.scene.first
     return [(slot, first[slot, "text"]) for slot in ("epochs", "count") if (slot, "text") in first]
-
-
-def legend_row(kind, words):
-    """A line of the legend: how something is drawn, and what it is."""
-    shape = '<path class="line" d="M4 9L52 9"/>' if kind.startswith("wire") else box(28, 9, 44, 13, rx=4)
-    drawn = f'<g class="{kind}">{shape}</g>'
-    sample = f'<svg viewBox="0 0 60 18" width="60" height="18" aria-hidden="true">{drawn}</svg>'
-    return f"<div>{sample} {escape(words)}</div>"
 
 
 def data(story):
@@ -79,15 +90,18 @@ def data(story):
         "steps": steps,
         "links": [[list(one), list(other)] for one, other in story.network.links],
         "switches": {story.plan.label(name): name for name in story.plan.at},
+        "hosts": [[story.plan.label(host), *end] for host, end in story.plan.hosts.items()],
+        "marked": story.marked,
+        "undrawn": [story.plan.label(name) for name in story.network.switches if name not in story.plan.at],
         "strip": [LEFT, WIDE, story.last] if story.strip else None,
     }
     return json.dumps(found, separators=(",", ":")).replace("</", "<\\/")
 
 
 def all_slots(scene):
-    """The slots that the page's script needs: those that change, and the rows of switches."""
+    """The slots that the page's script needs: those that change, and what is told of a switch that is chosen."""
     changed = [slot for step in scene.steps for slot, _, _ in step["changes"]]
-    return dict.fromkeys([slot for slot in scene.first if slot[0].startswith("rows-")] + changed)
+    return dict.fromkeys([slot for slot in scene.first if slot[0].split("-")[0] in CHOSEN_TELLS] + changed)
 
 
 def tick(story, step):
@@ -108,7 +122,7 @@ def pictures(story, places):
         left, low = left + wide + GAP, max(low, top + high)
     about = {"xmlns": "http://www.w3.org/2000/svg", "viewBox": f"0 0 {left - GAP:.0f} {low:.0f}",
              "width": f"{left - GAP:.0f}", "role": "img"}
-    return tag("svg", about, title(story.headline), f"<style>{STYLE}</style>", MARKS, *drawn) + "\n"
+    return tag("svg", about, title(story.words()), f"<style>{STYLE}</style>", MARKS, *drawn) + "\n"
 
 
 def placed(svg, x, y, wide, high):

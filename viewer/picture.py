@@ -8,12 +8,13 @@ from .curves import Room, along, at_way, leaves, link_curve, loop_curve, part, p
 
 MARGIN = 26
 CHIP = 20
+RING = 10
 STYLE = Path(__file__).with_name("picture.css").read_text()
 MARK = (
     '<marker id="arrow-{0}" class="arrow-{0}" viewBox="0 0 10 10" refX="9" refY="5" markerWidth="13" '
     'markerHeight="13" markerUnits="userSpaceOnUse" orient="auto-start-reverse"><path d="M0 0L10 5L0 10z"/></marker>'
 )
-MARKS = f"<defs>{''.join(map(MARK.format, ('red', 'hop', 'lost')))}</defs>"
+MARKS = f"<defs>{''.join(map(MARK.format, ('red', 'was', 'hop', 'lost')))}</defs>"
 
 
 def tag(name, attributes, *inner):
@@ -230,9 +231,17 @@ class Picture:
         name = f"channel-{end[0]}-{end[1]}"
         words = self.value(name, "text")
         wide = max(24, len(words) * 6.8)
-        first = max(40, int(0.3 * points[-1][1]))
-        x, y = self.room.first_free(beside(points, wide / 2, 7), range(first, first + 160, 8), wide, 15)
+        first, spots = int(14 + self.port_width / 2), beside(points, wide / 2, 13)
+        clear = (way for way in range(first, first + 60, 6) if self.is_clear(end[0], at_way(spots, way), wide))
+        first = next(clear, first)
+        x, y = self.room.first_free(spots, range(first, first + 160, 6), wide, 15)
         return text(x, y + 4, words, id=name, **{"class": self.value(name, "class", "channel")})
+
+    def is_clear(self, switch, spot, wide):
+        """Whether words of this width there leave room for a ring around the box of a switch."""
+        (x, y), (box_wide, box_high) = self.box_of(switch)
+        beside_it = abs(spot[0] - x) >= (wide + box_wide) / 2 + RING
+        return beside_it or abs(spot[1] - y) >= (15 + box_high) / 2 + RING
 
 
 def beside(points, wide, high):

@@ -1,8 +1,8 @@
 """A run, as `run` and `replay` print it: epochs, what ports show, tables, cables, packets, frames lost."""
 
-from .story import ROWS, Story, listed, plural
+from .story import Story, listed, plural
 
-SIGNS = {
+STATES = {
     "s.dead": ("✕", "dead"),
     "s.checking": ("…", "checking"),
     "s.host": ("h", "a host's"),
@@ -18,6 +18,7 @@ class Run(Story):
 
     what = "run"
     lines = 3
+    SIGNS = [sign for sign in Story.SIGNS if sign[0] != "port"]
     port_width = 27
 
     def tell(self):
@@ -29,9 +30,11 @@ class Run(Story):
         self.port = {end: ("s.dead", None) for end in [*net.link_at, *net.host_at]}
         self.down = set()
         self.lost, self.sent, self.delivered, self.dropped = {}, 0, 0, 0
-        self.here = {}
+        self.here, self.packets = {}, {}
+        self.epochs, self.states = set(), {"s.dead"} if self.port else set()
         self.spans, self.place = {switch: [] for switch in net.switches}, 0
         self.faults = []
+        self.names, self.finished = self.all_names(), {}
         for switch in net.switches:
             self.put_switch(switch)
             self.put_packets(switch)
@@ -45,6 +48,16 @@ class Run(Story):
         self.strip = self.spans
         self.tell_words()
 
+    def all_names(self):
+        """The numbers and names of each epoch under its root, by the loads of the whole run."""
+        finished, found = {}, {}
+        for form, values, _ in self.files.report.lines.told:
+            if form.startswith("LIFE finish"):
+                finished[values[0]] = tuple(values[1:3])
+            elif form.startswith("LIFE load") and values[0] in finished:
+                found.setdefault(finished[values[0]], {})[values[2]] = named(values[0])
+        return {of: " ".join(f"{number} {names[number]}" for number in sorted(names)) for of, names in found.items()}
+
     def tell_lines(self):
         """A step for each line of the report, by the word that is its own."""
         report = self.files.report
@@ -53,38 +66,98 @@ class Run(Story):
             words = form.split()
             kind = words[1] if words[0] == "LIFE" else words[0]
             self.scene.step(getattr(self, f"at_{kind}")(line, form, *values), kind, self.place)
+            mark = self.mark(form, kind, values)
+            self.marks += [(self.place, *mark)] if mark else []
         self.end_spans()
 
     def tell_words(self):
-        """The headline, and what signs mean."""
-        ended = " It ended {} at tick {} after {} events.".format(*self.files.report.end)
-        faults = f" {' '.join(self.faults[:3])}" if self.faults else ""
-        parts = plural(len(self.network.switches), "switch"), plural(len(self.network.links), "link")
-        self.headline = (
-            f"A run of {parts[0]} and {parts[1]}.{faults} {plural(self.sent, 'packet')} sent, "
-            f"{self.delivered} delivered; {plural(sum(self.lost.values()), 'frame')} lost.{ended}")
+        """How it ended, and what signs mean."""
+        self.tell_end()
         self.legend += [
             ("wire good", "a link that is good at both ends"),
             ("wire asked", "a link of which an end is not good (yet)"),
             ("wire down", "a cable that failed"),
             ("wire hop ahead", "the hop of a packet"),
             ("wire lost ahead", "a frame that is lost"),
-            ("switch epoch-2", "a switch in the colour of its epoch"),
-            ("switch epoch-2 no-table", "a switch that uses no table"),
+            *self.epoch_signs(),
+            ("switch no-table", "a switch that uses no table"),
+            ("switch spent", "a switch for which no epoch is left"),
+            *self.SIGNS,
             ("host got", "a host that sends or gets a packet now"),
+            *[("port", f"a port with its number: {words}", f"1 {sign}")
+              for state, (sign, words) in STATES.items() if state in self.states],
+            ("port red", "a port at which what comes is no frame"),
         ]
+        self.legend += [("text", "packet 2 is at this switch, or on the way to it", "✉ 2")] * bool(self.sent)
         self.notes += [
-            "An event is one step of a switch, a cable or a host. A frame is what switches send each other, a packet what "
-            "hosts send. A tick is one beat of the network's clock.",
+            "An event is one thing that a switch, a cable, a host or the clock does. A step of the slider is a line that "
+            "the program printed of an event, which may have none or several. A frame is what switches send each other, "
+            "a packet what hosts send. A tick is one beat of the network's clock.",
             "An epoch is one agreement of the switches on how they are cabled. A switch whose links changed begins "
-            "the next epoch, and those that hear of it join it. To load is to bring the routes of an epoch into use.",
-            "At a port stand its number and a sign: "
-            + ", ".join(f"{sign} {words}" for sign, words in SIGNS.values()) + ".",
-            "A box has the switch, its epoch, and the table in use with the switch's own number (no.) in it. "
-            "✉ 2 beside it: packet 2 is there, or on the way to it.",
-            "Levels are those of the tree with all links up, and stay so: the tree of an epoch is not in the report, "
-            "but its root is, in the step in which a switch has finished the epoch.",
+            "the next epoch, and those that hear of it join it. To load is to bring the routes of an epoch into use. "
+            "Parts that no cable joins can have epochs of one number, which have nothing to do with each other.",
+            "A box has the switch, its epoch, and the table in use with the switch's own number (no.) in it.",
         ]
+        if self.plan.bands:
+            self.notes.append(
+                "Levels are those of the tree with all links up, and stay so: the tree of an epoch is not in the report, "
+                "but its root is, in the step in which a switch has finished the epoch.")
+        if self.files.report.end[0] != "settled":
+            self.notes.append("Settled means that nothing is left to do, and every port shows what is at its link.")
+        lives = [values[0] for form, values, _ in self.files.report.lines.told if form == "restart LIFE"]
+        if lives:
+            now = named(lives[0])
+            self.notes.append(f"{now} is {lives[0][0]} in its life {lives[0][1]}: each time that a switch is switched off "
+                              "and on, another life begins.")
+
+    def epoch_signs(self):
+        """The signs of the epochs, each colour with all that have it."""
+        shown = {}
+        for epoch in sorted(self.epochs):
+            shown.setdefault((epoch - 1) % TINTS + 1, []).append(epoch)
+        return [(f"switch epoch-{tint}", f"a switch in epoch {listed(epochs, 5)}") for tint, epochs in shown.items()]
+
+    def tell_end(self):
+        """How the run ended, and what happened in it."""
+        end, tick, events = self.files.report.end
+        self.tell_verdict(end)
+        self.reasons += self.faults[:3]
+        self.reasons += [f"{len(self.faults) - 3} more faults and repairs are in the steps."] * (len(self.faults) > 3)
+        self.reasons.append(self.who_sends((packet, ends) for packet, ends in self.packets.items()))
+        sent = f"{plural(self.sent, 'packet')} sent, {self.delivered} delivered, {self.dropped} dropped"
+        lost = f"{plural(sum(self.lost.values()), 'frame')} lost"
+        self.reasons.append(f"{sent}; {lost}. The end is at tick {tick}, after {plural(events, 'event')}.")
+        self.reasons = [reason for reason in self.reasons if reason]
+
+    def tell_verdict(self, end):
+        """What an end says of the network: whether it is settled, and in how many parts."""
+        parts = [listed(part, 6) + " alone" * (len(part) == 1) for part in self.parts()]
+        apart = f"{len(parts)} parts that no cable joins: {listed(parts, 4)}"
+        settled = "Nothing is left to do, and every port shows what is at its link."
+        if end != "settled":
+            why = {
+                "unsettled": "the last tick came while the network was not settled",
+                "full": "the journal had no room for more events",
+                "spent": f"no epoch is left for {listed(sorted(self.spent))}",
+            }[end]
+            self.verdict = "bad", f"✕ Not settled: {why}."
+        elif len(parts) > 1:
+            self.verdict = "good", f"✓ Settled, in {apart}."
+            self.reasons.append(settled)
+        else:
+            self.verdict = "good", f"✓ Settled: {settled[0].lower()}{settled[1:]}"
+
+    def parts(self):
+        """The switches in the end, in parts that links join of which the cable is up."""
+        left, found = list(self.network.switches), []
+        up = [link for link in self.network.links if not self.down.intersection(link)]
+        while left:
+            part = [left[0]]
+            for switch in part:
+                part += [t for (s, _), (t, _) in up + [link[::-1] for link in up] if s == switch and t not in part]
+            found.append([switch for switch in left if switch in part])
+            left = [switch for switch in left if switch not in part]
+        return found
 
     # What is put
 
@@ -100,18 +173,18 @@ class Run(Story):
         self.scene.put(f"switch-{switch}-2", "text", second)
         self.scene.put(f"switch-{switch}-3", "text", third)
         self.scene.put(f"switch-{switch}", "title", f"switch {switch}: {second}, {third}")
-        rows = table[2] if table else []
-        self.scene.put(f"rows-{switch}", "text", "\n".join([ROWS, *rows]) if rows else "")
+        self.scene.put(f"rows-{switch}", "text", "\n".join(table[2]) if table else "No table is in use.")
+        self.scene.put(f"names-{switch}", "text", self.names.get(table[3], "") if table else "")
 
     def port_state(self, switch, p):
         """The state of a port in words."""
         state, far = self.port[switch, p]
-        return SIGNS[state][1] + (f", at port {far[1]} of {far[0]}" if far else "")
+        return STATES[state][1] + (f", at port {far[1]} of {far[0]}" if far else "")
 
     def put_port(self, end):
         """The sign of a port."""
         switch, p = end
-        self.scene.put(f"port-{switch}-{p}-sign", "text", f"{p} {SIGNS[self.port[end][0]][0]}")
+        self.scene.put(f"port-{switch}-{p}-sign", "text", f"{p} {STATES[self.port[end][0]][0]}")
         self.scene.put(f"port-{switch}-{p}", "class", "port")
         self.scene.put(f"port-{switch}-{p}", "title", f"port {p} of {switch}: {self.port_state(switch, p)}")
         host = self.network.host_at.get(end)
@@ -160,6 +233,7 @@ class Run(Story):
         """A port changed its state: a good one has the other end in place of a state."""
         end = self.end(line, life, p)
         self.port[end] = (what[0], None) if len(what) == 1 else ("s.switch.good", (named(what[0]), what[1]))
+        self.states.add(self.port[end][0])
         self.put_port(end)
         if end in self.network.link_at:
             self.put_link(self.network.link_at[end])
@@ -181,6 +255,7 @@ class Run(Story):
         """A switch joined an epoch, and uses no table."""
         switch = life[0]
         self.epoch[switch], self.table[switch] = epoch, None
+        self.epochs.add(epoch)
         self.span(switch)
         self.put_switch(switch)
         self.put_counts()
@@ -194,12 +269,13 @@ class Run(Story):
 
     def at_finish(self, _line, _form, life, epoch, root, members):
         """A switch finished an epoch."""
+        self.finished[life] = epoch, root
         return f"{named(life)} has finished epoch {epoch}: {plural(members, 'switch')} under the root {named(root)}"
 
     def at_load(self, _line, _form, life, epoch, number):
         """A table came into use."""
         switch = life[0]
-        self.table[switch] = epoch, number, self.rows_now
+        self.table[switch] = epoch, number, self.rows_now, self.finished.get(life)
         self.span(switch)
         self.put_switch(switch)
         return f"{named(life)} loads the table of epoch {epoch}, in which it is number {number}"
@@ -219,16 +295,23 @@ class Run(Story):
     def at_fail(self, line, _form, life, p, dropped):
         """A cable failed."""
         self.cable(self.end(line, life, p), True)
-        self.faults.append(f"The cable at port {p} of {named(life)} fails at event {self.place}.")
-        return f"the cable at port {p} of {named(life)} fails; {plural(dropped, 'frame')} on it dropped"
+        cable = self.cable_name(life, p)
+        self.faults.append(f"The {cable} fails at event {self.place}.")
+        return f"the {cable} fails; {plural(dropped, 'frame')} on it dropped"
+
+    def cable_name(self, life, p):
+        """A cable by both of its ends."""
+        far = self.network.far(life[0], p)
+        other = f"port {far[1]} of {far[0]}" if far else f"host {self.network.host_at[life[0], p]}"
+        return f"cable from port {p} of {named(life)} to {other}"
 
     def at_repair(self, line, _form, life, p):
         """A cable is up again."""
         self.cable(self.end(line, life, p), False)
-        cable = f"The cable at port {p} of {named(life)}"
+        cable = f"The {self.cable_name(life, p)}"
         it = "It" if len(self.faults) == 1 and self.faults[0].startswith(f"{cable} fails") else cable
         self.faults.append(f"{it} is repaired at event {self.place}.")
-        return f"the cable at port {p} of {named(life)} is repaired"
+        return f"the {self.cable_name(life, p)} is repaired"
 
     def cable(self, end, is_down):
         """The cable at an end goes down or up, at its other end too."""
@@ -259,6 +342,7 @@ class Run(Story):
     def at_packet(self, line, form, packet, sender, target, address):
         """A host sends a packet."""
         self.sent += 1
+        self.packets[packet] = sender, target
         dropped = "drop" in form
         self.dropped += dropped
         self.scene.flash(f"host-{sender}", "class", "host got")
@@ -298,6 +382,23 @@ class Run(Story):
         return f"{words}, by the table of epoch {epoch}"
 
     # The strip of epochs
+
+    def mark(self, form, kind, values):
+        """What is marked on the strip: failures, repairs, restarts, losses, and packets that are sent, delivered or
+        dropped; of each its kind and words."""
+        if kind in ("fail", "repair"):
+            end = values[0][0], values[1]
+            far = self.network.far(*end)
+            other = far[0] if far else self.network.host_at[end]
+            return "fault", f"cable {end[0]}–{other} {'fails' if kind == 'fail' else 'repaired'}"
+        if kind == "restart":
+            return "fault", f"{values[0][0]} off and on"
+        if kind == "lost":
+            return "lost", f"frame of {values[0][0]} lost"
+        if kind in ("packet", "move"):
+            done = "dropped" if "drop" in form else "sent" if kind == "packet" else "delivered"
+            return None if done == "delivered" and "deliver" not in form else ("packet", f"packet {values[0]} {done}")
+        return None
 
     def span(self, switch):
         """From this place on the switch is in its epoch with its table."""

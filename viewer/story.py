@@ -5,7 +5,7 @@ from .scene import Scene
 from .tables import Tables, components, shortest_trees, tree_links
 
 
-ROWS = "rows (entry, then number:exits):"
+NO_ROWS = "There are no rows."
 
 
 def plural(many, one):
@@ -26,6 +26,11 @@ class Story:
     port_width = 16
     channels = False
     what = "network"
+    SIGNS = (
+        ("host", "a host, with the port of its switch"),
+        ("port", "a port", "1"),
+        ("band", "a level: the switches as far from the root as each other"),
+    )
 
     def __init__(self, files, layout=None):
         self.files, self.network = files, files.network
@@ -33,9 +38,13 @@ class Story:
         self.told_tree = bool(told.level)
         self.tables = told if self.told_tree else shortest_trees(self.network)
         self.numbers, self.rows = told.numbers, told.rows
+        self.tables.numbers, self.tables.rows = told.numbers, told.rows
         self.tree = tree_links(self.network, self.tables)
         self.scene = Scene()
-        self.strip, self.last = None, 0
+        self.strip, self.last, self.marks = None, 0, []
+        self.verdict = "plain", ""
+        self.reasons = []
+        self.marked = []
         self.legend = []
         self.notes = []
         self.plan = self.make_plan(layout)
@@ -52,9 +61,19 @@ class Story:
         """Puts all that the page tells."""
         self.put_links()
         self.put_switches()
-        self.headline = self.of_network()
+        self.verdict = "plain", self.of_network()
+        if self.told_tree:
+            roots = listed((switch for switch, parent in self.tables.parent.items() if parent is None), 6)
+            self.reasons.append(f"Its spanning tree has the root {roots}.")
+        if self.rows:
+            self.reasons.append("The rows of a switch say by which ports it sends what is for another one.")
         self.scene.begin()
         self.note_tree()
+
+    def words(self):
+        """The verdict and what is told with it, for those who hear it."""
+        network = [] if self.verdict[1] == self.of_network() else [self.of_network()]
+        return " ".join([self.verdict[1], *self.reasons, *network])
 
     def of_network(self):
         """What the network is, in a sentence."""
@@ -63,16 +82,29 @@ class Story:
         kind = f", {roots} components" if roots > 1 else ""
         return f"A network of {parts[0]}, {parts[1]} and {parts[2]}{kind}."
 
+    def who_sends(self, packets):
+        """Who sends which packets to whom: of each packet its number and its two hosts."""
+        sent = {}
+        for packet, ends in packets:
+            sent.setdefault(ends, []).append(packet)
+        ways = [
+            f"{sender} sends packet{'s' * (len(numbers) > 1)} {listed(numbers, 5)} to {target}"
+            for (sender, target), numbers in sent.items()
+        ]
+        return f"{listed(ways, 5)}." if ways else ""
+
     def note_tree(self):
         """Says where the tree comes from."""
         whose = "as the program printed it" if self.told_tree else (
-            "worked out by ./view from the network file, with all links up; nothing of it is proved (give what "
-            "autonet expect prints too, and its tree is shown)")
-        self.legend.append(("wire tree", "a link of the spanning tree"))
-        self.legend.append(("wire other", "another link"))
-        self.notes.append(f"The tree is {whose}.")
-        self.notes.append("The small boxes at the ends of links, and at hosts, are ports."
-                          + " Rows name a switch by its number (no.)." * bool(self.numbers))
+            "worked out by this page, with all links up: the program did not print it")
+        self.legend += [
+            ("wire tree", "a link of the spanning tree"),
+            ("wire other", "another link"),
+            ("switch root", "the root of a tree"),
+            *self.SIGNS,
+        ]
+        self.legend += [("text", "the number by which rows name a switch", "no. 3")] * bool(self.numbers)
+        self.notes += [f"The tree is {whose}."] * bool(self.tree)
 
     def put_links(self):
         """The classes and words of links."""
@@ -91,12 +123,20 @@ class Story:
             self.scene.put(f"switch-{switch}", "class", "switch root" if root else "switch")
             self.scene.put(f"switch-{switch}-2", "text", words)
             self.scene.put(f"switch-{switch}", "title", self.words_of(switch, number))
-            rows = self.rows.get(switch)
-            self.scene.put(f"rows-{switch}", "text", "\n".join([ROWS, *rows]) if rows else "")
+        self.put_rows()
         for host in self.network.hosts:
             self.scene.put(f"host-{host}", "class", "host")
         for end in [*self.network.link_at, *self.network.host_at]:
             self.put_port(end)
+
+    def put_rows(self):
+        """The rows of each switch as they were printed, and the numbers and names that they mean; where none are told
+        of any switch, nothing."""
+        for members in components(self.network) if self.rows else []:
+            names = " ".join(f"{self.numbers[switch]} {switch}" for switch in members if switch in self.numbers)
+            for switch in members:
+                self.scene.put(f"rows-{switch}", "text", "\n".join(self.rows.get(switch, [NO_ROWS])))
+                self.scene.put(f"names-{switch}", "text", names)
 
     def put_port(self, end):
         """The words of a port."""

@@ -13,6 +13,20 @@ class Tables:
         self.numbers = {}
         self.rows = {}
 
+    def exits(self, switch, entry, number):
+        """The ports by which rows send what came in at an entry and is for a number."""
+        return self.by_entry(switch).get(entry, {}).get(str(number), [])
+
+    def by_entry(self, switch):
+        """The rows of a switch: for each entry and number its exits."""
+        found = {}
+        for line in self.rows.get(switch, []):
+            entry, *pairs = line.split()
+            ways = [pair.partition(":") for pair in pairs]
+            exits = {number: [int(p) for p in ports.split("/") if p.isdigit()] for number, _, ports in ways}
+            found.setdefault(int(entry), {}).update(exits)
+        return found
+
 
 class TablesReader:
     """Takes the lines of trees and tables up to their `end`."""
