@@ -1,4 +1,5 @@
 pub mod Moments
+pub mod CallLemmas
 pub mod Ready
 pub mod Ordered
 pub mod Joined

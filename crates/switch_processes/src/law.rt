@@ -1,12 +1,25 @@
 //! What processes did, each in its own order, is one history, and what holds of them so.
 
-ghost use Rattle.std.specs.Prelude.{◌≡◌, ◌≤◌, ℕ, Contains, List, length};
+ghost use Rattle.std.specs.Prelude.{◌≡◌, ◌≤◌, ◌∷◌, ℕ, Contains, List, length};
 ghost use Rattle.an_base.specs.Values.{EntryOf, LifeId, TopoOf};
 ghost use Rattle.topo_graph.specs.Topology.{IsGraph, IsTree};
+ghost use Rattle.epoch_game.specs.Slice.{Earlier};
+ghost use Rattle.switch_core.specs.Kept.{KeptOf, StandsFor};
 ghost use Rattle.switch_game.specs.Network.{PowerOn};
 ghost use Rattle.switch_game.specs.Quiet.{HasSettled, IsQuiet};
-ghost use Rattle.switch_processes.specs.Processes.{AreLivesOf, AreTimes, Call, Event, GoOn, HasFinished, HasNoCycle, IsConsistentCut, IsJoinedBy, IsRun, made_by, switch_after};
+ghost use Rattle.switch_processes.specs.Processes.{AreLivesOf, AreTimes, Call, Event, GoOn, HasFinished, HasNoCycle, IsConsistentCut, IsJoinedBy, IsRun, Takes, made_by, switch_after};
+ghost use Rattle.switch_processes.specs.Calls.{HasCalled};
 ghost use Rattle.switch_processes.specs.Orders.{HasOneOrder, Passes, game_after, network_after};
+
+/// What is kept of a switch after the calls of a program, by their contracts, stands for the switch after these
+/// calls; and the switch takes each of them.
+pub fn calls_are_those_of_a_process()
+    ensures stands { (on : PowerOn) (life : LifeId) (kept : KeptOf) (calls : List Call)
+        → HasCalled on life kept calls → StandsFor kept (switch_after on life calls) }
+    ensures taken { (on : PowerOn) (life : LifeId) (kept : KeptOf) (calls : List Call)
+        → HasCalled on life kept calls → (call : Call) (before : List Call)
+        → Earlier (call ∷ before) calls → Takes (switch_after on life before) call }
+{}
 
 /// If each process made its calls in an order of its own, each frame that came in is one that went out by an
 /// event, and no event happened before itself, then all calls have one order. It keeps the order of each
