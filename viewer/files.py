@@ -1,5 +1,5 @@
 """All that the files of a call hold. Each text is told by its first line, so that they may stand in one file, as a
-network file with its journal and report, or in several."""
+script with its journal and report, or in several."""
 
 from .answers import FLOODS, FLOWS, VERDICTS, Journal, Report, Told
 from .fabric import Judgement, is_topology, read_topology
@@ -79,7 +79,7 @@ class Files:
             self.take_answer(line, left)
 
     def take_network(self, line, left):
-        """Takes a network file after its first line."""
+        """Takes a script after its first line."""
         reader = NetworkReader()
         self.put(line, "network", reader.network)
         take_to_end(reader, left, line)

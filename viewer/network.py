@@ -1,4 +1,4 @@
-"""The network file of autonet: its switches, links and hosts, and the packets that it sends."""
+"""The script of autonet: its switches, links and hosts, and the packets that it sends."""
 
 from .texts import Cause, Forms, number, one_of, port
 
@@ -118,7 +118,7 @@ def channel(network, word):
 
 
 class NetworkReader:
-    """Takes the lines of a network file, one after the other."""
+    """Takes the lines of a script, one after the other."""
 
     def __init__(self):
         self.network = Network()

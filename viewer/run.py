@@ -288,7 +288,7 @@ class Run(Story):
         k = self.network.link_at.get(end)
         if k is not None:
             self.scene.flash(f"link-{k}", "class", f"wire lost {self.network.way(end)}")
-        why = {"down": "the link is down", "told": "the network file says so"}.get(form.split()[3])
+        why = {"down": "the link is down", "told": "the script says so"}.get(form.split()[3])
         why = why or "it needs {} blocks, and {} are free".format(*room)
         return f"a frame from port {p} of {named(life)} is lost: {why}"
 
