@@ -24,7 +24,7 @@ pub same_lines : {Form : Type 0} (rows_of : Form → List Row) (xs ys : Form) (o
 same_lines {Form} rows_of xs ys old all same is = is ∙ ap (λ (zs : Form). old ++ lines_text (rows_of zs)) same
 
 -- a text that goes on by two parts
-onward : (old one more text all : List ℕ) → text ≡ old ++ one → all ≡ text ++ more → all ≡ old ++ (one ++ more)
+pub onward : (old one more text all : List ℕ) → text ≡ old ++ one → all ≡ text ++ more → all ≡ old ++ (one ++ more)
 onward old one more text all first next = next ∙ ap (λ (t : List ℕ). t ++ more) first ∙ append_assoc old one more
 
 -- the rows after the first five

@@ -6,5 +6,6 @@
 #![tactic(auto)]
 
 pub mod answer;
+pub mod picture;
 pub mod printer;
 pub mod ranks;
