@@ -145,6 +145,7 @@ pub fn finish<E: Sink>(err: &mut E, status: Status) -> u8
                 b"usage: fabric judge TOPOLOGY TABLES [hosts|lids|all]\n",
                 b"       fabric ranks TOPOLOGY TABLES [hosts|lids|all]\n",
                 b"       fabric verify TOPOLOGY TABLES RANKS [hosts|lids|all]\n",
+                b"       fabric dot TOPOLOGY TABLES [hosts|lids|all]\n",
             ],
         ),
         Status::TopologyRefused { line, cause } => {

@@ -8,7 +8,7 @@ use Rattle.std.proofs.lemmas.Slice.Eq.{bytes_eq-Decides}
 use Rattle.ib_routes.specs.declared.traffic.Traffic.{Traffic}
 use Rattle.ib_routes.specs.declared.traffic.Traffic.TheVariants.{Hosts, Lids, All}
 use Rattle.ib_commands.specs.declared.words.Task.{Task}
-use Rattle.ib_commands.specs.declared.words.Task.TheVariants.{Judge, Ranks, Verify}
+use Rattle.ib_commands.specs.declared.words.Task.TheVariants.{Judge, Ranks, Verify, Dot}
 use Rattle.ib_commands.specs.declared.words.Call.{Call}
 use Rattle.ib_commands.specs.Words.{AreNoCall, IsCall, NameTraffic, file_count, is_standard, task_word, traffic_word}
 
@@ -27,13 +27,14 @@ one_word one other same = sym (by_length one) ∙ ap (λ (w : List ℕ). traffic
 
 -- the words of tasks begin with different letters
 task_of_letter : ℕ → Task
-task_of_letter letter = cond (eqb letter 106) Judge (cond (eqb letter 114) Ranks Verify)
+task_of_letter letter = cond (eqb letter 106) Judge (cond (eqb letter 114) Ranks (cond (eqb letter 118) Verify Dot))
 
 by_letter : (task : Task) → task_of_letter (slice_index (task_word task) 0) ≡ task
 unfolding task_of_letter
 by_letter Judge = refl
 by_letter Ranks = refl
 by_letter Verify = refl
+by_letter Dot = refl
 
 one_task : (one other : Task) → task_word one ≡ task_word other → one ≡ other
 one_task one other same = sym (by_letter one) ∙ ap (λ (w : List ℕ). task_of_letter (slice_index w 0)) same ∙ by_letter other

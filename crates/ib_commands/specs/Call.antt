@@ -13,11 +13,13 @@ use Rattle.ib_answering.specs.Status.{IsToldOf}
 use Rattle.ib_commands.specs.Certified.{AreRanksTold, AreRanksVerified}
 use Rattle.ib_commands.specs.declared.words.Call.{Call}
 use Rattle.ib_commands.specs.declared.words.Task.{Task}
-use Rattle.ib_commands.specs.declared.words.Task.TheVariants.{Judge, Ranks, Verify}
+use Rattle.ib_commands.specs.declared.words.Task.TheVariants.{Judge, Ranks, Verify, Dot}
+use Rattle.ib_commands.specs.Drawn.{IsDrawn}
 use Rattle.ib_commands.specs.Judged.{IsJudged}
 use Rattle.ib_commands.specs.Words.{AreNoCall, IsCall}
 
--- `judge` gives the verdict on the routes of a traffic, `ranks` the ranks, `verify` whether those of some bytes fall
+-- `judge` gives the verdict on the routes of a traffic, `ranks` the ranks, `verify` whether those of some bytes fall,
+-- `dot` a picture
 abbrev pub gives_judged : Traffic → Gives
 gives_judged traffic text fabric found status written = IsJudged traffic text fabric found status written
 
@@ -27,6 +29,9 @@ gives_ranks traffic text fabric found status written = AreRanksTold traffic text
 abbrev pub gives_verified : Traffic → List ℕ → Gives
 gives_verified traffic bytes text fabric found status written =
     AreRanksVerified traffic bytes text fabric found status written
+
+abbrev pub gives_drawn : Traffic → Gives
+gives_drawn traffic text fabric found status written = IsDrawn traffic text fabric found status written
 
 -- the most bytes of ranks
 abbrev pub ranks_limit : ℕ
@@ -59,6 +64,7 @@ pub data IsVerifyAnswer (traffic : Traffic) (ranks ranks' : Seen) (old new : Str
 abbrev pub IsAnswerOf : Task → Traffic → (ranks ranks' : Seen) → (old new : Streams) → ℕ → Type 0
 IsAnswerOf Judge traffic ranks ranks' old new answer = (ranks' ≡ ranks) × IsAnswer (gives_judged traffic) old new answer
 IsAnswerOf Ranks traffic ranks ranks' old new answer = (ranks' ≡ ranks) × IsAnswer (gives_ranks traffic) old new answer
+IsAnswerOf Dot traffic ranks ranks' old new answer = (ranks' ≡ ranks) × IsAnswer (gives_drawn traffic) old new answer
 IsAnswerOf Verify traffic ranks ranks' old new answer = IsVerifyAnswer traffic ranks ranks' old new answer
 
 -- the answer to words: that of the call that they are, and the usage line if they are none

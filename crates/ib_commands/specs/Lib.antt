@@ -3,4 +3,5 @@ pub mod Names
 pub mod Judged
 pub mod Certified
 pub mod Verifying
+pub mod Drawn
 pub mod Call

@@ -5,7 +5,7 @@ use Rattle.std.specs.Str.{bytes_eq}
 use Rattle.ib_routes.specs.declared.traffic.Traffic.{Traffic}
 use Rattle.ib_routes.specs.declared.traffic.Traffic.TheVariants.{Hosts, Lids, All}
 use Rattle.ib_commands.specs.declared.words.Task.{Task}
-use Rattle.ib_commands.specs.declared.words.Task.TheVariants.{Judge, Ranks, Verify}
+use Rattle.ib_commands.specs.declared.words.Task.TheVariants.{Judge, Ranks, Verify, Dot}
 use Rattle.ib_commands.specs.declared.words.Call.{Call}
 
 -- the word of a traffic
@@ -19,12 +19,14 @@ abbrev pub task_word : Task → List ℕ
 task_word Judge = codes "judge"
 task_word Ranks = codes "ranks"
 task_word Verify = codes "verify"
+task_word Dot = codes "dot"
 
 -- how many files a task has: a topology and tables, and for `verify` ranks
 abbrev pub file_count : Task → ℕ
 file_count Judge = 2
 file_count Ranks = 2
 file_count Verify = 3
+file_count Dot = 2
 
 -- at most one file is standard input
 abbrev pub is_standard : List ℕ → Bool

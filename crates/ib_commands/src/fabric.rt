@@ -5,6 +5,7 @@ ghost use Rattle.ib_answering.specs.Answer.{streams};
 ghost use Rattle.ib_commands.specs.Call.{IsAnswerTo, IsVerifyAnswer, ranks_unread_as};
 
 use crate::commands::{Judge, Ranks};
+use crate::dot::Dot;
 use crate::verify::Verify;
 use crate::words::{Task, call_of};
 use an_base::text::Word;
@@ -53,10 +54,10 @@ fn answer_verify<T: Source, S: Source, R: Source, O: Sink, E: Sink>(
     }
 }
 
-/// Answers a call. The words are `judge TOPOLOGY TABLES`, `ranks TOPOLOGY TABLES` or `verify TOPOLOGY TABLES RANKS`, or
-/// these with `hosts`, `lids` or `all` after them: the call reads the sources that they name to their ends, the ranks
-/// first, and writes to out the verdict, the ranks, or whether the ranks fall. The answer is the number of a status,
-/// whose line goes to err. For other words the sources and out are left alone.
+/// Answers a call. The words are `judge`, `ranks` or `dot` with TOPOLOGY and TABLES, or `verify` with TOPOLOGY, TABLES and
+/// RANKS, and then `hosts`, `lids`, `all` or nothing: the call reads the sources that they name to their ends, the ranks
+/// first, and writes to out the verdict, the ranks, a picture, or whether the ranks fall. The answer is the number of a
+/// status, whose line goes to err. For other words the sources and out are left alone.
 pub fn fabric<T: Source, S: Source, R: Source, O: Sink, E: Sink>(
     alloc: Global,
     topology: &mut T,
@@ -78,5 +79,6 @@ pub fn fabric<T: Source, S: Source, R: Source, O: Sink, E: Sink>(
         Task::Judge => answer(&Judge { traffic }, alloc, topology, tables, out, err),
         Task::Ranks => answer(&Ranks { traffic }, alloc, topology, tables, out, err),
         Task::Verify => answer_verify(alloc, topology, tables, ranks, out, err, traffic),
+        Task::Dot => answer(&Dot { traffic }, alloc, topology, tables, out, err),
     }
 }

@@ -10,6 +10,7 @@
 
 mod answer;
 mod commands;
+mod dot;
 pub mod fabric;
 pub mod law;
 mod losses;

@@ -22,7 +22,18 @@ pub fn names_in(
     ensures { IfOk result (λ names. names.items ≡ names_for text.now (mentioned steps.now lost.now)) }
 {
     let guids = guids_in(alloc, steps, lost)?;
-    let told = names_of(alloc, text, &guids)?;
+    names_for(alloc, text, &guids)
+}
+
+/// The names that the text of a topology tells of the nodes of these GUIDs, in the order of the GUIDs.
+pub fn names_for(
+    alloc: Global,
+    text: &[u8],
+    guids: &IndexSet<u64>,
+) -> Result<Vec<Name>, OutOfMemory>
+    ensures { IfOk result (λ names. names.items ≡ names_for text.now guids.now.keys) }
+{
+    let told = names_of(alloc, text, guids)?;
     let mut names = Vec::new(alloc);
     'guids: for guid in guids.as_slice() {
         push_name(alloc, &mut names, *guid, told.get(guid))?;

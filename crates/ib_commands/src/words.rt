@@ -16,6 +16,8 @@ pub enum Task {
     Ranks,
     /// To tell whether ranks fall.
     Verify,
+    /// To draw the credit loop.
+    Dot,
 }
 
 /// A call.
@@ -93,6 +95,9 @@ fn task_named(word: &Word) -> Option<Task>
     if is(word, "verify") {
         return Some(Task::Verify);
     }
+    if is(word, "dot") {
+        return Some(Task::Dot);
+    }
     None
 }
 
@@ -104,6 +109,7 @@ fn file_count(task: Task) -> usize
         Task::Judge => 2,
         Task::Ranks => 2,
         Task::Verify => 3,
+        Task::Dot => 2,
     }
 }
 
@@ -120,8 +126,8 @@ fn may_be_files(files: &[Word]) -> bool
     standard <= 1
 }
 
-/// The call that words are: `judge TOPOLOGY TABLES`, `ranks TOPOLOGY TABLES` or `verify TOPOLOGY TABLES RANKS`, or these
-/// with `hosts`, `lids` or `all` after them, where at most one file is `-`. Without such a word the traffic is `hosts`.
+/// The call that words are: `judge`, `ranks` or `dot` with TOPOLOGY and TABLES, or `verify` with TOPOLOGY, TABLES and
+/// RANKS, and then `hosts`, `lids` or `all`, where at most one file is `-`. Without such a word the traffic is `hosts`.
 pub fn call_of(words: &[Word]) -> Option<Call>
     ensures { MatchOption result (AreNoCall words.now) (IsCall words.now) }
 {

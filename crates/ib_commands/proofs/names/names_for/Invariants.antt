@@ -1,6 +1,6 @@
 use Rattle.std.proofs.Common.{◌≡◌, take}
 use Rattle.ib_commands.specs.Names.{names_for}
-use Rattle.ib_commands.proofs.names.names_in.Given as goal
+use Rattle.ib_commands.proofs.names.names_for.Given as goal
 
 -- the names so far
 abbrev pub invariant-guids : goal.invariant-guids

@@ -2,7 +2,7 @@ use Rattle.std.specs.Prelude.{Contains}
 use Rattle.std.proofs.Common.{◌∙◌, subst, ℕ, List, get_or, arith}
 use Rattle.std.proofs.lemmas.List.Elements.{Contains-get_or}
 use Rattle.ib_commands.proofs.NameLemmas.{name_more}
-use Rattle.ib_commands.proofs.names.names_in.Goals as goal
+use Rattle.ib_commands.proofs.names.names_for.Goals as goal
 
 pub guids-preserved : goal.guids-preserved
 guids-preserved c =

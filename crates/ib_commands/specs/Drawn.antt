@@ -1,0 +1,55 @@
+-- What `dot` gives for the text of a topology, its fabric and tables.
+
+use Rattle.std.specs.Prelude.{◌≡◌, ℕ, List, [], ◌∷◌, map, nat_eq}
+use Rattle.std.specs.List.{flat_map}
+use Rattle.indexmap.specs.IndexSet.{insert_all}
+use Rattle.ib_net.specs.declared.node.EndPort.TheVariants.{Switch}
+use Rattle.ib_net.specs.declared.node.Side.{Side}
+use Rattle.ib_net.specs.declared.node.Side.TheVariants.{Bare, To, End}
+use Rattle.ib_net.specs.Fabric.{FabricOf, guid_of, side_of}
+use Rattle.ib_cells.specs.Cells.{tables_of}
+use Rattle.ib_routes.specs.declared.traffic.Traffic.{Traffic}
+use Rattle.ib_tables.specs.declared.reader.Tables.{Tables}
+use Rattle.ib_verdict.specs.declared.verdict.LoopChannel.{LoopChannel}
+use Rattle.ib_lines.specs.declared.picture.Arrow.{Arrow}
+use Rattle.ib_lines.specs.declared.picture.Picture.{Picture}
+use Rattle.ib_lines.specs.Pictures.{picture_text}
+use Rattle.ib_answering.specs.declared.status.Status.{Status}
+use Rattle.ib_commands.specs.Judged.{IsEndOf, IsLoop, step_of}
+use Rattle.ib_commands.specs.Names.{names_for}
+use Rattle.ib_commands.specs.Words.{traffic_word}
+
+-- a channel as an arrow, to the switch to which it leads
+abbrev pub arrow_over : FabricOf → LoopChannel → Side → List Arrow
+arrow_over fabric one (To next entry) =
+    record { step = step_of fabric one; to = guid_of fabric (Switch next); entry = entry } ∷ []
+arrow_over fabric one Bare = []
+arrow_over fabric one (End end) = []
+
+abbrev pub arrow_at : FabricOf → LoopChannel → List Arrow
+arrow_at fabric one = arrow_over fabric one (side_of fabric one.channel.switch one.channel.port)
+
+abbrev pub arrows_of : FabricOf → List LoopChannel → List Arrow
+arrows_of fabric = flat_map (arrow_at fabric)
+
+-- the switches of arrows, each once
+abbrev pub switches_of : List Arrow → List ℕ
+switches_of arrows = insert_all nat_eq [] (map (λ arrow. arrow.step.guid) arrows)
+
+-- a picture of the channels of a loop, with the names of their switches
+pub record IsPictureOf (traffic : Traffic) (text : List ℕ) (fabric : FabricOf) (loop : List LoopChannel) (picture : Picture)
+    : Type 0 where
+  pub traffic_is : picture.traffic ≡ traffic_word traffic
+  pub arrows : picture.arrows.items ≡ arrows_of fabric loop
+  pub names : picture.names.items ≡ names_for text (switches_of picture.arrows.items)
+
+-- the picture of the least credit loop, or of none where there is none
+pub record IsDrawn (traffic : Traffic) (text : List ℕ) (fabric : FabricOf) (found : Tables) (status : Status)
+    (written : List ℕ)
+    : Type 0 where
+  pub ends : IsEndOf fabric (tables_of found.cells) traffic status
+  pub loop : List LoopChannel
+  pub is_loop : IsLoop fabric (tables_of found.cells) traffic loop
+  pub picture : Picture
+  pub shows : IsPictureOf traffic text fabric loop picture
+  pub says : written ≡ picture_text picture

@@ -1,0 +1,122 @@
+//! The command `dot`: the credit loop as a picture.
+
+ghost use Rattle.std.specs.Prelude.{◌≡◌, ◌++◌, IfOk, OnOk};
+ghost use Rattle.ib_net.specs.Fabric.{side_of};
+ghost use Rattle.ib_commands.specs.Call.{gives_drawn};
+ghost use Rattle.ib_commands.specs.Drawn.{IsPictureOf, arrow_at, arrows_of, switches_of};
+
+use crate::answer::{cycle_of, status_of};
+use crate::names::names_for;
+use crate::steps::step_of;
+use crate::words::word_of;
+use an_base::memory::OutOfMemory;
+use an_base::text::Word;
+use ib_answering::command::{Command, Given};
+use ib_answering::input::Topology;
+use ib_lines::picture::{Arrow, Picture, print_picture};
+use ib_net::fabric::Fabric;
+use ib_net::node::{EndPort, Side, Spot};
+use ib_routes::traffic::Traffic;
+use ib_tables::reader::Tables;
+use ib_verdict::judge::judge;
+use ib_verdict::verdict::LoopChannel;
+use indexmap::IndexSet;
+use std::alloc::Global;
+
+/// The command `dot`: the credit loop as a picture, or one that says that there is none.
+#[derive(Clone, Copy)]
+pub struct Dot {
+    /// The traffic.
+    pub traffic: Traffic,
+}
+
+impl Command for Dot {
+    ghost gives = { λ dot. gives_drawn dot.traffic };
+
+    fn given(
+        &self,
+        alloc: Global,
+        topology: &Topology,
+        tables: &Tables,
+    ) -> Result<Given, OutOfMemory> {
+        let judged = judge(alloc, &topology.fabric, &tables.cells, self.traffic)?;
+        let picture = picture_of(alloc, topology, self.traffic, cycle_of(&judged))?;
+        Ok(Given {
+            status: status_of(&judged),
+            text: print_picture(alloc, &picture)?,
+        })
+    }
+}
+
+// The picture of the channels of a loop.
+fn picture_of(
+    alloc: Global,
+    topology: &Topology,
+    traffic: Traffic,
+    cycle: &[LoopChannel],
+) -> Result<Picture, OutOfMemory>
+    ensures { IfOk result (IsPictureOf traffic topology.now.text.items topology.now.fabric cycle.now) }
+{
+    let arrows = arrows_of(alloc, &topology.fabric, cycle)?;
+    let switches = switches_of(alloc, &arrows)?;
+    let names = names_for(alloc, &topology.text, &switches)?;
+    Ok(Picture {
+        traffic: Word::of(alloc, word_of(traffic).as_bytes())?,
+        names,
+        arrows,
+    })
+}
+
+// The channels of a loop as arrows.
+fn arrows_of(
+    alloc: Global,
+    fabric: &Fabric,
+    cycle: &[LoopChannel],
+) -> Result<Vec<Arrow>, OutOfMemory>
+    ensures { IfOk result (λ arrows. arrows.items ≡ arrows_of fabric.now cycle.now) }
+{
+    let mut arrows = Vec::with_capacity(alloc, cycle.len())?;
+    'channels: for one in cycle {
+        push_arrow(&mut arrows, fabric, *one)?;
+    }
+    Ok(arrows)
+}
+
+// Appends a channel, if it leads to a switch.
+fn push_arrow(arrows: &mut Vec<Arrow>, fabric: &Fabric, one: LoopChannel) -> Result<(), OutOfMemory>
+    ensures { OnOk result (arrows.new.items ≡ arrows.old.items ++ arrow_at fabric.now one) }
+{
+    match side_of(fabric, one.channel) {
+        Side::To(next, entry) => {
+            arrows.push(Arrow {
+                step: step_of(fabric, one),
+                to: fabric.guid(EndPort::Switch(next)),
+                entry,
+            })?;
+            Ok(())
+        }
+        Side::Bare | Side::End(_) => Ok(()),
+    }
+}
+
+// Where a port leads; nowhere if there is no such switch.
+fn side_of(fabric: &Fabric, spot: Spot) -> Side
+    ensures { result ≡ side_of fabric.now spot.switch spot.port }
+{
+    let switch = spot.switch as usize;
+    if switch >= fabric.switches() {
+        return Side::Bare;
+    }
+    fabric.side(switch, spot.port)
+}
+
+// The switches of arrows.
+fn switches_of(alloc: Global, arrows: &[Arrow]) -> Result<IndexSet<u64>, OutOfMemory>
+    ensures { IfOk result (λ switches. switches.keys ≡ switches_of arrows.now) }
+{
+    let mut switches = IndexSet::new(alloc);
+    'arrows: for arrow in arrows {
+        switches.insert(arrow.step.guid)?;
+    }
+    Ok(switches)
+}
