@@ -11,8 +11,7 @@ use Rattle.ib_net.specs.declared.node.Side.{Side}
 use Rattle.ib_net.specs.declared.node.Side.TheVariants.{Bare}
 use Rattle.ib_net.specs.declared.node.Spot.{Spot}
 use Rattle.ib_net.specs.Fabric.{FabricOf, IsFabric, side_of, switch_count}
-use Rattle.ib_routes.specs.Found.{channel_of}
-use Rattle.ib_routes.specs.Waves.{number}
+use Rattle.ib_routes.specs.Found.{channel_of, number}
 use Rattle.ib_verdict.specs.Verdict.{rank_in, rank_over, spot_at}
 use Rattle.ib_commands.specs.Certified.{rank_at, rank_of}
 

@@ -1,4 +1,3 @@
-mod CountLemmas
 mod LostLemmas
 mod EndLemmas
 mod MoreLemmas

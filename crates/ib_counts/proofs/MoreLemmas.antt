@@ -3,13 +3,14 @@ use Rattle.std.proofs.Common.{◌≡◌, ◌≢◌, ◌∙◌, sym, ap, subst, �
 use Rattle.std.specs.Prelude.{MatchOption}
 use Rattle.std.proofs.lemmas.Bool.{cases_lt}
 use Rattle.ib_cells.specs.Cells.{TablesOf}
-use Rattle.ib_counts.specs.Counts.{AreCountsOf, AreLosses, AreMostHops, IsCountOf, IsLeastLost, IsLoss, IsOneThat, IsOneThatArrives, Route, RouteEnds, RouteIsLost, route_of, sum_of}
+use Rattle.ib_counts.specs.Counts.{AreCountsOf, AreLosses, AreMostHops, IsLeastLost, IsLoss, IsOneThat, IsOneThatArrives, Route, RouteEnds, RouteIsLost, route_of, sum_of}
+use Rattle.ib_routes.specs.Counting.{IsCountOf}
 use Rattle.ib_counts.specs.declared.counts.Counts.{Counts}
 use Rattle.ib_counts.specs.declared.counts.Loss.{Loss}
 use Rattle.ib_counts.specs.declared.counts.Losses.{Losses}
 use Rattle.ib_counts.specs.declared.counts.LostRoute.{LostRoute}
 use Rattle.ib_counts.specs.Steps.{IsLesser}
-use Rattle.ib_counts.proofs.CountLemmas.{count_more, count_none, count_same, count_sum}
+use Rattle.ib_routes.proofs.CountLemmas.{count_more, count_none, count_same, count_sum}
 use Rattle.ib_counts.proofs.EndLemmas.{one_outcome}
 use Rattle.ib_net.specs.declared.node.EndPort.{EndPort}
 use Rattle.ib_net.specs.Fabric.{FabricOf, guid_of}

@@ -3,9 +3,10 @@ use Rattle.std.proofs.Common.{◌≡◌, ◌∙◌, sym, ap, subst, refl, ℕ, �
 use Rattle.std.specs.Int.{from_bool}
 use Rattle.std.specs.Prelude.{IsTrue}
 use Rattle.std.proofs.lemmas.Bool.{cases_eq, cases_lt}
-use Rattle.ib_counts.specs.Counts.{IsCountOf, IsOf, Route}
+use Rattle.ib_counts.specs.Counts.{IsOf, Route}
+use Rattle.ib_routes.specs.Counting.{IsCountOf}
 use Rattle.ib_counts.specs.Steps.{IsEndPort, IsSourceUntil, IsUntil, place_of}
-use Rattle.ib_counts.proofs.CountLemmas.{count_none, count_image, count_more, count_same}
+use Rattle.ib_routes.proofs.CountLemmas.{count_none, count_image, count_more, count_same}
 use Rattle.ib_net.specs.declared.node.EndPort.{EndPort}
 use Rattle.ib_net.specs.declared.node.EndPort.TheVariants.{Host, Switch}
 use Rattle.ib_net.specs.Fabric.{FabricOf, owner_of, switch_count}

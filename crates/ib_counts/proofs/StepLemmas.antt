@@ -2,13 +2,14 @@
 use Rattle.std.proofs.Common.{◌≡◌, ◌≢◌, ◌∙◌, sym, subst, refl, ℕ, ◌+◌, ◌^◌, ◌<◌, ◌≤◌, ◌⊎◌, Option, Some, None, arith, length, inl, inr, max}
 use Rattle.std.proofs.lemmas.Bool.{cases_lt}
 use Rattle.ib_cells.specs.Cells.{TablesOf}
-use Rattle.ib_counts.specs.Counts.{AreCounts, AreCountsOf, AreLosses, IsCountOf, IsLoss, IsLostAt, IsOf, IsOneThatArrives, Route, RouteEnds, hop_for, sum_of}
+use Rattle.ib_counts.specs.Counts.{AreCounts, AreCountsOf, AreLosses, IsLoss, IsLostAt, IsOf, IsOneThatArrives, Route, RouteEnds, hop_for, sum_of}
+use Rattle.ib_routes.specs.Counting.{IsCountOf}
 use Rattle.ib_counts.specs.Steps.{AllArriveWithin, AreCountsUntil, IsEndPort, IsLesser, IsUntil, place_of}
 use Rattle.ib_counts.specs.declared.counts.Counts.{Counts}
 use Rattle.ib_counts.specs.declared.counts.Loss.{Loss}
 use Rattle.ib_counts.specs.declared.counts.Losses.{Losses}
 use Rattle.ib_counts.specs.declared.counts.LostRoute.{LostRoute}
-use Rattle.ib_counts.proofs.CountLemmas.{count_none}
+use Rattle.ib_routes.proofs.CountLemmas.{count_none}
 use Rattle.ib_counts.proofs.MoreLemmas.{counts_all_arrive, counts_arrive, counts_lost, counts_same, loss_kept, loss_new, no_loss, other_loss}
 use Rattle.ib_counts.proofs.PlaceLemmas.{IsTo, count_to, end_port, until_all, until_fresh, until_from, until_late, until_lids, until_next, until_none, until_not_to, until_or_to, until_silent, until_to, until_to_lid, until_unsent}
 use Rattle.ib_net.specs.declared.node.EndPort.{EndPort}

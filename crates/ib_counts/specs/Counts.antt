@@ -1,5 +1,5 @@
 -- How many routes there are, how many of them arrive, and how many are lost by each cause.
-use Rattle.std.specs.Prelude.{◌≡◌, ◌≢◌, ◌≤◌, ◌+◌, ℕ, List, Some, length, AllPairs, Contains, MatchOption}
+use Rattle.std.specs.Prelude.{◌≡◌, ◌≢◌, ◌≤◌, ◌+◌, ℕ, Some, MatchOption}
 use Rattle.ib_cells.specs.Cells.{TablesOf}
 use Rattle.ib_counts.specs.declared.counts.Counts.{Counts}
 use Rattle.ib_counts.specs.declared.counts.Loss.{Loss}
@@ -13,15 +13,8 @@ use Rattle.ib_routes.specs.declared.hop.Hop.TheVariants.{Stop}
 use Rattle.ib_routes.specs.declared.hop.Outcome.{Outcome}
 use Rattle.ib_routes.specs.declared.hop.Outcome.TheVariants.{Arrives, Stops, Loops}
 use Rattle.ib_routes.specs.declared.traffic.Traffic.{Traffic}
+use Rattle.ib_routes.specs.Counting.{IsCountOf}
 use Rattle.ib_routes.specs.Routes.{EndsAs, Sends, WalksBy, hop}
-
--- There are so many things of a kind: a list of all of them, and of no other thing, each once, is so long.
-pub record IsCountOf {A : Type 0} (Is : A → Type 0) (count : ℕ) : Type 0 where
-  pub things : List A
-  pub only : (thing : A) → Contains things thing → Is thing
-  pub each : (thing : A) → Is thing → Contains things thing
-  pub apart : AllPairs (λ one other. one ≢ other) things
-  pub size : length things ≡ count
 
 -- a route: from an end port to a LID
 pub record Route : Type 0 where

@@ -9,7 +9,8 @@ ghost use Rattle.ib_routes.specs.Routes.{EndsAs, IsSource};
 ghost use Rattle.ib_routes.specs.Starts.{AreAllSenders};
 ghost use Rattle.ib_routes.specs.Trace.{IsReady, hop_to, whole};
 ghost use Rattle.ib_routes.specs.Waves.{AreStarts};
-ghost use Rattle.ib_counts.specs.Counts.{AreCounts, IsCountOf, hop_for, sum_of};
+ghost use Rattle.ib_counts.specs.Counts.{AreCounts, hop_for, sum_of};
+ghost use Rattle.ib_routes.specs.Counting.{IsCountOf};
 ghost use Rattle.ib_counts.specs.Steps.{AllArriveWithin, AreCountsUntil, AreRooms, IsEndPort, IsTargeted, place_of};
 
 use crate::counts::Counts;

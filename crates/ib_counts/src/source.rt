@@ -3,7 +3,7 @@
 ghost use Rattle.std.specs.Prelude.{◌≡◌, ◌≢◌, ◌<◌, ◌≤◌, ◌+◌, ◌^◌, length};
 ghost use Rattle.ib_net.specs.Fabric.{switch_count};
 ghost use Rattle.ib_routes.specs.Routes.{IsSource, Sends};
-ghost use Rattle.ib_counts.specs.Counts.{IsCountOf};
+ghost use Rattle.ib_routes.specs.Counting.{IsCountOf};
 ghost use Rattle.ib_counts.specs.Steps.{IsEndPort, IsTargeted, place_of};
 
 use ib_net::fabric::Fabric;

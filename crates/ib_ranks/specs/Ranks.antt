@@ -7,7 +7,7 @@ use Rattle.ib_net.specs.declared.node.Side.{Side}
 use Rattle.ib_net.specs.declared.node.Side.TheVariants.{Bare, To, End}
 use Rattle.ib_net.specs.Fabric.{FabricOf, side_of, switch_count, switch_with}
 use Rattle.ib_routes.specs.Routes.{Channel}
-use Rattle.ib_routes.specs.Waves.{number}
+use Rattle.ib_routes.specs.Found.{number}
 use Rattle.ib_ranks.specs.declared.cause.RanksCause.{RanksCause}
 use Rattle.ib_ranks.specs.declared.cause.RanksCause.TheVariants.{OutOfPlace, UnknownSwitch, NoChannel, RankTold, NoHead}
 use Rattle.ib_ranks.specs.declared.line.RankLine.{RankLine}

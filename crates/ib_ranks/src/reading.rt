@@ -3,7 +3,7 @@
 ghost use Rattle.std.specs.Prelude.{◌≡◌, ◌<◌, Ok, Err, None, IfOk, OnOk, length, map, replicate, slice_index_or, unwrap_or};
 ghost use Rattle.text_lines.specs.Stops.{IsStep};
 ghost use Rattle.ib_net.specs.Fabric.{switch_count};
-ghost use Rattle.ib_routes.specs.Waves.{number};
+ghost use Rattle.ib_routes.specs.Found.{number};
 ghost use Rattle.ib_ranks.specs.Ranks.{AddsTo, IsFaultyAfter, head_told, none_told, put_once, told_with};
 ghost use Rattle.ib_ranks.specs.Readings.{HasPlaces, told_of};
 

@@ -14,8 +14,9 @@ use Rattle.ib_net.specs.Fabric.{FabricOf, IsFabric, LeadsWithin, switch_count, s
 use Rattle.ib_cells.specs.Cells.{TablesOf}
 use Rattle.ib_routes.specs.Routes.{hop, hop_by, hop_over, end_if, is_host, is_switch, Channel, Takes}
 use Rattle.ib_routes.specs.Links.{IsTo}
-use Rattle.ib_routes.specs.Waves.{IsGraphOf, IsLink, number}
-use Rattle.ib_routes.specs.Found.{AreFound, AreBases, AreDependencies, IsChannel, base_of}
+use Rattle.ib_routes.specs.Waves.{IsGraphOf, IsLink}
+use Rattle.ib_routes.specs.Found.{IsChannel, number}
+use Rattle.ib_routes.specs.Finding.{AreFound, AreBases, AreDependencies, base_of}
 
 both : (a b : Bool) (x : Side) (next entry : ℕ) → cond (a && b) x Bare ≡ To next entry → (a ≡ true) × (b ≡ true) × (x ≡ To next entry)
 both true true x next entry is = (refl, refl, is)

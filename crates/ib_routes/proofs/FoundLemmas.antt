@@ -9,7 +9,7 @@ use Rattle.ib_net.specs.Fabric.{FabricOf}
 use Rattle.ib_cells.specs.Cells.{TablesOf}
 use Rattle.ib_routes.specs.Routes.{IsStopped, Sends}
 use Rattle.ib_routes.specs.Waves.{TakesNumbers, IsWaved}
-use Rattle.ib_routes.specs.Found.{AreFound, AreFoundBelow}
+use Rattle.ib_routes.specs.Finding.{AreFound, AreFoundBelow}
 
 module _ (fabric : FabricOf) (tables : TablesOf) (traffic : Traffic) where
   pub found_none : (graph : GraphOf) → AreFoundBelow fabric tables traffic 0 graph graph false

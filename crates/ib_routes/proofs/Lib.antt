@@ -8,3 +8,4 @@ pub mod ChannelLemmas
 pub mod TraceLemmas
 mod UntilLemmas
 pub mod WitnessLemmas
+pub mod CountLemmas

@@ -2,6 +2,8 @@ pub mod Routes
 pub mod Starts
 pub mod Waves
 pub mod Found
+pub mod Finding
 pub mod Links
 pub mod Trace
 pub mod Witness
+pub mod Counting

@@ -1,4 +1,4 @@
--- What the waves keep. But for `IsGraphOf` and `number` only private functions cite this.
+-- What the waves keep. But for `IsGraphOf` only private functions cite this.
 use Rattle.std.specs.Prelude.{◌≡◌, ◌<◌, ◌≤◌, ◌+◌, ◌-◌, ◌*◌, ◌^◌, ◌⊎◌, ◌↔◌, ℕ, Bool, true, Some, List, [], ◌∷◌, length, slice_index}
 use Rattle.std.specs.Int.{bit_at}
 use Rattle.channel_graph.specs.Graph.{GraphOf, LeadsTo}
@@ -9,11 +9,8 @@ use Rattle.ib_routes.specs.declared.hop.Hop.{Hop}
 use Rattle.ib_routes.specs.declared.hop.Hop.TheVariants.{On, Arrive, Stop}
 use Rattle.ib_net.specs.Fabric.{FabricOf, switch_count, side_of, start_of}
 use Rattle.ib_cells.specs.Cells.{TablesOf}
+use Rattle.ib_routes.specs.Found.{number}
 use Rattle.ib_routes.specs.Routes.{hop, IsStop, IsStopped, Sends, ComesTo, Channel, Takes}
-
--- the number of a channel
-abbrev pub number : FabricOf → Channel → ℕ
-number fabric channel = channel.switch * fabric.most + (channel.port - 1)
 
 -- the rows are for the channels of the fabric: the row of each begins with port 1 of the switch to which it leads
 pub record IsGraphOf (fabric : FabricOf) (graph : GraphOf) : Type 0 where

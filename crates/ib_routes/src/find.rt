@@ -1,6 +1,7 @@
 ghost use Rattle.std.specs.Prelude.{◌≡◌, ◌<◌, ◌≤◌, ◌*◌, ◌^◌, ◌↔◌, ◌⊎◌, ℕ, length, IfOk, IsTrue, MatchResult};
 ghost use Rattle.ib_cells.specs.Cells.{tables_of};
-ghost use Rattle.ib_routes.specs.Found.{AreBases, AreDependencies, AreFound, SomeIsStopped, base_of};
+ghost use Rattle.ib_routes.specs.Found.{SomeIsStopped};
+ghost use Rattle.ib_routes.specs.Finding.{AreBases, AreDependencies, AreFound, base_of};
 ghost use Rattle.channel_graph.specs.Graph.{LeadsTo};
 ghost use Rattle.ib_net.specs.Fabric.{LeadsWithin, switch_count};
 ghost use Rattle.ib_routes.specs.Links.{AreLinks};

@@ -3,7 +3,8 @@
 ghost use Rattle.std.specs.Prelude.{◌≡◌, ◌<◌, ◌≤◌, ◌*◌, ◌^◌, ◌↔◌, ℕ, length, IfOk, IsTrue, MatchOption};
 ghost use Rattle.ib_net.specs.Fabric.{switch_count};
 ghost use Rattle.ib_cells.specs.Cells.{tables_of};
-ghost use Rattle.ib_routes.specs.Found.{HasNoWitness, IsLeastWitness, channel_of};
+ghost use Rattle.ib_routes.specs.Found.{IsLeastWitness, channel_of};
+ghost use Rattle.ib_routes.specs.Finding.{HasNoWitness};
 ghost use Rattle.ib_routes.specs.Routes.{ComesTo};
 ghost use Rattle.ib_routes.specs.Trace.{IsReady, hop_to, way};
 ghost use Rattle.ib_routes.specs.Witness.{GoesBy, IsFirstHost, IsFirstSource, IsFirstSwitch, IsNextBy, NoHostComes, NoSourceComes};

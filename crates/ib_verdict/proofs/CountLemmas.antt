@@ -1,103 +1,104 @@
--- Counts of numbers.
-use Rattle.std.specs.Prelude.{◌↔◌, IsTrue}
-use Rattle.std.specs.Int.{from_bool}
-use Rattle.std.proofs.Common.{◌≡◌, ◌∙◌, Bool, true, false, sym, subst, refl, ℕ, zero, suc, ◌+◌, ◌*◌, ◌/◌, ◌<◌, ◌≤◌, arith, inl, inr, mul_comm}
-use Rattle.std.proofs.lemmas.Bool.{cases_eq}
+-- Counts of steps, and of dependencies.
+use Rattle.std.proofs.Common.{◌≡◌, ◌∙◌, sym, ap, subst, refl, ℕ, ◌+◌, ◌/◌, ◌≤◌, length, inl, inr, arith, mul_comm}
+use Rattle.std.proofs.lemmas.Bool.{cases_eq, cases_lt}
 use Rattle.std.proofs.Math.Nat.{div-add-mod}
-use Rattle.channel_graph.specs.Graph.{GraphOf, LeadsTo}
+use Rattle.channel_graph.specs.Graph.{GraphOf, HasNoNext, IsNext, LeadsTo}
 use Rattle.ib_cells.specs.Cells.{TablesOf}
-use Rattle.ib_net.specs.Fabric.{FabricOf, switch_count}
+use Rattle.ib_net.specs.Fabric.{FabricOf}
 use Rattle.ib_routes.specs.declared.traffic.Traffic.{Traffic}
-use Rattle.ib_routes.specs.Found.{AreDependencies}
+use Rattle.ib_routes.specs.Counting.{IsCountOf}
+use Rattle.ib_routes.specs.Finding.{AreDependencies}
 use Rattle.ib_routes.specs.Routes.{Channel, DependsOn}
-use Rattle.ib_routes.specs.Waves.{number}
-use Rattle.ib_verdict.specs.Count.{DependsAt, IsCount, IsDependencyCount, IsPairCount}
+use Rattle.ib_routes.specs.Found.{number}
+use Rattle.ib_routes.proofs.CountLemmas.{count_image, count_more, count_none, count_same, count_sum}
+use Rattle.ib_verdict.specs.Count.{IsDependency, IsDependencyCount}
+use Rattle.ib_verdict.specs.Steps.{IsNextBelow, IsStep, IsStepBelow}
 use Rattle.ib_verdict.proofs.NumberLemmas.{both, channel_at, channel_back}
 
--- so there are at most so many
-pub few_more : (at count next : ℕ) (b : Bool) → next ≡ count + from_bool b → count ≤ at → next ≤ at + 1
-few_more at count next true sum low = omega arith
-few_more at count next false sum low = omega arith
+module _ (graph : GraphOf) where
+  module _ (node : ℕ) where
+    pub nexts_none : IsCountOf (IsNextBelow graph node 0) 0
+    nexts_none = count_none ℕ (IsNextBelow graph node 0) (λ next is. absurd (let low = is.1 in omega arith))
 
-module _ (Is : ℕ → Type 0) where
-  -- numbers that are not as told change no count
-  pub gap : (start end count : ℕ) → IsCount Is start count → start ≤ end → ((k : ℕ) → start ≤ k → k < end → Is k → ⊥) → IsCount Is end count
-  gap start zero count has low none = let same : start ≡ 0 = omega arith in subst (λ (n : ℕ). IsCount Is n count) same has
-  gap start (suc end) count has low none = elim (cases_eq start (suc end)) [
-    | inl same ↦ subst (λ (n : ℕ). IsCount Is n count) same has
-    | inr away ↦ inr (none end (omega arith) (omega arith), gap start end count has (omega arith) (λ k a b. none k a (omega arith)))
-  ]
+    -- one step more
+    pub nexts_more : (from next count : ℕ) → IsNext graph node from next → IsCountOf (IsNextBelow graph node from) count → IsCountOf (IsNextBelow graph node (next + 1)) (count + 1)
+    nexts_more from next count is so_far =
+        count_more ℕ (IsNextBelow graph node from) (IsNextBelow graph node (next + 1)) next count (λ other has. (has.0, (let low = has.1 in let after = is.after in omega arith)))
+        (λ other has. elim (cases_lt other from) [
+          | inl before ↦ inl (has.0, before)
+          | inr after ↦ inr (let least = is.least other after has.0 in let low = has.1 in omega arith)
+        ])
+        (is.step, omega arith) (λ has. absurd (let low = has.1 in let after = is.after in omega arith)) so_far
 
-  pub one_more : (from at count : ℕ) → IsCount Is from count → from ≤ at → Is at → ((k : ℕ) → from ≤ k → k < at → Is k → ⊥) → IsCount Is (at + 1) (count + 1)
-  one_more from at count has low is none =
-      let same : suc at ≡ at + 1 = omega arith in
-      subst (λ (n : ℕ). IsCount Is n (count + 1)) same (inl (is, count, gap from at count has low none, refl))
+    -- all steps
+    pub nexts_all : (from count : ℕ) → HasNoNext graph node from → IsCountOf (IsNextBelow graph node from) count → IsCountOf (LeadsTo graph node) count
+    nexts_all from count none so_far =
+        count_same ℕ (IsNextBelow graph node from) (LeadsTo graph node) count (λ next has. has.0)
+        (λ next leads. (
+          leads,
+          elim (cases_lt next from) [
+            | inl before ↦ before
+            | inr after ↦ absurd (none next after leads)
+          ],
+        )) so_far
 
-  -- one number more, which is or is not as told
-  pub counted : (at count next : ℕ) (b : Bool) → next ≡ count + from_bool b → (IsTrue b ↔ Is at) → IsCount Is at count → IsCount Is (at + 1) next
-  counted at count next true sum tells has = subst (λ (n : ℕ). IsCount Is (at + 1) n) (sym sum) (one_more at at count has (omega arith) (tells.0 refl) (λ k a b _. absurd (omega arith)))
-  counted at count next false sum tells has =
-      let same : next ≡ count = omega (arith, sum) in
-      subst (λ (n : ℕ). IsCount Is (at + 1) n) (sym same) (gap at (at + 1) count has (omega arith) (λ k a b is. absurd (none (subst Is (let e : k ≡ at = omega arith in e) is))))
-    where
-      none : Is at → ⊥
-      none is = let wrong : false ≡ true = tells.1 is in absurd (cc)
+    abbrev IsFrom : ℕ × ℕ → Type 0
+    IsFrom pair = IsStep graph pair × (pair.0 ≡ node)
 
-  pub within : (end count : ℕ) → IsCount Is end count → count ≤ end
-  within zero count has = let none : count ≡ 0 = has in omega arith
-  within (suc end) count (inl (is, before, has, more)) = let low = within end before has in omega arith
-  within (suc end) count (inr (none, has)) = let low = within end count has in omega arith
+    steps_from : (count : ℕ) → IsCountOf (LeadsTo graph node) count → IsCountOf IsFrom count
+    steps_from count is =
+        count_image ℕ (ℕ × ℕ) (λ (next : ℕ). (node, next)) (LeadsTo graph node) IsFrom count (λ next leads. (leads, refl))
+        (λ pair has. (pair.1, subst (λ (n : ℕ). LeadsTo graph n pair.1) has.1 has.0, ap (λ (n : ℕ). let at : ℕ × ℕ = (n, pair.1) in at) (sym has.1)))
+        (λ one other same. ap (λ (pair : ℕ × ℕ). pair.1) same) is
 
-  -- a count is one
-  pub one_count : (end one other : ℕ) → IsCount Is end one → IsCount Is end other → one ≡ other
-  one_count zero one other has too = has ∙ sym too
-  one_count (suc end) one other (inl (is, before, has, more)) (inl (is', before', has', more')) = let same = one_count end before before' has has' in omega arith
-  one_count (suc end) one other (inl (is, before, has, more)) (inr (none, has')) = absurd (none is)
-  one_count (suc end) one other (inr (none, has)) (inl (is, before, has', more)) = absurd (none is)
-  one_count (suc end) one other (inr (none, has)) (inr (none', has')) = one_count end one other has has'
+    -- the steps of one node more
+    pub steps_more : (before own : ℕ) → IsCountOf (IsStepBelow graph node) before → IsCountOf (LeadsTo graph node) own → IsCountOf (IsStepBelow graph (node + 1)) (before + own)
+    steps_more before own so_far here =
+        count_sum (ℕ × ℕ) (IsStepBelow graph node) IsFrom (IsStepBelow graph (node + 1)) before own (λ pair is. (is.0, (let low = is.1 in omega arith))) (λ pair is. (is.0, (let same = is.1 in omega arith)))
+        (λ pair is. elim (cases_eq pair.0 node) [
+          | inl same ↦ inr (is.0, same)
+          | inr less ↦ inl (is.0, (let low = is.1 in omega arith))
+        ])
+        (λ pair is other. absurd (let low = is.1 in let same = other.1 in omega arith)) so_far (steps_from own here)
 
-pub one_pair_count : (Are : ℕ → ℕ → Type 0) (width end one other : ℕ) → IsPairCount Are width end one → IsPairCount Are width end other → one ≡ other
-one_pair_count Are width zero one other has too = has ∙ sym too
-one_pair_count Are width (suc end) one other (before, own, has, row, sum) (before', own', has', row', sum') =
-    let a = one_pair_count Are width end before before' has has' in
-    let b = one_count (Are end) width own own' row row' in
-    omega arith
+  pub steps_none : IsCountOf (IsStepBelow graph 0) 0
+  steps_none = count_none (ℕ × ℕ) (IsStepBelow graph 0) (λ pair is. absurd (let low = is.1 in omega arith))
 
-module _ (Is As : ℕ → Type 0) (to : (n : ℕ) → Is n → As n) (back : (n : ℕ) → As n → Is n) where
-  same_count : (end count : ℕ) → IsCount Is end count → IsCount As end count
-  same_count zero count has = has
-  same_count (suc end) count (inl (is, before, has, more)) = inl (to end is, before, same_count end before has, more)
-  same_count (suc end) count (inr (none, has)) = inr (λ has_it. none (back end has_it), same_count end count has)
-
-module _ (Are As : ℕ → ℕ → Type 0) (to : (m n : ℕ) → Are m n → As m n) (back : (m n : ℕ) → As m n → Are m n) (width : ℕ) where
-  same_pairs : (end count : ℕ) → IsPairCount Are width end count → IsPairCount As width end count
-  same_pairs zero count has = has
-  same_pairs (suc end) count (before, own, has, row, sum) = (before, own, same_pairs end before has, same_count (Are end) (As end) (to end) (back end) width own row, sum)
-
-pub one_row : (Are : ℕ → ℕ → Type 0) (width node before own : ℕ) → IsPairCount Are width node before → IsCount (Are node) width own → IsPairCount Are width (node + 1) (before + own)
-one_row Are width node before own has row =
-    let same : suc node ≡ node + 1 = omega arith in
-    subst (λ (n : ℕ). IsPairCount Are width n (before + own)) same (before, own, has, row, refl)
+  pub steps_all : (nodes count : ℕ) → length graph.bases ≤ nodes → IsCountOf (IsStepBelow graph nodes) count → IsCountOf (IsStep graph) count
+  steps_all nodes count all so_far = count_same (ℕ × ℕ) (IsStepBelow graph nodes) (IsStep graph) count (λ pair is. is.0) (λ pair leads. (leads, (let low = leads.low in omega arith))) so_far
 
 module _ (fabric : FabricOf) (tables : TablesOf) (traffic : Traffic) (g : GraphOf) (are : AreDependencies fabric tables traffic g) where
   number_back : (place : ℕ) → number fabric (channel_at fabric.most place) ≡ place
   number_back place = let whole = div-add-mod place fabric.most in let turn = mul_comm fabric.most (place / fabric.most) in omega arith
 
-  depends_at : (one other : ℕ) → LeadsTo g one other → DependsAt fabric tables traffic one other
-  depends_at one other leads =
-      let (channel, next, is, too, first, second) = are.only one other leads in
-      let a : channel_at fabric.most one ≡ channel = subst (λ (n : ℕ). channel_at fabric.most n ≡ channel) (sym first) (channel_back fabric channel is) in
-      let b : channel_at fabric.most other ≡ next = subst (λ (n : ℕ). channel_at fabric.most n ≡ next) (sym second) (channel_back fabric next too) in
-      let depends : DependsOn fabric tables traffic channel next = (are.exact channel next is too).0 (subst (λ (n : ℕ). LeadsTo g (number fabric channel) n) second (subst (λ (n : ℕ). LeadsTo g n other) first leads)) in
-      subst (λ (x : Channel). DependsOn fabric tables traffic x (channel_at fabric.most other)) (sym a) (subst (λ (y : Channel). DependsOn fabric tables traffic channel y) (sym b) depends)
+  abbrev channels_at : ℕ × ℕ → Channel × Channel
+  channels_at pair = (channel_at fabric.most pair.0, channel_at fabric.most pair.1)
 
-  leads_at : (one other : ℕ) → DependsAt fabric tables traffic one other → LeadsTo g one other
-  leads_at one other depends =
-      let (is, too) = both fabric tables traffic g are (channel_at fabric.most one) (channel_at fabric.most other) depends in
-      let leads = (are.exact (channel_at fabric.most one) (channel_at fabric.most other) is too).1 depends in
-      subst (λ (n : ℕ). LeadsTo g n other) (number_back one) (subst (λ (n : ℕ). LeadsTo g (number fabric (channel_at fabric.most one)) n) (number_back other) leads)
+  abbrev numbers : Channel × Channel → ℕ × ℕ
+  numbers pair = (number fabric pair.0, number fabric pair.1)
 
-  pub dependencies : (length_is count : ℕ) → length_is ≡ switch_count fabric * fabric.most → IsPairCount (LeadsTo g) length_is length_is count → IsDependencyCount fabric tables traffic count
-  dependencies length_is count is has =
-      let places = switch_count fabric * fabric.most in
-      subst (λ (n : ℕ). IsPairCount (DependsAt fabric tables traffic) n n count) is (same_pairs (LeadsTo g) (DependsAt fabric tables traffic) depends_at leads_at length_is length_is count has)
+  depends_at : (pair : ℕ × ℕ) → IsStep g pair → IsDependency fabric tables traffic (channels_at pair)
+  depends_at pair leads =
+      let (channel, next, is, too, first, second) = are.only pair.0 pair.1 leads in
+      let a : channel_at fabric.most pair.0 ≡ channel = subst (λ (n : ℕ). channel_at fabric.most n ≡ channel) (sym first) (channel_back fabric channel is) in
+      let b : channel_at fabric.most pair.1 ≡ next = subst (λ (n : ℕ). channel_at fabric.most n ≡ next) (sym second) (channel_back fabric next too) in
+      let depends : DependsOn fabric tables traffic channel next = (are.exact channel next is too).0 (subst (λ (n : ℕ). LeadsTo g (number fabric channel) n) second (subst (λ (n : ℕ). LeadsTo g n pair.1) first leads)) in
+      subst (λ (x : Channel). DependsOn fabric tables traffic x (channel_at fabric.most pair.1)) (sym a) (subst (λ (y : Channel). DependsOn fabric tables traffic channel y) (sym b) depends)
+
+  from_step : (pair : Channel × Channel) → IsDependency fabric tables traffic pair → (step : ℕ × ℕ) × IsStep g step × (channels_at step ≡ pair)
+  from_step pair depends =
+      let (is, too) = both fabric tables traffic g are pair.0 pair.1 depends in (
+        numbers pair,
+        (are.exact pair.0 pair.1 is too).1 depends,
+        ap (λ (c : Channel). let all : Channel × Channel = (c, channel_at fabric.most (number fabric pair.1)) in all) (channel_back fabric pair.0 is)
+            ∙ ap (λ (c : Channel). let all : Channel × Channel = (pair.0, c) in all) (channel_back fabric pair.1 too),
+      )
+
+  one_step : (one other : ℕ × ℕ) → channels_at one ≡ channels_at other → one ≡ other
+  one_step one other same =
+      let first : one.0 ≡ other.0 = sym (number_back one.0) ∙ ap (λ (pair : Channel × Channel). number fabric pair.0) same ∙ number_back other.0 in
+      let second : one.1 ≡ other.1 = sym (number_back one.1) ∙ ap (λ (pair : Channel × Channel). number fabric pair.1) same ∙ number_back other.1 in
+      ap (λ (n : ℕ). let all : ℕ × ℕ = (n, one.1) in all) first ∙ ap (λ (n : ℕ). let all : ℕ × ℕ = (other.0, n) in all) second
+
+  pub dependencies : (count : ℕ) → IsCountOf (IsStep g) count → IsDependencyCount fabric tables traffic count
+  dependencies count is = count_image (ℕ × ℕ) (Channel × Channel) channels_at (IsStep g) (IsDependency fabric tables traffic) count depends_at from_step one_step is

@@ -16,9 +16,9 @@ use Rattle.ib_net.specs.declared.node.Side.TheVariants.{Bare, To, End}
 use Rattle.ib_net.specs.declared.node.Spot.{Spot}
 use Rattle.ib_net.specs.Fabric.{FabricOf, IsFabric, side_of}
 use Rattle.ib_routes.specs.declared.traffic.Traffic.{Traffic}
-use Rattle.ib_routes.specs.Found.{AreDependencies, IsChannel, channel_of}
+use Rattle.ib_routes.specs.Found.{IsChannel, channel_of, number}
+use Rattle.ib_routes.specs.Finding.{AreDependencies}
 use Rattle.ib_routes.specs.Routes.{Channel, DependsOn}
-use Rattle.ib_routes.specs.Waves.{number}
 use Rattle.ib_routes.proofs.ChannelLemmas.{channel_low, channel_place, first_is, second_is}
 use Rattle.ib_verdict.specs.Verdict.{HasRanks, IsLeastLoop, channel_cmp, rank_in, rank_over, spot_at}
 use Rattle.ib_verdict.proofs.OneAnswer.{same_parts}

@@ -6,9 +6,8 @@ use Rattle.ib_cells.specs.Cells.{TablesOf}
 use Rattle.ib_net.specs.declared.node.Side.{Side}
 use Rattle.ib_net.specs.Fabric.{FabricOf}
 use Rattle.ib_routes.specs.declared.traffic.Traffic.{Traffic}
-use Rattle.ib_routes.specs.Found.{IsChannel, channel_of}
+use Rattle.ib_routes.specs.Found.{IsChannel, channel_of, number}
 use Rattle.ib_routes.specs.Routes.{Channel, DependsOn}
-use Rattle.ib_routes.specs.Waves.{number}
 use Rattle.ib_routes.proofs.ChannelLemmas.{first_is, second_is}
 use Rattle.ib_verdict.specs.declared.verify.Rise.{Rise}
 use Rattle.ib_verdict.specs.Verdict.{HasRanks, AreAtMost, rank_in, rank_over}

@@ -13,9 +13,9 @@ use Rattle.ib_net.specs.declared.node.Spot.{Spot}
 use Rattle.ib_net.specs.Fabric.{FabricOf, IsFabric, switch_count}
 use Rattle.ib_routes.specs.declared.traffic.Traffic.{Traffic}
 use Rattle.ib_routes.specs.declared.witness.Witness.{Witness}
-use Rattle.ib_routes.specs.Found.{AreDependencies, IsChannel, IsLeastWitness, SomeIsStopped, channel_of}
+use Rattle.ib_routes.specs.Found.{IsChannel, IsLeastWitness, SomeIsStopped, channel_of, number}
+use Rattle.ib_routes.specs.Finding.{AreDependencies}
 use Rattle.ib_routes.specs.Routes.{Channel, DependsOn}
-use Rattle.ib_routes.specs.Waves.{number}
 use Rattle.ib_routes.proofs.ChannelLemmas.{channel_place}
 use Rattle.ib_verdict.specs.Verdict.{spot_at}
 use Rattle.ib_verdict.specs.Verified.{Fall, IsFirstRise, IsUpTo, IsVerified, Rises, told_rank}

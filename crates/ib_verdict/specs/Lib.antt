@@ -1,5 +1,6 @@
 pub mod Verdict
 pub mod Packets
 pub mod Count
+pub mod Steps
 pub mod Judgements
 pub mod Verified

@@ -6,9 +6,8 @@ use Rattle.channel_graph.specs.Graph.{value_at}
 use Rattle.ib_cells.specs.Cells.{TablesOf}
 use Rattle.ib_net.specs.Fabric.{FabricOf}
 use Rattle.ib_routes.specs.declared.traffic.Traffic.{Traffic}
-use Rattle.ib_routes.specs.Found.{IsLeastWitness, SomeIsStopped, channel_of}
+use Rattle.ib_routes.specs.Found.{IsLeastWitness, SomeIsStopped, channel_of, number}
 use Rattle.ib_routes.specs.Routes.{Channel, DependsOn}
-use Rattle.ib_routes.specs.Waves.{number}
 use Rattle.ib_verdict.specs.declared.verify.Rise.{Rise}
 use Rattle.ib_verdict.specs.declared.verify.Verified.{Verified}
 use Rattle.ib_verdict.specs.Verdict.{AllArrive, channel_cmp}

@@ -2,13 +2,14 @@
 
 ghost use Rattle.std.specs.Prelude.{◌≡◌, ◌≤◌, length};
 ghost use Rattle.channel_graph.specs.Graph.{LeadsTo};
-ghost use Rattle.ib_verdict.specs.Count.{IsCount, IsPairCount};
+ghost use Rattle.ib_routes.specs.Counting.{IsCountOf};
+ghost use Rattle.ib_verdict.specs.Steps.{IsStep};
 
 use channel_graph::graph::Graph;
 
 // To how many nodes one leads.
 fn count_from(graph: &Graph, node: usize) -> u64
-    ensures count { IsCount (LeadsTo graph.now node) (length graph.now.bases) result }
+    ensures count { IsCountOf (LeadsTo graph.now node) result }
     ensures few { result ≤ length graph.now.bases }
 {
     let mut count = 0u64;
@@ -21,7 +22,7 @@ fn count_from(graph: &Graph, node: usize) -> u64
 
 /// How many steps a graph has.
 pub fn count_steps(graph: &Graph) -> u64
-    ensures { IsPairCount (LeadsTo graph.now) (length graph.now.bases) (length graph.now.bases) result }
+    ensures { IsCountOf (IsStep graph.now) result }
 {
     let mut count = 0u64;
     'nodes: for node in 0..graph.count() {

@@ -3,7 +3,8 @@
 ghost use Rattle.std.specs.Prelude.{◌≡◌, ◌<◌, ◌≤◌, ◌*◌, ◌^◌, length, map, IfOk};
 ghost use Rattle.ib_cells.specs.Cells.{tables_of};
 ghost use Rattle.ib_net.specs.Fabric.{IsFabric, switch_count};
-ghost use Rattle.ib_routes.specs.Found.{AreDependencies, IsLeastWitness, channel_of};
+ghost use Rattle.ib_routes.specs.Found.{IsLeastWitness, channel_of};
+ghost use Rattle.ib_routes.specs.Finding.{AreDependencies};
 ghost use Rattle.ib_routes.specs.Routes.{DependsOn};
 ghost use Rattle.ib_verdict.specs.Judgements.{IsJudgement};
 ghost use Rattle.ib_verdict.specs.Verdict.{CycleIs, IsLeastLoop, IsVerdict, spot_at};

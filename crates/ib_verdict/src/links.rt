@@ -3,7 +3,9 @@
 ghost use Rattle.std.specs.Prelude.{◌≡◌, ◌<◌, ◌≤◌, ◌⊎◌, ◌↔◌, ℕ, IsTrue};
 ghost use Rattle.ib_net.specs.Fabric.{switch_count};
 ghost use Rattle.ib_routes.specs.Found.{IsChannel};
-ghost use Rattle.ib_verdict.specs.Count.{IsChannelCount, IsCount, IsFirstOf, IsLinkAt, IsLinkCount, out_of};
+ghost use Rattle.ib_routes.specs.Counting.{IsCountOf};
+ghost use Rattle.ib_verdict.specs.Count.{IsChannelCount, IsFirstOf, IsLinkAt, IsLinkCount};
+ghost use Rattle.ib_verdict.specs.Steps.{IsOutOf};
 
 use ib_net::fabric::Fabric;
 use ib_net::node::Side;
@@ -42,9 +44,9 @@ fn is_first(switch: usize, port: u8, side: Side) -> bool
 // Those of which a port of a switch is the first, and the channels out of this switch.
 fn links_of(fabric: &Fabric, switch: usize) -> Links
     requires { switch < switch_count fabric.now }
-    ensures links { IsCount (λ number. IsLinkAt fabric.now (out_of switch number)) fabric.now.most result.links }
+    ensures links { IsCountOf (IsOutOf (IsLinkAt fabric.now) switch) result.links }
     ensures few_links { result.links < 255 }
-    ensures channels { IsCount (λ number. IsChannel fabric.now (out_of switch number)) fabric.now.most result.channels }
+    ensures channels { IsCountOf (IsOutOf (IsChannel fabric.now) switch) result.channels }
     ensures few_channels { result.channels < 255 }
 {
     let mut links = 0u64;

@@ -4,7 +4,7 @@ ghost use Rattle.std.specs.Prelude.{◌≡◌, ◌≤◌, ◌*◌, length, IfOk,
 ghost use Rattle.channel_graph.specs.Graph.{IsFirstRise as IsFirstRiseOf, value_at};
 ghost use Rattle.ib_cells.specs.Cells.{tables_of};
 ghost use Rattle.ib_net.specs.Fabric.{switch_count};
-ghost use Rattle.ib_routes.specs.Found.{AreDependencies};
+ghost use Rattle.ib_routes.specs.Finding.{AreDependencies};
 ghost use Rattle.ib_verdict.specs.Verified.{Fall, IsFirstRise, IsVerified};
 
 use crate::judge::{spot_of, witness_of};

@@ -1,5 +1,5 @@
 use Rattle.std.proofs.Common.{◌≡◌, subst}
-use Rattle.ib_counts.proofs.CountLemmas.{count_same, count_without}
+use Rattle.ib_routes.proofs.CountLemmas.{count_same, count_without}
 use Rattle.ib_net.specs.declared.node.EndPort.{EndPort}
 use Rattle.ib_routes.specs.Routes.{IsSource}
 use Rattle.ib_routes.proofs.StartLemmas.{same_end}

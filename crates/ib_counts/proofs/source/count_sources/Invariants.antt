@@ -1,5 +1,5 @@
 use Rattle.std.proofs.Common.{◌≤◌}
-use Rattle.ib_counts.specs.Counts.{IsCountOf}
+use Rattle.ib_routes.specs.Counting.{IsCountOf}
 use Rattle.ib_counts.specs.Steps.{IsSourceUntil}
 use Rattle.ib_counts.proofs.source.count_sources.Given as goal
 

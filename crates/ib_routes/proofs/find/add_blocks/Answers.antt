@@ -1,6 +1,6 @@
 use Rattle.std.proofs.Common.{◌≡◌, subst, ℕ, ◌*◌, arith}
 use Rattle.ib_cells.specs.Cells.{tables_of}
-use Rattle.ib_routes.specs.Found.{AreFoundBelow}
+use Rattle.ib_routes.specs.Finding.{AreFoundBelow}
 use Rattle.ib_routes.proofs.FoundLemmas.{found_none, found_more, found_all}
 use Rattle.ib_routes.proofs.RunLemmas.{graph_kept}
 use Rattle.ib_routes.proofs.find.add_blocks.Goals as goal

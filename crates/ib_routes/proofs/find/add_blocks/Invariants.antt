@@ -1,6 +1,6 @@
 use Rattle.std.proofs.Common.{◌*◌}
 use Rattle.ib_cells.specs.Cells.{tables_of}
-use Rattle.ib_routes.specs.Found.{AreFoundBelow}
+use Rattle.ib_routes.specs.Finding.{AreFoundBelow}
 use Rattle.ib_routes.specs.Waves.{IsGraphOf}
 use Rattle.ib_routes.proofs.find.add_blocks.Given as goal
 

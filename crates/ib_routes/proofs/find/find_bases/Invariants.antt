@@ -1,5 +1,5 @@
 use Rattle.std.proofs.Common.{◌≡◌, ◌*◌, length}
-use Rattle.ib_routes.specs.Found.{AreBases}
+use Rattle.ib_routes.specs.Finding.{AreBases}
 use Rattle.ib_net.specs.Fabric.{switch_count}
 use Rattle.ib_routes.proofs.find.find_bases.Given as goal
 

@@ -1,14 +1,14 @@
 use Rattle.std.proofs.Common.{◌-◌, ◌≤◌, ◌^◌, length}
-use Rattle.channel_graph.specs.Graph.{LeadsTo}
 use Rattle.channel_graph.specs.Rows.{StandsAt}
-use Rattle.ib_verdict.specs.Count.{IsCount}
+use Rattle.ib_routes.specs.Counting.{IsCountOf}
+use Rattle.ib_verdict.specs.Steps.{IsNextBelow}
 use Rattle.ib_verdict.proofs.count.count_from.Given as goal
 
 -- the steps so far
 abbrev pub invariant-steps : goal.invariant-steps
 invariant-steps l = record {
   stands : StandsAt l.graph l.node l.cursor;
-  so_far : IsCount (LeadsTo l.graph l.node) l.cursor.from l.count;
+  so_far : IsCountOf (IsNextBelow l.graph l.node l.cursor.from) l.count;
   low : l.cursor.from ≤ length l.graph.bases;
   few : l.count ≤ l.cursor.from;
   small : l.cursor.from ≤ 2 ^ 31;

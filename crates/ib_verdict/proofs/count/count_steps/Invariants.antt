@@ -1,8 +1,8 @@
-use Rattle.std.proofs.Common.{◌≤◌, ◌*◌, ◌^◌, length}
-use Rattle.channel_graph.specs.Graph.{LeadsTo}
-use Rattle.ib_verdict.specs.Count.{IsPairCount}
+use Rattle.std.proofs.Common.{◌≤◌, ◌*◌, ◌^◌}
+use Rattle.ib_routes.specs.Counting.{IsCountOf}
+use Rattle.ib_verdict.specs.Steps.{IsStepBelow}
 use Rattle.ib_verdict.proofs.count.count_steps.Given as goal
 
 -- the steps so far
 abbrev pub invariant-nodes : goal.invariant-nodes
-invariant-nodes l = record { so_far : IsPairCount (LeadsTo l.graph) (length l.graph.bases) l.node l.count; few : l.count ≤ l.node * 2 ^ 31 }
+invariant-nodes l = record { so_far : IsCountOf (IsStepBelow l.graph l.node) l.count; few : l.count ≤ l.node * 2 ^ 31 }

@@ -1,4 +1,3 @@
-use Rattle.std.proofs.Common.{length}
 use Rattle.ib_cells.specs.Cells.{tables_of}
 use Rattle.ib_verdict.proofs.CountLemmas.{dependencies}
 use Rattle.ib_verdict.proofs.PassLemmas.{pass}
@@ -13,5 +12,5 @@ returns c =
       verdict = verdict;
       stops = are.stopped;
       passes = λ none. pass c.args.fabric.now (tables_of c.args.cells.now) c.args.traffic found.stopped are.stopped c.in_ok-verdict.verdict verdict none;
-      dependencies = dependencies c.args.fabric.now (tables_of c.args.cells.now) c.args.traffic found.graph are.graph (length found.graph.bases) c.count_steps-dependencies.result are.graph.count c.count_steps-dependencies.ensures;
+      dependencies = dependencies c.args.fabric.now (tables_of c.args.cells.now) c.args.traffic found.graph are.graph c.count_steps-dependencies.result c.count_steps-dependencies.ensures;
     }

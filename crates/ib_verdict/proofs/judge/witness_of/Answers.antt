@@ -1,7 +1,8 @@
 use Rattle.std.proofs.lemmas.Option.{MatchOption-at_none}
 use Rattle.ib_cells.specs.Cells.{tables_of}
 use Rattle.ib_routes.specs.declared.witness.Witness.{Witness}
-use Rattle.ib_routes.specs.Found.{HasNoWitness, IsLeastWitness, channel_of}
+use Rattle.ib_routes.specs.Found.{IsLeastWitness, channel_of}
+use Rattle.ib_routes.specs.Finding.{HasNoWitness}
 use Rattle.ib_verdict.proofs.WitnessLemmas.{first_low, second_low}
 use Rattle.ib_verdict.proofs.judge.witness_of.Goals as goal
 

@@ -1,10 +1,10 @@
-use Rattle.std.proofs.Common.{◌*◌}
-use Rattle.ib_net.specs.Fabric.{switch_count}
 use Rattle.ib_routes.specs.Found.{IsChannel}
-use Rattle.ib_verdict.specs.Count.{DependsAt, IsLinkAt, out_of}
+use Rattle.ib_routes.specs.Routes.{Channel}
+use Rattle.ib_routes.proofs.CountLemmas.{one_count}
+use Rattle.ib_verdict.specs.Count.{IsDependency, IsLinkAt}
 use Rattle.ib_verdict.specs.Verdict.{spots_in}
-use Rattle.ib_verdict.proofs.CountLemmas.{one_pair_count}
 use Rattle.ib_verdict.proofs.EndLemmas.{none_is_stopped}
+use Rattle.ib_verdict.proofs.LinkLemmas.{pair_same_or_not, same_or_not}
 use Rattle.ib_verdict.proofs.OneAnswer.{not_both, one_loop, one_ranks, one_witness}
 use Rattle.ib_verdict.proofs.law.one_answer.Goals as goal
 
@@ -24,12 +24,10 @@ pub returns-clause-arrive : goal.returns-clause-arrive
 returns-clause-arrive c fabric tables traffic all some = none_is_stopped fabric tables traffic all some
 
 pub returns-clause-links : goal.returns-clause-links
-returns-clause-links c fabric one other has too = one_pair_count (λ switch number. IsLinkAt fabric (out_of switch number)) fabric.most (switch_count fabric) one other has too
+returns-clause-links c fabric one other has too = one_count Channel (IsLinkAt fabric) same_or_not one other has too
 
 pub returns-clause-channels : goal.returns-clause-channels
-returns-clause-channels c fabric one other has too = one_pair_count (λ switch number. IsChannel fabric (out_of switch number)) fabric.most (switch_count fabric) one other has too
+returns-clause-channels c fabric one other has too = one_count Channel (IsChannel fabric) same_or_not one other has too
 
 pub returns-clause-dependencies : goal.returns-clause-dependencies
-returns-clause-dependencies c fabric tables traffic one other has too =
-    let places = switch_count fabric * fabric.most in
-    one_pair_count (DependsAt fabric tables traffic) places places one other has too
+returns-clause-dependencies c fabric tables traffic one other has too = one_count (Channel × Channel) (IsDependency fabric tables traffic) pair_same_or_not one other has too

@@ -6,7 +6,7 @@ use Rattle.std.proofs.lemmas.List.Kept.{AllPairs-cons}
 use Rattle.an_base.proofs.ListLemmas.{AllPairs-head, AllPairs-tail, All-from_members}
 use Rattle.an_base.proofs.MemberLemmas.{Any-from_map, Contains-cons_cases, Contains-here, Contains-image, Contains-later}
 use Rattle.an_base.proofs.PairLemmas.{AllPairs-append, AllPairs-map, apart_push}
-use Rattle.ib_counts.specs.Counts.{IsCountOf}
+use Rattle.ib_routes.specs.Counting.{IsCountOf}
 
 module _ (A : Type 0) where
   pub count_none : (Is : A → Type 0) → ((x : A) → Is x → ⊥) → IsCountOf Is 0
@@ -116,6 +116,27 @@ module _ (A : Type 0) where
           size = omega arith;
         },
       )
+
+  -- lists of the same things, each once, are of one length
+  same_size : ((x y : A) → (x ≡ y) ⊎ (x ≢ y)) → (xs ys : List A) → AllPairs (λ a b. a ≢ b) xs → AllPairs (λ a b. a ≢ b) ys → ((x : A) → Contains xs x → Contains ys x) → ((x : A) → Contains ys x → Contains xs x) → length xs ≡ length ys
+  same_size same [] [] apart others there back = refl
+  same_size same [] (y ∷ ys) apart others there back = absurd (let none = (back y (Contains-here y ys)).1 in omega arith)
+  same_size same (x ∷ xs) ys apart others there back =
+      let rest = without x (λ y. same y x) ys others (there x (Contains-here x xs)) in
+      let less = same_size same xs rest.rest (AllPairs-tail (λ a b. a ≢ b) x xs apart) rest.apart
+      (λ y has. rest.each y (there y (Contains-later x y xs has)) (λ e. All-contains (λ z. x ≢ z) xs y (AllPairs-head (λ a b. a ≢ b) x xs apart) has (sym e)))
+      (λ y has. elim (Contains-cons_cases x y xs (back y (rest.only y has).0)) [
+        | inl first ↦ absurd ((rest.only y has).1 (sym first))
+        | inr later ↦ later
+      ]) in
+      (let size = rest.size in omega arith)
+
+  -- a count is one
+  pub one_count : (Is : A → Type 0) → ((x y : A) → (x ≡ y) ⊎ (x ≢ y)) → (one other : ℕ) → IsCountOf Is one → IsCountOf Is other → one ≡ other
+  one_count Is same one other is too =
+      sym is.size
+      ∙ same_size same is.things too.things is.apart too.apart (λ x has. too.each x (is.only x has)) (λ x has. is.each x (too.only x has))
+      ∙ too.size
 
 -- images by a function that gives no value twice
 pub count_image : (A B : Type 0) (f : A → B) (Is : A → Type 0) (As : B → Type 0) (count : ℕ) → ((x : A) → Is x → As (f x)) → ((y : B) → As y → (x : A) × Is x × (f x ≡ y)) → ((x y : A) → f x ≡ f y → x ≡ y) → IsCountOf Is count → IsCountOf As count
