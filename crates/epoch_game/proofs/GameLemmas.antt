@@ -7,12 +7,13 @@ use Rattle.an_base.specs.declared.body.Body.{Body}
 use Rattle.an_base.proofs.LifeLemmas.{life_passes, same_life}
 use Rattle.epoch_core.specs.Log.{CardOf, on_port}
 use Rattle.epoch_core.specs.Epoch.{finish, sent}
-use Rattle.epoch_game.specs.Slice.{Earlier, Node, Slice, nobody, with_node, Names, IsCardOf, Run, none as Run-none, joins as Run-joins, accepts as Run-accepts}
+use Rattle.epoch_game.specs.Slice.{Earlier, Node, Slice, nobody, with_node, Names, IsCardOf, IsJoinedBy, Run, none as Run-none, joins as Run-joins, accepts as Run-accepts}
 use Rattle.epoch_game.specs.Leaving.{WasStableRoot}
+use Rattle.epoch_game.specs.Detection.{IsDetected}
 use Rattle.epoch_game.specs.Game.{Game, slice, begins, with_node_in, with_present, with_loaded, after_join, after_accept, after_load, MayJoin, Play, none, joins, accepts, loads, HasFinished, IsDetectedIn}
 use Rattle.epoch_game.proofs.Basics.{none_some, bool_cases}
-use Rattle.epoch_game.proofs.Nodes.{node_cases}
-use Rattle.epoch_game.proofs.StreamLemmas.{has_grown}
+use Rattle.epoch_game.proofs.Nodes.{decide_life, node_cases, node_else, node_here}
+use Rattle.epoch_game.proofs.StreamLemmas.{has_grown, nodes}
 use Rattle.epoch_game.proofs.FinishLemmas.{is_detected, finish_earlier}
 use Rattle.std.proofs.lemmas.Bool.{eqb-true}
 
@@ -37,7 +38,7 @@ present_joined : (g : Game) (x y : LifeId) (e f : ℕ) → x ≡ y → e ≡ f �
 present_joined g x y e f at is = subst (λ (b : Bool). f ≤ cond b e (g.present y)) (sym (life_passes x y at)) (omega (arith, is))
 
 -- a node after one was put in an epoch: the new one, or one of before
-node_in : (g : Game) (e : ℕ) (x : LifeId) (n : Node) (y : LifeId) (f : ℕ) (m : Node) → with_node_in g e x n y f ≡ Some m → ((e ≡ f) × (x ≡ y) × (n ≡ m)) ⊎ (g.nodes y f ≡ Some m)
+pub node_in : (g : Game) (e : ℕ) (x : LifeId) (n : Node) (y : LifeId) (f : ℕ) (m : Node) → with_node_in g e x n y f ≡ Some m → ((e ≡ f) × (x ≡ y) × (n ≡ m)) ⊎ (g.nodes y f ≡ Some m)
 node_in g e x n y f m is =
     ⊎_elim
     (λ (same : (e == f) ≡ true).
@@ -117,16 +118,46 @@ play_run lives first g e play = epoch_run lives (begins first) g e (start_ahead 
 pub later_run : (lives : List LifeId) (first : LifeId → ℕ) (g h : Game) (e : ℕ) → Play lives (begins first) g → Play lives g h → Run lives (slice e g) (slice e h)
 later_run lives first g h e play more = epoch_run lives g h e (none_ahead lives (begins first) g play (start_ahead first)) more
 
+-- A life that had joined before a node was put has joined after it
+joined_before : (members : List LifeId) (t : Slice) (x : LifeId) (n : Node) → IsJoinedBy members (with_node t x n) → IsJoinedBy members t
+joined_before members t x n all y m is = by (decide_life x y)
+  where
+    by : (x ≡ y → ⊥) ⊎ (x ≡ y) → Contains members y
+    by (inl ne) = all y m (node_else t x y n ne ∙ is)
+    by (inr same) = subst (Contains members) same (all x n (node_here t x n))
+
+-- so a run is one of those that have joined alone
+pub members_run : (lives members : List LifeId) (s t : Slice) → Run lives s t → IsJoinedBy members t → Run members s t
+members_run lives members s _ Run-none all = Run-none
+members_run lives members s _ (Run-joins t x c run free known ok) all =
+    let new : Node = record { card = c; log = [] } in
+    Run-joins t x c (members_run lives members s t run (joined_before members t x new all)) free (all x new (node_here t x new)) ok
+members_run lives members s _ (Run-accepts t x z p q n m b run sx sz lx lz next) all =
+    let new : Node = record { card = n.card; log = record { port = p; body = b } ∷ n.log } in
+    Run-accepts t x z p q n m b (members_run lives members s t run (joined_before members t x new all)) sx sz lx lz next
+
+-- who has joined is one of the lives
+pub joined_lives : (lives : List LifeId) (s : Slice) → Run lives nobody s → IsJoinedBy lives s
+joined_lives lives s run x n is = (nodes lives s run x n is).1
+
+-- an epoch of the game is a run of those that join it
+pub play_members : (lives members : List LifeId) (first : LifeId → ℕ) (g : Game) (e : ℕ) → Play lives (begins first) g → IsJoinedBy members (slice e g) → Run members nobody (slice e g)
+play_members lives members first g e play joined = members_run lives members nobody (slice e g) (play_run lives first g e play) joined
+
 -- each epoch by itself detects its end
-pub is_detected_in : (lives : List LifeId) (first : LifeId → ℕ) (g : Game) (e : ℕ) (r : LifeId) → length lives ≤ 126 → Play lives (begins first) g → WasStableRoot (slice e g) r → IsDetectedIn lives g e r
-is_detected_in lives first g e r few play was =
-    let d = is_detected lives (slice e g) r few (play_run lives first g e play) was in
-    record {
-      detected = d;
-      members = λ h x more. d.members (slice e h) x (later_run lives first g h e play more);
-      version = λ x n m h hx sx more tx. (d.settled x n hx sx).version (slice e h) m (later_run lives first g h e play more) tx;
-      position = λ x n m h hx sx more tx. (d.settled x n hx sx).stays (slice e h) m (later_run lives first g h e play more) tx;
-    }
+pub is_detected_in : (lives members : List LifeId) (first : LifeId → ℕ) (g : Game) (e : ℕ) (r : LifeId) → length members ≤ 126 → Play lives (begins first) g → IsJoinedBy members (slice e g) → WasStableRoot (slice e g) r → IsDetectedIn lives members g e r
+is_detected_in lives members first g e r few play joined was = record {
+  detected = d;
+  reached = λ h x more by. d.members (slice e h) x (since h more by);
+  version = λ x n m h hx sx more by tx. (d.settled x n hx sx).version (slice e h) m (since h more by) tx;
+  position = λ x n m h hx sx more by tx. (d.settled x n hx sx).stays (slice e h) m (since h more by) tx;
+}
+  where
+    d : IsDetected members (slice e g) r
+    d = is_detected members (slice e g) r few (play_members lives members first g e play joined) was
+
+    since : (h : Game) → Play lives g h → IsJoinedBy members (slice e h) → Run members (slice e g) (slice e h)
+    since h more by = members_run lives members (slice e g) (slice e h) (later_run lives first g h e play more) by
 
 -- Who has loaded has finished.
 abbrev LoadsAreFinished : Game → Type 0

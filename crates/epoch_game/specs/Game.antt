@@ -7,7 +7,7 @@ use Rattle.an_base.specs.Order.{life_cmp}
 use Rattle.an_base.specs.declared.body.Body.{Body}
 use Rattle.epoch_core.specs.Log.{CardOf, on_port}
 use Rattle.epoch_core.specs.Epoch.{version, position, finish, sent}
-use Rattle.epoch_game.specs.Slice.{Earlier, Node, Slice, with_node, Names, IsCardOf}
+use Rattle.epoch_game.specs.Slice.{Earlier, Node, Slice, with_node, Names, IsCardOf, IsJoinedBy}
 use Rattle.epoch_game.specs.Detection.{Reached, IsDetected}
 
 -- The game of all epochs: the epoch in which each life is now, its node in each epoch that it joined, and
@@ -104,20 +104,22 @@ pub record HasFinished (game : Game) (life : LifeId) (epoch : ℕ) : Type 0 wher
   pub finish : finish node.card node.log ≡ Some topology
 
 -- What holds of an epoch in which a life was stable at some moment with itself as root, now and in all that
--- the game may still do:
-pub record IsDetectedIn (lives : List LifeId) (game : Game) (epoch : ℕ) (root_life : LifeId) : Type 0 where
-  pub detected : IsDetected lives (slice epoch game) root_life
+-- the game may still do, as long as no others join the epoch than these members:
+pub record IsDetectedIn (lives members : List LifeId) (game : Game) (epoch : ℕ) (root_life : LifeId)
+    : Type 0 where
+  pub detected : IsDetected members (slice epoch game) root_life
   -- the same lives are reached from it in that epoch ever after
-  pub members : (later : Game) (life : LifeId) → Play lives game later
+  pub reached : (later : Game) (life : LifeId)
+      → Play lives game later → IsJoinedBy members (slice epoch later)
       → (Reached (slice epoch later) root_life life) ↔ (Reached (slice epoch game) root_life life)
   -- and each keeps its version and its position there
   pub version : (life : LifeId) (node later_node : Node) (later : Game)
       → Reached (slice epoch game) root_life life → game.nodes life epoch ≡ Some node
-      → Play lives game later
+      → Play lives game later → IsJoinedBy members (slice epoch later)
       → later.nodes life epoch ≡ Some later_node
       → version later_node.card later_node.log ≡ version node.card node.log
   pub position : (life : LifeId) (node later_node : Node) (later : Game)
       → Reached (slice epoch game) root_life life → game.nodes life epoch ≡ Some node
-      → Play lives game later
+      → Play lives game later → IsJoinedBy members (slice epoch later)
       → later.nodes life epoch ≡ Some later_node
       → position later_node.card later_node.log ≡ position node.card node.log

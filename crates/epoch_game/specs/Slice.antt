@@ -27,6 +27,10 @@ Slice = LifeId → Option Node
 abbrev pub nobody : Slice
 nobody life = None
 
+-- no life has joined but these
+abbrev pub IsJoinedBy : List LifeId → Slice → Type 0
+IsJoinedBy members state = (life : LifeId) (node : Node) → state life ≡ Some node → Contains members life
+
 -- the epoch with another node of a life
 abbrev pub with_node : Slice → LifeId → Node → Slice
 with_node state life node other = if is_eq (life_cmp life other) then Some node else state other

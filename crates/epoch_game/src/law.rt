@@ -4,7 +4,7 @@ ghost use Rattle.std.specs.Prelude.{◌≡◌, ◌≤◌, ℕ, List, Some, true,
 ghost use Rattle.an_base.specs.Values.{LifeId, EntryOf, TopoOf};
 ghost use Rattle.topo_graph.specs.Topology.{IsGraph, IsTree};
 ghost use Rattle.epoch_core.specs.Epoch.{finish};
-ghost use Rattle.epoch_game.specs.Slice.{Node, Slice, nobody, Run};
+ghost use Rattle.epoch_game.specs.Slice.{IsJoinedBy, Node, Slice, nobody, Run};
 ghost use Rattle.epoch_game.specs.Streams.{HasStreams, HasGrown};
 ghost use Rattle.epoch_game.specs.Improving.{OnlyImproves};
 ghost use Rattle.epoch_game.specs.Leaving.{WasStableRoot, NobodyLeaves};
@@ -26,6 +26,16 @@ pub fn streams_show_their_senders()
 pub fn lists_only_grow()
     ensures { (lives : List LifeId) (state later : Slice) (life : LifeId) (node : Node)
         → Run lives state later → state life ≡ Some node → HasGrown later life node }
+{}
+
+/// The lives of a run are those that may join. Each that has joined is one of them, and a run in which no
+/// others than some have joined is a run of these alone. So the 126 lives of the laws below are those that
+/// join the epoch, however many there are in all.
+pub fn a_run_is_of_those_that_join()
+    ensures members { (lives members : List LifeId) (state later : Slice)
+        → Run lives state later → IsJoinedBy members later → Run members state later }
+    ensures lives { (lives : List LifeId) (state : Slice)
+        → Run lives nobody state → IsJoinedBy lives state }
 {}
 
 /// In every run of at most 126 lives the position of a life only gets less, is never above what the last
@@ -123,13 +133,16 @@ pub fn each_epoch_is_a_run()
         → Run lives (slice epoch game) (slice epoch later) }
 {}
 
-/// In every state of the game of at most 126 lives, and in each epoch: once a life is stable with itself
-/// as root, all that is said above of the lives reached from it holds, and nothing that the game still
-/// does changes which lives these are, nor the version or the position of one of them.
+/// In every state of the game, and in each epoch that at most 126 lives have joined, however many there are
+/// in all: once a life is stable with itself as root, all that is said above of the lives reached from it
+/// holds. As long as no others join the epoch than these 126, nothing that the game still does changes which
+/// lives are reached, nor the version or the position of one of them.
 pub fn termination_is_detected()
-    ensures { (lives : List LifeId) (first : LifeId → ℕ) (game : Game) (epoch : ℕ) (root_life : LifeId)
-        → length lives ≤ 126 → Play lives (begins first) game → WasStableRoot (slice epoch game) root_life
-        → IsDetectedIn lives game epoch root_life }
+    ensures { (lives members : List LifeId) (first : LifeId → ℕ) (game : Game) (epoch : ℕ)
+        (root_life : LifeId)
+        → length members ≤ 126 → Play lives (begins first) game → IsJoinedBy members (slice epoch game)
+        → WasStableRoot (slice epoch game) root_life
+        → IsDetectedIn lives members game epoch root_life }
 {}
 
 /// In every state of the game, who has loaded in an epoch has finished there.
