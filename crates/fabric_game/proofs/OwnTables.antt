@@ -21,6 +21,7 @@ use Rattle.std.proofs.lemmas.Bool.{cases_lt}
 use Rattle.an_base.specs.declared.event.Event.TheVariants.{Load}
 use Rattle.epoch_core.specs.Epoch.{finish}
 use Rattle.epoch_game.proofs.Basics.{none_some}
+use Rattle.switch_game.proofs.Laws.{joined_by_lives}
 use Rattle.switch_game.proofs.Members.{not_behind}
 use Rattle.fabric_game.specs.Lives.{powered}
 use Rattle.fabric_game.specs.Moves.{game_after}
@@ -64,7 +65,8 @@ none_is_older script lives few kept firm h before more s member topo t loaded lo
         (record { before = before; later = Load s ∷ more; moment = loaded.parts; place = s; within = within; life_is = refl; epoch_is = refl; finished = loaded.finished }) in
         let d = any_is topo.entries v.life any in
         let has : Contains f.0.topology.entries d.0 = subst (λ (k : TopoOf). Contains k.entries d.0) (sym f.1) d.1 in
-        let up = not_behind lives (powered script) w.network (game_after script h) u.life u.epoch f.0 d.0 few w.is_in.happens has in
+        let joined = joined_by_lives lives (powered script) w.network (game_after script h) u.epoch w.is_in.happens in
+        let up = not_behind lives lives (powered script) w.network (game_after script h) u.life u.epoch f.0 d.0 few w.is_in.happens joined has in
         let there : w.network.switches d.0.life ≡ v = ap w.network.switches d.2 ∙ w.is_in.switches member low in
         let same = ap (λ (k : SwitchOf). k.epoch) there in
         let table = used_epoch script kept h member t low uses in

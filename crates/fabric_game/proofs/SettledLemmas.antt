@@ -20,7 +20,7 @@ use Rattle.epoch_game.specs.Game.{slice}
 use Rattle.switch_core.specs.Switch.{SwitchOf, finish_of, good_links, good_peer, end_at, is_unacked, port_of, view_of}
 use Rattle.switch_game.specs.Network.{Network}
 use Rattle.switch_game.specs.Quiet.{Connected, start, next, IsGoodEnd, IsQuiet, HasSettled}
-use Rattle.switch_game.proofs.Laws.{own_of, links_of}
+use Rattle.switch_game.proofs.Laws.{joined_by_lives, own_of, links_of}
 use Rattle.switch_game.proofs.QuietLives.{has_settled}
 use Rattle.fabric_state.specs.Fabric.{FabricOf, station, count, no_view, port_shown, end_shown, is_some_clock_due, is_some_load_due, is_some_unacked, is_some_packet, are_wires_empty, are_all_done}
 use Rattle.fabric_state.specs.Agree.{is_quiet, is_idle, agrees as are_agreed, link_agrees, host_agrees}
@@ -282,7 +282,7 @@ is_finished script lives h k s low = record {
     here_is = at_life script lives h k s x low refl
 
     d : HasSettled lives v (game_after script h) x
-    d = has_settled lives (powered script) v (game_after script h) x k.few k.embed.is_in.happens (quiet script lives h k s low)
+    d = has_settled lives lives (powered script) v (game_after script h) x k.few k.embed.is_in.happens (joined_by_lives lives (powered script) v (game_after script h) (v.switches x).epoch k.embed.is_in.happens) (quiet script lives h k s low)
 
     sl : Slice
     sl = slice (v.switches x).epoch (game_after script h)

@@ -8,11 +8,11 @@ use Rattle.an_base.specs.declared.frame.Frame.{Frame}
 use Rattle.epoch_core.specs.Log.{CardOf, Log, on_port}
 use Rattle.epoch_core.specs.Epoch.{pos_at, position, sent, version}
 use Rattle.topo_report.proofs.Members.{In, in_append, in_from}
-use Rattle.epoch_game.specs.Slice.{Earlier, Names, Node, link_at}
+use Rattle.epoch_game.specs.Slice.{Earlier, IsJoinedBy, Names, Node, link_at}
 use Rattle.epoch_game.specs.Game.{Game, Play, begins, none as Play-none, slice}
 use Rattle.epoch_game.proofs.Basics.{some_same}
 use Rattle.epoch_game.proofs.Lists.{earlier_nil}
-use Rattle.epoch_game.proofs.GameLemmas.{play_run, nothing_ahead}
+use Rattle.epoch_game.proofs.GameLemmas.{joined_lives, nothing_ahead, play_run}
 use Rattle.epoch_game.proofs.StreamLemmas.{Heard, one_end, streams}
 use Rattle.switch_core.specs.Switch.{SwitchOf, good_links, good_peer, is_unacked}
 use Rattle.switch_core.specs.Steps.{Sent, Step, clocked, framed, loaded, peer_among, still}
@@ -98,6 +98,10 @@ pub left : (lives : List LifeId) (on : PowerOn) (w v : Network) (g h : Game) (x 
 left lives on w v g h x e happens more low =
     let present = (agrees lives on w g x happens).present in
     left_epochs_stay lives x e g h (omega (arith, low, present)) (later lives on w v g h happens more)
+
+-- whoever has joined an epoch is one of the lives
+pub joined_by_lives : (lives : List LifeId) (on : PowerOn) (w : Network) (g : Game) (e : ℕ) → Happens lives (dark on) (begins on.epoch) w g → IsJoinedBy lives (slice e g)
+joined_by_lives lives on w g e happens = joined_lives lives (slice e g) (play_run lives on.epoch g e (plays lives on w g happens))
 
 -- What a switch has of its links
 pub own_of : (lives : List LifeId) (on : PowerOn) (w : Network) (g : Game) (x : LifeId) → Happens lives (dark on) (begins on.epoch) w g → IsOwn x (w.switches x)

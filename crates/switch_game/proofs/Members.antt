@@ -2,9 +2,10 @@ use Rattle.std.proofs.Common.{◌≡◌, ◌∙◌, sym, ap, refl, subst, ℕ, �
 use Rattle.std.proofs.lemmas.Option.{none-some}
 use Rattle.an_base.specs.Values.{EntryOf, LifeId, TopoOf}
 use Rattle.epoch_core.specs.Epoch.{finish}
+use Rattle.epoch_game.specs.Slice.{IsJoinedBy}
 use Rattle.epoch_game.specs.Game.{Game, HasFinished, begins, slice}
 use Rattle.epoch_game.proofs.FinishLemmas.{finished_under}
-use Rattle.epoch_game.proofs.GameLemmas.{play_run, nothing_ahead}
+use Rattle.epoch_game.proofs.GameLemmas.{nothing_ahead, play_members}
 use Rattle.epoch_game.proofs.StreamLemmas.{nodes}
 use Rattle.switch_core.specs.Switch.{SwitchOf, finish_of}
 use Rattle.switch_game.specs.Network.{Happens, Network, PowerOn, dark}
@@ -12,13 +13,13 @@ use Rattle.switch_game.specs.Playing.{node_of}
 use Rattle.switch_game.proofs.Laws.{agrees, plays}
 
 -- each life of a topology with which a life has finished has joined that epoch, and so is in it or in a greater one
-pub not_behind : (lives : List LifeId) (on : PowerOn) (w : Network) (g : Game) (x : LifeId) (e : ℕ) (f : HasFinished g x e) (d : EntryOf) → length lives ≤ 126 → Happens lives (dark on) (begins on.epoch) w g → Contains f.topology.entries d → e ≤ (w.switches d.life).epoch
-not_behind lives on w g x e f d few happens has =
+pub not_behind : (lives members : List LifeId) (on : PowerOn) (w : Network) (g : Game) (x : LifeId) (e : ℕ) (f : HasFinished g x e) (d : EntryOf) → length members ≤ 126 → Happens lives (dark on) (begins on.epoch) w g → IsJoinedBy members (slice e g) → Contains f.topology.entries d → e ≤ (w.switches d.life).epoch
+not_behind lives members on w g x e f d few happens joined has =
     let play = plays lives on w g happens in
-    let run = play_run lives on.epoch g e play in
-    let u = finished_under lives (slice e g) few run x f.node f.topology f.joined f.finish in
+    let run = play_members lives members on.epoch g e play joined in
+    let u = finished_under members (slice e g) few run x f.node f.topology f.joined f.finish in
     let m = (u.entries d).0 has in
-    let is : d.life ≡ m.life = ap (λ (i : EntryOf). i.life) m.is ∙ (nodes lives (slice e g) run m.life m.node m.joined).0.me in
+    let is : d.life ≡ m.life = ap (λ (i : EntryOf). i.life) m.is ∙ (nodes members (slice e g) run m.life m.node m.joined).0.me in
     let low = nothing_ahead lives on.epoch g play m.life e m.node m.joined in
     let present = (agrees lives on w g m.life happens).present in
     let same = ap (λ (l : LifeId). (w.switches l).epoch) is in
@@ -29,9 +30,9 @@ finish_by : (b : Bool) (g : Game) (x : LifeId) (s : SwitchOf) (t : TopoOf) → s
 finish_by true g x s t joined node is = (record { node = node_of s; joined = node joined; topology = t; finish = is }, refl)
 finish_by false g x s t joined node is = absurd (none-some t is)
 
-pub present_not_behind : (lives : List LifeId) (on : PowerOn) (w : Network) (g : Game) (x : LifeId) (t : TopoOf) (d : EntryOf) → length lives ≤ 126 → Happens lives (dark on) (begins on.epoch) w g → finish_of (w.switches x) ≡ Some t → Contains t.entries d
+pub present_not_behind : (lives members : List LifeId) (on : PowerOn) (w : Network) (g : Game) (x : LifeId) (t : TopoOf) (d : EntryOf) → length members ≤ 126 → Happens lives (dark on) (begins on.epoch) w g → IsJoinedBy members (slice (w.switches x).epoch g) → finish_of (w.switches x) ≡ Some t → Contains t.entries d
     → (w.switches x).epoch ≤ (w.switches d.life).epoch
-present_not_behind lives on w g x t d few happens is has =
+present_not_behind lives members on w g x t d few happens joined is has =
     let s = w.switches x in
     let f = finish_by s.joined g x s t refl (agrees lives on w g x happens).joined is in
-    not_behind lives on w g x s.epoch f.0 d few happens (subst (λ (u : TopoOf). Contains u.entries d) (sym f.1) has)
+    not_behind lives members on w g x s.epoch f.0 d few happens joined (subst (λ (u : TopoOf). Contains u.entries d) (sym f.1) has)

@@ -1,14 +1,14 @@
 use Rattle.std.proofs.Common.{◌≡◌, ◌∙◌, sym, ap, refl, subst, ℕ, ◌≤◌, List, length, arith, Some, is_some, Bool, true, false, not, ◌&&◌}
 use Rattle.an_base.specs.Values.{EndId, EntryOf, LifeId, PeerAt}
 use Rattle.epoch_core.specs.Epoch.{own_entry}
-use Rattle.epoch_game.specs.Slice.{Names, Node}
+use Rattle.epoch_game.specs.Slice.{IsJoinedBy, Names, Node}
 use Rattle.epoch_game.specs.Detection.{IsMemberEntry, Reached, start as Reached-start, next as Reached-next}
 use Rattle.epoch_game.specs.Delivered.{AcceptedAll, AcceptedAllOf, IsDelivered}
 use Rattle.epoch_game.specs.Game.{Game, begins, slice}
 use Rattle.epoch_game.proofs.Basics.{some_same}
 use Rattle.epoch_game.proofs.Nodes.{all_in, link_found}
 use Rattle.epoch_game.proofs.DeliveredLemmas.{has_ended}
-use Rattle.epoch_game.proofs.GameLemmas.{play_run}
+use Rattle.epoch_game.proofs.GameLemmas.{play_members, play_run}
 use Rattle.epoch_game.proofs.StreamLemmas.{nodes}
 use Rattle.switch_core.specs.Switch.{SwitchOf, finish_of, good_peer}
 use Rattle.switch_core.specs.Steps.{peer_among}
@@ -142,11 +142,11 @@ is_member lives on w g x e played quiet m = record {
   is = m.is;
 }
 
-pub has_settled : (lives : List LifeId) (on : PowerOn) (w : Network) (g : Game) (x : LifeId) → length lives ≤ 126 → Happens lives (dark on) (begins on.epoch) w g → IsQuiet w x → HasSettled lives w g x
-has_settled lives on w g x few happens quiet =
+pub has_settled : (lives members : List LifeId) (on : PowerOn) (w : Network) (g : Game) (x : LifeId) → length members ≤ 126 → Happens lives (dark on) (begins on.epoch) w g → IsJoinedBy members (slice (w.switches x).epoch g) → IsQuiet w x → HasSettled members w g x
+has_settled lives members on w g x few happens joined quiet =
     let played = (holds lives on w g happens).played in
     let e = (w.switches x).epoch in
-    let ended = has_ended lives (slice e g) x few (play_run lives on.epoch g e played.play) (delivered lives on w g x played quiet) in
+    let ended = has_ended members (slice e g) x few (play_members lives members on.epoch g e played.play joined) (delivered lives on w g x played quiet) in
     let finished : (y : LifeId) → Connected w x y → finish_of (w.switches y) ≡ Some ended.topology = λ y c.
     finish_joined (w.switches y) (quiet y c).joined ∙ ended.finished y (node_of (w.switches y)) (reached_of lives on w g x y played quiet c) (node_there lives on w g x y played quiet c)
     in

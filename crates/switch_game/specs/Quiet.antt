@@ -44,8 +44,9 @@ pub record IsEntryIn (network : Network) (from : LifeId) (entry : EntryOf) : Typ
   pub is : entry ≡ own_entry (network.switches life).card (network.switches life).log
   pub links : entry.links ≡ good_links (network.switches life)
 
--- What holds of a life and those that are reached from it, in its epoch:
-pub record HasSettled (lives : List LifeId) (network : Network) (game : Game) (life : LifeId) : Type 0 where
+-- What holds of a life and those that are reached from it, in its epoch, which no others have joined than
+-- these members:
+pub record HasSettled (members : List LifeId) (network : Network) (game : Game) (life : LifeId) : Type 0 where
   -- these lives are those that the game reaches from it there
   pub reached : (other : LifeId)
       → (Reached (slice (network.switches life).epoch game) life other) ↔ (Connected network life other)
@@ -53,7 +54,7 @@ pub record HasSettled (lives : List LifeId) (network : Network) (game : Game) (l
   pub epoch : (other : LifeId) → Connected network life other
       → (network.switches other).epoch ≡ (network.switches life).epoch
   -- in it one of them is stable with itself as root, so each has its place in the tree
-  pub ended : HasEnded lives (slice (network.switches life).epoch game) life
+  pub ended : HasEnded members (slice (network.switches life).epoch game) life
   -- each has finished with one topology, of exactly their entries
   pub finished : (other : LifeId) → Connected network life other
       → finish_of (network.switches other) ≡ Some ended.topology

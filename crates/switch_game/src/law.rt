@@ -2,7 +2,8 @@
 
 ghost use Rattle.std.specs.Prelude.{◌≡◌, ◌<◌, ◌≤◌, ℕ, Contains, List, None, Some, false, length, true};
 ghost use Rattle.an_base.specs.Values.{EndId, EntryOf, LifeId, TopoOf};
-ghost use Rattle.epoch_game.specs.Game.{Game, HasFinished, Play, begins};
+ghost use Rattle.epoch_game.specs.Slice.{IsJoinedBy};
+ghost use Rattle.epoch_game.specs.Game.{Game, HasFinished, Play, begins, slice};
 ghost use Rattle.switch_core.specs.Switch.{finish_of, good_links, good_peer, is_unacked};
 ghost use Rattle.switch_core.specs.Steps.{peer_among};
 ghost use Rattle.switch_game.specs.Network.{Happens, Network, PowerOn, dark};
@@ -78,26 +79,30 @@ pub fn a_quiet_link_is_settled()
         → IsSettledLink (network.switches life) (network.switches other) port other_port }
 {}
 
-/// Of at most 126 lives, where each one that is reached over good ports has joined, its good ports are good
-/// at both ends, and nothing waits or is unacknowledged: all of them are in one epoch, each has its place
-/// in the spanning tree of exactly these lives, and each has finished with one topology, which has the
-/// entries of these lives with their good links and no other.
+/// Let at most 126 lives have joined the epoch of a life, however many there are in all. If each life that is
+/// reached from it over good ports has joined, its good ports are good at both ends, and nothing waits or is
+/// unacknowledged, then all of them are in that epoch, each has its place in the spanning tree of exactly
+/// these lives, and each has finished with one topology, which has the entries of these lives with their good
+/// links and no other.
 pub fn a_quiet_component_has_finished()
-    ensures { (lives : List LifeId) (on : PowerOn) (network : Network) (game : Game) (life : LifeId)
-        → length lives ≤ 126 → Happens lives (dark on) (begins on.epoch) network game
-        → IsQuiet network life → HasSettled lives network game life }
+    ensures { (lives members : List LifeId) (on : PowerOn) (network : Network) (game : Game) (life : LifeId)
+        → length members ≤ 126 → Happens lives (dark on) (begins on.epoch) network game
+        → IsJoinedBy members (slice (network.switches life).epoch game)
+        → IsQuiet network life → HasSettled members network game life }
 {}
 
-/// Of at most 126 lives, where one has finished in an epoch, and even if it has left it since, each life of
-/// its topology is in that epoch or in a greater one.
+/// If a life has finished in an epoch that at most 126 lives have joined, and even if it has left it since,
+/// each life of its topology is in that epoch or in a greater one.
 pub fn no_member_is_behind()
-    ensures finished { (lives : List LifeId) (on : PowerOn) (network : Network) (game : Game) (life : LifeId)
-        (epoch : ℕ) (finished : HasFinished game life epoch) (entry : EntryOf)
-        → length lives ≤ 126 → Happens lives (dark on) (begins on.epoch) network game
+    ensures finished { (lives members : List LifeId) (on : PowerOn) (network : Network) (game : Game)
+        (life : LifeId) (epoch : ℕ) (finished : HasFinished game life epoch) (entry : EntryOf)
+        → length members ≤ 126 → Happens lives (dark on) (begins on.epoch) network game
+        → IsJoinedBy members (slice epoch game)
         → Contains finished.topology.entries entry → epoch ≤ (network.switches entry.life).epoch }
-    ensures present { (lives : List LifeId) (on : PowerOn) (network : Network) (game : Game) (life : LifeId)
-        (topology : TopoOf) (entry : EntryOf)
-        → length lives ≤ 126 → Happens lives (dark on) (begins on.epoch) network game
+    ensures present { (lives members : List LifeId) (on : PowerOn) (network : Network) (game : Game)
+        (life : LifeId) (topology : TopoOf) (entry : EntryOf)
+        → length members ≤ 126 → Happens lives (dark on) (begins on.epoch) network game
+        → IsJoinedBy members (slice (network.switches life).epoch game)
         → finish_of (network.switches life) ≡ Some topology → Contains topology.entries entry
         → (network.switches life).epoch ≤ (network.switches entry.life).epoch }
 {}

@@ -17,7 +17,7 @@ use Rattle.epoch_game.proofs.GameLemmas.{later_run, nothing_ahead, play_run}
 use Rattle.switch_core.specs.Switch.{SwitchOf, finish_of}
 use Rattle.switch_game.specs.Network.{PowerOn}
 use Rattle.switch_game.specs.Playing.{Agrees, node_of}
-use Rattle.switch_game.proofs.Laws.{agrees, later, plays}
+use Rattle.switch_game.proofs.Laws.{agrees, joined_by_lives, later, plays}
 use Rattle.switch_game.proofs.QuietLives.{has_settled}
 use Rattle.switch_game.specs.Quiet.{HasSettled, IsQuiet}
 use Rattle.switch_processes.specs.Processes.{Call, Event, HasFinished, HasJoined, HasNoCycle, IsJoinedBy, IsRun, switch_after}
@@ -158,4 +158,7 @@ no_member_behind lives members on did sending x e t a run acyclic by few fx has 
 -- and what is quiet has settled
 pub settled : (lives : List LifeId) (on : PowerOn) (did : LifeId → List Call) (sending : Event → Event) (x : LifeId) (one : HasOneOrder lives on did sending) → length lives ≤ 126 → IsQuiet (network_after on one.order) x
     → HasSettled lives (network_after on one.order) (game_after on one.order) x
-settled lives on did sending x one few quiet = has_settled lives on (network_after on one.order) (game_after on one.order) x few one.happens quiet
+settled lives on did sending x one few quiet =
+    let w = network_after on one.order in
+    let g = game_after on one.order in
+    has_settled lives lives on w g x few one.happens (joined_by_lives lives on w g (w.switches x).epoch one.happens) quiet
