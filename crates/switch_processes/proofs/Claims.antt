@@ -8,22 +8,24 @@ use Rattle.an_base.specs.Order.{life_cmp}
 use Rattle.topo_graph.specs.Topology.{IsGraph, IsTree}
 use Rattle.epoch_core.specs.Log.{CardOf}
 use Rattle.epoch_core.specs.Epoch.{finish}
-use Rattle.epoch_game.specs.Slice.{Earlier, Node, Run, nobody}
+use Rattle.epoch_game.specs.Slice.{Earlier, Node, Run, nobody, IsJoinedBy as JoinedInGame}
 use Rattle.epoch_game.specs.Game.{Game, Play, begins, slice, HasFinished as FinishedIn}
-use Rattle.epoch_game.proofs.StreamLemmas.{has_grown, nodes}
-use Rattle.epoch_game.proofs.FinishLemmas.{finish_earlier, finished_alike, finished_under}
+use Rattle.epoch_game.proofs.Lists.{earlier_itself}
+use Rattle.epoch_game.proofs.StreamLemmas.{has_grown}
+use Rattle.epoch_game.proofs.FinishLemmas.{finish_earlier, finished_alike}
 use Rattle.epoch_game.proofs.TopologyLemmas.{is_tree}
-use Rattle.epoch_game.proofs.GameLemmas.{later_run, nothing_ahead, play_run}
+use Rattle.epoch_game.proofs.GameLemmas.{later_run, nothing_ahead, play_members}
 use Rattle.switch_core.specs.Switch.{SwitchOf, finish_of}
-use Rattle.switch_game.specs.Network.{PowerOn}
+use Rattle.switch_game.specs.Network.{Network, PowerOn}
 use Rattle.switch_game.specs.Playing.{Agrees, node_of}
-use Rattle.switch_game.proofs.Laws.{agrees, joined_by_lives, later, plays}
+use Rattle.switch_game.proofs.Laws.{agrees, later, plays}
+use Rattle.switch_game.proofs.Members.{not_behind}
 use Rattle.switch_game.proofs.QuietLives.{has_settled}
 use Rattle.switch_game.specs.Quiet.{HasSettled, IsQuiet}
 use Rattle.switch_processes.specs.Processes.{Call, Event, HasFinished, HasJoined, HasNoCycle, IsJoinedBy, IsRun, switch_after}
 use Rattle.switch_processes.specs.Orders.{CallOf, HasOneOrder, calls_of, game_after, network_after}
-use Rattle.switch_processes.proofs.Ordered.{CanHappen, can_happen, can_tail, happens_since, happens_to, same_switch, whole}
-use Rattle.switch_processes.proofs.Joined.{IsIn, has_joined, members_run}
+use Rattle.switch_processes.proofs.Ordered.{CanHappen, all_happen, can_happen, can_tail, happens_since, happens_to, same_switch, whole}
+use Rattle.switch_processes.proofs.Joined.{IsIn, has_joined}
 
 -- a moment of a life is one of the order
 pub record IsMoment (order : List CallOf) (x : LifeId) (m : List Call) : Type 0 where
@@ -118,12 +120,15 @@ not_above lives on did p x e n is =
     let present = (agrees lives on w g x happens).present ∙ ap (λ (s : SwitchOf). s.epoch) (same_switch on p.order x ∙ ap (switch_after on x) (p.calls x)) in
     subst (λ (k : ℕ). e ≤ k) present low
 
--- the epoch is a run of those that join it
+-- only those that join an epoch in their processes join it in the game
+joined_by : (lives members : List LifeId) (on : PowerOn) (did : LifeId → List Call) (e : ℕ) (p : IsPlayed lives on did) → IsJoinedBy members on did e → JoinedInGame members (slice e (game_after on p.order))
+joined_by lives members on did e p by x n is = by x (has_joined lives on did p.order p.calls (all_happen lives on p.order p.can) x e n is)
+
+-- so the epoch is a run of these
 joined_run : (lives members : List LifeId) (on : PowerOn) (did : LifeId → List Call) (e : ℕ) (p : IsPlayed lives on did) → IsJoinedBy members on did e → Run members nobody (slice e (game_after on p.order))
 joined_run lives members on did e p by =
     let g = game_after on p.order in
-    members_run lives members (slice e g) (play_run lives on.epoch g e (plays lives on (network_after on p.order) g (happens_to lives on p.order p.can)))
-    (λ x n is. by x (has_joined lives on did p.order p.calls p.can x e n is))
+    play_members lives members on.epoch g e (plays lives on (network_after on p.order) g (happens_to lives on p.order p.can)) (joined_by lives members on did e p by)
 
 -- lives that finished one epoch under one root hold one topology
 pub one_topology : (lives members : List LifeId) (on : PowerOn) (did : LifeId → List Call) (sending : Event → Event) (x y : LifeId) (e : ℕ) (t u : TopoOf) (a b : EntryOf) → IsRun lives on did sending → HasNoCycle did sending → IsJoinedBy members on did e → length members ≤ 126
@@ -147,18 +152,20 @@ pub no_member_behind : (lives members : List LifeId) (on : PowerOn) (did : LifeI
     → HasFinished on did x e t → Contains t.entries a → e ≤ (switch_after on a.life (did a.life)).epoch
 no_member_behind lives members on did sending x e t a run acyclic by few fx has =
     let p = is_played lives on did sending run acyclic in
-    let s = slice e (game_after on p.order) in
-    let joined = joined_run lives members on did e p by in
     let d = finished_in lives on did p x e t fx in
-    let u = finished_under members s few joined x d.0.node t d.0.joined (d.0.finish ∙ ap (λ (k : TopoOf). Some k) d.1) in
-    let m = (u.entries a).0 has in
-    let is : a.life ≡ m.life = ap (λ (i : EntryOf). i.life) m.is ∙ (nodes members s joined m.life m.node m.joined).0.me in
-    subst (λ (z : LifeId). e ≤ (switch_after on z (did z)).epoch) (sym is) (not_above lives on did p m.life e m.node m.joined)
+    let low = not_behind lives members on (network_after on p.order) (game_after on p.order) x e d.0 a few (happens_to lives on p.order p.can) (joined_by lives members on did e p by) (subst (λ (k : TopoOf). Contains k.entries a) (sym d.1) has) in
+    subst (λ (s : SwitchOf). e ≤ s.epoch) (same_switch on p.order a.life ∙ ap (switch_after on a.life) (p.calls a.life)) low
 
 -- and what is quiet has settled
-pub settled : (lives : List LifeId) (on : PowerOn) (did : LifeId → List Call) (sending : Event → Event) (x : LifeId) (one : HasOneOrder lives on did sending) → length lives ≤ 126 → IsQuiet (network_after on one.order) x
-    → HasSettled lives (network_after on one.order) (game_after on one.order) x
-settled lives on did sending x one few quiet =
-    let w = network_after on one.order in
-    let g = game_after on one.order in
-    has_settled lives lives on w g x few one.happens (joined_by_lives lives on w g (w.switches x).epoch one.happens) quiet
+pub settled : (lives members : List LifeId) (on : PowerOn) (did : LifeId → List Call) (sending : Event → Event) (x : LifeId) (one : HasOneOrder lives on did sending) → IsJoinedBy members on did (switch_after on x (did x)).epoch → length members ≤ 126 → IsQuiet (network_after on one.order) x
+    → HasSettled members (network_after on one.order) (game_after on one.order) x
+settled lives members on did sending x one by few quiet = has_settled lives members on w g x few (one.happens one.order (earlier_itself one.order)) joined quiet
+  where
+    w : Network
+    w = network_after on one.order
+
+    g : Game
+    g = game_after on one.order
+
+    joined : JoinedInGame members (slice (w.switches x).epoch g)
+    joined y n is = subst (λ (s : SwitchOf). IsJoinedBy members on did s.epoch) (sym (one.switches x)) by y (has_joined lives on did one.order one.interleaving one.happens y (w.switches x).epoch n is)

@@ -1,8 +1,7 @@
--- Who is in an epoch of the game has joined it in its process; and a run of an epoch is one of those that join it.
+-- Who is in an epoch of the game has joined it in its process.
 
-use Rattle.std.proofs.Common.{◌≡◌, ◌∙◌, sym, ap, refl, subst, ℕ, ◌==◌, List, [], ◌∷◌, Some, ◌⊎◌, inl, inr, Bool, true, false, cond, Contains}
+use Rattle.std.proofs.Common.{◌≡◌, ◌∙◌, sym, ap, refl, subst, ℕ, ◌==◌, List, [], ◌∷◌, Some, ◌⊎◌, inl, inr, Bool, true, false, cond}
 use Rattle.std.specs.Prelude.{nat_lt}
-use Rattle.std.proofs.lemmas.Bool.{eqb-true}
 use Rattle.std.proofs.lemmas.Option.{none-some}
 use Rattle.an_base.specs.Values.{LifeId}
 use Rattle.an_base.specs.Frames.{CarryOf}
@@ -11,10 +10,10 @@ use Rattle.an_base.specs.declared.frame.Frame.{Frame}
 use Rattle.an_base.specs.declared.frame.Frame.TheVariants.{Carry, Ack, Probe, Reply}
 use Rattle.ordered_link.specs.Receiving.{accepted_by}
 use Rattle.epoch_core.specs.Log.{CardOf, Log}
-use Rattle.epoch_game.specs.Slice.{Earlier, Node, Run, Slice, nobody, none as Run-none, joins as Run-joins, accepts as Run-accepts, with_node}
-use Rattle.epoch_game.specs.Game.{Game, after_accept, after_join, slice, with_node_in}
+use Rattle.epoch_game.specs.Slice.{Earlier, Node}
+use Rattle.epoch_game.specs.Game.{Game, after_accept, after_join, with_node_in}
 use Rattle.epoch_game.proofs.Lists.{earlier_itself, earlier_trans}
-use Rattle.epoch_game.proofs.Nodes.{decide_life, node_cases, node_else, node_here}
+use Rattle.epoch_game.proofs.GameLemmas.{node_in}
 use Rattle.switch_core.specs.Switch.{SwitchOf, counts}
 use Rattle.switch_core.specs.Steps.{clocked, joins}
 use Rattle.switch_game.specs.Network.{PowerOn, all_accepted, body_moves, carry_moves, frame_moves}
@@ -23,7 +22,7 @@ use Rattle.switch_game.proofs.Moves.{present_here}
 use Rattle.switch_game.proofs.Laws.{agrees}
 use Rattle.switch_processes.specs.Processes.{Call, Clocks, HasJoined, Hears, Loads}
 use Rattle.switch_processes.specs.Orders.{CallOf, call_moves, calls_of, game_after, network_after}
-use Rattle.switch_processes.proofs.Ordered.{CanHappen, calls_more, happens_to, same_switch}
+use Rattle.switch_processes.proofs.Ordered.{AllHappen, calls_more, same_switch}
 
 -- a life is in an epoch of the game
 abbrev pub IsIn : Game → LifeId → ℕ → Type 0
@@ -34,15 +33,7 @@ abbrev PutsIn : LifeId → Game → Game → Type 0
 PutsIn x g h = (y : LifeId) (f : ℕ) → IsIn h y f → ((x ≡ y) × (f ≡ h.present x)) ⊎ IsIn g y f
 
 pub put_cases : (g : Game) (e : ℕ) (x : LifeId) (n : Node) (y : LifeId) (f : ℕ) (m : Node) → with_node_in g e x n y f ≡ Some m → ((x ≡ y) × (e ≡ f)) ⊎ IsIn g y f
-put_cases g e x n y f m is = by (e == f) refl is
-  where
-    here : e ≡ f → ((x ≡ y) × (n ≡ m)) ⊎ ((x ≡ y → ⊥) × (g.nodes y f ≡ Some m)) → ((x ≡ y) × (e ≡ f)) ⊎ IsIn g y f
-    here at (inl w) = inl (w.0, at)
-    here at (inr w) = inr (m, w.1)
-
-    by : (b : Bool) → (e == f) ≡ b → cond b (with_node (slice f g) x n y) (g.nodes y f) ≡ Some m → ((x ≡ y) × (e ≡ f)) ⊎ IsIn g y f
-    by true at is = here (eqb-true e f at) (node_cases (slice f g) x y n m is)
-    by false at is = inr (m, is)
+put_cases g e x n y f m is = elim (node_in g e x n y f m is) [ inl w ↦ inl (w.1, w.0) | inr was ↦ inr (m, was) ]
 
 same_puts : (x : LifeId) (g : Game) → PutsIn x g g
 same_puts x g y f i = inr i
@@ -130,15 +121,15 @@ joined_now on order x e a at i = by s.joined refl
     by true is = record { past = order; earlier = earlier_itself order; joined = is; epoch_is = sym (at ∙ a.present) }
     by false is = absurd (none-some i.0 (sym (a.unjoined e is) ∙ i.1))
 
-was_joined : (lives : List LifeId) (on : PowerOn) (order : List CallOf) → CanHappen lives on order → (x : LifeId) (e : ℕ) → IsIn (game_after on order) x e → WasJoined on order x e
-was_joined lives on [] can x e i = absurd (none-some i.0 i.1)
-was_joined lives on (one ∷ order) can x e i = by (was_joined lives on order can.1 x e) (call_puts one.life one.call ((network_after on order).switches one.life) (game_after on order) x e i)
+was_joined : (lives : List LifeId) (on : PowerOn) (order : List CallOf) → AllHappen lives on order → (x : LifeId) (e : ℕ) → IsIn (game_after on order) x e → WasJoined on order x e
+was_joined lives on [] happens x e i = absurd (none-some i.0 i.1)
+was_joined lives on (one ∷ order) happens x e i = by (was_joined lives on order (λ past low. happens past (inr low)) x e) (call_puts one.life one.call ((network_after on order).switches one.life) (game_after on order) x e i)
   where
     h : Game
     h = game_after on (one ∷ order)
 
     by : (IsIn (game_after on order) x e → WasJoined on order x e) → ((one.life ≡ x) × (e ≡ h.present one.life)) ⊎ IsIn (game_after on order) x e → WasJoined on (one ∷ order) x e
-    by before (inl w) = joined_now on (one ∷ order) x e (agrees lives on (network_after on (one ∷ order)) h x (happens_to lives on (one ∷ order) can)) (w.1 ∙ ap h.present w.0) i
+    by before (inl w) = joined_now on (one ∷ order) x e (agrees lives on (network_after on (one ∷ order)) h x (happens (one ∷ order) (inl refl))) (w.1 ∙ ap h.present w.0) i
     by before (inr was) = let r = before was in record { past = r.past; earlier = inr r.earlier; joined = r.joined; epoch_is = r.epoch_is }
 
 calls_grow : (order past : List CallOf) → Earlier past order → (x : LifeId) → Earlier (calls_of x past) (calls_of x order)
@@ -146,9 +137,9 @@ calls_grow [] past is x = subst (λ (o : List CallOf). Earlier (calls_of x o) []
 calls_grow (one ∷ order) past (inl is) x = subst (λ (o : List CallOf). Earlier (calls_of x o) (calls_of x (one ∷ order))) (sym is) (earlier_itself (calls_of x (one ∷ order)))
 calls_grow (one ∷ order) past (inr low) x = earlier_trans (calls_of x past) (calls_of x order) (calls_of x (one ∷ order)) (calls_grow order past low x) (calls_more one order x)
 
-pub has_joined : (lives : List LifeId) (on : PowerOn) (did : LifeId → List Call) (order : List CallOf) → ((x : LifeId) → calls_of x order ≡ did x) → CanHappen lives on order → (x : LifeId) (e : ℕ) (n : Node) → (game_after on order).nodes x e ≡ Some n → HasJoined on did x e
-has_joined lives on did order calls can x e n is =
-    let w = was_joined lives on order can x e (n, is) in
+pub has_joined : (lives : List LifeId) (on : PowerOn) (did : LifeId → List Call) (order : List CallOf) → ((x : LifeId) → calls_of x order ≡ did x) → AllHappen lives on order → (x : LifeId) (e : ℕ) (n : Node) → (game_after on order).nodes x e ≡ Some n → HasJoined on did x e
+has_joined lives on did order calls happens x e n is =
+    let w = was_joined lives on order happens x e (n, is) in
     let same = same_switch on w.past x in
     record {
       moment = calls_of x w.past;
@@ -156,22 +147,3 @@ has_joined lives on did order calls can x e n is =
       joined = ap (λ (s : SwitchOf). s.joined) (sym same) ∙ w.joined;
       epoch_is = ap (λ (s : SwitchOf). s.epoch) (sym same) ∙ w.epoch_is;
     }
-
--- each life that has joined is one of these
-abbrev AreAll : List LifeId → Slice → Type 0
-AreAll members t = (x : LifeId) (n : Node) → t x ≡ Some n → Contains members x
-
-all_before : (members : List LifeId) (t : Slice) (x : LifeId) (n : Node) → AreAll members (with_node t x n) → AreAll members t
-all_before members t x n all y m is = by (decide_life x y)
-  where
-    by : (x ≡ y → ⊥) ⊎ (x ≡ y) → Contains members y
-    by (inl ne) = all y m (node_else t x y n ne ∙ is)
-    by (inr same) = subst (Contains members) same (all x n (node_here t x n))
-
--- so a run of the epoch is one of these alone
-pub members_run : (lives members : List LifeId) (t : Slice) → Run lives nobody t → AreAll members t → Run members nobody t
-members_run lives members _ Run-none all = Run-none
-members_run lives members _ (Run-joins t x c run free known ok) all =
-    Run-joins t x c (members_run lives members t run (all_before members t x (record { card = c; log = [] }) all)) free (all x (record { card = c; log = [] }) (node_here t x (record { card = c; log = [] }))) ok
-members_run lives members _ (Run-accepts t x z p q n m b run sx sz lx lz next) all =
-    Run-accepts t x z p q n m b (members_run lives members t run (all_before members t x (record { card = n.card; log = record { port = p; body = b } ∷ n.log }) all)) sx sz lx lz next

@@ -213,13 +213,20 @@ happens_since lives on (one ∷ order) earlier (inr low) can =
 pub happens_to : (lives : List LifeId) (on : PowerOn) (order : List CallOf) → CanHappen lives on order → Happens lives (dark on) (begins on.epoch) (network_after on order) (game_after on order)
 happens_to lives on order can = happens_since lives on order [] (earlier_nil order) can
 
+-- and so at each moment of an order
+abbrev pub AllHappen : List LifeId → PowerOn → List CallOf → Type 0
+AllHappen lives on order = (past : List CallOf) → Earlier past order → Happens lives (dark on) (begins on.epoch) (network_after on past) (game_after on past)
+
+pub all_happen : (lives : List LifeId) (on : PowerOn) (order : List CallOf) → CanHappen lives on order → AllHappen lives on order
+all_happen lives on order can past earlier = happens_to lives on past (can_tail lives on order past earlier can)
+
 -- one order of all, and of what was done up to a cut first
 with_start : (lives : List LifeId) (on : PowerOn) (did : LifeId → List Call) (sending : Event → Event) → IsRun lives on did sending → (start : List CallOf) → IsWhole did sending start → HasOneOrder lives on did sending
 with_start lives on did sending run start w = record {
   order = w.order;
   interleaving = w.interleaving;
   sent_before = w.ordered.sent;
-  happens = happens_to lives on w.order (can_happen lives on did sending run w.order w.ordered);
+  happens = all_happen lives on w.order (can_happen lives on did sending run w.order w.ordered);
   switches = λ x. same_switch on w.order x ∙ ap (switch_after on x) (w.interleaving x);
 }
 

@@ -10,7 +10,7 @@ use Rattle.an_base.specs.declared.body.Body.{Body}
 use Rattle.an_base.proofs.LifeLemmas.{same_life}
 use Rattle.topo_report.proofs.Members.{In, contains_from, in_from, in_left, in_right}
 use Rattle.epoch_core.specs.Log.{CardOf}
-use Rattle.epoch_game.specs.Slice.{Node}
+use Rattle.epoch_game.specs.Slice.{Earlier, Node}
 use Rattle.epoch_game.specs.Game.{Game, Play, accepts, after_accept, after_join, begins, joins, loads, none, slice}
 use Rattle.epoch_game.proofs.StreamLemmas.{nodes}
 use Rattle.epoch_game.proofs.GameLemmas.{play_run}
@@ -18,6 +18,7 @@ use Rattle.switch_game.specs.Network.{PowerOn}
 use Rattle.switch_game.proofs.Laws.{plays}
 use Rattle.switch_processes.specs.Processes.{AreLivesOf, Call, Event, GoOn, HasJoined, HasNoCycle, IsJoinedBy, IsRun, switch_after}
 use Rattle.switch_processes.specs.Orders.{game_after, network_after}
+use Rattle.switch_processes.proofs.Moments.{event_at}
 use Rattle.switch_processes.proofs.Ordered.{happens_to}
 use Rattle.switch_processes.proofs.Joined.{IsIn, put_cases}
 use Rattle.switch_processes.proofs.Claims.{IsPlayed, is_played, joined_in, not_above}
@@ -148,6 +149,14 @@ in_picks : (g : Game) (e : ℕ) (xs : List LifeId) (uids : List ℕ) (uid : ℕ)
 in_picks g e xs [] uid x i j = absurd i
 in_picks g e xs (u ∷ uids) uid x (inl is) j = in_left x (pick g e u xs) (picks g e xs uids) (subst (λ (k : ℕ). In x (pick g e k xs)) is j)
 in_picks g e xs (u ∷ uids) uid x (inr i) j = in_right x (pick g e u xs) (picks g e xs uids) (in_picks g e xs uids uid x i j)
+
+-- only lives that do anything join an epoch
+pub lives_join : (lives : List LifeId) (on : PowerOn) (did : LifeId → List Call) (sending : Event → Event) (e : ℕ) → IsRun lives on did sending → IsJoinedBy lives on did e
+lives_join lives on did sending e run x j = by j.moment j.earlier j.joined
+  where
+    by : (m : List Call) → Earlier m (did x) → (switch_after on x m).joined ≡ true → Contains lives x
+    by [] earlier is = absurd (false≢true is)
+    by (c ∷ m) earlier is = run.among (event_at x c m) earlier
 
 -- so as many lives as there are switches join an epoch, at most
 pub few_join : (lives : List LifeId) (on : PowerOn) (did : LifeId → List Call) (sending : Event → Event) (uids : List ℕ) (e : ℕ) → IsRun lives on did sending → HasNoCycle did sending → AreLivesOf uids lives → GoOn lives on did

@@ -58,14 +58,15 @@ game_after on [] = begins on.epoch
 game_after on (one ∷ earlier) =
     call_moves one.life one.call ((network_after on earlier).switches one.life) (game_after on earlier)
 
--- There is one order of all that the processes did, by which it is a history of the network, and each
--- switch is what it is in its process
+-- There is one order of all that the processes did, by which it is a history of the network at each moment,
+-- and each switch is what it is in its process
 pub record HasOneOrder (lives : List LifeId) (on : PowerOn) (did : LifeId → List Call)
     (sending : Event → Event) : Type 0 where
   pub order : List CallOf
   pub interleaving : IsInterleaving did order
   pub sent_before : AreSentBefore sending order
-  pub happens : Happens lives (dark on) (begins on.epoch) (network_after on order) (game_after on order)
+  pub happens : (past : List CallOf) → Earlier past order
+      → Happens lives (dark on) (begins on.epoch) (network_after on past) (game_after on past)
   pub switches : (life : LifeId) → (network_after on order).switches life ≡ switch_after on life (did life)
 
 -- The order has all that was done up to a cut before all else, and the network goes on from there

@@ -23,8 +23,8 @@ pub fn calls_are_those_of_a_process()
 
 /// If each process made its calls in an order of its own, each frame that came in is one that went out by an
 /// event, and no event happened before itself, then all calls have one order. It keeps the order of each
-/// process and has the sending of each frame before it comes in. It is a history of the network of all lives,
-/// in which each life is the switch that its process has.
+/// process and has the sending of each frame before it comes in. At each moment of it, it is a history of the
+/// network of all lives, in which each life is the switch that its process has.
 pub fn processes_have_one_order()
     ensures { (lives : List LifeId) (on : PowerOn) (did : LifeId → List Call) (sending : Event → Event)
         → IsRun lives on did sending → HasNoCycle did sending → HasOneOrder lives on did sending }
@@ -83,18 +83,23 @@ pub fn processes_hold_one_topology()
         → epoch ≤ (switch_after on entry.life (did entry.life)).epoch }
 {}
 
-/// Of at most 126 lives in all: where a component is quiet, in the network of the one order, it has settled.
+/// If at most 126 lives ever join the epoch in which a life is at the end, and its component is quiet in the
+/// network of the one order, then this has settled.
 pub fn a_quiet_component_has_settled()
-    ensures { (lives : List LifeId) (on : PowerOn) (did : LifeId → List Call) (sending : Event → Event)
-        (life : LifeId) (one : HasOneOrder lives on did sending)
-        → length lives ≤ 126 → IsQuiet (network_after on one.order) life
-        → HasSettled lives (network_after on one.order) (game_after on one.order) life }
+    ensures { (lives members : List LifeId) (on : PowerOn) (did : LifeId → List Call)
+        (sending : Event → Event) (life : LifeId) (one : HasOneOrder lives on did sending)
+        → IsJoinedBy members on did (switch_after on life (did life)).epoch → length members ≤ 126
+        → IsQuiet (network_after on one.order) life
+        → HasSettled members (network_after on one.order) (game_after on one.order) life }
 {}
 
-/// If switches go on where they were, each later life of one from no lower epoch, then at most as many lives join
-/// an epoch as there are switches, however many lives there are.
+/// Only the lives of a run join an epoch. If switches go on where they were, each later life of one from no
+/// lower epoch, then at most as many lives join an epoch as there are switches, however many lives there are.
 pub fn an_epoch_is_joined_once_by_a_switch()
-    ensures { (lives : List LifeId) (on : PowerOn) (did : LifeId → List Call) (sending : Event → Event)
+    ensures lives { (lives : List LifeId) (on : PowerOn) (did : LifeId → List Call) (sending : Event → Event)
+        (epoch : ℕ)
+        → IsRun lives on did sending → IsJoinedBy lives on did epoch }
+    ensures once { (lives : List LifeId) (on : PowerOn) (did : LifeId → List Call) (sending : Event → Event)
         (uids : List ℕ) (epoch : ℕ)
         → IsRun lives on did sending → HasNoCycle did sending
         → AreLivesOf uids lives → GoOn lives on did
