@@ -1,25 +1,22 @@
 -- What holds of processes, at moments of their own.
 
-use Rattle.std.proofs.Common.{◌≡◌, ◌∙◌, sym, ap, refl, subst, ℕ, ◌≤◌, List, [], ◌∷◌, length, Some, None, inl, inr, Bool, true, false, cond, Contains}
-use Rattle.std.proofs.lemmas.Option.{none-some}
+use Rattle.std.proofs.Common.{◌≡◌, ◌∙◌, sym, ap, refl, subst, ℕ, ◌≤◌, List, [], ◌∷◌, length, Some, inl, inr, Bool, true, false, cond, Contains}
 use Rattle.std.specs.Ordering.{is_eq}
 use Rattle.an_base.specs.Values.{EntryOf, LifeId, TopoOf}
 use Rattle.an_base.specs.Order.{life_cmp}
 use Rattle.topo_graph.specs.Topology.{IsGraph, IsTree}
-use Rattle.epoch_core.specs.Log.{CardOf}
-use Rattle.epoch_core.specs.Epoch.{finish}
 use Rattle.epoch_game.specs.Slice.{Earlier, Node, Run, nobody, IsJoinedBy as JoinedInGame}
 use Rattle.epoch_game.specs.Game.{Game, Play, begins, slice, HasFinished as FinishedIn}
 use Rattle.epoch_game.proofs.Lists.{earlier_itself}
 use Rattle.epoch_game.proofs.StreamLemmas.{has_grown}
-use Rattle.epoch_game.proofs.FinishLemmas.{finish_earlier, finished_alike}
+use Rattle.epoch_game.proofs.FinishLemmas.{finished_alike}
 use Rattle.epoch_game.proofs.TopologyLemmas.{is_tree}
 use Rattle.epoch_game.proofs.GameLemmas.{later_run, nothing_ahead, play_members}
 use Rattle.switch_core.specs.Switch.{SwitchOf, finish_of}
 use Rattle.switch_game.specs.Network.{Network, PowerOn}
 use Rattle.switch_game.specs.Playing.{Agrees, node_of}
 use Rattle.switch_game.proofs.Laws.{agrees, later, plays}
-use Rattle.switch_game.proofs.Members.{not_behind}
+use Rattle.switch_game.proofs.Members.{has_finished, not_behind}
 use Rattle.switch_game.proofs.QuietLives.{has_settled}
 use Rattle.switch_game.specs.Quiet.{HasSettled, IsQuiet}
 use Rattle.switch_processes.specs.Processes.{Call, Event, HasFinished, HasJoined, HasNoCycle, IsJoinedBy, IsRun, switch_after}
@@ -45,17 +42,6 @@ moment_in (one ∷ order) x m e = by (is_eq (life_cmp one.life x)) refl (moment_
     }
     by true is before (inr low) = let r = before low in record { past = r.past; earlier = inr r.earlier; calls = r.calls }
     by false is before low = let r = before low in record { past = r.past; earlier = inr r.earlier; calls = r.calls }
-
--- whoever has finished at a moment of the game has finished with that ever after
-finish_stays : (lives : List LifeId) (first : LifeId → ℕ) (g h : Game) (x : LifeId) (s : SwitchOf) (t : TopoOf) → Play lives (begins first) g → Play lives g h → Agrees x s g → finish_of s ≡ Some t
-    → (f : FinishedIn h x s.epoch) × (f.topology ≡ t)
-finish_stays lives first g h x s t play more agree is = by s.joined refl is
-  where
-    by : (b : Bool) → s.joined ≡ b → cond b (finish s.card s.log) None ≡ Some t → (f : FinishedIn h x s.epoch) × (f.topology ≡ t)
-    by true joined done =
-        let w = has_grown lives (slice s.epoch g) (slice s.epoch h) x (node_of s) (later_run lives first g h s.epoch play more) (agree.joined joined) in
-        (record { node = w.node; joined = w.joined; topology = t; finish = ap (λ (c : CardOf). finish c w.node.log) w.card ∙ finish_earlier s.card s.log w.node.log t w.log done }, refl)
-    by false joined done = absurd (none-some t done)
 
 -- the game of an order of all that was done
 pub record IsPlayed (lives : List LifeId) (on : PowerOn) (did : LifeId → List Call) : Type 0 where
@@ -97,7 +83,7 @@ finished_in : (lives : List LifeId) (on : PowerOn) (did : LifeId → List Call) 
 finished_in lives on did p x e t f =
     let m = seen lives on did p x f.moment f.earlier in
     let h = game_after on p.order in
-    let done = finish_stays lives on.epoch m.game h x m.switch t m.play m.more m.agrees_with (ap finish_of m.is ∙ f.finish) in
+    let done = has_finished lives on.epoch m.game h x m.switch t m.play m.more m.agrees_with (ap finish_of m.is ∙ f.finish) in
     subst (λ (n : ℕ). (d : FinishedIn h x n) × (d.topology ≡ t)) (ap (λ (u : SwitchOf). u.epoch) m.is ∙ f.epoch_is) done
 
 -- and who has joined has joined in the game
