@@ -12,16 +12,16 @@ use Rattle.topo_graph.specs.Topology.{entry_at}
 use Rattle.epoch_core.specs.Epoch.{finish, own_entry}
 use Rattle.epoch_game.specs.Slice.{Node, Slice, Run, nobody}
 use Rattle.epoch_game.specs.Detection.{start}
-use Rattle.epoch_game.specs.Game.{Game, Play, begins, slice, HasFinished as FinishedIn}
+use Rattle.epoch_game.specs.Game.{slice, HasFinished as FinishedIn}
 use Rattle.epoch_game.proofs.Basics.{none_some}
-use Rattle.epoch_game.proofs.StreamLemmas.{has_grown, nodes}
-use Rattle.epoch_game.proofs.FinishLemmas.{finish_earlier, finished_under, finished_alike}
+use Rattle.epoch_game.proofs.StreamLemmas.{nodes}
+use Rattle.epoch_game.proofs.FinishLemmas.{finished_under, finished_alike}
 use Rattle.epoch_game.proofs.TopologyLemmas.{is_tree}
-use Rattle.epoch_game.proofs.GameLemmas.{play_run, later_run}
+use Rattle.epoch_game.proofs.GameLemmas.{play_run}
 use Rattle.switch_core.specs.Switch.{SwitchOf, finish_of}
 use Rattle.table_build.specs.Tables.{IsTableOf}
-use Rattle.switch_game.specs.Playing.{node_of}
 use Rattle.switch_game.proofs.Laws.{agrees, later, plays}
+use Rattle.switch_game.proofs.Members.{has_finished}
 use Rattle.table_build.specs.Made.{table_of}
 use Rattle.fabric_world.specs.World.{world_after}
 use Rattle.fabric_world.specs.Clauses.{FinishedAt, IsTopology, AreOnePicture, AreTopologies}
@@ -35,18 +35,7 @@ use Rattle.fabric_game.proofs.RangedBodies.{finish_ranged}
 use Rattle.fabric_game.proofs.EmbedLemmas.{all_ranged, embedded}
 use Rattle.switch_numbering.proofs.Differing.{length-numbering}
 
--- who has finished in an epoch of the game has finished with that ever after
-finish_stays : (lives : List LifeId) (first : LifeId → ℕ) (g h : Game) (x : LifeId) (e : ℕ) (n : Node) (t : TopoOf) → Play lives (begins first) g → Play lives g h → g.nodes x e ≡ Some n → finish n.card n.log ≡ Some t
-    → (f : FinishedIn h x e) × (f.topology ≡ t)
-finish_stays lives first g h x e n t play more joined done =
-    let w = has_grown lives (slice e g) (slice e h) x n (later_run lives first g h e play more) joined in
-    (record { node = w.node; joined = w.joined; topology = t; finish = ap (λ c. finish c w.node.log) w.card ∙ finish_earlier n.card n.log w.node.log t w.log done }, refl)
-
--- what a switch has finished with, its life has finished with in the game
-finish_by : (b : Bool) (g : Game) (x : LifeId) (s : SwitchOf) (t : TopoOf) → s.joined ≡ b → (s.joined ≡ true → g.nodes x s.epoch ≡ Some (node_of s)) → cond b (finish s.card s.log) None ≡ Some t → (g.nodes x s.epoch ≡ Some (node_of s)) × (finish s.card s.log ≡ Some t)
-finish_by true g x s t joined node is = (node joined, is)
-finish_by false g x s t joined node is = absurd (none_some is)
-
+-- what a switch has finished with at a moment, its life has finished with in the game
 pub finished_in : (script : ScriptOf) (lives : List LifeId) (h : List Event) (w : IsEmbedded script lives h) (x : LifeId) (e : ℕ) (t : TopoOf) → FinishedAt script h x e t → (f : FinishedIn (game_after script h) x e) × (f.topology ≡ t)
 finished_in script lives h w x e t f =
     let m = w.moments f.before f.later f.moment in
@@ -55,11 +44,8 @@ finished_in script lives h w x e t f =
     let u = switch_after script f.before f.place in
     let is : m.earlier.switches x ≡ u = ap m.earlier.switches (sym f.life_is) ∙ m.is_in.switches f.place f.within in
     let at = agrees lives on m.earlier g x m.is_in.happens in
-    let s = m.earlier.switches x in
-    let done = finish_by s.joined g x s t refl at.joined (ap finish_of is ∙ f.finished) in
-    let epoch : s.epoch ≡ e = ap (λ (v : SwitchOf). v.epoch) is ∙ f.epoch_is in
-    let joined : g.nodes x e ≡ Some (node_of s) = ap (g.nodes x) (sym epoch) ∙ done.0 in
-    finish_stays lives on.epoch g (game_after script h) x e (node_of s) t (plays lives on m.earlier g m.is_in.happens) (later lives on m.earlier w.network g (game_after script h) m.is_in.happens m.since) joined done.1
+    let done = has_finished lives on.epoch g (game_after script h) x (m.earlier.switches x) t (plays lives on m.earlier g m.is_in.happens) (later lives on m.earlier w.network g (game_after script h) m.is_in.happens m.since) at (ap finish_of is ∙ f.finished) in
+    subst (λ (n : ℕ). (d : FinishedIn (game_after script h) x n) × (d.topology ≡ t)) (ap (λ (v : SwitchOf). v.epoch) is ∙ f.epoch_is) done
 
 -- so it is a node of the final game
 pub record Done (lives : List LifeId) (s : Slice) (x : LifeId) (t : TopoOf) : Type 0 where
