@@ -6,7 +6,7 @@ use Rattle.std.proofs.lemmas.List.Kept.{AllPairs-cons}
 use Rattle.an_base.specs.Values.{LifeId, EndId, Place, PeerAt, PosOf}
 use Rattle.an_base.specs.declared.body.Body.{Body}
 use Rattle.an_base.specs.declared.body.Body.TheVariants.{Pos, Answer, Stable, Topo}
-use Rattle.tree_position.specs.Position.{self_root, position_of, lesser}
+use Rattle.tree_position.specs.Position.{self_root, lesser}
 use Rattle.topo_report.proofs.Members.{In, in_from}
 use Rattle.topo_report.proofs.DistinctLemmas.{AreApart, length-le_from_apart}
 use Rattle.epoch_core.specs.Log.{CardOf, OnPort, Log, on_port, last_pos}

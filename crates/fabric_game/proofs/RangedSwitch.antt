@@ -1,6 +1,6 @@
 -- A switch keeps within the ranges of frames.
 
-use Rattle.std.specs.Prelude.{◌≡◌, ◌⊎◌, ◌<◌, ◌≤◌, ◌+◌, ◌^◌, ◌==◌, nat_lt, nat_le, ℕ, zero, suc, length, map, List, [], ◌∷◌, ◌++◌, Option, Some, None, Bool, true, false, cond, refl}
+use Rattle.std.specs.Prelude.{◌≡◌, ◌⊎◌, ◌<◌, ◌≤◌, ◌+◌, ◌^◌, ◌==◌, nat_lt, nat_le, ℕ, suc, length, map, List, [], ◌∷◌, ◌++◌, Option, Some, None, Bool, true, false, cond, refl}
 use Rattle.std.proofs.Common.{true≢false, sym, ◌∙◌, subst, inl, inr, arith}
 use Rattle.std.proofs.lemmas.Bool.{cond_both, eqb-false, and_cases}
 use Rattle.an_base.specs.Values.{LifeId, EndId}
@@ -21,10 +21,8 @@ use Rattle.port_monitor.specs.declared.port.Phase.TheVariants.{Dead, Checking, H
 use Rattle.port_monitor.specs.declared.port.Port.{Port}
 use Rattle.port_monitor.specs.Ports.{kept_up, sampled, replied_to, speaks, good_peer_by, link_to, links_from}
 use Rattle.port_monitor.specs.Histories.{Happening, History, Sampled, Replied, port_after, with_happening, externals}
-use Rattle.ordered_link.specs.Receiving.{Receiving, last, has_come, come, accept, follow, follow_with, verdict, after_verdict, accepted_by, follow_all, received}
+use Rattle.ordered_link.specs.Receiving.{Receiving, last, has_come, come, accept, follow, follow_with, verdict, accepted_by, received}
 use Rattle.ordered_link.specs.Receiving as receiving
-use Rattle.ordered_link.specs.declared.receiver.Verdict.{Verdict}
-use Rattle.ordered_link.specs.declared.receiver.Verdict.TheVariants as verdict_is
 use Rattle.ordered_link.proofs.KeepLemmas.{verdict_keeps}
 use Rattle.epoch_core.specs.Log.{Log}
 use Rattle.epoch_core.specs.Epoch.{adds}
