@@ -1,0 +1,90 @@
+//! Tables of values for what has numbers.
+
+use an_base::memory::OutOfMemory;
+use std::alloc::Global;
+
+/// What has a number, by which it is found in a table.
+pub trait Numbered {
+    /// Its number.
+    fn number(self) -> u32;
+}
+
+impl Numbered for u32 {
+    fn number(self) -> u32 {
+        self
+    }
+}
+
+/// A value for each number below a count. What is read at others is the value that all had at first, and what is
+/// put there is let go.
+#[derive(Drop)]
+pub struct Table<T: Copy> {
+    items: Vec<T>,
+    first: T,
+}
+
+impl<T: Copy> Table<T> {
+    /// A table for no numbers.
+    pub fn empty(alloc: Global, first: T) -> Table<T> {
+        Table {
+            items: Vec::new(alloc),
+            first,
+        }
+    }
+
+    /// A table for the numbers below a count, which all have one value.
+    pub fn filled(alloc: Global, count: u32, first: T) -> Result<Table<T>, OutOfMemory> {
+        let mut items = Vec::with_capacity(alloc, count as usize)?;
+        'items: for _ in 0..count {
+            items.push(first)?;
+        }
+        Ok(Table { items, first })
+    }
+
+    /// How many numbers have a value.
+    pub fn count(&self) -> u32 {
+        narrow(self.items.len())
+    }
+
+    /// The value for a number.
+    pub fn get<K: Numbered>(&self, key: K) -> T {
+        let place = key.number() as usize;
+        self.items.get(place).copied().unwrap_or(self.first)
+    }
+
+    /// Puts the value for a number.
+    pub fn put<K: Numbered>(&mut self, key: K, value: T) {
+        let place = key.number() as usize;
+        if let Some(item) = self.items.get_mut(place) {
+            *item = value;
+        }
+    }
+
+    /// Adds the value for the next number.
+    pub fn push(&mut self, value: T) -> Result<(), OutOfMemory> {
+        self.items.push(value)?;
+        Ok(())
+    }
+
+    /// Gives to all numbers the value that they had at first.
+    pub fn reset(&mut self) {
+        let first = self.first;
+        'items: for item in self.items.iter_mut() {
+            *item = first;
+        }
+    }
+}
+
+/// The place of each in a list of all.
+pub fn places<K: Numbered + Copy>(alloc: Global, list: &[K]) -> Result<Table<u32>, OutOfMemory> {
+    let mut places = Table::filled(alloc, narrow(list.len()), 0u32)?;
+    'list: for (place, key) in list.iter().enumerate() {
+        places.put(*key, narrow(place));
+    }
+    Ok(places)
+}
+
+/// A count in four bytes, `u32::MAX` if it is greater.
+pub fn narrow(count: usize) -> u32 {
+    u32::try_from(count).unwrap_or(u32::MAX)
+}
