@@ -1,0 +1,74 @@
+//! An order in which the turns of given routes rise, if there is one.
+
+use an_base::memory::OutOfMemory;
+use ib_channels::channels::{Channel, Channels};
+use ib_channels::order::Order;
+use ib_channels::table::Table;
+use std::alloc::Global;
+
+// Which channels come first: those whose turns from others are all passed.
+#[derive(Drop)]
+struct Queue {
+    // From how many channels routes turn to each and have not been passed.
+    waits: Table<u32>,
+    ready: Vec<Channel>,
+}
+
+impl Queue {
+    // Counts the turns from a channel that have a weight.
+    fn count(&mut self, channels: &Channels, weights: &Table<u32>, channel: Channel) {
+        'exits: for number in channels.exits(channels.ends(channel).to) {
+            if weights.get(channels.turn(channel, Channel(number))) > 0 {
+                self.waits
+                    .put(number, self.waits.get(number).wrapping_add(1));
+            }
+        }
+    }
+
+    // Passes the turns from a channel.
+    fn pass(
+        &mut self,
+        channels: &Channels,
+        weights: &Table<u32>,
+        channel: Channel,
+    ) -> Result<(), OutOfMemory> {
+        'exits: for number in channels.exits(channels.ends(channel).to) {
+            if weights.get(channels.turn(channel, Channel(number))) > 0 {
+                let waits = self.waits.get(number).wrapping_sub(1);
+                self.waits.put(number, waits);
+                if waits == 0 {
+                    self.ready.push(Channel(number))?;
+                }
+            }
+        }
+        Ok(())
+    }
+}
+
+/// An order in which all turns with a weight rise, if they close no cycle.
+pub fn order_along(
+    alloc: Global,
+    channels: &Channels,
+    weights: &Table<u32>,
+) -> Result<Option<Order>, OutOfMemory> {
+    let count = channels.count();
+    let mut queue = Queue {
+        waits: Table::filled(alloc, count, 0u32)?,
+        ready: Vec::with_capacity(alloc, count as usize)?,
+    };
+    'counts: for number in 0..count {
+        queue.count(channels, weights, Channel(number));
+    }
+    'first: for number in 0..count {
+        if queue.waits.get(number) == 0 {
+            queue.ready.push(Channel(number))?;
+        }
+    }
+    'ready: for place in 0..count {
+        let Some(channel) = queue.ready.get(place as usize).copied() else {
+            return Ok(None);
+        };
+        queue.pass(channels, weights, channel)?;
+    }
+    Ok(Some(Order::of(alloc, queue.ready)?))
+}

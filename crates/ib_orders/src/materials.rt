@@ -1,0 +1,92 @@
+//! What orders of channels are made of.
+
+use crate::weights::Weights;
+use an_base::memory::OutOfMemory;
+use ib_channels::channels::Channels;
+use ib_channels::demand::Demand;
+use ib_channels::table::Table;
+use ib_channels::ways::Rule;
+use std::alloc::Global;
+
+/// What orders of the channels of a fabric are made of.
+#[derive(Drop)]
+pub struct Materials {
+    /// A switch with the most channels.
+    pub root: u32,
+    /// The first switch with end ports of adapters and routers, or the root.
+    pub leaf: u32,
+    /// How many channels shortest routes have together, between the end ports of adapters and routers.
+    pub least_hops: u64,
+    /// The most channels that one of these has.
+    pub least_longest: u32,
+    // How many shortest routes make each turn, where they are spread, and where they leave by first ports.
+    spread: Table<u32>,
+    first_ports: Table<u32>,
+}
+
+/// Which shortest routes are to break few turns.
+#[derive(Clone, Copy)]
+pub enum Wanted {
+    /// Those that are spread over the channels.
+    Spread,
+    /// Those that leave each switch by the first port that they can.
+    FirstPorts,
+}
+
+// The first switch with the most channels.
+fn find_root(channels: &Channels) -> u32 {
+    let mut root = 0;
+    'switches: for switch in 0..channels.switches() {
+        if channels.degree(switch) > channels.degree(root) {
+            root = switch;
+        }
+    }
+    root
+}
+
+// The first switch with end ports of adapters and routers.
+fn find_leaf(channels: &Channels, demand: &Demand) -> Option<u32> {
+    (0..channels.switches()).find(|switch| demand.hosts(*switch) > 0)
+}
+
+impl Materials {
+    /// Without any routes: for orders by heights and levels alone.
+    pub fn bare(alloc: Global, channels: &Channels, demand: &Demand) -> Materials {
+        let root = find_root(channels);
+        Materials {
+            root,
+            leaf: find_leaf(channels, demand).unwrap_or(root),
+            least_hops: 0,
+            least_longest: u32::MAX,
+            spread: Table::empty(alloc, 0),
+            first_ports: Table::empty(alloc, 0),
+        }
+    }
+
+    /// The materials of a fabric.
+    pub fn of(
+        alloc: Global,
+        channels: &Channels,
+        demand: &Demand,
+    ) -> Result<Materials, OutOfMemory> {
+        let bare = Materials::bare(alloc, channels, demand);
+        let spread = Weights::shortest(alloc, channels, demand, Rule::Any)?;
+        let first_ports = Weights::first_ports(alloc, channels, demand)?;
+        Ok(Materials {
+            root: bare.root,
+            leaf: bare.leaf,
+            least_hops: spread.hops,
+            least_longest: spread.longest,
+            spread: spread.turns,
+            first_ports: first_ports.turns,
+        })
+    }
+
+    /// How many of these routes make each turn.
+    pub fn weights(&self, wanted: Wanted) -> &Table<u32> {
+        match wanted {
+            Wanted::Spread => &self.spread,
+            Wanted::FirstPorts => &self.first_ports,
+        }
+    }
+}

@@ -1,0 +1,156 @@
+//! How orders of channels are made.
+
+use crate::first_ports::order_along;
+use crate::levels::{by_height, distances, up_down};
+use crate::materials::{Materials, Wanted};
+use crate::sift::{Wishes, sift};
+use crate::spanning::Tree;
+use crate::weights::Weights;
+use an_base::memory::OutOfMemory;
+use ib_channels::channels::Channels;
+use ib_channels::demand::Demand;
+use ib_channels::order::Order;
+use ib_channels::table::Table;
+use ib_channels::ways::Rule;
+use std::alloc::Global;
+
+/// The form of a spanning tree.
+#[derive(Clone, Copy)]
+pub enum Shape {
+    /// In breadth, from a switch with the most channels.
+    Wide,
+    /// In depth, from a switch with the most channels; numbers make different ones.
+    Deep(u64),
+}
+
+/// An order from a spanning tree.
+#[derive(Clone, Copy)]
+pub struct FromTree {
+    /// The form of the tree.
+    pub shape: Shape,
+    /// Which routes are to break few turns.
+    pub wanted: Wanted,
+    /// Whether the turns of the tree are kept: then there is a route from each switch to each.
+    pub keeps: bool,
+}
+
+/// How an order is made.
+#[derive(Clone, Copy)]
+pub enum Recipe {
+    /// Up to greater height over the leaves, and then down.
+    Heights,
+    /// The same, made better.
+    BetterHeights,
+    /// Along the routes that leave each switch by the first port that they can.
+    FirstPorts,
+    /// Up to a switch with the most channels, and then down.
+    Levels,
+    /// Up to a leaf, and then down. In a whole fat tree all turns rise that rise by heights, and there is a route from
+    /// each switch to each.
+    LevelsFromLeaf,
+    /// Up a spanning tree and then down, made better.
+    Tree(FromTree),
+}
+
+// What orders are made for.
+#[derive(Clone, Copy)]
+struct Making<'a> {
+    alloc: Global,
+    channels: &'a Channels,
+    demand: &'a Demand,
+    materials: &'a Materials,
+}
+
+impl Making<'_> {
+    // Makes an order better: for given routes, and then twice for those that break fewest of its turns.
+    fn improve(
+        self,
+        wanted: Wanted,
+        kept: Option<&Table<bool>>,
+        order: &mut Order,
+    ) -> Result<(), OutOfMemory> {
+        let weights = self.materials.weights(wanted);
+        sift(self.alloc, self.channels, Wishes { weights, kept }, order)?;
+        let mut least = u64::MAX;
+        'times: for _ in 0..2 {
+            let rule = Rule::Fewest(&*order);
+            let routes = Weights::shortest(self.alloc, self.channels, self.demand, rule)?;
+            if routes.spared == 0 || routes.spared >= least - least / 100 {
+                break;
+            }
+            least = routes.spared;
+            let weights = &routes.turns;
+            sift(self.alloc, self.channels, Wishes { weights, kept }, order)?;
+        }
+        Ok(())
+    }
+
+    // Up by height and down, if not all switches are leaves.
+    fn by_heights(self) -> Result<Option<Order>, OutOfMemory> {
+        match by_height(self.alloc, self.channels, self.demand)? {
+            Some(levels) => Ok(Some(up_down(self.alloc, self.channels, &levels)?)),
+            None => Ok(None),
+        }
+    }
+
+    // The same, made better.
+    fn by_better_heights(self) -> Result<Option<Order>, OutOfMemory> {
+        let Some(mut order) = self.by_heights()? else {
+            return Ok(None);
+        };
+        self.improve(Wanted::Spread, None, &mut order)?;
+        Ok(Some(order))
+    }
+
+    // Up to a root and down.
+    fn by_levels(self, root: u32) -> Result<Order, OutOfMemory> {
+        let levels = distances(self.alloc, self.channels, &[root])?;
+        up_down(self.alloc, self.channels, &levels)
+    }
+
+    // A spanning tree.
+    fn tree(self, shape: Shape) -> Result<Tree, OutOfMemory> {
+        match shape {
+            Shape::Wide => Tree::wide(self.alloc, self.channels, self.materials.root),
+            Shape::Deep(seed) => Tree::deep(self.alloc, self.channels, self.materials.root, seed),
+        }
+    }
+
+    // From a spanning tree.
+    fn by_tree(self, from: FromTree) -> Result<Order, OutOfMemory> {
+        let tree = self.tree(from.shape)?;
+        let mut order = tree.order(self.alloc, self.channels)?;
+        let marks = tree.marks(self.alloc, self.channels)?;
+        let kept = if from.keeps { Some(&marks) } else { None };
+        self.improve(from.wanted, kept, &mut order)?;
+        Ok(order)
+    }
+}
+
+impl Recipe {
+    /// The order, if the recipe makes one for the fabric.
+    pub fn make(
+        self,
+        alloc: Global,
+        channels: &Channels,
+        demand: &Demand,
+        materials: &Materials,
+    ) -> Result<Option<Order>, OutOfMemory> {
+        let making = Making {
+            alloc,
+            channels,
+            demand,
+            materials,
+        };
+        match self {
+            Recipe::Heights => making.by_heights(),
+            Recipe::BetterHeights => making.by_better_heights(),
+            Recipe::FirstPorts => {
+                order_along(alloc, channels, materials.weights(Wanted::FirstPorts))
+            }
+            Recipe::Levels => Ok(Some(making.by_levels(materials.root)?)),
+            Recipe::LevelsFromLeaf => Ok(Some(making.by_levels(materials.leaf)?)),
+            Recipe::Tree(from) => Ok(Some(making.by_tree(from)?)),
+        }
+    }
+}
