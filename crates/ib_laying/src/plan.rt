@@ -1,0 +1,77 @@
+//! What routes are laid for.
+
+use ib_channels::channels::{Channel, Channels};
+use ib_channels::demand::{Demand, Target};
+use ib_channels::order::Order;
+use ib_channels::ways::Ways;
+use ib_routes::traffic::Traffic;
+
+/// What routes are laid for: the channels of a fabric and its end ports, the order along which they rise, and the
+/// traffic that is to arrive.
+#[derive(Clone, Copy)]
+pub struct Plan<'a> {
+    /// The channels of the fabric.
+    pub channels: &'a Channels,
+    /// Its end ports.
+    pub demand: &'a Demand,
+    /// The order along which routes rise.
+    pub order: &'a Order,
+    /// The traffic.
+    pub traffic: Traffic,
+}
+
+impl Plan<'_> {
+    /// Whether routes of the traffic begin at a switch.
+    pub fn sends_from(self, switch: u32) -> bool {
+        match self.traffic {
+            Traffic::Hosts => self.demand.hosts(switch) > 0,
+            Traffic::Lids => self.demand.hosts(switch) > 0,
+            Traffic::All => true,
+        }
+    }
+
+    /// Whether routes of the traffic lead to a target.
+    pub fn sends_to(self, target: Target) -> bool {
+        match self.traffic {
+            Traffic::Hosts => target.is_host(),
+            Traffic::Lids => true,
+            Traffic::All => true,
+        }
+    }
+
+    /// Whether routes of the traffic lead to a target at a switch.
+    pub fn sends_to_some(self, switch: u32) -> bool {
+        let mut targets = self.demand.targets_at(switch).iter();
+        targets.any(|target| self.sends_to(*target))
+    }
+
+    /// Whether the traffic leaves out a target at a switch.
+    pub fn leaves_out_some(self, switch: u32) -> bool {
+        let mut targets = self.demand.targets_at(switch).iter();
+        targets.any(|target| !self.sends_to(*target))
+    }
+
+    /// Whether a channel may be an exit: it leads to the target, or the turn from it to the exit there rises.
+    pub fn may_follow(self, ways: &Ways, target: u32, channel: Channel) -> bool {
+        let to = self.channels.ends(channel).to;
+        if to == target {
+            return true;
+        }
+        match ways.exit(to) {
+            Some(next) => self.order.rises(channel, next),
+            None => false,
+        }
+    }
+
+    /// One more than the greatest place of the exits that lead to a switch: its own exit may not stand before.
+    pub fn least_place(self, ways: &Ways, switch: u32) -> u32 {
+        let mut least = 0;
+        'exits: for number in self.channels.exits(switch) {
+            let ends = self.channels.ends(Channel(number));
+            if ways.exit(ends.to) == Some(ends.back) {
+                least = self.order.place(ends.back).saturating_add(1).max(least);
+            }
+        }
+        least
+    }
+}
