@@ -1,0 +1,13 @@
+//! The command `route`: tables of a fabric that cannot lock up.
+//!
+//! It stands on `ib_laying`, which makes tables and of which nothing is claimed, on `ib_verdict`, which judges them, on
+//! `ib_tables_text`, which prints them, and on `ib_answering`, which reads the topology. Its one contract is that of
+//! `route::route`: with 0 out gained the text of tables of the fabric that was read, in which each route of the traffic
+//! arrives and there is no credit loop, whatever the maker did. With 7 some end port is not joined by links to a LID to
+//! which it sends, and err names both. With 6 all are joined, and no tables were found that pass.
+#![tactic(auto)]
+
+pub mod apart;
+pub mod end;
+mod parts;
+pub mod route;

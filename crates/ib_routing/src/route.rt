@@ -1,0 +1,154 @@
+//! The call of `route`.
+
+ghost use Rattle.std.specs.Prelude.{◌≡◌, ℕ, List, true, IfOk, IfErr};
+ghost use Rattle.ib_cells.specs.Cells.{TablesOf};
+ghost use Rattle.ib_laying.specs.Made.{AreTablesFor};
+ghost use Rattle.ib_net.specs.Fabric.{FabricOf};
+ghost use Rattle.ib_routes.specs.declared.traffic.Traffic.{Traffic};
+ghost use Rattle.ib_verdict.specs.Judgements.{IsJudgement};
+ghost use Rattle.ib_verdict.specs.Verdict.{Passes};
+ghost use Rattle.ib_answering.specs.Answer.{IsNoFabric};
+ghost use Rattle.ib_routing.specs.declared.end.End.{End};
+ghost use Rattle.ib_routing.specs.Joined.{AllJoined, IsApart};
+ghost use Rattle.ib_routing.specs.Routed.{IsGiven, IsGivenFor, IsRouteAnswer};
+
+use crate::apart::{Pair, find_apart};
+use crate::end::{End, apart_line, measure_line, none_line};
+use an_base::memory::OutOfMemory;
+use calling::end::tell;
+use ib_answering::input::read_topology;
+use ib_answering::status::{Status, finish};
+use ib_laying::choice::{Made, Search, lay_tables};
+use ib_net::fabric::Fabric;
+use ib_routes::traffic::Traffic;
+use ib_tables_text::printer::print;
+use ib_verdict::judge::{Judgement, judge};
+use ib_verdict::verdict::Verdict;
+use outside::all::write_all;
+use outside::sink::Sink;
+use outside::source::Source;
+use std::alloc::Global;
+
+/// What `route` gives for a fabric.
+#[derive(Drop)]
+pub struct Given {
+    /// How the call ends once all is written.
+    pub end: End,
+    /// The text for out.
+    pub text: Vec<u8>,
+    /// The line for err.
+    pub line: Vec<u8>,
+}
+
+/// Answers `route`: reads a topology from its source to the end and makes tables for its fabric. Tables that pass for
+/// the traffic are written to out, with a line on err that says how good they are. If there are none, out gains nothing,
+/// and the line says who is not joined to whom, or that no tables were found although all are joined. The answer is the
+/// number of how the call ended.
+pub fn route<T: Source, O: Sink, E: Sink>(
+    alloc: Global,
+    topology: &mut T,
+    out: &mut O,
+    err: &mut E,
+    traffic: Traffic,
+) -> u8
+    ensures { IsRouteAnswer traffic (T.seen topology.old) (T.seen topology.new) (O.seen out.old) (O.seen out.new)
+        (E.seen err.old) (E.seen err.new) result }
+{
+    let given = match found(alloc, topology, traffic) {
+        Ok(given) => given,
+        Err(status) => return finish(err, status),
+    };
+    match write_all(out, &given.text) {
+        Ok(()) => tell(err, given.end.code(), &[&given.line]),
+        Err(_fault) => finish(err, Status::WriteFault),
+    }
+}
+
+// What is given for the fabric whose text a source gives, or why there is none.
+fn found<T: Source>(alloc: Global, topology: &mut T, traffic: Traffic) -> Result<Given, Status>
+    ensures given { IfOk result (λ given. IsGivenFor traffic (T.seen topology.old) (T.seen topology.new)
+        given.end given.text.items given.line.items) }
+    ensures none { IfErr result (IsNoFabric (T.seen topology.old) (T.seen topology.new)) }
+{
+    let topology = match read_topology(alloc, topology) {
+        Ok(topology) => topology,
+        Err(status) => return Err(status),
+    };
+    Ok(given_for(alloc, &topology.fabric, traffic)?)
+}
+
+/// What `route` gives for a fabric: tables that pass, or why there are none.
+pub fn given_for(alloc: Global, fabric: &Fabric, traffic: Traffic) -> Result<Given, OutOfMemory>
+    ensures { IfOk result (λ given. IsGiven traffic fabric.now given.end given.text.items given.line.items) }
+{
+    match find_apart(alloc, fabric, traffic)? {
+        Some(pair) => given_apart(alloc, fabric, traffic, pair),
+        None => match lay_tables(alloc, fabric, traffic, Search::Best)? {
+            Some(made) => given_made(alloc, fabric, traffic, &made),
+            None => given_none(alloc, fabric, traffic),
+        },
+    }
+}
+
+// What is given where links do not join an end port to a LID.
+fn given_apart(
+    alloc: Global,
+    fabric: &Fabric,
+    traffic: Traffic,
+    pair: Pair,
+) -> Result<Given, OutOfMemory>
+    requires { IsApart fabric.now traffic pair.lid pair.source }
+    ensures { IfOk result (λ given. IsGiven traffic fabric.now given.end given.text.items given.line.items) }
+{
+    Ok(Given {
+        end: End::NotJoined,
+        text: Vec::new(alloc),
+        line: apart_line(alloc, fabric.guid(pair.source), pair.lid)?,
+    })
+}
+
+// What is given where no tables were found.
+fn given_none(alloc: Global, fabric: &Fabric, traffic: Traffic) -> Result<Given, OutOfMemory>
+    requires { AllJoined fabric.now traffic }
+    ensures { IfOk result (λ given. IsGiven traffic fabric.now given.end given.text.items given.line.items) }
+{
+    Ok(Given {
+        end: End::NoTables,
+        text: Vec::new(alloc),
+        line: none_line(alloc)?,
+    })
+}
+
+// What is given where tables were made: these, if they pass. A fabric without switches has no tables.
+fn given_made(
+    alloc: Global,
+    fabric: &Fabric,
+    traffic: Traffic,
+    made: &Made,
+) -> Result<Given, OutOfMemory>
+    requires joined { AllJoined fabric.now traffic }
+    requires tables { AreTablesFor fabric.now made.now.cells }
+    ensures { IfOk result (λ given. IsGiven traffic fabric.now given.end given.text.items given.line.items) }
+{
+    let judged = judge(alloc, fabric, &made.cells, traffic)?;
+    if fabric.switches() == 0 || !passes(&judged) {
+        return given_none(alloc, fabric, traffic);
+    }
+    Ok(Given {
+        end: End::Routed,
+        text: print(alloc, fabric, &made.cells)?,
+        line: measure_line(alloc, made.measures)?,
+    })
+}
+
+// Whether tables pass that were judged.
+fn passes(judged: &Judgement) -> bool
+    ensures { (fabric : FabricOf) (tables : TablesOf) (traffic : Traffic)
+        → IsJudgement fabric tables traffic judged.now → result ≡ true
+        → (ranks : List ℕ) × Passes fabric tables traffic ranks }
+{
+    match &judged.verdict {
+        Verdict::Ranks { ranks: _ } => !judged.stops,
+        Verdict::Cycle { channels: _ } => false,
+    }
+}
