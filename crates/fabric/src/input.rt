@@ -1,7 +1,7 @@
 //! What the words of a call name.
 
 use an_base::text::Word;
-use ib_commands::words::is_standard;
+use ib_calls::words::is_standard;
 use std::fs::{self, Files};
 use std::io::{self, ErrorKind, Read};
 use std::str;

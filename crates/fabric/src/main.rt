@@ -1,4 +1,4 @@
-//! The program: it reads its words and makes the one call of `ib_commands`, over the files that they name and the
+//! The program: it reads its words and makes the one call of `ib_calls`, over the files that they name and the
 //! standard streams.
 //!
 //! It has no contract of its own: what it prints, and its status, are those of the call.
@@ -10,7 +10,7 @@ use an_base::memory::OutOfMemory;
 use an_base::text::Word;
 use calling::words::words_of_call;
 use ib_answering::status::{Status, finish};
-use ib_commands::fabric::fabric;
+use ib_calls::fabric::fabric;
 use input::Input;
 use outside::standard::{StdSink, StdSource};
 use std::process::ExitCode;

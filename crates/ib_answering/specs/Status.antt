@@ -40,6 +40,7 @@ line_of Usage =
     ++ codes "       fabric ranks TOPOLOGY TABLES [hosts|lids|all]\n"
     ++ codes "       fabric verify TOPOLOGY TABLES RANKS [hosts|lids|all]\n"
     ++ codes "       fabric dot TOPOLOGY TABLES [hosts|lids|all]\n"
+    ++ codes "       fabric route TOPOLOGY [hosts|lids|all]\n"
 line_of (TopologyRefused line cause) = refusal_line (codes "topology") line (topology_cause cause)
 line_of (TopologyTooLong line) = refusal_line (codes "topology") line (codes "too many")
 line_of (TablesRefused line cause) = refusal_line (codes "tables") line (tables_cause cause)

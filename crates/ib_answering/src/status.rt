@@ -146,6 +146,7 @@ pub fn finish<E: Sink>(err: &mut E, status: Status) -> u8
                 b"       fabric ranks TOPOLOGY TABLES [hosts|lids|all]\n",
                 b"       fabric verify TOPOLOGY TABLES RANKS [hosts|lids|all]\n",
                 b"       fabric dot TOPOLOGY TABLES [hosts|lids|all]\n",
+                b"       fabric route TOPOLOGY [hosts|lids|all]\n",
             ],
         ),
         Status::TopologyRefused { line, cause } => {

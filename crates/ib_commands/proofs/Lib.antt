@@ -1,7 +1,5 @@
-mod WordLemmas
 mod EndLemmas
 mod NameLemmas
-mod CallLemmas
 mod RankLemmas
 mod TextLemmas
 mod ReadLemmas

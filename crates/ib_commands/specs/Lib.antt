@@ -4,4 +4,4 @@ pub mod Judged
 pub mod Certified
 pub mod Verifying
 pub mod Drawn
-pub mod Call
+pub mod Given

@@ -1,52 +1,11 @@
--- The words of a call.
+-- The words of traffics.
 
-use Rattle.std.specs.Prelude.{◌≡◌, ◌⊎◌, ◌≤◌, ℕ, Bool, List, [], ◌∷◌, ◌++◌, codes, count_by, length}
-use Rattle.std.specs.Str.{bytes_eq}
+use Rattle.std.specs.Prelude.{ℕ, List, codes}
 use Rattle.ib_routes.specs.declared.traffic.Traffic.{Traffic}
 use Rattle.ib_routes.specs.declared.traffic.Traffic.TheVariants.{Hosts, Lids, All}
-use Rattle.ib_commands.specs.declared.words.Task.{Task}
-use Rattle.ib_commands.specs.declared.words.Task.TheVariants.{Judge, Ranks, Verify, Dot}
-use Rattle.ib_commands.specs.declared.words.Call.{Call}
 
 -- the word of a traffic
 abbrev pub traffic_word : Traffic → List ℕ
 traffic_word Hosts = codes "hosts"
 traffic_word Lids = codes "lids"
 traffic_word All = codes "all"
-
--- the word of a task
-abbrev pub task_word : Task → List ℕ
-task_word Judge = codes "judge"
-task_word Ranks = codes "ranks"
-task_word Verify = codes "verify"
-task_word Dot = codes "dot"
-
--- how many files a task has: a topology and tables, and for `verify` ranks
-abbrev pub file_count : Task → ℕ
-file_count Judge = 2
-file_count Ranks = 2
-file_count Verify = 3
-file_count Dot = 2
-
--- at most one file is standard input
-abbrev pub is_standard : List ℕ → Bool
-is_standard file = bytes_eq file (codes "-")
-
-abbrev pub MayBeFiles : List (List ℕ) → Type 0
-MayBeFiles files = count_by is_standard files ≤ 1
-
--- the words after the files name a traffic: without one it is `hosts`
-abbrev pub NameTraffic : List (List ℕ) → Traffic → Type 0
-NameTraffic words traffic = ((words ≡ []) × (traffic ≡ Hosts)) ⊎ (words ≡ traffic_word traffic ∷ [])
-
--- the word of a task, its files, and the word of the traffic
-pub record IsCall (words : List (List ℕ)) (call : Call) : Type 0 where
-  pub files : List (List ℕ)
-  pub last : List (List ℕ)
-  pub count : length files ≡ file_count call.task
-  pub may : MayBeFiles files
-  pub names : NameTraffic last call.traffic
-  pub are : words ≡ task_word call.task ∷ (files ++ last)
-
-abbrev pub AreNoCall : List (List ℕ) → Type 0
-AreNoCall words = (call : Call) → ¬ IsCall words call

@@ -5,7 +5,7 @@ ghost use Rattle.ib_cells.specs.Cells.{tables_of};
 ghost use Rattle.ib_tables.specs.Reads.{HasCells};
 ghost use Rattle.ib_verdict.specs.Judgements.{IsJudgement};
 ghost use Rattle.ib_answering.specs.Answer.{IsEnding};
-ghost use Rattle.ib_commands.specs.Call.{gives_judged, gives_ranks};
+ghost use Rattle.ib_commands.specs.Given.{gives_judged, gives_ranks};
 ghost use Rattle.ib_commands.specs.Judged.{IsJudged};
 
 use crate::answer::{answer_for, status_of};

@@ -2,7 +2,7 @@
 
 ghost use Rattle.std.specs.Prelude.{◌≡◌, ◌++◌, IfOk, OnOk};
 ghost use Rattle.ib_net.specs.Fabric.{side_of};
-ghost use Rattle.ib_commands.specs.Call.{gives_drawn};
+ghost use Rattle.ib_commands.specs.Given.{gives_drawn};
 ghost use Rattle.ib_commands.specs.Drawn.{IsPictureOf, arrow_at, arrows_of, switches_of};
 
 use crate::answer::{cycle_of, status_of};

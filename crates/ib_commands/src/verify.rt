@@ -9,7 +9,7 @@ ghost use Rattle.ib_tables.specs.Reads.{HasCells};
 ghost use Rattle.ib_ranks.specs.Ranks.{IsRanksText};
 ghost use Rattle.ib_verdict.specs.Verified.{IsVerified};
 ghost use Rattle.ib_answering.specs.Answer.{IsEnding};
-ghost use Rattle.ib_commands.specs.Call.{gives_verified};
+ghost use Rattle.ib_commands.specs.Given.{gives_verified};
 ghost use Rattle.ib_commands.specs.Certified.{AreRanksJudged, IsEndBy, risen_of};
 
 use crate::ranks::risen_of;

@@ -6,32 +6,16 @@ use Rattle.calling.specs.declared.input.Unread.{Unread}
 use Rattle.calling.specs.declared.input.Unread.TheVariants as no_input
 use Rattle.calling.specs.Inputs.{IsInput, IsUnread}
 use Rattle.ib_routes.specs.declared.traffic.Traffic.{Traffic}
-use Rattle.ib_answering.specs.Answer.{Gives, IsAnswer, IsUsageAnswer, Streams}
+use Rattle.ib_answering.specs.Answer.{IsAnswer, IsUsageAnswer, Streams}
 use Rattle.ib_answering.specs.declared.status.Status.{Status}
 use Rattle.ib_answering.specs.declared.status.Status.TheVariants.{OutOfMemory, RanksTooLong, ReadFault}
 use Rattle.ib_answering.specs.Status.{IsToldOf}
-use Rattle.ib_commands.specs.Certified.{AreRanksTold, AreRanksVerified}
-use Rattle.ib_commands.specs.declared.words.Call.{Call}
-use Rattle.ib_commands.specs.declared.words.Task.{Task}
-use Rattle.ib_commands.specs.declared.words.Task.TheVariants.{Judge, Ranks, Verify, Dot}
-use Rattle.ib_commands.specs.Drawn.{IsDrawn}
-use Rattle.ib_commands.specs.Judged.{IsJudged}
-use Rattle.ib_commands.specs.Words.{AreNoCall, IsCall}
-
--- `judge` gives the verdict on the routes of a traffic, `ranks` the ranks, `verify` whether those of some bytes fall,
--- `dot` a picture
-abbrev pub gives_judged : Traffic → Gives
-gives_judged traffic text fabric found status written = IsJudged traffic text fabric found status written
-
-abbrev pub gives_ranks : Traffic → Gives
-gives_ranks traffic text fabric found status written = AreRanksTold traffic text fabric found status written
-
-abbrev pub gives_verified : Traffic → List ℕ → Gives
-gives_verified traffic bytes text fabric found status written =
-    AreRanksVerified traffic bytes text fabric found status written
-
-abbrev pub gives_drawn : Traffic → Gives
-gives_drawn traffic text fabric found status written = IsDrawn traffic text fabric found status written
+use Rattle.ib_commands.specs.Given.{gives_drawn, gives_judged, gives_ranks, gives_verified}
+use Rattle.ib_routing.specs.Routed.{IsRouteAnswer}
+use Rattle.ib_calls.specs.declared.words.Call.{Call}
+use Rattle.ib_calls.specs.declared.words.Task.{Task}
+use Rattle.ib_calls.specs.declared.words.Task.TheVariants.{Judge, Ranks, Verify, Dot, Route}
+use Rattle.ib_calls.specs.Words.{AreNoCall, IsCall}
 
 -- the most bytes of ranks
 abbrev pub ranks_limit : ℕ
@@ -60,12 +44,20 @@ pub data IsVerifyAnswer (traffic : Traffic) (ranks ranks' : Seen) (old new : Str
   read : IsRead traffic ranks ranks' old new answer → IsVerifyAnswer traffic ranks ranks' old new answer
   not_read : IsNotRead ranks ranks' old new answer → IsVerifyAnswer traffic ranks ranks' old new answer
 
+-- `route` leaves tables and ranks alone
+pub record IsRouteAnswerOf (traffic : Traffic) (ranks ranks' : Seen) (old new : Streams) (answer : ℕ) : Type 0 where
+  pub ranks_kept : ranks' ≡ ranks
+  pub tables_kept : new.read.tables ≡ old.read.tables
+  pub answers :
+      IsRouteAnswer traffic old.read.topology new.read.topology old.out new.out old.err new.err answer
+
 -- the answer of a task
 abbrev pub IsAnswerOf : Task → Traffic → (ranks ranks' : Seen) → (old new : Streams) → ℕ → Type 0
 IsAnswerOf Judge traffic ranks ranks' old new answer = (ranks' ≡ ranks) × IsAnswer (gives_judged traffic) old new answer
 IsAnswerOf Ranks traffic ranks ranks' old new answer = (ranks' ≡ ranks) × IsAnswer (gives_ranks traffic) old new answer
 IsAnswerOf Dot traffic ranks ranks' old new answer = (ranks' ≡ ranks) × IsAnswer (gives_drawn traffic) old new answer
 IsAnswerOf Verify traffic ranks ranks' old new answer = IsVerifyAnswer traffic ranks ranks' old new answer
+IsAnswerOf Route traffic ranks ranks' old new answer = IsRouteAnswerOf traffic ranks ranks' old new answer
 
 -- the answer to words: that of the call that they are, and the usage line if they are none
 pub record IsAnswerTo (words : List (List ℕ)) (ranks ranks' : Seen) (old new : Streams) (answer : ℕ) : Type 0 where

@@ -7,10 +7,11 @@ use Rattle.std.proofs.lemmas.Slice.{first_rest}
 use Rattle.std.proofs.lemmas.Slice.Eq.{bytes_eq-Decides}
 use Rattle.ib_routes.specs.declared.traffic.Traffic.{Traffic}
 use Rattle.ib_routes.specs.declared.traffic.Traffic.TheVariants.{Hosts, Lids, All}
-use Rattle.ib_commands.specs.declared.words.Task.{Task}
-use Rattle.ib_commands.specs.declared.words.Task.TheVariants.{Judge, Ranks, Verify, Dot}
-use Rattle.ib_commands.specs.declared.words.Call.{Call}
-use Rattle.ib_commands.specs.Words.{AreNoCall, IsCall, NameTraffic, file_count, is_standard, task_word, traffic_word}
+use Rattle.ib_commands.specs.Words.{traffic_word}
+use Rattle.ib_calls.specs.declared.words.Task.{Task}
+use Rattle.ib_calls.specs.declared.words.Task.TheVariants.{Judge, Ranks, Verify, Dot, Route}
+use Rattle.ib_calls.specs.declared.words.Call.{Call}
+use Rattle.ib_calls.specs.Words.{AreNoCall, IsCall, NameTraffic, file_count, is_standard, task_word}
 
 -- no two words of traffics are equally long
 traffic_of_length : ℕ → Traffic
@@ -25,19 +26,21 @@ by_length All = refl
 one_word : (one other : Traffic) → traffic_word one ≡ traffic_word other → one ≡ other
 one_word one other same = sym (by_length one) ∙ ap (λ (w : List ℕ). traffic_of_length (length w)) same ∙ by_length other
 
--- the words of tasks begin with different letters
+-- the words of tasks have different third letters
 task_of_letter : ℕ → Task
-task_of_letter letter = cond (eqb letter 106) Judge (cond (eqb letter 114) Ranks (cond (eqb letter 118) Verify Dot))
+task_of_letter letter =
+    cond (eqb letter 100) Judge (cond (eqb letter 110) Ranks (cond (eqb letter 114) Verify (cond (eqb letter 116) Dot Route)))
 
-by_letter : (task : Task) → task_of_letter (slice_index (task_word task) 0) ≡ task
+by_letter : (task : Task) → task_of_letter (slice_index (task_word task) 2) ≡ task
 unfolding task_of_letter
 by_letter Judge = refl
 by_letter Ranks = refl
 by_letter Verify = refl
 by_letter Dot = refl
+by_letter Route = refl
 
 one_task : (one other : Task) → task_word one ≡ task_word other → one ≡ other
-one_task one other same = sym (by_letter one) ∙ ap (λ (w : List ℕ). task_of_letter (slice_index w 0)) same ∙ by_letter other
+one_task one other same = sym (by_letter one) ∙ ap (λ (w : List ℕ). task_of_letter (slice_index w 2)) same ∙ by_letter other
 
 one_traffic : (words : List (List ℕ)) (one other : Traffic) → NameTraffic words one → NameTraffic words other → one ≡ other
 one_traffic words one other (inl (none, hosts)) (inl (none', hosts')) = hosts ∙ sym hosts'

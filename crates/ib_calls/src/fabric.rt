@@ -2,17 +2,18 @@
 
 ghost use Rattle.std.specs.Prelude.{◌≡◌};
 ghost use Rattle.ib_answering.specs.Answer.{streams};
-ghost use Rattle.ib_commands.specs.Call.{IsAnswerTo, IsVerifyAnswer, ranks_unread_as};
+ghost use Rattle.ib_calls.specs.Call.{IsAnswerTo, IsVerifyAnswer, ranks_unread_as};
 
-use crate::commands::{Judge, Ranks};
-use crate::dot::Dot;
-use crate::verify::Verify;
 use crate::words::{Task, call_of};
 use an_base::text::Word;
 use calling::input::{Unread, read_input};
 use ib_answering::command::answer;
 use ib_answering::status::{Status, finish};
+use ib_commands::commands::{Judge, Ranks};
+use ib_commands::dot::Dot;
+use ib_commands::verify::Verify;
 use ib_routes::traffic::Traffic;
+use ib_routing::route::route;
 use outside::sink::Sink;
 use outside::source::Source;
 use std::alloc::Global;
@@ -54,10 +55,11 @@ fn answer_verify<T: Source, S: Source, R: Source, O: Sink, E: Sink>(
     }
 }
 
-/// Answers a call. The words are `judge`, `ranks` or `dot` with TOPOLOGY and TABLES, or `verify` with TOPOLOGY, TABLES and
-/// RANKS, and then `hosts`, `lids`, `all` or nothing: the call reads the sources that they name to their ends, the ranks
-/// first, and writes to out the verdict, the ranks, a picture, or whether the ranks fall. The answer is the number of a
-/// status, whose line goes to err. For other words the sources and out are left alone.
+/// Answers a call. The words are `judge`, `ranks` or `dot` with TOPOLOGY and TABLES, `verify` with TOPOLOGY, TABLES and
+/// RANKS, or `route` with TOPOLOGY, and then `hosts`, `lids`, `all` or nothing: the call reads the sources that they name
+/// to their ends, the ranks first, and writes to out the verdict, the ranks, a picture, whether the ranks fall, or tables.
+/// The answer is the number of how the call ended, and its line goes to err. For other words the sources and out are left
+/// alone.
 pub fn fabric<T: Source, S: Source, R: Source, O: Sink, E: Sink>(
     alloc: Global,
     topology: &mut T,
@@ -80,5 +82,6 @@ pub fn fabric<T: Source, S: Source, R: Source, O: Sink, E: Sink>(
         Task::Ranks => answer(&Ranks { traffic }, alloc, topology, tables, out, err),
         Task::Verify => answer_verify(alloc, topology, tables, ranks, out, err, traffic),
         Task::Dot => answer(&Dot { traffic }, alloc, topology, tables, out, err),
+        Task::Route => route(alloc, topology, out, err, traffic),
     }
 }

@@ -1,0 +1,145 @@
+//! The words of a call.
+
+ghost use Rattle.std.specs.Prelude.{◌≡◌, ◌≢◌, ◌↔◌, MatchOption, IsTrue, codes};
+ghost use Rattle.ib_routes.specs.declared.traffic.Traffic.{Traffic};
+ghost use Rattle.ib_commands.specs.Words.{traffic_word};
+ghost use Rattle.ib_calls.specs.Words.{AreNoCall, IsCall, MayBeFiles, NameTraffic, file_count, task_word};
+
+use an_base::text::Word;
+use ib_routes::traffic::Traffic;
+
+/// What a call is to do.
+#[derive(Clone, Copy)]
+pub enum Task {
+    /// To tell the verdict on tables.
+    Judge,
+    /// To tell the ranks of the channels, or the verdict where there is a credit loop.
+    Ranks,
+    /// To tell whether ranks fall.
+    Verify,
+    /// To draw the credit loop.
+    Dot,
+    /// To make tables.
+    Route,
+}
+
+/// A call.
+#[derive(Clone, Copy)]
+pub struct Call {
+    /// What is to be done ..
+    pub task: Task,
+    /// .. for the routes of this traffic.
+    pub traffic: Traffic,
+}
+
+/// Whether a word is this text.
+fn is(word: &Word, text: &str) -> bool
+    ensures { IsTrue result ↔ (word.now ≡ text.now) }
+{
+    word.as_bytes() == text.as_bytes()
+}
+
+/// Whether a word names standard input: it is `-`.
+pub fn is_standard(word: &Word) -> bool
+    ensures { IsTrue result ↔ (word.now ≡ codes "-") }
+{
+    is(word, "-")
+}
+
+// The traffic that a word names.
+fn traffic_named(word: &Word) -> Option<Traffic>
+    ensures { MatchOption result ((traffic : Traffic) → word.now ≢ traffic_word traffic)
+        (λ traffic. word.now ≡ traffic_word traffic) }
+{
+    if is(word, "hosts") {
+        return Some(Traffic::Hosts);
+    }
+    if is(word, "lids") {
+        return Some(Traffic::Lids);
+    }
+    if is(word, "all") {
+        return Some(Traffic::All);
+    }
+    None
+}
+
+// The traffic that the words after the files name.
+fn traffic_of(words: &[Word]) -> Option<Traffic>
+    ensures { MatchOption result ((traffic : Traffic) → ¬ NameTraffic words.now traffic) (NameTraffic words.now) }
+{
+    match words {
+        [] => Some(Traffic::Hosts),
+        [word] => traffic_named(word),
+        _ => None,
+    }
+}
+
+// The task that a word names.
+fn task_named(word: &Word) -> Option<Task>
+    ensures { MatchOption result ((task : Task) → word.now ≢ task_word task) (λ task. word.now ≡ task_word task) }
+{
+    if is(word, "judge") {
+        return Some(Task::Judge);
+    }
+    if is(word, "ranks") {
+        return Some(Task::Ranks);
+    }
+    if is(word, "verify") {
+        return Some(Task::Verify);
+    }
+    if is(word, "dot") {
+        return Some(Task::Dot);
+    }
+    if is(word, "route") {
+        return Some(Task::Route);
+    }
+    None
+}
+
+// How many files a task has.
+fn file_count(task: Task) -> usize
+    ensures { result ≡ file_count task }
+{
+    match task {
+        Task::Judge => 2,
+        Task::Ranks => 2,
+        Task::Verify => 3,
+        Task::Dot => 2,
+        Task::Route => 1,
+    }
+}
+
+// Whether at most one of the files is standard input.
+fn may_be_files(files: &[Word]) -> bool
+    ensures { IsTrue result ↔ MayBeFiles files.now }
+{
+    let mut standard = 0usize;
+    'files: for file in files {
+        if is_standard(file) {
+            standard += 1;
+        }
+    }
+    standard <= 1
+}
+
+/// The call that words are: `judge`, `ranks` or `dot` with TOPOLOGY and TABLES, `verify` with TOPOLOGY, TABLES and
+/// RANKS, or `route` with TOPOLOGY, and then `hosts`, `lids` or `all`, where at most one file is `-`. Without such a word
+/// the traffic is `hosts`.
+pub fn call_of(words: &[Word]) -> Option<Call>
+    ensures { MatchOption result (AreNoCall words.now) (IsCall words.now) }
+{
+    let [first, rest @ ..] = words else {
+        return None;
+    };
+    let task = task_named(first)?;
+    let count = file_count(task);
+    if rest.len() < count {
+        return None;
+    }
+    let (files, last) = rest.split_at(count);
+    if !may_be_files(files) {
+        return None;
+    }
+    let traffic = traffic_of(last)?;
+    Some(Call { task, traffic })
+}
