@@ -77,7 +77,7 @@ class Simulation:
         self.end()
 
     def start(self):
-        """Starts ibsim, waits until it listens, and starts OpenSM, which sweeps once and then after each cut."""
+        """Starts ibsim, waits until it listens, and starts OpenSM."""
         shutil.rmtree(self.folder, ignore_errors=True)
         (self.folder / "cache").mkdir(parents=True)
         (self.folder / "fabric.net").write_text(self.fabric.netlist())
@@ -92,11 +92,24 @@ class Simulation:
             [program("ibsim"), "-s", "-N", switches + hosts + 10, "-S", switches + 10, "-P", ports,
              "-L", switches + hosts + 1024, "fabric.net"], "ibsim.out", self.variables)
         self.wait(lambda: "simulator ready" in self.read("ibsim.out"), self.simulator, "ibsim")
-        words = ["opensm", "-F", "opensm.conf", "-s", 0, "-f", "osm.log", "-D", "0x43", "-d", 2,
-                 "--dump_files_dir", ".", "-R", f"{self.engine.split('+')[0]},no_fallback", "-a", "roots"]
+        words = ["-R", f"{self.engine.split('+')[0]},no_fallback", "-a", "roots"]
         words += ["--torus_config", "torus"] if self.engine == "torus-2QoS" else []
         words += ["-Q"] if self.engine in WITH_LANES else []
+        self.manage(words)
+
+    def manage(self, routing):
+        """Starts OpenSM with these options, which sweeps once and then after each cut."""
+        words = ["opensm", "-F", "opensm.conf", "-s", 0, "-f", "osm.log", "-D", "0x43", "-d", 2,
+                 "--dump_files_dir", ".", *routing]
         self.manager = self.launch(self.simulated(words), "opensm.out", dict(self.variables, SIM_HOST="H0"))
+
+    def manage_anew(self, routing):
+        """Ends OpenSM and starts it with other options. Ports keep the LIDs that they have."""
+        self.manager.terminate()
+        self.manager.wait(SECONDS)
+        for name in ("osm.log", "opensm-lfts.dump", "opensm-subnet.lst"):
+            (self.folder / name).unlink(missing_ok=True)
+        self.manage(routing)
 
     def launch(self, words, out, variables):
         """Starts a program in the folder."""
