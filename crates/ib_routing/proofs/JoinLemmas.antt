@@ -20,10 +20,10 @@ module _ (fabric : FabricOf) where
   walk_on zero one mid other same joined = subst (λ (at : ℕ). AreJoined fabric at other) (sym same) joined
   walk_on (suc links) one mid other (next, link, walk) joined = let more = walk_on links next mid other walk joined in (suc more.0, (next, link, more.1))
 
-  joined_on : (one mid other : ℕ) → AreJoined fabric one mid → AreJoined fabric mid other → AreJoined fabric one other
+  pub joined_on : (one mid other : ℕ) → AreJoined fabric one mid → AreJoined fabric mid other → AreJoined fabric one other
   joined_on one mid other first second = walk_on first.0 one mid other first.1 second
 
-  joined_by : (one other : ℕ) → AreLinked fabric one other → AreJoined fabric one other
+  pub joined_by : (one other : ℕ) → AreLinked fabric one other → AreJoined fabric one other
   joined_by one other link = (suc zero, (other, link, refl))
 
   walk_back : (links one other : ℕ) → Walk (AreLinked fabric) links one other → AreJoined fabric other one

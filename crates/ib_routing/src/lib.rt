@@ -9,5 +9,6 @@
 
 pub mod apart;
 pub mod end;
+pub mod law;
 mod parts;
 pub mod route;
