@@ -3,7 +3,8 @@
 
 ghost use Rattle.std.specs.Prelude.{IfOk, IfErr};
 ghost use Rattle.ib_tables.specs.Reads.{HasCells};
-ghost use Rattle.ib_answering.specs.Answer.{sources, streams, Gives, IsAnswer, IsCause, IsEnding, IsGiven, IsStop};
+ghost use Rattle.outside.specs.Told.{Seen};
+ghost use Rattle.ib_answering.specs.Answer.{sources, streams, GaveFabric, Gives, IsAnswer, IsCause, IsEnding, IsGiven, IsStop};
 
 use crate::input::{Topology, read_topology};
 use crate::status::{Status, finish};
@@ -55,12 +56,27 @@ fn found<C: Command, T: Source, S: Source>(
         (sources (T.seen topology.old) (S.seen tables.old))
         (sources (T.seen topology.new) (S.seen tables.new))) }
 {
-    let topology = match read_topology(alloc, topology) {
-        Ok(topology) => topology,
-        Err(status) => return Err(status),
-    };
+    match read_topology(alloc, topology) {
+        Ok(topology) => found_for(command, alloc, &topology, tables),
+        Err(status) => Err(status),
+    }
+}
+
+// The same of a topology that was read.
+fn found_for<C: Command, S: Source>(
+    command: &C,
+    alloc: Global,
+    topology: &Topology,
+    tables: &mut S,
+) -> Result<Given, Status>
+    ensures given { (old new : Seen) → GaveFabric old new topology.now.text.items topology.now.fabric
+        → IfOk result (λ given. IsGiven (C.gives command.now) (sources old (S.seen tables.old))
+        (sources new (S.seen tables.new)) given.status given.text.items) }
+    ensures stopped { (old new : Seen) → GaveFabric old new topology.now.text.items topology.now.fabric
+        → IfErr result (IsStop (sources old (S.seen tables.old)) (sources new (S.seen tables.new))) }
+{
     let tables = read_tables(alloc, tables, &topology.fabric)?;
-    Ok(command.given(alloc, &topology, &tables)?)
+    Ok(command.given(alloc, topology, &tables)?)
 }
 
 // Writes the text to out, or answers why there is none.

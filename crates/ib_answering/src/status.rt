@@ -1,10 +1,10 @@
 //! How a call ended.
 
 ghost use Rattle.std.specs.Prelude.{◌≡◌};
-ghost use Rattle.std.specs.List.{flat_map};
 ghost use Rattle.ib_answering.specs.declared.status.Status.TheVariants as ended;
 ghost use Rattle.ib_answering.specs.Answer.{fabric_refused, tables_refused};
-ghost use Rattle.ib_answering.specs.Status.{IsToldOf, code_of, line_of};
+ghost use Rattle.ib_answering.specs.Line.{text_of};
+ghost use Rattle.ib_answering.specs.Status.{IsToldOf, code_of, line_of, refusal_line};
 
 use an_base::memory::OutOfMemory;
 use calling::end::tell;
@@ -122,12 +122,58 @@ impl Status {
     }
 }
 
-// Tells a status, of whose line these are the parts.
-fn tell_line<E: Sink>(err: &mut E, status: Status, parts: &[&[u8]]) -> u8
-    requires { flat_map (λ part. part.now) parts.now ≡ line_of status }
-    ensures { IsToldOf (E.seen err.old) (E.seen err.new) status result }
+/// The line of a status.
+#[derive(Clone, Copy)]
+enum Line {
+    /// These words.
+    Plain(&'static str),
+    /// What is said of a fault of a file.
+    Fault {
+        /// What the file is called.
+        file: &'static str,
+        /// The faulty line.
+        line: u64,
+        /// The cause.
+        cause: &'static str,
+    },
+}
+
+// The lines of the calls, for words that are none.
+const USAGE: &str = "usage: fabric judge TOPOLOGY TABLES [hosts|lids|all]
+       fabric ranks TOPOLOGY TABLES [hosts|lids|all]
+       fabric verify TOPOLOGY TABLES RANKS [hosts|lids|all]
+       fabric dot TOPOLOGY TABLES [hosts|lids|all]
+       fabric route TOPOLOGY [hosts|lids|all]
+";
+
+// The fault of a file.
+fn fault(file: &'static str, line: u64, cause: &'static str) -> Line
+    ensures { text_of result ≡ refusal_line file.now line cause.now }
 {
-    tell(err, status.code(), parts)
+    Line::Fault { file, line, cause }
+}
+
+// The line of a status.
+fn line_of(status: Status) -> Line
+    ensures { text_of result ≡ line_of status }
+{
+    match status {
+        Status::Ok => Line::Plain(""),
+        Status::Usage => Line::Plain(USAGE),
+        Status::TopologyRefused { line, cause } => {
+            fault("topology", u64::from(line), cause.text())
+        }
+        Status::TopologyTooLong { line } => fault("topology", u64::from(line), "too many"),
+        Status::TablesRefused { line, cause } => fault("tables", line, cause.text()),
+        Status::RanksRefused { line, cause } => fault("ranks", u64::from(line), cause.text()),
+        Status::RanksTooLong { line } => fault("ranks", u64::from(line), "too many"),
+        Status::ReadFault => Line::Plain("fabric: read fault\n"),
+        Status::WriteFault => Line::Plain("fabric: write fault\n"),
+        Status::RoutesLost => Line::Plain("fabric: routes lost\n"),
+        Status::Cycle => Line::Plain("fabric: cycle\n"),
+        Status::RanksRise => Line::Plain("fabric: ranks rise\n"),
+        Status::OutOfMemory => Line::Plain("fabric: out of memory\n"),
+    }
 }
 
 /// Writes the line of a status to err, and answers the status' number, or that of a write fault where err did not take
@@ -135,68 +181,24 @@ fn tell_line<E: Sink>(err: &mut E, status: Status, parts: &[&[u8]]) -> u8
 pub fn finish<E: Sink>(err: &mut E, status: Status) -> u8
     ensures { IsToldOf (E.seen err.old) (E.seen err.new) status result }
 {
-    let mut digits = Buffer::new();
-    match status {
-        Status::Ok => tell_line(err, status, &[]),
-        Status::Usage => tell_line(
-            err,
-            status,
-            &[
-                b"usage: fabric judge TOPOLOGY TABLES [hosts|lids|all]\n",
-                b"       fabric ranks TOPOLOGY TABLES [hosts|lids|all]\n",
-                b"       fabric verify TOPOLOGY TABLES RANKS [hosts|lids|all]\n",
-                b"       fabric dot TOPOLOGY TABLES [hosts|lids|all]\n",
-                b"       fabric route TOPOLOGY [hosts|lids|all]\n",
-            ],
-        ),
-        Status::TopologyRefused { line, cause } => {
+    match line_of(status) {
+        Line::Plain(text) => tell(err, status.code(), &[text.as_bytes()]),
+        Line::Fault { file, line, cause } => {
+            let mut digits = Buffer::new();
             let line = digits.format(line).as_bytes();
-            let cause = cause.text().as_bytes();
-            tell_line(
+            tell(
                 err,
-                status,
-                &[b"fabric: topology line ", line, b": ", cause, b"\n"],
+                status.code(),
+                &[
+                    b"fabric: ",
+                    file.as_bytes(),
+                    b" line ",
+                    line,
+                    b": ",
+                    cause.as_bytes(),
+                    b"\n",
+                ],
             )
         }
-        Status::TopologyTooLong { line } => {
-            let line = digits.format(line).as_bytes();
-            tell_line(
-                err,
-                status,
-                &[b"fabric: topology line ", line, b": too many\n"],
-            )
-        }
-        Status::TablesRefused { line, cause } => {
-            let line = digits.format(line).as_bytes();
-            let cause = cause.text().as_bytes();
-            tell_line(
-                err,
-                status,
-                &[b"fabric: tables line ", line, b": ", cause, b"\n"],
-            )
-        }
-        Status::RanksRefused { line, cause } => {
-            let line = digits.format(line).as_bytes();
-            let cause = cause.text().as_bytes();
-            tell_line(
-                err,
-                status,
-                &[b"fabric: ranks line ", line, b": ", cause, b"\n"],
-            )
-        }
-        Status::RanksTooLong { line } => {
-            let line = digits.format(line).as_bytes();
-            tell_line(
-                err,
-                status,
-                &[b"fabric: ranks line ", line, b": too many\n"],
-            )
-        }
-        Status::ReadFault => tell_line(err, status, &[b"fabric: read fault\n"]),
-        Status::WriteFault => tell_line(err, status, &[b"fabric: write fault\n"]),
-        Status::RoutesLost => tell_line(err, status, &[b"fabric: routes lost\n"]),
-        Status::Cycle => tell_line(err, status, &[b"fabric: cycle\n"]),
-        Status::RanksRise => tell_line(err, status, &[b"fabric: ranks rise\n"]),
-        Status::OutOfMemory => tell_line(err, status, &[b"fabric: out of memory\n"]),
     }
 }
