@@ -1,8 +1,8 @@
 -- Places in the row of a node.
-use Rattle.std.proofs.Common.{◌≢◌, ◌≡◌, ◌∙◌, refl, sym, ap, subst, ℕ, ◌+◌, ◌-◌, ◌*◌, ◌/◌, ◌%◌, ◌^◌, ◌<◌, ◌≤◌, ◌⊎◌, ◌↔◌, arith, length, inl, inr}
+use Rattle.std.proofs.Common.{◌≢◌, ◌≡◌, ◌∙◌, nat_eq, refl, sym, ap, subst, ℕ, ◌+◌, ◌-◌, ◌*◌, ◌/◌, ◌%◌, ◌^◌, ◌<◌, ◌≤◌, ◌⊎◌, ◌↔◌, arith, length, inl, inr}
 use Rattle.std.specs.Int.{bit_at}
-use Rattle.std.specs.Prelude.{slice_index}
-use Rattle.std.proofs.lemmas.Bool.{cases_eq, cases_lt}
+use Rattle.std.specs.Prelude.{IsTrue, slice_index}
+use Rattle.std.proofs.lemmas.Bool.{cases_eq, cases_lt, eqb-true, eq-eqb}
 use Rattle.std.proofs.lemmas.Nat.{shr-shr, pow_pos}
 use Rattle.std.proofs.Math.Nat.{mod-eq_of_lt, div-mul-le_self}
 use Rattle.std.proofs.lemmas.Nat.Bits.{bit_at-zero, bit_at_above, bit_at_cat_low, bit_at_cat_high}
@@ -189,3 +189,13 @@ masked word from fits low bit = subst (λ (x : ℕ). (bit_at x bit ≡ 1) ↔ ((
   where
     is : word / 2 ^ from * 2 ^ from % 2 ^ 64 ≡ word / 2 ^ from * 2 ^ from + 0
     is = mod-eq_of_lt (let le = div-mul-le_self word (2 ^ from) in omega arith) ∙ (let e : word / 2 ^ from * 2 ^ from ≡ word / 2 ^ from * 2 ^ from + 0 = omega arith in e)
+
+-- whether the next one from a node on is this one
+pub next_is : (graph : GraphOf) (node other next : ℕ) → IsNext graph node other next → IsTrue (nat_eq next other) ↔ LeadsTo graph node other
+next_is graph node other next is = (
+  λ same. subst (λ (n : ℕ). LeadsTo graph node n) (eqb-true next other same) is.step,
+  λ leads. eq-eqb next other (
+      let low = is.least other (omega arith) leads in
+      let high = is.after in
+      omega arith),
+)

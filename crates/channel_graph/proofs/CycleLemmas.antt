@@ -74,7 +74,7 @@ module _ (graph : GraphOf) (levels : List ℕ) (start : ℕ) (holds : Holds grap
   descends_least a n (b ∷ bs) z (m, is, here, rest) (d ∷ ds) (step, path) count =
       let low = low_level d ds path in
       let size = descends_length graph levels b m bs z rest in
-      let le = here.least d step (omega arith) in
+      let le = here.first d step (omega arith) (omega arith) in
       le_then (nat_cmp b d) (slice_cmp nat_cmp bs ds) (cmp_le b d le)
       (λ equal.
       let one : b ≡ d = cmp_same b d equal in

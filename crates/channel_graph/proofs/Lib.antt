@@ -10,3 +10,5 @@ mod RisingLemmas
 mod OptionLemmas
 pub mod NumberLemmas
 pub mod PathLemmas
+mod WithinLemmas
+pub mod EmptyLemmas

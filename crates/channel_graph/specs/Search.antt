@@ -37,15 +37,28 @@ Holds graph table fall = (node : ℕ) → HoldsFrom graph table fall node
 abbrev pub HasPeer : GraphOf → List ℕ → ℕ → Type 0
 HasPeer graph table node = (next : ℕ) × LeadsTo graph node next × (value_at table next ≡ value_at table node)
 
--- the least node of at most this value to which one leads
-pub record IsNextBelow (graph : GraphOf) (table : List ℕ) (node most next : ℕ) : Type 0 where
+-- the least node to which one leads of those with a value from a least to a greatest one
+pub record IsFirstWithin (graph : GraphOf) (table : List ℕ) (node least most next : ℕ) : Type 0 where
   pub step : LeadsTo graph node next
+  pub above : least ≤ value_at table next
   pub low : value_at table next ≤ most
-  pub least : (other : ℕ) → LeadsTo graph node other → value_at table other ≤ most → next ≤ other
+  pub first :
+      (other : ℕ) → LeadsTo graph node other → least ≤ value_at table other → value_at table other ≤ most
+      → next ≤ other
 
-abbrev pub HasNoneBelow : GraphOf → List ℕ → ℕ → ℕ → Type 0
-HasNoneBelow graph table node most =
-    (other : ℕ) → LeadsTo graph node other → value_at table other ≤ most → ⊥
+abbrev pub HasNoneWithin : GraphOf → List ℕ → ℕ → ℕ → ℕ → Type 0
+HasNoneWithin graph table node least most =
+    (other : ℕ) → LeadsTo graph node other → least ≤ value_at table other → value_at table other ≤ most → ⊥
+
+-- none of those below an end
+abbrev pub HasNoneSoFar : GraphOf → List ℕ → ℕ → ℕ → ℕ → ℕ → Type 0
+HasNoneSoFar graph table node least most end =
+    (other : ℕ) → other < end → LeadsTo graph node other → least ≤ value_at table other
+    → value_at table other ≤ most → ⊥
+
+-- the least node of at most this value to which one leads
+abbrev pub IsNextBelow : GraphOf → List ℕ → ℕ → ℕ → ℕ → Type 0
+IsNextBelow graph table node most next = IsFirstWithin graph table node 0 most next
 
 -- a value that none of those has to which a node leads below an end is less than
 abbrev pub IsLowest : GraphOf → List ℕ → ℕ → ℕ → ℕ → Type 0

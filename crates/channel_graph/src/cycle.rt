@@ -2,29 +2,13 @@ ghost use Rattle.std.specs.Prelude.{◌≡◌, ◌<◌, ◌≤◌, ◌⊎◌, �
 ghost use Rattle.std.specs.Ordering.{nat_cmp};
 ghost use Rattle.channel_graph.specs.Graph.{IsNode, LeadsTo, value_at};
 ghost use Rattle.channel_graph.specs.Cycles.{HasNoCycle, IsLeastCycle};
-ghost use Rattle.channel_graph.specs.Search.{AreExact, HasBelow, HasNoCycleFrom, HasNoneBelow, Holds};
-ghost use Rattle.channel_graph.specs.Search.{IsLeastCycleFrom, IsNextBelow};
+ghost use Rattle.channel_graph.specs.Search.{AreExact, HasBelow, HasNoCycleFrom, Holds, IsLeastCycleFrom};
 
 use crate::graph::Graph;
 use crate::level::guess_levels;
-use crate::table::{filled, first_fall, has_peer, value_of};
+use crate::table::{filled, first_fall, first_within, has_peer, value_of};
 use an_base::memory::OutOfMemory;
 use std::alloc::Global;
-
-// The least node of at most this level to which one leads.
-fn next_below(graph: &Graph, levels: &[u32], node: usize, most: u32) -> Option<usize>
-    ensures next { MatchOption result (HasNoneBelow graph.now levels.now node most)
-        (IsNextBelow graph.now levels.now node most) }
-    ensures low { IfSome result (λ next. next < 2 ^ 31) }
-{
-    let mut cursor = graph.cursor(node, 0);
-    'steps: while let Some(next) = graph.advance(node, &mut cursor) {
-        if value_of(levels, next) <= most {
-            return Some(next);
-        }
-    }
-    None
-}
 
 // The least level of the nodes to which one leads, or u32::MAX where it leads nowhere.
 fn least_level_ahead(graph: &Graph, levels: &[u32], node: usize) -> u32
@@ -62,7 +46,7 @@ fn cycle_by(
         return Ok(None);
     }
     'levels: while level > 0 {
-        let Some(next) = next_below(graph, levels, node, level) else {
+        let Some(next) = first_within(graph, levels, node, 0, level) else {
             return Ok(None);
         };
         nodes.push(next as u32)?;

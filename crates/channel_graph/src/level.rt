@@ -1,73 +1,111 @@
 ghost use Rattle.std.specs.Prelude.{◌<◌, ◌^◌};
 
 use crate::graph::Graph;
-use crate::table::{filled, put, value_of};
+use crate::table::{filled, first_within, put, value_of};
 use an_base::memory::OutOfMemory;
 use std::alloc::Global;
 
-// How far a node is from the start, which is 0; u32::MAX where no steps have led to it.
-#[inline]
-fn distance_of(distances: &[u32], node: usize) -> u32 {
-    distances.get(node).copied().unwrap_or(0)
+// How far a walk in breadth came.
+#[derive(Clone, Copy)]
+struct Walked {
+    // How many nodes it came to.
+    count: usize,
+    // The length of the shortest cycles from the start, 0 where it found none.
+    length: u32,
 }
 
-// Adds the nodes to which one leads and no steps have led. Answers whether it leads to the start.
+// Adds the nodes to which one leads and no steps have led. Answers how many there are then, or None if
+// it leads to the start.
 fn reach(
     graph: &Graph,
     start: usize,
-    distances: &mut Vec<u32>,
-    reached: &mut Vec<u32>,
+    distances: &mut [u32],
+    reached: &mut [u32],
+    count: usize,
     node: usize,
-) -> Result<bool, OutOfMemory> {
-    let next_distance = distance_of(distances, node).wrapping_add(1);
+) -> Option<usize> {
+    let next_distance = value_of(distances, node).wrapping_add(1);
+    let mut more = count;
     let mut cursor = graph.cursor(node, 0);
     'steps: while let Some(next) = graph.advance(node, &mut cursor) {
         if next == start {
-            return Ok(true);
+            return None;
         }
-        if distance_of(distances, next) == u32::MAX {
+        if value_of(distances, next) == u32::MAX {
             put(distances, next, next_distance);
-            reached.push(next as u32)?;
+            put(reached, more, next as u32);
+            more = more.wrapping_add(1);
         }
     }
-    Ok(false)
+    Some(more)
 }
 
-// Whether a node leads to one that has this level.
-fn leads_down(graph: &Graph, levels: &[u32], node: usize, level: u32) -> bool {
-    let mut cursor = graph.cursor(node, 0);
-    'steps: while let Some(next) = graph.advance(node, &mut cursor) {
-        if value_of(levels, next) == level {
-            return true;
+// Walks in breadth from a start until it comes back there. Puts how far nodes are from it, which is
+// u32::MAX where no steps have led, and the nodes in the order in which it came to them.
+fn walk(graph: &Graph, start: usize, distances: &mut [u32], reached: &mut [u32]) -> Walked
+    requires { start < 2 ^ 31 }
+{
+    put(distances, start, 0);
+    put(reached, 0, start as u32);
+    let mut count = 1;
+    'nodes: for place in 0..graph.count() {
+        if place >= count {
+            break;
+        }
+        let node = value_of(reached, place) as usize;
+        match reach(graph, start, distances, reached, count, node) {
+            Some(more) => count = more,
+            None => {
+                let length = value_of(distances, node).wrapping_add(1);
+                return Walked { count, length };
+            }
         }
     }
-    false
+    Walked { count, length: 0 }
 }
 
 // The level of a node from which steps lead on to the start, if some shortest cycle passes it.
 fn level_on(distances: &[u32], length: u32, node: usize) -> u32 {
-    length.saturating_sub(distance_of(distances, node))
+    length.saturating_sub(value_of(distances, node))
 }
 
 // Gives to the nodes that are nearer than the length one level more than they would have on a shortest cycle.
-fn lift(distances: &[u32], levels: &mut Vec<u32>, reached: &[u32], length: u32) {
-    'reached: for node in reached {
-        let level = level_on(distances, length, *node as usize);
-        put(levels, *node as usize, level.saturating_add(1));
+fn lift(distances: &[u32], reached: &[u32], walked: Walked, levels: &mut [u32]) {
+    'places: for place in 0..walked.count {
+        let node = value_of(reached, place) as usize;
+        let level = level_on(distances, walked.length, node);
+        put(levels, node, level.saturating_add(1));
     }
 }
 
 // Lowers the level of those that are on one.
-fn lower(graph: &Graph, distances: &[u32], levels: &mut Vec<u32>, reached: &[u32], length: u32) {
-    let mut place = reached.len();
+fn lower(graph: &Graph, distances: &[u32], reached: &[u32], walked: Walked, levels: &mut [u32]) {
+    let mut place = walked.count;
     'places: while place > 0 {
         place -= 1;
-        let node = reached[place] as usize;
-        let level = level_on(distances, length, node);
-        if level > 0 && leads_down(graph, levels, node, level - 1) {
+        let node = value_of(reached, place) as usize;
+        let level = level_on(distances, walked.length, node);
+        if level > 0 && first_within(graph, levels, node, level - 1, level - 1).is_some() {
             put(levels, node, level);
         }
     }
+}
+
+// Puts the levels for a start, of which the other nodes have 1 so far.
+fn put_levels(
+    graph: &Graph,
+    start: usize,
+    distances: &mut [u32],
+    reached: &mut [u32],
+    levels: &mut [u32],
+)
+    requires { start < 2 ^ 31 }
+{
+    let walked = walk(graph, start, distances, reached);
+    lift(distances, reached, walked, levels);
+    put(levels, start, 0);
+    lower(graph, distances, reached, walked, levels);
+    put(levels, start, 0);
 }
 
 /// Levels for a start: no step lowers the level by more than one, and the start has 0. Those nodes
@@ -78,23 +116,8 @@ pub fn guess_levels(alloc: Global, graph: &Graph, start: usize) -> Result<Vec<u3
     requires { start < 2 ^ 31 }
 {
     let mut distances = filled(alloc, graph.count(), u32::MAX)?;
+    let mut reached = filled(alloc, graph.count(), 0)?;
     let mut levels = filled(alloc, graph.count(), 1)?;
-    let mut reached = Vec::new(alloc);
-    put(&mut distances, start, 0);
-    reached.push(start as u32)?;
-    let mut length = 0;
-    'nodes: for place in 0..graph.count() {
-        let Some(node) = reached.get(place).copied() else {
-            break;
-        };
-        if reach(graph, start, &mut distances, &mut reached, node as usize)? {
-            length = distance_of(&distances, node as usize).wrapping_add(1);
-            break;
-        }
-    }
-    lift(&distances, &mut levels, &reached, length);
-    put(&mut levels, start, 0);
-    lower(graph, &distances, &mut levels, &reached, length);
-    put(&mut levels, start, 0);
+    put_levels(graph, start, &mut distances, &mut reached, &mut levels);
     Ok(levels)
 }

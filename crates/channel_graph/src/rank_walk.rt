@@ -1,5 +1,5 @@
 use crate::graph::Graph;
-use crate::table::{filled, put};
+use crate::table::{filled, put, value_of};
 use an_base::memory::OutOfMemory;
 use std::alloc::Global;
 
@@ -41,46 +41,48 @@ impl Visit {
     fn look_on(&mut self, graph: &Graph, ranks: &[u32]) -> Ahead {
         let node = self.node;
         let mut rank = self.rank;
-        let mut ahead = Ahead::Ranked;
         let mut cursor = graph.cursor(node, self.from);
         'steps: while let Some(next) = graph.advance(node, &mut cursor) {
-            let lower = ranks.get(next).copied().unwrap_or(0);
-            if lower >= OPEN {
+            let lower = value_of(ranks, next);
+            if lower == OPEN {
+                return Ahead::Open;
+            }
+            if lower == FRESH {
                 self.from = next;
-                ahead = if lower == OPEN {
-                    Ahead::Open
-                } else {
-                    Ahead::Fresh(next)
-                };
-                break;
+                self.rank = rank;
+                return Ahead::Fresh(next);
             }
             rank = rank.max(lower + 1);
         }
         self.rank = rank;
-        ahead
+        Ahead::Ranked
     }
 }
 
-// Walks in depth from a node. Answers whether no step led back to the path.
+// Walks in depth from a node. Answers whether no step led back to the path, which is a room for the
+// nodes on the way.
 fn walk(
     graph: &Graph,
-    ranks: &mut Vec<u32>,
+    ranks: &mut [u32],
     path: &mut Vec<Visit>,
     start: usize,
 ) -> Result<bool, OutOfMemory> {
-    path.push(Visit::at(start))?;
+    let mut visit = Visit::at(start);
     put(ranks, start, OPEN);
     'visits: for _ in 0..u64::MAX {
-        let Some(mut visit) = path.pop() else {
-            return Ok(true);
-        };
         match visit.look_on(graph, ranks) {
-            Ahead::Ranked => put(ranks, visit.node, visit.rank),
             Ahead::Open => return Ok(false),
             Ahead::Fresh(next) => {
                 path.push(visit)?;
-                path.push(Visit::at(next))?;
+                visit = Visit::at(next);
                 put(ranks, next, OPEN);
+            }
+            Ahead::Ranked => {
+                put(ranks, visit.node, visit.rank);
+                let Some(last) = path.pop() else {
+                    return Ok(true);
+                };
+                visit = last;
             }
         }
     }
@@ -95,7 +97,8 @@ pub fn guess_ranks(alloc: Global, graph: &Graph) -> Result<Option<Vec<u32>>, Out
     let mut ranks = filled(alloc, count, FRESH)?;
     let mut path = Vec::new(alloc);
     'nodes: for node in 0..count {
-        if ranks.get(node).copied() == Some(FRESH) && !walk(graph, &mut ranks, &mut path, node)? {
+        let is_fresh = value_of(&ranks, node) == FRESH;
+        if is_fresh && !walk(graph, &mut ranks, &mut path, node)? {
             return Ok(None);
         }
     }

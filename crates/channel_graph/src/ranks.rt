@@ -4,7 +4,7 @@ ghost use Rattle.channel_graph.specs.Search.{IsRanked, IsRiseFrom};
 ghost use Rattle.channel_graph.specs.Verdict.{AreAllRanks};
 
 use crate::graph::{Graph, Step};
-use crate::table::value_of;
+use crate::table::{first_within, value_of};
 
 // The rank that a list has for a node.
 #[inline]
@@ -49,17 +49,11 @@ pub fn are_ranks(graph: &Graph, ranks: &[u32]) -> bool
 }
 
 // The first step from a node along which ranks do not fall.
+#[inline]
 fn rise_from(graph: &Graph, ranks: &[u32], node: usize) -> Option<usize>
     ensures { MatchOption result (FallFrom graph.now ranks.now node) (IsRiseFrom graph.now ranks.now node) }
 {
-    let own = value_of(ranks, node);
-    let mut cursor = graph.cursor(node, 0);
-    'steps: while let Some(next) = graph.advance(node, &mut cursor) {
-        if value_of(ranks, next) >= own {
-            return Some(next);
-        }
-    }
-    None
+    first_within(graph, ranks, node, value_of(ranks, node), u32::MAX)
 }
 
 /// The first step along which ranks do not fall, by the node from which it leads, then by the one to

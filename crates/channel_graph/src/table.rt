@@ -1,6 +1,6 @@
-ghost use Rattle.std.specs.Prelude.{◌≡◌, ◌<◌, ◌↔◌, IsTrue, IfOk, replicate, MatchOption, length};
+ghost use Rattle.std.specs.Prelude.{◌≡◌, ◌<◌, ◌↔◌, ◌^◌, IsTrue, IfOk, IfSome, replicate, MatchOption};
 ghost use Rattle.channel_graph.specs.Graph.{value_at};
-ghost use Rattle.channel_graph.specs.Search.{FallsTo, HasPeer, Holds, HoldsFrom};
+ghost use Rattle.channel_graph.specs.Search.{FallsTo, HasNoneWithin, HasPeer, Holds, HoldsFrom, IsFirstWithin};
 
 use crate::graph::{Graph, Step};
 use an_base::memory::OutOfMemory;
@@ -23,28 +23,45 @@ pub fn value_of(table: &[u32], node: usize) -> u32
 
 /// Puts a value into a table, if it has a place for the node.
 #[inline]
-pub fn put(table: &mut Vec<u32>, node: usize, value: u32) {
+pub fn put(table: &mut [u32], node: usize, value: u32) {
     if let Some(place) = table.get_mut(node) {
         *place = value;
     }
 }
 
-// The first step from a node that lowers the value by more than so much.
-fn falls_from(graph: &Graph, table: &[u32], fall: u32, node: usize) -> Option<usize>
-    ensures { MatchOption result (HoldsFrom graph.now table.now fall node) (FallsTo graph.now table.now fall node) }
+/// The least node to which one leads of those with a value from a least to a greatest one.
+#[inline]
+pub fn first_within(
+    graph: &Graph,
+    table: &[u32],
+    node: usize,
+    least: u32,
+    most: u32,
+) -> Option<usize>
+    ensures first { MatchOption result (HasNoneWithin graph.now table.now node least most)
+        (IsFirstWithin graph.now table.now node least most) }
+    ensures low { IfSome result (λ next. next < 2 ^ 31) }
 {
-    let own = u64::from(value_of(table, node));
-    let fall = u64::from(fall);
-    if own <= fall {
-        return None;
-    }
     let mut cursor = graph.cursor(node, 0);
     'steps: while let Some(next) = graph.advance(node, &mut cursor) {
-        if u64::from(value_of(table, next)) + fall < own {
+        let value = value_of(table, next);
+        if least <= value && value <= most {
             return Some(next);
         }
     }
     None
+}
+
+// The first step from a node that lowers the value by more than so much.
+#[inline]
+fn falls_from(graph: &Graph, table: &[u32], fall: u32, node: usize) -> Option<usize>
+    ensures { MatchOption result (HoldsFrom graph.now table.now fall node) (FallsTo graph.now table.now fall node) }
+{
+    let own = value_of(table, node);
+    if own <= fall {
+        return None;
+    }
+    first_within(graph, table, node, 0, own - fall - 1)
 }
 
 /// The first step that lowers the value of a table by more than so much. It looks once at each step.
@@ -65,11 +82,5 @@ pub fn has_peer(graph: &Graph, table: &[u32], node: usize) -> bool
     ensures { IsTrue result ↔ HasPeer graph.now table.now node }
 {
     let own = value_of(table, node);
-    let mut cursor = graph.cursor(node, 0);
-    'steps: while let Some(next) = graph.advance(node, &mut cursor) {
-        if value_of(table, next) == own {
-            return true;
-        }
-    }
-    false
+    first_within(graph, table, node, own, own).is_some()
 }

@@ -5,77 +5,82 @@ use crate::table::{filled, put, value_of};
 use an_base::memory::OutOfMemory;
 use std::alloc::Global;
 
-// A node on the path of a walk in depth, and the number from which on it has still to look at what
-// the node leads to.
+// A node on the path of a walk in depth, the number from which on it has still to look at what the
+// node leads to, and its place among the nodes in the order in which the walks came to them, from 1.
 #[derive(Clone, Copy)]
 struct Visit {
     node: usize,
     from: usize,
+    number: u32,
 }
 
 // What walks in depth find out about the nodes.
 #[derive(Drop)]
 struct Depths {
-    // A tier for each node, or 0.
-    tiers: Vec<u32>,
-    // In which order the walks came to the nodes, from 1, or 0.
-    numbers: Vec<u32>,
-    // The least of these to which steps are known to lead.
-    lows: Vec<u32>,
-    // The nodes without a tier that the walks came to.
+    // For each node 0, if no walk has come to it; or its tier, if it has one; or else the least number
+    // of a node to which steps are known to lead. All tiers are greater than all numbers.
+    marks: Vec<u32>,
+    // The nodes without a tier that the walks came to, in the order in which they did ..
     open: Vec<u32>,
+    // .. and how many they are.
+    open_count: usize,
     last_number: u32,
     last_tier: u32,
 }
 
+// Looks on at the steps of a node, to the first that leads to a node that the walks have not come to.
+fn look_on(graph: &Graph, marks: &mut [u32], visit: Visit) -> Option<usize>
+    ensures { IfSome result (λ next. next < 2 ^ 31) }
+{
+    let mut low = value_of(marks, visit.node);
+    let mut cursor = graph.cursor(visit.node, visit.from);
+    'steps: while let Some(next) = graph.advance(visit.node, &mut cursor) {
+        let mark = value_of(marks, next);
+        if mark == 0 {
+            put(marks, visit.node, low);
+            return Some(next);
+        }
+        low = low.min(mark);
+    }
+    put(marks, visit.node, low);
+    None
+}
+
 impl Depths {
     // Comes to a node.
-    fn come(&mut self, node: usize) -> Result<(), OutOfMemory>
+    fn come(&mut self, node: usize) -> Visit
         requires { node < 2 ^ 31 }
     {
-        self.last_number = self.last_number.wrapping_add(1);
-        put(&mut self.numbers, node, self.last_number);
-        put(&mut self.lows, node, self.last_number);
-        self.open.push(node as u32)?;
-        Ok(())
+        let number = self.last_number.wrapping_add(1);
+        self.last_number = number;
+        put(&mut self.marks, node, number);
+        put(&mut self.open, self.open_count, node as u32);
+        self.open_count = self.open_count.wrapping_add(1);
+        Visit {
+            node,
+            from: 0,
+            number,
+        }
     }
 
     // Leaves a node: where it leads to none that the walks came to before, it and all since have a
     // tier of their own.
-    fn leave(&mut self, node: usize) {
-        if value_of(&self.lows, node) != value_of(&self.numbers, node) {
+    fn leave(&mut self, visit: Visit) {
+        if value_of(&self.marks, visit.node) != visit.number {
             return;
         }
-        'open: while let Some(last) = self.open.pop() {
-            put(&mut self.tiers, last as usize, self.last_tier);
-            if last as usize == node {
+        'open: while self.open_count > 0 {
+            self.open_count -= 1;
+            let last = value_of(&self.open, self.open_count) as usize;
+            put(&mut self.marks, last, self.last_tier);
+            if last == visit.node {
                 break;
             }
         }
         self.last_tier = self.last_tier.wrapping_sub(1);
     }
 
-    // Looks on at the steps of a node, to the first that leads to a node that the walks have not come to.
-    fn look_on(&mut self, graph: &Graph, visit: Visit) -> Option<usize>
-        ensures { IfSome result (λ next. next < 2 ^ 31) }
-    {
-        let mut low = value_of(&self.lows, visit.node);
-        let mut found = None;
-        let mut cursor = graph.cursor(visit.node, visit.from);
-        'steps: while let Some(next) = graph.advance(visit.node, &mut cursor) {
-            if value_of(&self.numbers, next) == 0 {
-                found = Some(next);
-                break;
-            }
-            if value_of(&self.tiers, next) == 0 {
-                low = low.min(value_of(&self.lows, next));
-            }
-        }
-        put(&mut self.lows, visit.node, low);
-        found
-    }
-
-    // Walks in depth from a node.
+    // Walks in depth from a node. The path is a room for the nodes on the way.
     fn walk(
         &mut self,
         graph: &Graph,
@@ -84,28 +89,21 @@ impl Depths {
     ) -> Result<(), OutOfMemory>
         requires { start < 2 ^ 31 }
     {
-        path.push(Visit {
-            node: start,
-            from: 0,
-        })?;
-        self.come(start)?;
+        let mut visit = self.come(start);
         'visits: for _ in 0..u64::MAX {
-            let Some(visit) = path.pop() else {
-                return Ok(());
-            };
-            match self.look_on(graph, visit) {
+            match look_on(graph, &mut self.marks, visit) {
                 Some(next) => {
-                    path.push(Visit {
-                        node: visit.node,
-                        from: next,
-                    })?;
-                    path.push(Visit {
-                        node: next,
-                        from: 0,
-                    })?;
-                    self.come(next)?;
+                    visit.from = next;
+                    path.push(visit)?;
+                    visit = self.come(next);
                 }
-                None => self.leave(visit.node),
+                None => {
+                    self.leave(visit);
+                    let Some(last) = path.pop() else {
+                        return Ok(());
+                    };
+                    visit = last;
+                }
             }
         }
         Ok(())
@@ -118,18 +116,17 @@ impl Depths {
 pub fn guess_tiers(alloc: Global, graph: &Graph) -> Result<Vec<u32>, OutOfMemory> {
     let count = graph.count();
     let mut depths = Depths {
-        tiers: filled(alloc, count, 0)?,
-        numbers: filled(alloc, count, 0)?,
-        lows: filled(alloc, count, 0)?,
-        open: Vec::new(alloc),
+        marks: filled(alloc, count, 0)?,
+        open: filled(alloc, count, 0)?,
+        open_count: 0,
         last_number: 0,
-        last_tier: count as u32,
+        last_tier: u32::MAX,
     };
     let mut path = Vec::new(alloc);
     'nodes: for node in 0..count {
-        if value_of(&depths.numbers, node) == 0 {
+        if value_of(&depths.marks, node) == 0 {
             depths.walk(graph, &mut path, node)?;
         }
     }
-    Ok(depths.tiers)
+    Ok(depths.marks)
 }

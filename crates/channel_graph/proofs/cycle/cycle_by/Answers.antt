@@ -1,4 +1,5 @@
 use Rattle.std.proofs.Common.{◌≡◌, ◌∙◌, ◌++◌, ◌∷◌, [], List, ℕ, ap, refl, subst, arith, inl, inr}
+use Rattle.std.proofs.lemmas.Bool.{iff_false}
 use Rattle.channel_graph.specs.Search.{Descends, HasBelow}
 use Rattle.channel_graph.proofs.CycleLemmas.{descent_step, descent_least}
 use Rattle.channel_graph.proofs.ExactLemmas.{no_cycle_high, below_next, high_next, leads_to_goal}
@@ -19,7 +20,7 @@ levels-init c = record {
 }
 
 pub returns-in_default : goal.returns-in_default
-returns-in_default c = λ exact rest cycle. let has = c.levels.invariant.has exact in c.in_default.ensures.next has.0 has.1 has.2
+returns-in_default c = λ exact rest cycle. let has = c.levels.invariant.has exact in c.in_default.ensures.first has.0 has.1 (omega arith) has.2
 
 pub levels-preserved : goal.levels-preserved
 levels-preserved c =
@@ -28,19 +29,17 @@ levels-preserved c =
     let graph = c.args.graph.now in
     let levels = c.args.levels.now in
     record {
-      way = (i.way.0, i.way.1 ++ next ∷ [], c.in_ok-push-2.ensures.items ∙ ap (λ (xs : List ℕ). xs ++ next ∷ []) i.way.2, descent_step graph levels c.args.start i.way.0 c.levels.level i.way.1 c.levels.node next c.levels-test.true i.way.3 c.in-Some.ensures.next, i.way.4);
+      way = (i.way.0, i.way.1 ++ next ∷ [], c.in_ok-push-2.ensures.items ∙ ap (λ (xs : List ℕ). xs ++ next ∷ []) i.way.2, descent_step graph levels c.args.start i.way.0 c.levels.level i.way.1 c.levels.node next c.levels-test.true i.way.3 c.in-Some.ensures.first, i.way.4);
       most = (let most = i.most in omega arith);
-      high = high_next graph levels c.levels.node next c.levels.level c.requires.holds i.high c.in-Some.ensures.next;
-      has = λ exact. below_next graph levels c.args.start c.requires.holds c.requires.goal exact c.levels.node next c.levels.level c.levels-test.true i.most i.high c.in-Some.ensures.next;
+      high = high_next graph levels c.levels.node next c.levels.level c.requires.holds i.high c.in-Some.ensures.first;
+      has = λ exact. below_next graph levels c.args.start c.requires.holds c.requires.goal exact c.levels.node next c.levels.level c.levels-test.true i.most i.high c.in-Some.ensures.first;
     }
 
 pub returns-then-not-leads : goal.returns-then-not-leads
 returns-then-not-leads c = λ exact rest cycle. absurd (
     let zero_level : c.levels.level ≡ 0 = omega arith in
     let has = subst (λ (k : ℕ). HasBelow c.args.graph.now c.args.levels.now c.levels.node k) zero_level (c.levels.invariant.has exact) in
-    let leads = c.leads.ensures.1 (leads_to_goal c.args.graph.now c.args.levels.now c.args.start c.requires.holds c.requires.goal exact c.levels.node has) in
-    let not = c.if-not-leads.true in
-    cc)
+    iff_false c.leads.ensures c.if-not-leads.true (leads_to_goal c.args.graph.now c.args.levels.now c.args.start c.requires.holds c.requires.goal exact c.levels.node has))
 
 pub returns : goal.returns
 returns c =

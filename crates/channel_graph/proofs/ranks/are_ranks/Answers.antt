@@ -1,5 +1,5 @@
 use Rattle.std.proofs.Common.{ℕ, arith, sym, refl, subst, length, inl, inr}
-use Rattle.std.proofs.lemmas.Bool.{cases_eq, cases_lt}
+use Rattle.std.proofs.lemmas.Bool.{cases_eq, cases_lt, false≢true, iff_false}
 use Rattle.std.proofs.lemmas.Option.{slice_get_past}
 use Rattle.channel_graph.specs.Search.{IsRanked}
 use Rattle.channel_graph.proofs.OneAnswer.{as_many}
@@ -26,12 +26,12 @@ returns c = (
 -- of another length, or with a node that has not its rank
 pub returns-then-ranks-count : goal.returns-then-ranks-count
 returns-then-ranks-count c = (
-  λ never. absurd (cc),
+  λ never. absurd (false≢true never),
   λ are. absurd (let many = as_many c.args.graph.now c.args.ranks.now are in let count = c.count.ensures.count in let away = c.if-ranks-count.true in omega arith),
 )
 
 pub returns-then-not-is_ranked : goal.returns-then-not-is_ranked
 returns-then-not-is_ranked c = (
-  λ never. absurd (cc),
-  λ are. absurd (let low = c.nodes-test.true in let count = c.count-node-end.ensures.count in let is = c.is_ranked.ensures.1 (are.nodes c.nodes.node (omega arith)) in let not = c.if-not-is_ranked.true in cc),
+  λ never. absurd (false≢true never),
+  λ are. absurd (let low = c.nodes-test.true in let count = c.count-node-end.ensures.count in iff_false c.is_ranked.ensures c.if-not-is_ranked.true (are.nodes c.nodes.node (omega arith))),
 )

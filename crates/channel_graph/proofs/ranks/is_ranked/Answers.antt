@@ -1,6 +1,6 @@
 use Rattle.std.proofs.Common.{◌≡◌, ◌∙◌, ◌+◌, max, sym, subst, ℕ, Some, arith}
 use Rattle.std.specs.Prelude.{slice_get}
-use Rattle.std.proofs.lemmas.Bool.{eqb-true, eq-eqb}
+use Rattle.std.proofs.lemmas.Bool.{eqb-true, eq-eqb, false≢true}
 use Rattle.std.proofs.lemmas.Option.{same_Some}
 use Rattle.channel_graph.specs.Cycles.{IsRank}
 use Rattle.channel_graph.specs.Graph.{LeadsTo}
@@ -24,7 +24,7 @@ steps-preserved c =
 
 pub returns-in_default-rank_of : goal.returns-in_default-rank_of
 returns-in_default-rank_of c = (
-  λ never. absurd (cc),
+  λ never. absurd (false≢true never),
   λ ranked. absurd (not_ranked c.args.graph.now c.args.ranks.now c.args.node c.in-Some-advance.next c.in-Some-advance.ensures.next.step (sym c.rank_of-in-Some-advance.ensures ∙ c.in_default-rank_of.is) ranked),
 )
 

@@ -1,4 +1,3 @@
-use Rattle.std.proofs.Common.{length}
 use Rattle.std.specs.Prelude.{⊤}
 use Rattle.channel_graph.proofs.tier_walk.Depths.leave.Given as goal
 
@@ -6,4 +5,4 @@ abbrev pub invariant-open : goal.invariant-open
 invariant-open l = ⊤
 
 abbrev pub decreases-open : goal.decreases-open
-decreases-open l = length l.self.open.items
+decreases-open l = l.self.open_count
