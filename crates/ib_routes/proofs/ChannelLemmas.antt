@@ -188,3 +188,6 @@ insert_as fabric graph at port next next_port wide_most wide_port wide_next m p 
     let base = ap (λ (k : ℕ). get_or graph.bases k 0) channel in
     let place = insert_low fabric graph at port next next_port rows link some low in
     omega arith
+
+pub base_as : (most wide : ℕ) (side at : Side) (base : ℕ) → most ≡ wide → side ≡ at → base ≡ base_of most side → base ≡ base_of wide at
+base_as most wide side at base same is e = e ∙ ap (λ (m : ℕ). base_of m side) same ∙ ap (base_of wide) is

@@ -1,5 +1,5 @@
 -- The waves over a block.
-use Rattle.std.proofs.Common.{◌≡◌, ◌∙◌, sym, ap, subst, refl, ℕ, zero, suc, ◌+◌, ◌-◌, ◌*◌, ◌<◌, List, arith, length, get_or, inl, inr}
+use Rattle.std.proofs.Common.{◌≡◌, ◌∙◌, sym, ap, subst, refl, ℕ, zero, suc, ◌+◌, ◌-◌, ◌*◌, ◌<◌, Bool, true, false, cond, List, arith, length, get_or, inl, inr}
 use Rattle.channel_graph.specs.Graph.{GraphOf}
 use Rattle.ib_net.specs.declared.node.EndPort.{EndPort}
 use Rattle.ib_routes.specs.declared.traffic.Traffic.{Traffic}
@@ -162,3 +162,14 @@ further_more fabric tables block at first old new before done after so_far turn 
   running = λ initial run. run_more fabric tables block initial at old new done after (so_far.running initial run) turn;
   less = (let less = so_far.less in let more = turn.less in omega arith);
 }
+
+-- a round after which something is fresh leaves less to be done
+pub round_less : (fresh was : Bool) (new old : ℕ) → was ≡ true → (fresh ≡ true → new < old) → cond fresh (new + 1) 0 < cond was (old + 1) 0
+round_less true true new old is less = let h = less refl in omega arith
+round_less false true new old is less = omega arith
+round_less fresh false new old is less = absurd (cc)
+
+-- an idle turn carries them no further
+pub further_idle : (fabric : FabricOf) (tables : TablesOf) (block at : ℕ) (first old new : StateOf) (before done after : List ℕ) → IsFurther fabric tables block first old before done → IsIdle at old new done after → IsFurther fabric tables block first new before after
+further_idle fabric tables block at first old new before done after so_far idle =
+    subst (λ (x : StateOf). IsFurther fabric tables block first x before after) (sym idle.same) (subst (λ (xs : List ℕ). IsFurther fabric tables block first old before xs) (sym idle.same_done) so_far)

@@ -29,8 +29,16 @@ same_end (Switch a) (Switch b) = elim (cases_eq a b) [
   | inr other ↦ inr (λ e. other (cc))
 ]
 
+pub starts_nowhere : (start : Option ℕ) (switch : ℕ) → start ≡ None → start ≡ Some switch → ⊥
+starts_nowhere start switch none is = cc
+
 same_some : (a b : EndPort) → Some a ≡ Some b → a ≡ b
 same_some a b e = cc
+
+-- some end port sends to a LID of a block from a switch
+abbrev pub BeginsAt : FabricOf → Traffic → ℕ → ℕ → ℕ → Type 0
+BeginsAt fabric traffic block switch bit =
+    (bit < 64) × ((source : EndPort) × Sends fabric traffic (64 * block + bit) source × (start_of fabric source ≡ Some switch))
 
 module _ (fabric : FabricOf) (traffic : Traffic) where
   -- who is among the senders is a source
@@ -51,7 +59,7 @@ module _ (fabric : FabricOf) (traffic : Traffic) where
 
   module _ (block switch targets : ℕ) (are : AreTargets fabric traffic block targets) where
     abbrev pub Starts : ℕ → Type 0
-    Starts bit = (bit < 64) × ((source : EndPort) × Sends fabric traffic (64 * block + bit) source × (start_of fabric source ≡ Some switch))
+    Starts bit = BeginsAt fabric traffic block switch bit
 
     pub none_start : AreSenders fabric traffic switch Quiet → (bit : ℕ) → ((bit_at 0 bit ≡ 1) ↔ Starts bit)
     none_start quiet bit = (

@@ -1,20 +1,21 @@
 -- The path along which a route is followed, and what is known after it.
-use Rattle.std.proofs.Common.{◌≡◌, ◌≢◌, ◌∙◌, sym, ap, subst, refl, ℕ, zero, suc, ◌+◌, ◌-◌, ◌<◌, ◌≤◌, Bool, true, false, cond, List, [], ◌∷◌, ◌++◌, arith, length, get_or, set, length-append, length-set, inl, inr, ◌⊎◌}
+use Rattle.std.proofs.Common.{◌≡◌, ◌≢◌, ◌∙◌, sym, ap, subst, refl, ℕ, zero, suc, ◌+◌, ◌-◌, ◌<◌, ◌≤◌, Bool, true, false, cond, List, [], ◌∷◌, ◌++◌, arith, length, get_or, set, replicate, length-append, length-set, inl, inr, ◌⊎◌}
 use Rattle.std.specs.List.{count_by}
 use Rattle.std.proofs.Math.ListN.{get_or-append}
 use Rattle.std.proofs.Math.Seq.{get_or-append_seam}
 use Rattle.std.proofs.lemmas.Bool.{cases_eq, cases_lt}
-use Rattle.std.proofs.lemmas.List.{get_or-set_other, get_or-set_same, get_or_past}
+use Rattle.std.proofs.lemmas.List.{get_or-replicate, get_or-set_other, get_or-set_same, get_or_past, length-replicate}
 use Rattle.std.proofs.lemmas.List.Sums.{count_by-le-length, sum_by-set}
 use Rattle.ib_routes.specs.declared.hop.Cause.{Cause}
 use Rattle.ib_routes.specs.declared.hop.Hop.{Hop}
 use Rattle.ib_routes.specs.declared.hop.Hop.TheVariants.{On, Arrive, Stop}
 use Rattle.ib_routes.specs.declared.hop.Outcome.{Outcome}
 use Rattle.ib_routes.specs.declared.hop.Outcome.TheVariants.{Arrives, Stops, Loops}
+use Rattle.ib_routes.specs.declared.trace.After.TheVariants.{Goes, Ends}
 use Rattle.ib_routes.specs.declared.trace.Mark.{Mark}
 use Rattle.ib_routes.specs.declared.trace.Mark.TheVariants.{New, Open, Known}
 use Rattle.ib_routes.specs.Routes.{EndsAs, WalksBy}
-use Rattle.ib_routes.specs.Trace.{AreEnds, AreSettled, AreShort, EndsAfter, IsChain, IsFollowed, IsFollowing, IsOpenPath, IsReached, IsSettling, IsShort, is_known, is_new, last_of, longer, mark_at}
+use Rattle.ib_routes.specs.Trace.{AreEnds, AreSettled, AreShort, EndsAfter, IsAfter, IsChain, IsFollowed, IsFollowing, IsOpenPath, IsReached, IsReady, IsSettling, IsShort, is_known, is_new, last_of, LandsWithin, longer, mark_at}
 
 -- a count after one element is replaced
 count_set : (p : Mark → Bool) (xs : List Mark) (k : ℕ) (y : Mark) → k < length xs → count_by p (set xs k y) + cond (p (get_or xs k New)) 1 0 ≡ count_by p xs + cond (p y) 1 0
@@ -247,6 +248,20 @@ follow_round hop_at start marks path port next is on open_there =
     let place = is.opened.has next open_there in
     goes_round hop_at path is.chain place.0 next port place.1 place.2 on
 
+-- the same by what is known of the switch to which the last hop leads
+pub followed_after : (hop_at : ℕ → Hop) (start : ℕ) (marks : List Mark) (path : List ℕ) (at : ℕ) (does : Hop) (beyond : Outcome) → IsReached hop_at start marks path → last_of path ≡ at → hop_at at ≡ does → IsAfter marks does (Ends beyond) → IsFollowed hop_at start marks path beyond
+followed_after hop_at start marks path at Arrive beyond reached last is after = followed hop_at start marks path at Arrive beyond reached last is after (subst (λ (o : Outcome). IsShort (count_by is_known marks) o) (sym after) (omega arith))
+followed_after hop_at start marks path at (Stop cause) beyond reached last is after = followed hop_at start marks path at (Stop cause) beyond reached last is after (subst (λ (o : Outcome). IsShort (count_by is_known marks) o) (sym after) tt)
+followed_after hop_at start marks path at (On port next) beyond reached last is (inl known) = followed hop_at start marks path at (On port next) beyond reached last is (reached.ends next beyond known) (reached.short next beyond known)
+followed_after hop_at start marks path at (On port next) beyond reached last is (inr (opened, loops)) =
+    subst (λ (o : Outcome). IsFollowed hop_at start marks path o) (sym loops) (followed hop_at start marks path at (On port next) Loops reached last is (follow_round hop_at start marks path port next reached (ap hop_at last ∙ is) opened) tt)
+
+-- where it goes on
+pub goes_after : (marks : List Mark) (count : ℕ) (does : Hop) (next : ℕ) → IsAfter marks does (Goes next) → LandsWithin count does → (port : ℕ) × (does ≡ On port next) × (mark_at marks next ≡ New) × (next < count)
+goes_after marks count (On port at) next (same, new) within = (port, ap (On port) (sym same), ap (mark_at marks) same ∙ new, omega arith)
+goes_after marks count Arrive next after within = absurd after
+goes_after marks count (Stop cause) next after within = absurd after
+
 -- The last switch of a path is settled.
 pub few_known : (marks : List Mark) (at : ℕ) (outcome : Outcome) → at < length marks → mark_at marks at ≡ Open → count_by is_known (set marks at (Known outcome)) ≡ count_by is_known marks + 1
 few_known marks at outcome low is = let e = count_flags is_known marks at Open (Known outcome) false true low is refl refl in omega arith
@@ -383,3 +398,24 @@ short_within few most Loops le is = tt
 -- new switches are no more than all
 pub few_new : (marks : List Mark) → 0 + count_by is_new marks ≤ length marks
 few_new marks = let most = count_by-le-length is_new marks in omega arith
+
+-- rooms for so many switches, of which nothing is known
+new_at : (n at : ℕ) → mark_at (replicate n New) at ≡ New
+new_at n at = elim (cases_lt at n) [
+  | inl low ↦ get_or-replicate n at New New low
+  | inr past ↦ get_or_past (replicate n New) at New (let size = length-replicate n New in omega arith)
+]
+
+pub ready_new : (hop_at : ℕ → Hop) (count n : ℕ) (marks : List Mark) → n ≡ count → marks ≡ replicate n New → IsReady hop_at count marks
+ready_new hop_at count n marks same is = record {
+  size = ap (λ (xs : List Mark). length xs) is ∙ length-replicate n New ∙ same;
+  ends = λ at outcome known. absurd (let new = at_new at in cc);
+  short = λ at outcome known. absurd (let new = at_new at in cc);
+  settled = λ at opened. absurd (let new = at_new at in cc);
+}
+  where
+    at_new : (at : ℕ) → mark_at marks at ≡ New
+    at_new at = ap (λ (xs : List Mark). mark_at xs at) is ∙ new_at n at
+
+pub room_for : (count n : ℕ) (path : List ℕ) → n ≡ count → path ≡ replicate n 0 → count ≤ length path
+room_for count n path same is = let size : length path ≡ n = ap (λ (xs : List ℕ). length xs) is ∙ length-replicate {A = ℕ} n 0 in omega arith

@@ -1,5 +1,5 @@
 -- Words of fresh and of done bits.
-use Rattle.std.proofs.Common.{◌≡◌, ◌≢◌, ◌∙◌, sym, ap, ℕ, zero, suc, ◌*◌, ◌%◌, ◌^◌, ◌<◌, ◌≤◌, List, [], ◌∷◌, arith, length, get_or, set, inl, inr, ◌⊎◌, ◌↔◌}
+use Rattle.std.proofs.Common.{◌≡◌, ◌≢◌, ◌∙◌, sym, ap, subst, ℕ, zero, suc, ◌+◌, ◌*◌, ◌%◌, ◌^◌, ◌<◌, ◌≤◌, List, [], ◌∷◌, arith, length, get_or, set, inl, inr, ◌⊎◌, ◌↔◌}
 use Rattle.std.specs.Int.{bit_at, bit_not, w64, trailing_zeros}
 use Rattle.std.specs.Int.RustNames.{bit_and, bit_or}
 use Rattle.std.proofs.lemmas.Bool.{cases_eq, cases_lt}
@@ -115,4 +115,11 @@ with_is word bit low other = elim (cases_eq other bit) [
           | inr same ↦ absurd (else same)
         ],
       ))
+]
+
+-- what holds of each element so far holds of one more that is put
+pub put_more : (P : ℕ → ℕ → Type 0) (xs : List ℕ) (place value : ℕ) → place < length xs → P place value → ((k : ℕ) → k < place → P k (get_or xs k 0)) → (k : ℕ) → k < place + 1 → P k (get_or (set xs place value) k 0)
+put_more P xs place value low here before k within = elim (cases_eq k place) [
+  | inl same ↦ subst (λ (n : ℕ). P n (get_or (set xs place value) n 0)) (sym same) (subst (λ (x : ℕ). P place x) (sym (get_or-set_same xs place value 0 low)) here)
+  | inr other ↦ subst (λ (x : ℕ). P k x) (sym (get_or-set_other xs place k value 0 other)) (before k (omega arith))
 ]

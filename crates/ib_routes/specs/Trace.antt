@@ -1,5 +1,5 @@
 -- What is known of the switches while the routes to a LID are followed. Only private functions cite this.
-use Rattle.std.specs.Prelude.{◌≡◌, ◌<◌, ◌≤◌, ◌+◌, ◌-◌, ◌*◌, ◌/◌, ◌%◌, ◌==◌, ℕ, Bool, true, false, List, Option, Some, None}
+use Rattle.std.specs.Prelude.{◌≡◌, ◌<◌, ◌≤◌, ◌+◌, ◌-◌, ◌*◌, ◌/◌, ◌%◌, ◌⊎◌, ◌==◌, ℕ, Bool, true, false, List, Option, Some, None}
 use Rattle.std.specs.Prelude.{length, slice_index, slice_index_or, count_by, if◌then◌else◌}
 use Rattle.ib_net.specs.Fabric.{FabricOf}
 use Rattle.ib_cells.specs.Cells.{TablesOf}
@@ -8,6 +8,8 @@ use Rattle.ib_routes.specs.declared.hop.Hop.{Hop}
 use Rattle.ib_routes.specs.declared.hop.Hop.TheVariants.{On, Arrive, Stop}
 use Rattle.ib_routes.specs.declared.hop.Outcome.{Outcome}
 use Rattle.ib_routes.specs.declared.hop.Outcome.TheVariants.{Arrives, Stops, Loops}
+use Rattle.ib_routes.specs.declared.trace.After.{After}
+use Rattle.ib_routes.specs.declared.trace.After.TheVariants.{Goes, Ends}
 use Rattle.ib_routes.specs.declared.trace.Mark.{Mark}
 use Rattle.ib_routes.specs.declared.trace.Mark.TheVariants.{New, Open, Known}
 use Rattle.ib_routes.specs.declared.trace.Target.{Target}
@@ -129,6 +131,16 @@ pub record IsReady (hop_at : ℕ → Hop) (count : ℕ) (marks : List Mark) : Ty
   pub ends : AreEnds hop_at marks
   pub short : AreShort marks
   pub settled : AreSettled marks
+
+-- how a route goes on after a hop, by what is known of the switch to which it leads
+abbrev pub IsAfter : List Mark → Hop → After → Type 0
+IsAfter marks (On port next) (Goes at) = (at ≡ next) × (mark_at marks next ≡ New)
+IsAfter marks (On port next) (Ends beyond) =
+    (mark_at marks next ≡ Known beyond) ⊎ ((mark_at marks next ≡ Open) × (beyond ≡ Loops))
+IsAfter marks Arrive (Goes at) = ⊥
+IsAfter marks Arrive (Ends beyond) = beyond ≡ Arrives 0
+IsAfter marks (Stop cause) (Goes at) = ⊥
+IsAfter marks (Stop cause) (Ends beyond) = beyond ≡ Stops cause
 
 -- a hop leads to a switch that there is
 abbrev pub LandsWithin : ℕ → Hop → Type 0

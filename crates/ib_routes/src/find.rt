@@ -87,6 +87,32 @@ fn add_blocks(
     stopped
 }
 
+// The same in rooms of its own.
+fn add_waves(
+    alloc: Global,
+    fabric: &Fabric,
+    links: &[u64],
+    cells: &Cells,
+    traffic: Traffic,
+    senders: &[Senders],
+    graph: &mut Graph,
+) -> Result<bool, OutOfMemory>
+    requires links { AreLinks fabric.now links.now }
+    requires same { switch_count fabric.now ≡ cells.now.switches }
+    requires owners { length fabric.now.owners ≤ 64 * cells.now.blocks }
+    requires senders { AreAllSenders fabric.now traffic senders.now }
+    requires graph { IsGraphOf fabric.now graph.old }
+    ensures { MatchResult result
+        (λ stopped. AreFound fabric.now (tables_of cells.now) traffic graph.old graph.new stopped)
+        (λ _. graph.new ≡ graph.old) }
+{
+    let mut seen = vec![in alloc; 0u64; fabric.switches()]?;
+    let mut done = vec![in alloc; 0u64; fabric.switches()]?;
+    Ok(add_blocks(
+        fabric, links, cells, traffic, senders, &mut seen, &mut done, graph,
+    ))
+}
+
 /// Adds to a graph of the channels of a fabric each dependency that a route of the traffic makes, and no other. Answers
 /// whether a route stops at a place that is not its target. Where memory is wanted, nothing is added.
 pub fn add_dependencies(
@@ -105,11 +131,7 @@ pub fn add_dependencies(
 {
     let links = find_links(alloc, fabric)?;
     let senders = find_senders(alloc, fabric, traffic)?;
-    let mut seen = vec![in alloc; 0u64; fabric.switches()]?;
-    let mut done = vec![in alloc; 0u64; fabric.switches()]?;
-    Ok(add_blocks(
-        fabric, &links, cells, traffic, &senders, &mut seen, &mut done, graph,
-    ))
+    add_waves(alloc, fabric, &links, cells, traffic, &senders, graph)
 }
 
 /// The dependencies of the channels of a fabric, and whether a route is stopped.

@@ -6,7 +6,7 @@ ghost use Rattle.ib_cells.specs.Cells.{tables_of};
 ghost use Rattle.ib_routes.specs.declared.hop.Hop.{Hop};
 ghost use Rattle.ib_routes.specs.declared.trace.Mark.TheVariants.{New};
 ghost use Rattle.ib_routes.specs.Routes.{EndsAs};
-ghost use Rattle.ib_routes.specs.Trace.{AreShort, IsFollowed, IsOpenPath, IsReady, IsShort, LandsWithin};
+ghost use Rattle.ib_routes.specs.Trace.{AreShort, IsAfter, IsFollowed, IsOpenPath, IsReady, IsShort, LandsWithin};
 ghost use Rattle.ib_routes.specs.Trace.{hop_to, is_known, longer, mark_at, not_there};
 
 use crate::hop::{Cause, Hop, Outcome, find_hop};
@@ -65,6 +65,30 @@ fn not_there(does: Hop) -> Hop
     }
 }
 
+// How a route goes on after a hop: to a switch that is new, or it ends so.
+#[derive(Clone, Copy)]
+enum After {
+    Goes(usize),
+    Ends(Outcome),
+}
+
+// How a route goes on after a hop, by what is known of the switch to which it leads.
+#[inline]
+fn go_on(marks: &[Mark], does: Hop) -> After
+    requires { LandsWithin (length marks.now) does }
+    ensures { IsAfter marks.now does result }
+{
+    match does {
+        Hop::Arrive => After::Ends(Outcome::Arrives(0)),
+        Hop::Stop(cause) => After::Ends(Outcome::Stops(cause)),
+        Hop::On(_, next) => match marks[next as usize] {
+            Mark::Known(outcome) => After::Ends(outcome),
+            Mark::Open => After::Ends(Outcome::Loops),
+            Mark::New => After::Goes(next as usize),
+        },
+    }
+}
+
 // A path along which a route was followed.
 #[derive(Clone, Copy)]
 struct Followed {
@@ -102,26 +126,10 @@ fn follow(
         marks[at] = Mark::Open;
         path[count] = at as u32;
         count += 1;
-        match hop_to(fabric, cells, target, at) {
-            Hop::Arrive => return Followed {
-                count,
-                beyond: Outcome::Arrives(0),
-            },
-            Hop::Stop(cause) => return Followed {
-                count,
-                beyond: Outcome::Stops(cause),
-            },
-            Hop::On(_, next) => match marks[next as usize] {
-                Mark::Known(outcome) => return Followed {
-                    count,
-                    beyond: outcome,
-                },
-                Mark::Open => return Followed {
-                    count,
-                    beyond: Outcome::Loops,
-                },
-                Mark::New => at = next as usize,
-            },
+        let does = hop_to(fabric, cells, target, at);
+        match go_on(marks, does) {
+            After::Goes(next) => at = next,
+            After::Ends(beyond) => return Followed { count, beyond },
         }
     }
 }

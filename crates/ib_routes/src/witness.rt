@@ -1,7 +1,7 @@
 //! By which route a channel depends on another.
 
 ghost use Rattle.std.specs.Prelude.{◌≡◌, ◌<◌, ◌≤◌, ◌*◌, ◌^◌, ◌↔◌, ℕ, length, IfOk, IsTrue, MatchOption};
-ghost use Rattle.ib_net.specs.Fabric.{switch_count};
+ghost use Rattle.ib_net.specs.Fabric.{IsFabric, switch_count};
 ghost use Rattle.ib_cells.specs.Cells.{tables_of};
 ghost use Rattle.ib_routes.specs.Found.{IsLeastWitness, channel_of};
 ghost use Rattle.ib_routes.specs.Finding.{HasNoWitness};
@@ -184,6 +184,31 @@ fn lesser(fabric: &Fabric, host: Option<u32>, switch: Option<u32>) -> Option<End
 }
 
 // The end port of least GUID whose route to a LID comes to a switch.
+fn first_of_all(
+    fabric: &Fabric,
+    cells: &Cells,
+    traffic: Traffic,
+    lid: usize,
+    via: u32,
+    marks: &mut [Mark],
+    path: &mut [u32],
+) -> Option<EndPort>
+    requires same { switch_count fabric.now ≡ cells.now.switches }
+    requires few { switch_count fabric.now ≤ 2 ^ 14 }
+    requires lid { lid < 64 * cells.now.blocks }
+    requires room { switch_count fabric.now ≤ length path.old }
+    requires ready { IsReady (hop_to fabric.now (tables_of cells.now) (way lid via)) (switch_count fabric.now)
+        marks.old }
+    requires fabric { IsFabric fabric.now }
+    ensures { MatchOption result (NoSourceComes fabric.now (tables_of cells.now) traffic lid via)
+        (IsFirstSource fabric.now (tables_of cells.now) traffic lid via) }
+{
+    let host = first_host(fabric, cells, traffic, lid, via, marks, path);
+    let switch = first_switch(fabric, cells, traffic, lid, via, marks, path);
+    lesser(fabric, host, switch)
+}
+
+// The same, in rooms of its own.
 fn first_source(
     alloc: Global,
     fabric: &Fabric,
@@ -200,9 +225,8 @@ fn first_source(
 {
     let mut marks = vec![in alloc; Mark::New; fabric.switches()]?;
     let mut path = vec![in alloc; 0u32; fabric.switches()]?;
-    let host = first_host(fabric, cells, traffic, lid, via, &mut marks, &mut path);
-    let switch = first_switch(fabric, cells, traffic, lid, via, &mut marks, &mut path);
-    Ok(lesser(fabric, host, switch))
+    let found = first_of_all(fabric, cells, traffic, lid, via, &mut marks, &mut path);
+    Ok(found)
 }
 
 // The end port of least GUID whose route to a LID takes a channel and then, directly, another one.

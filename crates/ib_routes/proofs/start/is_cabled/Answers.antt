@@ -1,6 +1,7 @@
-use Rattle.std.proofs.Common.{◌≡◌, ◌∙◌, sym, ap, refl, None}
-use Rattle.ib_net.specs.declared.node.EndPort.TheVariants.{Host}
-use Rattle.ib_net.specs.Fabric.{start_of, switch_at}
+use Rattle.std.proofs.Common.{◌∙◌, sym, ap, refl}
+use Rattle.std.proofs.lemmas.Bool.{false≢true}
+use Rattle.ib_net.specs.Fabric.{switch_at}
+use Rattle.ib_routes.proofs.StartLemmas.{starts_nowhere}
 use Rattle.ib_routes.proofs.start.is_cabled.Goals as goal
 
 pub returns-in-Some : goal.returns-in-Some
@@ -8,6 +9,6 @@ returns-in-Some c = (λ _. (c.in-Some.field-0.switch, ap switch_at (sym c.cable_
 
 pub returns-in-None : goal.returns-in-None
 returns-in-None c = (
-  λ e. absurd (cc),
-  λ (switch, at). absurd (let none : start_of c.args.fabric.now (Host c.args.end) ≡ None = ap switch_at (sym c.cable_of.ensures.cable ∙ c.in-None.is) in cc),
+  λ e. absurd (false≢true e),
+  λ (switch, at). absurd (starts_nowhere _ switch (ap switch_at (sym c.cable_of.ensures.cable ∙ c.in-None.is)) at),
 )

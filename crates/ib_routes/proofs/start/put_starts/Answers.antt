@@ -1,8 +1,9 @@
-use Rattle.std.proofs.Common.{arith, inl, inr}
+use Rattle.std.proofs.Common.{◌≡◌, ◌↔◌, ℕ, arith, inl, inr}
+use Rattle.std.specs.Int.{bit_at}
 use Rattle.std.proofs.lemmas.Bool.{cases_lt}
 use Rattle.ib_net.specs.Fabric.{switch_count}
-use Rattle.ib_routes.proofs.StartLemmas.{start_low}
-use Rattle.ib_routes.proofs.WordLemmas.{has_low}
+use Rattle.ib_routes.proofs.StartLemmas.{BeginsAt, start_low}
+use Rattle.ib_routes.proofs.WordLemmas.{has_low, put_more}
 use Rattle.ib_routes.proofs.start.put_starts.Goals as goal
 
 pub returns : goal.returns
@@ -13,3 +14,10 @@ returns c = λ switch bit low. elim (cases_lt switch (switch_count c.args.fabric
     λ (source, sends, at). absurd (let some = start_low c.args.fabric.now c.switches-switch-end.ensures.fabric c.args.traffic source switch sends.is_source at in omega arith),
   )
 ]
+
+pub switches-preserved : goal.switches-preserved
+switches-preserved c = λ switch bit low.
+    put_more (λ (at word : ℕ). (one : ℕ) → ((bit_at word one ≡ 1) ↔ BeginsAt c.args.fabric.now c.args.traffic c.args.block at one)) c.switches.words c.switches.switch c.starts_at.result
+    (let same = c.switches.auto.words in let count = c.requires.count in let is = c.switches-switch-end.ensures.count in let less = c.switches-test.true in omega arith)
+    c.starts_at.ensures
+    (λ k before one. c.switches.invariant k one before) switch low bit

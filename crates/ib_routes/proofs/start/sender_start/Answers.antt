@@ -1,8 +1,9 @@
+use Rattle.std.proofs.lemmas.Bool.{iff_false}
 use Rattle.ib_routes.proofs.StartLemmas.{starts_of}
 use Rattle.ib_routes.proofs.start.sender_start.Goals as goal
 
 pub returns-then-not-sends-clause-start : goal.returns-then-not-sends-clause-start
-returns-then-not-sends-clause-start c = λ sends. absurd (let t = c.sends.ensures.1 sends in let f = c.if-not-sends.true in cc)
+returns-then-not-sends-clause-start c = λ sends. absurd (iff_false c.sends.ensures c.if-not-sends.true sends)
 
 pub returns-clause-start : goal.returns-clause-start
 returns-clause-start c = starts_of c.args.fabric.now c.args.traffic c.args.lid c.args.source c.begins_at.result (c.sends.ensures.0 c.if-not-sends.false) c.begins_at.ensures.start

@@ -1,6 +1,6 @@
 use Rattle.std.proofs.Common.{◌∙◌}
 use Rattle.ib_cells.specs.Cells.{tables_of}
-use Rattle.ib_routes.proofs.RunLemmas.{further_more, further_one, graph_kept}
+use Rattle.ib_routes.proofs.RunLemmas.{further_idle, further_more, further_one, graph_kept}
 use Rattle.ib_routes.proofs.wave.follow.Goals as goal
 
 pub turns-init : goal.turns-init
@@ -23,3 +23,12 @@ turns-preserved c =
       done_count = turned.count ∙ so_far.done_count;
       graph = graph_kept c.args.fabric.now c.turns.graph c.turn-in-turns.new.graph turned.taken.wide turned.taken.bases so_far.graph;
     }
+
+pub turns-smaller : goal.turns-smaller
+turns-smaller c = c.in-Some.ensures.less
+
+pub returns-after-turns : goal.returns-after-turns
+returns-after-turns c = c.turns.invariant.further
+
+pub returns-in-None : goal.returns-in-None
+returns-in-None c = further_idle c.args.fabric.now (tables_of c.args.cells.now) c.args.block c.turns.ahead (record { seen = c.args.seen.now; graph = c.args.graph.now; stopped = c.args.stopped }) (record { seen = c.turns.seen; graph = c.turns.graph; stopped = c.turns.stops }) (record { seen = c.turn-in-turns.new.seen; graph = c.turn-in-turns.new.graph; stopped = c.turns.stops }) c.args.done.now c.turns.done c.turn-in-turns.new.done c.turns.invariant.further c.in-None.ensures

@@ -1,7 +1,8 @@
 use Rattle.std.proofs.Common.{◌≡◌, ◌∙◌, sym, ap, subst, ℕ, Bool, List, arith}
+use Rattle.std.proofs.lemmas.Bool.{false≢true, true≢false}
 use Rattle.ib_cells.specs.Cells.{tables_of}
 use Rattle.ib_routes.specs.Waves.{IsRunning, gap}
-use Rattle.ib_routes.proofs.RunLemmas.{run_done, idle_run, idle_rest}
+use Rattle.ib_routes.proofs.RunLemmas.{idle_rest, idle_run, round_less, run_done, run_first}
 use Rattle.ib_routes.proofs.wave.run.Goals as goal
 use Rattle.ib_routes.proofs.wave.run.Goals.{in-Some, in_default}
 
@@ -35,3 +36,30 @@ switches-preserved c =
 
 pub returns : goal.returns
 returns c = λ traffic starts. run_done c.args.fabric.now (tables_of c.args.cells.now) c.args.block (record { seen = c.args.seen.now; graph = c.args.graph.now; stopped = c.args.stopped }) (record { seen = c.rounds.seen; graph = c.rounds.graph; stopped = c.rounds.stops }) c.rounds.done c.rounds.invariant.running (c.rounds.invariant.rest c.rounds-test.false) traffic starts
+
+pub rounds-init : goal.rounds-init
+rounds-init c = record {
+  running = run_first c.args.fabric.now (tables_of c.args.cells.now) c.args.block (record { seen = c.args.seen.now; graph = c.args.graph.now; stopped = c.args.stopped }) c.args.done.now c.requires.none c.requires.count c.requires.done_count c.requires.graph;
+  rest = λ e. absurd (true≢false e);
+}
+
+pub switches-init : goal.switches-init
+switches-init c = record {
+  running = c.rounds.invariant.running;
+  rest = λ e switch bit low. absurd (omega arith);
+  most = omega arith;
+  less = λ e. absurd (false≢true e);
+}
+
+pub rounds-preserved : goal.rounds-preserved
+rounds-preserved c =
+    let i = c.switches.invariant in
+    let past = c.switches-test.false in
+    let count = c.switches-at-end.ensures.count in
+    record {
+      running = i.running;
+      rest = λ e switch bit low. i.rest e switch bit (omega arith);
+    }
+
+pub rounds-smaller : goal.rounds-smaller
+rounds-smaller c = round_less c.switches.fresh c.rounds.fresh (gap c.switches.done) (gap c.rounds.done) c.rounds-test.true c.switches.invariant.less

@@ -1,5 +1,5 @@
 use Rattle.std.proofs.Common.{subst, ℕ, arith, inl, inr}
-use Rattle.std.proofs.lemmas.Bool.{cases_eq}
+use Rattle.std.proofs.lemmas.Bool.{cases_eq, iff_false}
 use Rattle.ib_net.specs.declared.node.EndPort.TheVariants.{Host}
 use Rattle.ib_cells.specs.Cells.{tables_of}
 use Rattle.ib_routes.specs.Routes.{ComesTo}
@@ -14,7 +14,7 @@ ends-preserved c = record {
   ready = c.comes.ensures.ready;
   none = λ other low comes. elim (cases_eq other c.ends.end) [
     | inr before ↦ c.ends.invariant.none other (omega arith) comes
-    | inl same ↦ absurd (let t = c.comes.ensures.comes.1 (subst (λ (e : ℕ). ComesTo c.args.fabric.now (tables_of c.args.cells.now) c.args.traffic c.args.lid (Host e) c.args.via) same comes) in let f = c.if-comes.false in cc)
+    | inl same ↦ absurd (iff_false c.comes.ensures.comes c.if-comes.false (subst (λ (e : ℕ). ComesTo c.args.fabric.now (tables_of c.args.cells.now) c.args.traffic c.args.lid (Host e) c.args.via) same comes))
   ];
 }
 
