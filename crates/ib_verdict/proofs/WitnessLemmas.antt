@@ -2,7 +2,7 @@
 use Rattle.std.proofs.Common.{◌≡◌, ◌∙◌, sym, ap, subst, refl, ℕ, zero, suc, ◌+◌, ◌*◌, ◌%◌, ◌<◌, ◌≤◌, ◌⊎◌, List, [], ◌∷◌, ◌++◌, Option, Some, length, map, take, get_or, inl, inr, arith}
 use Rattle.std.specs.Prelude.{slice_get, option_map}
 use Rattle.std.proofs.lemmas.Bool.{cases_lt}
-use Rattle.std.proofs.lemmas.List.{length-map, length-take-le, map-append, take_all, take_more}
+use Rattle.std.proofs.lemmas.List.{get_or-map, length-map, length-take-le, map-append, take_all, take_more}
 use Rattle.std.proofs.lemmas.Option.{none-some, same_Some, slice_get-get_or, slice_get-map, slice_get_within}
 use Rattle.std.proofs.Math.Nat.{lt_of_mul-lt-mul_right, mod-eq_of_lt, mod-lt, mod_self}
 use Rattle.channel_graph.specs.Cycles.{IsCycle, Path}
@@ -14,7 +14,7 @@ use Rattle.ib_routes.specs.Found.{IsChannel, channel_of}
 use Rattle.ib_routes.specs.Routes.{Channel, DependsOn}
 use Rattle.ib_routes.proofs.ChannelLemmas.{channel_place, first_is, second_is}
 use Rattle.ib_verdict.specs.declared.verdict.LoopChannel.{LoopChannel}
-use Rattle.ib_verdict.specs.Verdict.{AreWitnessed, CycleIs, IsLeastLoop, IsWitnessed, spots_in}
+use Rattle.ib_verdict.specs.Verdict.{AreWitnessed, CycleIs, IsLeastLoop, IsWitnessed, spot_at, spots_in}
 
 -- what a list with one more has at a place
 push_cases : {A : Type 0} (xs : List A) (y : A) (k : ℕ) (x : A) → slice_get (xs ++ y ∷ []) k ≡ Some x → (slice_get xs k ≡ Some x) ⊎ ((k ≡ length xs) × (y ≡ x))
@@ -65,6 +65,15 @@ module _ {Node : Type 0} (Step : Node → Node → Type 0) where
       after (inl less) = push_front rest start k next (at (suc k) (let same : (k + 1) % length (start ∷ rest) ≡ k + 1 = mod-eq_of_lt less in omega arith))
       after (inr more) = push_last rest start k (let same = full more in omega arith) ∙ at 0 (round (full more))
 
+-- the port of a place, among those of places, and that of the next one
+pub spot_there : (most : ℕ) (places : List ℕ) (at : ℕ) (d spot : Spot) → at < length places → spot ≡ spot_at most (get_or places at 0) → get_or (map (spot_at most) places) at d ≡ spot
+spot_there most places at d spot less is = get_or-map (spot_at most) places at 0 d less ∙ sym is
+
+pub next_at : (most : ℕ) (places : List ℕ) (at : ℕ) (d spot : Spot) → at < length places → spot ≡ spot_at most (get_or places ((at + 1) % length places) 0) → get_or (map (spot_at most) places) ((at + 1) % length (map (spot_at most) places)) d ≡ spot
+next_at most places at d spot less is =
+    let some : 0 < length places = omega arith in
+    ap (λ (n : ℕ). get_or (map (spot_at most) places) ((at + 1) % n) d) (length-map places (spot_at most)) ∙ spot_there most places ((at + 1) % length places) d spot (mod-lt (at + 1) some) is
+
 module _ (fabric : FabricOf) (tables : TablesOf) (traffic : Traffic) where
   -- each channel of a loop depends on the next one
   pub loop_step : (spots : List Spot) → IsLeastLoop fabric tables traffic spots → (k : ℕ) (one next : Spot) → slice_get spots k ≡ Some one → slice_get spots ((k + 1) % length spots) ≡ Some next → DependsOn fabric tables traffic (channel_of one) (channel_of next)
@@ -102,6 +111,12 @@ module _ (fabric : FabricOf) (tables : TablesOf) (traffic : Traffic) where
   loop_at spots least place d less =
       let some : 0 < length spots = omega arith in
       loop_step spots least place (get_or spots place d) (get_or spots ((place + 1) % length spots) d) (slice_get-get_or spots place d less) (slice_get-get_or spots ((place + 1) % length spots) d (mod-lt (place + 1) some))
+
+  pub loop_places : (most : ℕ) (places : List ℕ) (at : ℕ) (channel next : Spot) → at < length places → channel ≡ spot_at most (get_or places at 0) → next ≡ spot_at most (get_or places ((at + 1) % length places) 0) → IsLeastLoop fabric tables traffic (map (spot_at most) places) → DependsOn fabric tables traffic (channel_of channel) (channel_of next)
+  loop_places most places at channel next less is is_next least =
+      let size = length-map places (spot_at most) in
+      step_as (λ (a b : Spot). DependsOn fabric tables traffic (channel_of a) (channel_of b)) (get_or (map (spot_at most) places) at channel) (get_or (map (spot_at most) places) ((at + 1) % length (map (spot_at most) places)) channel) channel next
+      (spot_there most places at channel channel less is) (next_at most places at channel next less is_next) (loop_at (map (spot_at most) places) least at channel (omega arith))
 
   -- the channels so far
   abbrev pub AreSoFar : List Spot → ℕ → List LoopChannel → Type 0

@@ -46,19 +46,6 @@ pub fn spot_of(most: usize, place: u32) -> Spot
     }
 }
 
-// The ports of places.
-fn spots_of(alloc: Global, most: usize, places: &[u32]) -> Result<Vec<Spot>, OutOfMemory>
-    requires some { 0 < most }
-    requires few { most < 255 }
-    ensures { IfOk result (λ spots. spots.items ≡ map (spot_at most) places.now) }
-{
-    let mut spots = Vec::with_capacity(alloc, places.len())?;
-    'places: for place in places {
-        spots.push(spot_of(most, *place))?;
-    }
-    Ok(spots)
-}
-
 // The least route by which a channel depends on another.
 pub(crate) fn witness_of(
     alloc: Global,
@@ -81,24 +68,27 @@ pub(crate) fn witness_of(
     }
 }
 
-// The channels of a credit loop, each with the least route by which it depends on the next one.
+// The channels of a credit loop, told by their places, each with the least route by which it depends on the next one.
 fn with_witnesses(
     alloc: Global,
     fabric: &Fabric,
     cells: &Cells,
     traffic: Traffic,
-    spots: &[Spot],
+    most: usize,
+    places: &[u32],
 ) -> Result<Vec<LoopChannel>, OutOfMemory>
     requires same { switch_count fabric.now ≡ cells.now.switches }
     requires owners { length fabric.now.owners ≤ 64 * cells.now.blocks }
     requires fabric { IsFabric fabric.now }
-    requires least { IsLeastLoop fabric.now (tables_of cells.now) traffic spots.now }
+    requires some { 0 < most }
+    requires few { most < 255 }
+    requires least { IsLeastLoop fabric.now (tables_of cells.now) traffic (map (spot_at most) places.now) }
     ensures { IfOk result (λ channels. CycleIs fabric.now (tables_of cells.now) traffic channels.items) }
 {
-    let mut channels = Vec::with_capacity(alloc, spots.len())?;
-    'places: for place in 0..spots.len() {
-        let channel = spots[place];
-        let next = spots[(place + 1) % spots.len()];
+    let mut channels = Vec::with_capacity(alloc, places.len())?;
+    'places: for at in 0..places.len() {
+        let channel = spot_of(most, places[at]);
+        let next = spot_of(most, places[(at + 1) % places.len()]);
         let witness = witness_of(alloc, fabric, cells, traffic, channel, next)?;
         channels.push(LoopChannel { channel, witness })?;
     }
@@ -122,8 +112,7 @@ fn verdict_on(
     match verdict_of(alloc, graph)? {
         GraphVerdict::Ranks { ranks } => Ok(Verdict::Ranks { ranks }),
         GraphVerdict::Cycle { nodes } => {
-            let spots = spots_of(alloc, most, &nodes)?;
-            let channels = with_witnesses(alloc, fabric, cells, traffic, &spots)?;
+            let channels = with_witnesses(alloc, fabric, cells, traffic, most, &nodes)?;
             Ok(Verdict::Cycle { channels })
         }
     }
