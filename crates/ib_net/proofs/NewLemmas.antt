@@ -1,12 +1,10 @@
 -- A fabric that is not cabled.
-use Rattle.std.proofs.Common.{◌≡◌, ◌∙◌, sym, ap, subst, ℕ, ◌+◌, ◌*◌, ◌^◌, ◌<◌, ◌≤◌, ◌⊎◌, List, [], ◌∷◌, ◌++◌, Option, Some, arith, length, length-append, get_or, replicate, inl, inr, ◌↔◌}
+use Rattle.std.proofs.Common.{◌≡◌, ◌∙◌, sym, ap, subst, refl, ℕ, ◌+◌, ◌*◌, ◌^◌, ◌<◌, ◌≤◌, ◌⊎◌, List, Option, Some, None, arith, length, get_or, replicate, inl, inr, ◌↔◌}
 use Rattle.std.specs.Prelude.{max, Contains, IsPermutation}
 use Rattle.std.specs.List.Sorted.{IsStrictlyIncreasing}
 use Rattle.std.specs.Map.{keys_of}
-use Rattle.std.proofs.Math.ListN.{get_or-append}
-use Rattle.std.proofs.Math.Seq.{get_or-append_seam}
 use Rattle.std.proofs.lemmas.Bool.{cases_eq, cases_lt}
-use Rattle.std.proofs.lemmas.List.{get_or_past, length-map, length-replicate}
+use Rattle.std.proofs.lemmas.List.{get_or-replicate, get_or_past, length-map, length-replicate}
 use Rattle.std.proofs.lemmas.List.Elements.{Contains-get_or}
 use Rattle.ib_net.specs.declared.node.EndPort.{EndPort}
 use Rattle.ib_net.specs.declared.node.LidRange.{LidRange}
@@ -18,15 +16,20 @@ use Rattle.ib_net.specs.Nodes.{EndsOwned, NodesOf, Owns}
 use Rattle.ib_net.specs.Sides.{side_in, sides_in}
 use Rattle.ib_net.proofs.SideLemmas.{all_bare, bare_at}
 
--- one more like the others
-pub same_more : {A : Type 0} (x : A) (xs : List A) → ((place : ℕ) → get_or xs place x ≡ x) → (place : ℕ) → get_or (xs ++ x ∷ []) place x ≡ x
-same_more x xs same place = elim (cases_lt place (length xs)) [
-  | inl low ↦ get_or-append xs (x ∷ []) x place low ∙ same place
-  | inr past ↦ elim (cases_eq place (length xs)) [
-    | inl last ↦ ap (λ (k : ℕ). get_or (xs ++ x ∷ []) k x) last ∙ get_or-append_seam xs x [] x
-    | inr beyond ↦ get_or_past (xs ++ x ∷ []) place x (let l = length-append xs (x ∷ []) in omega arith)
-  ]
+-- a list of the same element alone
+pub same_at : {A : Type 0} (x : A) (count place : ℕ) → get_or (replicate count x) place x ≡ x
+same_at x count place = elim (cases_lt place count) [
+  | inl low ↦ get_or-replicate count place x x low
+  | inr past ↦ get_or_past (replicate count x) place x (let size = length-replicate count x in omega arith)
 ]
+
+pub none_at : {A : Type 0} (count : ℕ) (xs : List (Option A)) → xs ≡ replicate count None → (place : ℕ) → get_or xs place None ≡ None
+none_at {A} count xs are place = ap (λ (ys : List (Option A)). get_or ys place None) are ∙ same_at None count place
+
+-- what is like none alone is none
+pub none_alone : {A : Type 0} (IsLike : Option A → Type 0) → ((x : A) → IsLike (Some x) → ⊥) → (y : Option A) → IsLike y → y ≡ None
+none_alone IsLike other None like = refl
+none_alone IsLike other (Some x) like = absurd (other x like)
 
 -- the greatest number of ports, with a switch more
 abbrev pub SomeHas : List (ℕ × Switch) → ℕ → Type 0

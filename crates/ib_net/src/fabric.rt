@@ -213,10 +213,7 @@ fn no_owners(alloc: Global) -> Result<Vec<Option<EndPort>>, OutOfMemory>
     ensures count { IfOk result (λ owners. length owners.items ≡ 49152) }
     ensures none { IfOk result (λ owners. (lid : ℕ) → slice_index_or owners.items lid None ≡ None) }
 {
-    let mut owners = Vec::with_capacity(alloc, LIDS)?;
-    'lids: for _ in 0..LIDS {
-        owners.push(None)?;
-    }
+    let owners = vec![in alloc; None; LIDS]?;
     Ok(owners)
 }
 
@@ -257,10 +254,7 @@ fn no_cables(alloc: Global, count: usize) -> Result<Vec<Option<Spot>>, OutOfMemo
     ensures count { IfOk result (λ cables. length cables.items ≡ count) }
     ensures none { IfOk result (λ cables. AreUncabled cables.items) }
 {
-    let mut cables = Vec::with_capacity(alloc, count)?;
-    'ends: for _ in 0..count {
-        cables.push(None)?;
-    }
+    let cables = vec![in alloc; None; count]?;
     Ok(cables)
 }
 

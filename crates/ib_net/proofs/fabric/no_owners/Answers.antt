@@ -1,9 +1,9 @@
-use Rattle.std.proofs.Common.{None, ◌∷◌, [], arith, length-append}
-use Rattle.ib_net.proofs.NewLemmas.{same_more}
+use Rattle.std.proofs.Common.{◌∙◌, sym}
+use Rattle.ib_net.proofs.NewLemmas.{none_alone, none_at}
 use Rattle.ib_net.proofs.fabric.no_owners.Goals as goal
 
-pub lids-preserved : goal.lids-preserved
-lids-preserved c = rw c.in_ok-push.ensures.items (record {
-  count = (let more = length-append c.lids.owners.items (None ∷ []) in let count = c.lids.invariant.count in omega arith);
-  none = same_more None c.lids.owners.items c.lids.invariant.none;
-})
+pub returns-clause-count : goal.returns-clause-count
+returns-clause-count c = sym c.in_ok-owners.owners.ok.0 ∙ c.in_ok-owners.ensures.len
+
+pub returns-clause-none : goal.returns-clause-none
+returns-clause-none c = none_at (49152) c.in_ok-owners.owners.items (c.in_ok-owners.ensures.items_if_clones_equal (none_alone _ (λ x like. absurd like)))
