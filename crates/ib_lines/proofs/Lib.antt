@@ -1,2 +1,3 @@
+mod WordLemmas
 pub mod RowLemmas
 pub mod PictureLemmas

@@ -1,23 +1,14 @@
 -- The rows of an answer, one after another.
-use Rattle.std.proofs.Common.{◌≡◌, ◌∙◌, sym, ap, refl, ℕ, List, [], ◌∷◌, ◌++◌, append_assoc, append-nil, map, Some, None}
+use Rattle.std.proofs.Common.{◌≡◌, ◌∙◌, sym, ap, ℕ, List, [], ◌∷◌, ◌++◌, append_assoc, append-nil, map, Some, None}
 use Rattle.std.specs.Prelude.{codes}
-use Rattle.std.specs.Fmt.{decimal}
-use Rattle.std.specs.List.{flat_map}
 use Rattle.std.proofs.lemmas.Grind.{flat_map-append}
 use Rattle.text_lines.specs.Lines.{line_text, lines_text}
 use Rattle.ib_lines.specs.declared.answer.Answer.{Answer}
-use Rattle.ib_lines.specs.declared.answer.Read.{Read}
+use Rattle.ib_lines.specs.declared.ranks.Rank.{Rank}
 use Rattle.ib_lines.specs.declared.ranks.Risen.{Risen}
 use Rattle.ib_lines.specs.declared.ranks.Verified.{Verified}
-use Rattle.ib_lines.specs.Ranks.{rank_row, risen_rows, verified_rows, verified_text}
+use Rattle.ib_lines.specs.Ranks.{rank_row, ranks_text, risen_rows, verified_rows, verified_text}
 use Rattle.ib_lines.specs.Answers.{Row, answer_rows, answer_text, read_row, judged_row, routes_row, channel_row, channels_row, cycle_rows, lost_rows, name_row}
-
--- the words for what was read
-pub read_words : (read : Read) (a b c d e : List ℕ) → a ≡ decimal read.switches → b ≡ decimal read.ends → c ≡ decimal read.links → d ≡ decimal read.rows → e ≡ decimal read.unowned → (codes "read" ∷ codes "switches" ∷ a ∷ codes "ends" ∷ b ∷ codes "links" ∷ c ∷ codes "rows" ∷ d ∷ codes "unowned" ∷ e ∷ []) ≡ read_row read
-read_words read a b c d e one two three four five = rw (one, two, three, four, five) refl
-
-pub channel_words : (channels dependencies : ℕ) (a b : List ℕ) → a ≡ decimal channels → b ≡ decimal dependencies → (codes "channels" ∷ a ∷ codes "dependencies" ∷ b ∷ []) ≡ channels_row channels dependencies
-channel_words channels dependencies a b one two = rw (one, two) refl
 
 -- a text with the lines of a list that is another
 pub same_lines : {Form : Type 0} (rows_of : Form → List Row) (xs ys : Form) (old all : List ℕ) → xs ≡ ys → all ≡ old ++ lines_text (rows_of xs) → all ≡ old ++ lines_text (rows_of ys)
@@ -35,9 +26,9 @@ last_rows a =
     let names = map name_row a.names.items in
     flat_map-append line_text (cycle ++ lost) names ∙ ap (λ (t : List ℕ). t ++ lines_text names) (flat_map-append line_text cycle lost) ∙ append_assoc (lines_text cycle) (lines_text lost) (lines_text names)
 
-pub answer_is : (a : Answer) (t0 t1 t2 t3 t4 t5 t6 t7 t8 traffic : List ℕ) → traffic ≡ a.traffic → t0 ≡ [] → t1 ≡ t0 ++ line_text (codes "fabric" ∷ codes "1" ∷ []) → t2 ≡ t1 ++ line_text (read_row a.read) → t3 ≡ t2 ++ line_text (judged_row traffic) → t4 ≡ t3 ++ line_text (routes_row a.routes) → t5 ≡ t4 ++ line_text (channels_row a.channels a.dependencies) → t6 ≡ t5 ++ lines_text (cycle_rows a.cycle.items) → t7 ≡ t6 ++ lines_text (lost_rows a.losses a.lost.items) → t8 ≡ t7 ++ lines_text (map name_row a.names.items) → t8 ≡ answer_text a
+pub answer_is : (a : Answer) (t0 t1 t2 t3 t4 t5 t6 t7 t8 traffic : List ℕ) → traffic ≡ a.traffic → t1 ≡ t0 ++ line_text (codes "fabric" ∷ codes "1" ∷ []) → t2 ≡ t1 ++ line_text (read_row a.read) → t3 ≡ t2 ++ line_text (judged_row traffic) → t4 ≡ t3 ++ line_text (routes_row a.routes) → t5 ≡ t4 ++ line_text (channels_row a.channels a.dependencies) → t6 ≡ t5 ++ lines_text (cycle_rows a.cycle.items) → t7 ≡ t6 ++ lines_text (lost_rows a.losses a.lost.items) → t8 ≡ t7 ++ lines_text (map name_row a.names.items) → t8 ≡ t0 ++ answer_text a
 unfolding answer_rows
-answer_is a t0 t1 t2 t3 t4 t5 t6 t7 t8 traffic word none h1 h2 h3 h4 h5 h6 h7 h8 =
+answer_is a t0 t1 t2 t3 t4 t5 t6 t7 t8 traffic word h1 h2 h3 h4 h5 h6 h7 h8 =
     let p1 = line_text (codes "fabric" ∷ codes "1" ∷ []) in
     let p2 = line_text (read_row a.read) in
     let p3 = line_text (judged_row a.traffic) in
@@ -54,8 +45,7 @@ answer_is a t0 t1 t2 t3 t4 t5 t6 t7 t8 traffic word none h1 h2 h3 h4 h5 h6 h7 h8
     let e38 = onward t2 p3 (p4 ++ (p5 ++ (p6 ++ (p7 ++ p8)))) t3 t8 judged e48 in
     let e28 = onward t1 p2 (p3 ++ (p4 ++ (p5 ++ (p6 ++ (p7 ++ p8))))) t2 t8 h2 e38 in
     let e18 = onward t0 p1 (p2 ++ (p3 ++ (p4 ++ (p5 ++ (p6 ++ (p7 ++ p8)))))) t1 t8 h1 e28 in
-    e18 ∙ ap (λ (t : List ℕ). t ++ (p1 ++ (p2 ++ (p3 ++ (p4 ++ (p5 ++ (p6 ++ (p7 ++ p8)))))))) none
-    ∙ ap (λ (t : List ℕ). p1 ++ (p2 ++ (p3 ++ (p4 ++ (p5 ++ t))))) (sym (last_rows a))
+    e18 ∙ ap (λ (t : List ℕ). t0 ++ (p1 ++ (p2 ++ (p3 ++ (p4 ++ (p5 ++ t)))))) (sym (last_rows a))
 
 -- the lines of a dependency along which ranks do not fall
 pub risen_is : (rise : Risen) (t0 t1 t2 t3 t4 : List ℕ) → t1 ≡ t0 ++ line_text (codes "ranks" ∷ codes "rise" ∷ []) → t2 ≡ t1 ++ line_text (channel_row rise.step) → t3 ≡ t2 ++ line_text (rank_row rise.own) → t4 ≡ t3 ++ line_text (rank_row rise.next) → t4 ≡ t0 ++ lines_text (risen_rows (Some rise))
@@ -72,13 +62,16 @@ risen_is rise t0 t1 t2 t3 t4 h1 h2 h3 h4 =
 pub fall_is : (t0 t1 : List ℕ) → t1 ≡ t0 ++ line_text (codes "ranks" ∷ codes "fall" ∷ []) → t1 ≡ t0 ++ lines_text (risen_rows None)
 fall_is t0 t1 h1 = h1 ∙ ap (λ (t : List ℕ). t0 ++ t) (sym (append-nil (line_text (codes "ranks" ∷ codes "fall" ∷ []))))
 
-pub verified_is : (a : Verified) (t0 t1 t2 t3 traffic : List ℕ) → traffic ≡ a.traffic → t0 ≡ [] → t1 ≡ t0 ++ line_text (codes "fabric" ∷ codes "1" ∷ []) → t2 ≡ t1 ++ line_text (judged_row traffic) → t3 ≡ t2 ++ lines_text (risen_rows a.rise) → t3 ≡ verified_text a
+pub verified_is : (a : Verified) (t0 t1 t2 t3 traffic : List ℕ) → traffic ≡ a.traffic → t1 ≡ t0 ++ line_text (codes "fabric" ∷ codes "1" ∷ []) → t2 ≡ t1 ++ line_text (judged_row traffic) → t3 ≡ t2 ++ lines_text (risen_rows a.rise) → t3 ≡ t0 ++ verified_text a
 unfolding verified_rows
-verified_is a t0 t1 t2 t3 traffic word none h1 h2 h3 =
+verified_is a t0 t1 t2 t3 traffic word h1 h2 h3 =
     let p1 = line_text (codes "fabric" ∷ codes "1" ∷ []) in
     let p2 = line_text (judged_row a.traffic) in
     let p3 = lines_text (risen_rows a.rise) in
     let judged : t2 ≡ t1 ++ p2 = h2 ∙ ap (λ (w : List ℕ). t1 ++ line_text (judged_row w)) word in
     let e13 = onward t1 p2 p3 t2 t3 judged h3 in
-    let e03 = onward t0 p1 (p2 ++ p3) t1 t3 h1 e13 in
-    e03 ∙ ap (λ (t : List ℕ). t ++ (p1 ++ (p2 ++ p3))) none
+    onward t0 p1 (p2 ++ p3) t1 t3 h1 e13
+
+-- the ranks after the head
+pub ranks_are : (ranks : List Rank) (old text all : List ℕ) → text ≡ old ++ line_text (codes "ranks" ∷ codes "1" ∷ []) → all ≡ text ++ lines_text (map rank_row ranks) → all ≡ old ++ ranks_text ranks
+ranks_are ranks old text all first next = onward old (line_text (codes "ranks" ∷ codes "1" ∷ [])) (lines_text (map rank_row ranks)) text all first next

@@ -6,6 +6,8 @@
 #![tactic(auto)]
 
 pub mod answer;
+mod label;
 pub mod picture;
 pub mod printer;
 pub mod ranks;
+mod row;

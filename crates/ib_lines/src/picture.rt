@@ -2,14 +2,14 @@
 
 ghost use Rattle.std.specs.Prelude.{◌≡◌, ◌++◌, map, IfOk, OnOk};
 ghost use Rattle.text_lines.specs.Lines.{line_text, lines_text};
-ghost use Rattle.ib_lines.specs.Pictures.{arrow_row, closed_word, escape, escaped, label_word, picture_text, style_rows, switch_row, switch_word, title_row};
+ghost use Rattle.ib_lines.specs.Pictures.{picture_text, style_rows, switch_row, title_row};
 
 use crate::answer::{Name, Step};
-use crate::printer::guid_word;
+use crate::row::RowWord::{Closed, Label, Number, Quoted, Text};
+use crate::row::{HasRow, push_row, push_rows};
 use an_base::memory::OutOfMemory;
 use an_base::text::Word;
 use std::alloc::Global;
-use text_lines::spelling::{decimal, push_line};
 
 /// A channel of a credit loop.
 #[derive(Clone, Copy)]
@@ -38,14 +38,26 @@ pub fn print_picture(alloc: Global, picture: &Picture) -> Result<Vec<u8>, OutOfM
     ensures { IfOk result (λ text. text.items ≡ picture_text picture.now) }
 {
     let mut text = Vec::new(alloc);
-    push_line(&mut text, &[b"digraph cycle {"])?;
-    let traffic = picture.traffic.as_bytes();
-    push_title(alloc, &mut text, traffic, picture.arrows.len())?;
-    push_style(&mut text)?;
-    push_switches(alloc, &mut text, &picture.names)?;
-    push_arrows(alloc, &mut text, &picture.arrows)?;
-    push_line(&mut text, &[b"}"])?;
-    Ok(text)
+    match push_picture(alloc, &mut text, picture) {
+        Ok(()) => Ok(text),
+        Err(error) => Err(error),
+    }
+}
+
+fn push_picture(alloc: Global, text: &mut Vec<u8>, picture: &Picture) -> Result<(), OutOfMemory>
+    ensures { OnOk result (text.new.items ≡ text.old.items ++ picture_text picture.now) }
+{
+    push_row(alloc, text, Text(b"digraph cycle {"), &[])?;
+    push_title(
+        alloc,
+        text,
+        picture.traffic.as_bytes(),
+        picture.arrows.len(),
+    )?;
+    push_style(alloc, text)?;
+    push_switches(alloc, text, &picture.names)?;
+    push_rows(alloc, text, &picture.arrows)?;
+    push_row(alloc, text, Text(b"}"), &[])
 }
 
 // What loop there is.
@@ -58,31 +70,32 @@ fn push_title(
     ensures { OnOk result (text.new.items ≡ text.old.items ++ line_text (title_row traffic.now many)) }
 {
     if many == 0 {
-        return push_line(
+        return push_row(
+            alloc,
             text,
-            &[b"label = \"traffic", traffic, b"has no credit loop\""],
+            Text(b"label = \"traffic"),
+            &[Text(traffic), Text(b"has no credit loop\"")],
         );
     }
-    let many = decimal(alloc, many as u64)?;
-    push_line(
+    push_row(
+        alloc,
         text,
+        Text(b"label = \"traffic"),
         &[
-            b"label = \"traffic",
-            traffic,
-            b"has a credit loop of",
-            &many,
-            b"channels\"",
+            Text(traffic),
+            Text(b"has a credit loop of"),
+            Number(many as u64),
+            Text(b"channels\""),
         ],
     )
 }
 
 // How the picture is drawn.
-fn push_style(text: &mut Vec<u8>) -> Result<(), OutOfMemory>
+fn push_style(alloc: Global, text: &mut Vec<u8>) -> Result<(), OutOfMemory>
     ensures { OnOk result (text.new.items ≡ text.old.items ++ lines_text style_rows) }
 {
-    push_line(text, &[b"node [ shape = box ]"])?;
-    push_line(text, &[b"edge [ labeldistance = 2 ]"])?;
-    Ok(())
+    push_row(alloc, text, Text(b"node [ shape = box ]"), &[])?;
+    push_row(alloc, text, Text(b"edge [ labeldistance = 2 ]"), &[])
 }
 
 // The switches that have names.
@@ -98,104 +111,37 @@ fn push_switches(alloc: Global, text: &mut Vec<u8>, names: &[Name]) -> Result<()
 fn push_switch(alloc: Global, text: &mut Vec<u8>, name: &Name) -> Result<(), OutOfMemory>
     ensures { OnOk result (text.new.items ≡ text.old.items ++ line_text (switch_row name.now)) }
 {
-    let guid = switch_word(alloc, name.guid)?;
-    let label = label_word(alloc, name.text.as_bytes())?;
-    push_line(text, &[&guid, b"[ label =", &label, b"]"])
-}
-
-// The channels.
-fn push_arrows(alloc: Global, text: &mut Vec<u8>, arrows: &[Arrow]) -> Result<(), OutOfMemory>
-    ensures { OnOk result (text.new.items ≡ text.old.items ++ lines_text (map arrow_row arrows.now)) }
-{
-    'arrows: for arrow in arrows {
-        push_arrow(alloc, text, *arrow)?;
-    }
-    Ok(())
-}
-
-fn push_arrow(alloc: Global, text: &mut Vec<u8>, arrow: Arrow) -> Result<(), OutOfMemory>
-    ensures { OnOk result (text.new.items ≡ text.old.items ++ line_text (arrow_row arrow)) }
-{
-    let from = switch_word(alloc, arrow.step.guid)?;
-    let to = switch_word(alloc, arrow.to)?;
-    let port = decimal(alloc, u64::from(arrow.step.port))?;
-    let entry = decimal(alloc, u64::from(arrow.entry))?;
-    let lid = decimal(alloc, u64::from(arrow.step.lid))?;
-    let source = closed_word(alloc, arrow.step.source)?;
-    push_line(
+    push_row(
+        alloc,
         text,
-        &[
-            &from,
-            b"->",
-            &to,
-            b"[ taillabel =",
-            &port,
-            b"headlabel =",
-            &entry,
-            b"label = \"lid",
-            &lid,
-            b"from",
-            &source,
-            b"]",
-        ],
+        Quoted(name.guid),
+        &[Text(b"[ label ="), Label(name.text.as_bytes()), Text(b"]")],
     )
 }
 
-// A GUID at the end of a text in quotes.
-fn closed_word(alloc: Global, guid: u64) -> Result<Vec<u8>, OutOfMemory>
-    ensures { IfOk result (λ word. word.items ≡ closed_word guid) }
-{
-    let mut word = guid_word(alloc, guid)?;
-    word.push(b'"')?;
-    Ok(word)
-}
+impl HasRow for Arrow {
+    ghost use Rattle.ib_lines.specs.Pictures.{arrow_row};
 
-// A switch as a word.
-fn switch_word(alloc: Global, guid: u64) -> Result<Vec<u8>, OutOfMemory>
-    ensures { IfOk result (λ word. word.items ≡ switch_word guid) }
-{
-    let guid = closed_word(alloc, guid)?;
-    let mut word = Vec::from_slice(alloc, b"\"")?;
-    word.extend_from_slice(&guid)?;
-    Ok(word)
-}
+    ghost words = { arrow_row };
 
-// The label of a switch with a name.
-fn label_word(alloc: Global, name: &[u8]) -> Result<Vec<u8>, OutOfMemory>
-    ensures { IfOk result (λ word. word.items ≡ label_word name.now) }
-{
-    let mut word = Vec::from_slice(alloc, b"\"")?;
-    push_escaped(&mut word, name)?;
-    word.extend_from_slice(b"\\n\\N\"")?;
-    Ok(word)
-}
-
-// Appends a name as it stands in a label.
-fn push_escaped(text: &mut Vec<u8>, name: &[u8]) -> Result<(), OutOfMemory>
-    ensures { OnOk result (text.new.items ≡ text.old.items ++ escaped name.now) }
-{
-    'bytes: for byte in name {
-        push_byte(text, *byte)?;
+    fn push(&self, alloc: Global, text: &mut Vec<u8>) -> Result<(), OutOfMemory> {
+        push_row(
+            alloc,
+            text,
+            Quoted(self.step.guid),
+            &[
+                Text(b"->"),
+                Quoted(self.to),
+                Text(b"[ taillabel ="),
+                Number(u64::from(self.step.port)),
+                Text(b"headlabel ="),
+                Number(u64::from(self.entry)),
+                Text(b"label = \"lid"),
+                Number(u64::from(self.step.lid)),
+                Text(b"from"),
+                Closed(self.step.source),
+                Text(b"]"),
+            ],
+        )
     }
-    Ok(())
-}
-
-fn push_byte(text: &mut Vec<u8>, byte: u8) -> Result<(), OutOfMemory>
-    ensures { OnOk result (text.new.items ≡ text.old.items ++ escape byte) }
-{
-    if byte == b'"' || byte == b'\\' {
-        text.push(b'\\')?;
-        text.push(byte)?;
-        return Ok(());
-    }
-    if byte == b'&' {
-        text.extend_from_slice(b"&amp;")?;
-        return Ok(());
-    }
-    if byte < 32 || byte == 127 {
-        text.push(b'?')?;
-        return Ok(());
-    }
-    text.push(byte)?;
-    Ok(())
 }

@@ -1,16 +1,16 @@
 //! Ranks as a text, and the answer to whether they fall.
 
-ghost use Rattle.std.specs.Prelude.{◌≡◌, ◌++◌, map, IfOk, OnOk};
-ghost use Rattle.text_lines.specs.Lines.{line_text, lines_text};
-ghost use Rattle.ib_lines.specs.Answers.{judged_row};
-ghost use Rattle.ib_lines.specs.Ranks.{rank_row, ranks_text, risen_rows, verified_text};
+ghost use Rattle.std.specs.Prelude.{◌≡◌, ◌++◌, IfOk, OnOk};
+ghost use Rattle.text_lines.specs.Lines.{lines_text};
+ghost use Rattle.ib_lines.specs.Ranks.{ranks_text, risen_rows, verified_text};
 
 use crate::answer::Step;
-use crate::printer::{guid_word, push_channel};
+use crate::printer::push_judged;
+use crate::row::RowWord::{Guid, Number, Text};
+use crate::row::{HasRow, push_row, push_rows};
 use an_base::memory::OutOfMemory;
 use an_base::text::Word;
 use std::alloc::Global;
-use text_lines::spelling::{decimal, push_line};
 
 /// The rank of a channel.
 #[derive(Clone, Copy)]
@@ -48,27 +48,36 @@ pub fn print_ranks(alloc: Global, ranks: &[Rank]) -> Result<Vec<u8>, OutOfMemory
     ensures { IfOk result (λ text. text.items ≡ ranks_text ranks.now) }
 {
     let mut text = Vec::new(alloc);
-    push_line(&mut text, &[b"ranks", b"1"])?;
-    push_ranks(alloc, &mut text, ranks)?;
-    Ok(text)
+    match push_ranks(alloc, &mut text, ranks) {
+        Ok(()) => Ok(text),
+        Err(error) => Err(error),
+    }
 }
 
 fn push_ranks(alloc: Global, text: &mut Vec<u8>, ranks: &[Rank]) -> Result<(), OutOfMemory>
-    ensures { OnOk result (text.new.items ≡ text.old.items ++ lines_text (map rank_row ranks.now)) }
+    ensures { OnOk result (text.new.items ≡ text.old.items ++ ranks_text ranks.now) }
 {
-    'ranks: for rank in ranks {
-        push_rank(alloc, text, *rank)?;
-    }
-    Ok(())
+    push_row(alloc, text, Text(b"ranks"), &[Text(b"1")])?;
+    push_rows(alloc, text, ranks)
 }
 
-fn push_rank(alloc: Global, text: &mut Vec<u8>, of: Rank) -> Result<(), OutOfMemory>
-    ensures { OnOk result (text.new.items ≡ text.old.items ++ line_text (rank_row of)) }
-{
-    let guid = guid_word(alloc, of.guid)?;
-    let port = decimal(alloc, u64::from(of.port))?;
-    let rank = decimal(alloc, u64::from(of.rank))?;
-    push_line(text, &[b"rank", &guid, &port, &rank])
+impl HasRow for Rank {
+    ghost use Rattle.ib_lines.specs.Ranks.{rank_row};
+
+    ghost words = { rank_row };
+
+    fn push(&self, alloc: Global, text: &mut Vec<u8>) -> Result<(), OutOfMemory> {
+        push_row(
+            alloc,
+            text,
+            Text(b"rank"),
+            &[
+                Guid(self.guid),
+                Number(u64::from(self.port)),
+                Number(u64::from(self.rank)),
+            ],
+        )
+    }
 }
 
 /// The text of the answer for ranks.
@@ -76,14 +85,18 @@ pub fn print_verified(alloc: Global, answer: &Verified) -> Result<Vec<u8>, OutOf
     ensures { IfOk result (λ text. text.items ≡ verified_text answer.now) }
 {
     let mut text = Vec::new(alloc);
-    push_line(&mut text, &[b"fabric", b"1"])?;
-    let traffic = answer.traffic.as_bytes();
-    push_line(
-        &mut text,
-        &[b"judged", b"traffic", traffic, b"lanes", b"one"],
-    )?;
-    push_risen(alloc, &mut text, answer.rise)?;
-    Ok(text)
+    match push_verified(alloc, &mut text, answer) {
+        Ok(()) => Ok(text),
+        Err(error) => Err(error),
+    }
+}
+
+fn push_verified(alloc: Global, text: &mut Vec<u8>, answer: &Verified) -> Result<(), OutOfMemory>
+    ensures { OnOk result (text.new.items ≡ text.old.items ++ verified_text answer.now) }
+{
+    push_row(alloc, text, Text(b"fabric"), &[Text(b"1")])?;
+    push_judged(alloc, text, answer.traffic.as_bytes())?;
+    push_risen(alloc, text, answer.rise)
 }
 
 // Whether ranks fall, or the dependency along which they do not.
@@ -91,11 +104,10 @@ fn push_risen(alloc: Global, text: &mut Vec<u8>, rise: Option<Risen>) -> Result<
     ensures { OnOk result (text.new.items ≡ text.old.items ++ lines_text (risen_rows rise)) }
 {
     let Some(rise) = rise else {
-        return push_line(text, &[b"ranks", b"fall"]);
+        return push_row(alloc, text, Text(b"ranks"), &[Text(b"fall")]);
     };
-    push_line(text, &[b"ranks", b"rise"])?;
-    push_channel(alloc, text, rise.step)?;
-    push_rank(alloc, text, rise.own)?;
-    push_rank(alloc, text, rise.next)?;
-    Ok(())
+    push_row(alloc, text, Text(b"ranks"), &[Text(b"rise")])?;
+    rise.step.push(alloc, text)?;
+    rise.own.push(alloc, text)?;
+    rise.next.push(alloc, text)
 }

@@ -1,6 +1,6 @@
 use Rattle.std.proofs.Common.{◌≡◌, ◌++◌, take}
 use Rattle.ib_lines.specs.Pictures.{escaped}
-use Rattle.ib_lines.proofs.picture.push_escaped.Given as goal
+use Rattle.ib_lines.proofs.label.push_escaped.Given as goal
 
 -- the bytes so far
 abbrev pub invariant-bytes : goal.invariant-bytes

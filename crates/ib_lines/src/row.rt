@@ -1,0 +1,130 @@
+//! Rows of words, as they are printed.
+
+ghost use Rattle.std.specs.Prelude.{◌≡◌, ◌<◌, ◌++◌, ◌∷◌, List, ℕ, map, OnOk};
+ghost use Rattle.text_lines.specs.Lines.{line_text, lines_text};
+ghost use Rattle.text_lines.specs.Words.{hex_text, hex_glyph};
+ghost use Rattle.ib_lines.specs.Answers.{guid_word};
+ghost use Rattle.ib_lines.specs.Pictures.{closed_word, label_word, switch_word};
+ghost use Rattle.ib_lines.specs.RowWords.{word_text};
+
+use crate::label::push_label;
+use an_base::memory::OutOfMemory;
+use an_base::text::push_decimal;
+use std::alloc::{AllocError, Global};
+
+/// A word of a row.
+#[derive(Clone, Copy)]
+pub(crate) enum RowWord<'a> {
+    /// These bytes.
+    Text(&'a [u8]),
+    /// A number, in decimal.
+    Number(u64),
+    /// A GUID.
+    Guid(u64),
+    /// A GUID in quotes.
+    Quoted(u64),
+    /// A GUID at the end of a text in quotes.
+    Closed(u64),
+    /// The label of a switch with this name.
+    Label(&'a [u8]),
+}
+
+/// What has a row in a text.
+pub(crate) trait HasRow {
+    /// The words of its row.
+    ghost words: { Self → List (List ℕ) };
+
+    /// Appends its row.
+    fn push(&self, alloc: Global, text: &mut Vec<u8>) -> Result<(), OutOfMemory>
+        ensures { OnOk result (text.new.items ≡ text.old.items ++ line_text (words self.now)) };
+}
+
+/// Appends the row of each item.
+pub(crate) fn push_rows<T: HasRow>(
+    alloc: Global,
+    text: &mut Vec<u8>,
+    items: &[T],
+) -> Result<(), OutOfMemory>
+    ensures { OnOk result (text.new.items ≡ text.old.items ++ lines_text (map T.words items.now)) }
+{
+    'items: for item in items {
+        item.push(alloc, text)?;
+    }
+    Ok(())
+}
+
+/// Appends a row: its words are joined by one space each, and a line feed follows.
+pub(crate) fn push_row(
+    alloc: Global,
+    text: &mut Vec<u8>,
+    first: RowWord,
+    more: &[RowWord],
+) -> Result<(), OutOfMemory>
+    ensures { OnOk result
+        (text.new.items ≡ text.old.items ++ line_text (word_text first.entry ∷ map word_text more.now)) }
+{
+    push_word(alloc, text, first)?;
+    'words: for word in more {
+        text.push(b' ')?;
+        push_word(alloc, text, *word)?;
+    }
+    text.push(b'\n')?;
+    Ok(())
+}
+
+fn push_word(alloc: Global, text: &mut Vec<u8>, word: RowWord) -> Result<(), AllocError>
+    ensures { OnOk result (text.new.items ≡ text.old.items ++ word_text word.entry) }
+{
+    match word {
+        RowWord::Text(bytes) => text.extend_from_slice(bytes),
+        RowWord::Number(number) => push_decimal(alloc, text, number),
+        RowWord::Guid(guid) => push_guid(text, guid),
+        RowWord::Quoted(guid) => push_quoted(text, guid),
+        RowWord::Closed(guid) => push_closed(text, guid),
+        RowWord::Label(name) => push_label(text, name),
+    }
+}
+
+fn push_guid(text: &mut Vec<u8>, guid: u64) -> Result<(), AllocError>
+    ensures { OnOk result (text.new.items ≡ text.old.items ++ guid_word guid) }
+{
+    text.extend_from_slice(b"0x")?;
+    push_hex(text, 16, guid)
+}
+
+fn push_quoted(text: &mut Vec<u8>, guid: u64) -> Result<(), AllocError>
+    ensures { OnOk result (text.new.items ≡ text.old.items ++ switch_word guid) }
+{
+    text.push(b'"')?;
+    push_closed(text, guid)
+}
+
+fn push_closed(text: &mut Vec<u8>, guid: u64) -> Result<(), AllocError>
+    ensures { OnOk result (text.new.items ≡ text.old.items ++ closed_word guid) }
+{
+    push_guid(text, guid)?;
+    text.push(b'"')?;
+    Ok(())
+}
+
+// Appends the last so many hexadecimal digits of a number.
+fn push_hex(text: &mut Vec<u8>, digits: u8, number: u64) -> Result<(), AllocError>
+    ensures { OnOk result (text.new.items ≡ text.old.items ++ hex_text digits number) }
+{
+    if digits > 0 {
+        push_hex(text, digits - 1, number / 16)?;
+        text.push(hex_glyph((number % 16) as u8))?;
+    }
+    Ok(())
+}
+
+fn hex_glyph(digit: u8) -> u8
+    requires { digit < 16 }
+    ensures { result ≡ hex_glyph digit }
+{
+    if digit < 10 {
+        b'0' + digit
+    } else {
+        b'a' + (digit - 10)
+    }
+}
