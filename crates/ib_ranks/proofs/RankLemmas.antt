@@ -1,7 +1,8 @@
 -- Texts of ranks: each line is good or faulty, and not both.
-use Rattle.std.proofs.Common.{◌≡◌, ◌∙◌, sym, ap, refl, ℕ, ◌<◌, ◌≤◌, ◌⊎◌, inl, inr, List, length, map, Bool, true, false, ltb, arith, Result, Ok, Err}
+use Rattle.std.proofs.Common.{◌≡◌, ◌∙◌, sym, ap, refl, ℕ, ◌<◌, ◌≤◌, ◌⊎◌, inl, inr, List, [], ◌∷◌, ◌++◌, ◌+◌, length, map, get_or, take, Option, Bool, true, false, ltb, arith, Result, Ok, Err}
 use Rattle.std.specs.Prelude.{unwrap_or}
 use Rattle.std.proofs.lemmas.Bool.Decides.{nat_tests}
+use Rattle.std.proofs.lemmas.List.{map_push, take_more}
 use Rattle.text_lines.specs.Lines.{lines_of, words_of}
 use Rattle.ib_net.specs.Fabric.{FabricOf}
 use Rattle.ib_ranks.specs.declared.cause.RanksCause.{RanksCause}
@@ -77,3 +78,10 @@ module _ (fabric : FabricOf) where
     | inl ends ↦ inl (map (λ rank. unwrap_or rank 0) ends.0.ranks, record { last = ends.0; good = ends.1; begun = ends.2; says = refl })
     | inr fault ↦ inr fault
   ]
+
+-- the ranks that were told, with one more
+pub ranks_more : (told : List (Option ℕ)) (i : ℕ) (d : Option ℕ) (rank : ℕ) (ranks all : List ℕ) → i < length told → rank ≡ unwrap_or (get_or told i d) 0 → ranks ≡ map (λ r. unwrap_or r 0) (take i told) → all ≡ ranks ++ rank ∷ [] → all ≡ map (λ r. unwrap_or r 0) (take (i + 1) told)
+ranks_more told i d rank ranks all low is so_far last =
+    let of = λ (r : Option ℕ). unwrap_or r 0 in
+    last ∙ ap (λ (rs : List ℕ). rs ++ rank ∷ []) so_far ∙ ap (λ (r : ℕ). map of (take i told) ++ r ∷ []) is
+    ∙ sym (map_push of (take i told) (get_or told i d)) ∙ ap (map of) (sym (take_more told i d low))
