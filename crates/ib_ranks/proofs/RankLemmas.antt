@@ -1,5 +1,5 @@
 -- Texts of ranks: each line is good or faulty, and not both.
-use Rattle.std.proofs.Common.{◌≡◌, ◌∙◌, sym, ap, refl, ℕ, ◌<◌, ◌≤◌, ◌⊎◌, inl, inr, List, [], ◌∷◌, ◌++◌, ◌+◌, length, map, get_or, take, Option, Bool, true, false, ltb, arith, Result, Ok, Err}
+use Rattle.std.proofs.Common.{◌≡◌, ◌∙◌, sym, ap, refl, ℕ, ◌<◌, ◌≤◌, ◌⊎◌, inl, inr, List, [], ◌∷◌, ◌++◌, ◌+◌, length, map, get_or, take, Option, Bor, Bool, true, false, ltb, arith, Result, Ok, Err}
 use Rattle.std.specs.Prelude.{unwrap_or}
 use Rattle.std.proofs.lemmas.Bool.Decides.{nat_tests}
 use Rattle.std.proofs.lemmas.List.{map_push, take_more}
@@ -8,12 +8,27 @@ use Rattle.ib_net.specs.Fabric.{FabricOf}
 use Rattle.ib_ranks.specs.declared.cause.RanksCause.{RanksCause}
 use Rattle.ib_ranks.specs.declared.cause.RanksCause.TheVariants.{LineTooLong, NoHead}
 use Rattle.text_lines.proofs.ChainLaws.{LeadsBy-once, end_or_fault, no_fault_of, one_fault_of}
-use Rattle.ib_ranks.specs.RankLines.{said_by, said_in}
+use Rattle.ib_ranks.specs.RankLines.{said_by, said_by_four, said_by_two, said_in}
 use Rattle.ib_ranks.specs.Ranks.{AddsTo, HasBegun, IsFaultyAfter, IsRanksFault, IsRanksText, Step, Told, none_told, told_by, told_with}
 use Rattle.ib_ranks.specs.declared.line.RankLine.{RankLine}
 use Rattle.text_lines.specs.Stops.{IsStep}
 use Rattle.text_lines.specs.declared.stop.Stop.{Stop}
 use Rattle.text_lines.specs.declared.stop.Stop.TheVariants.{Fault, OutOfMemory}
+
+-- what two words say, and four
+pub by_two : (words : List (Bor (List ℕ))) (d : Bor (List ℕ)) → length words ≡ 2 → said_by_two (get_or words 0 d).now (get_or words 1 d).now ≡ said_by (map (λ w. w.now) words)
+by_two [] d two = absurd (omega arith)
+by_two (a ∷ []) d two = absurd (omega arith)
+by_two (a ∷ b ∷ []) d two = refl
+by_two (a ∷ b ∷ e ∷ more) d two = absurd (omega arith)
+
+pub by_four : (words : List (Bor (List ℕ))) (d : Bor (List ℕ)) → length words ≡ 4 → said_by_four (get_or words 0 d).now (get_or words 1 d).now (get_or words 2 d).now (get_or words 3 d).now ≡ said_by (map (λ w. w.now) words)
+by_four [] d four = absurd (omega arith)
+by_four (a ∷ []) d four = absurd (omega arith)
+by_four (a ∷ b ∷ []) d four = absurd (omega arith)
+by_four (a ∷ b ∷ e ∷ []) d four = absurd (omega arith)
+by_four (a ∷ b ∷ e ∷ f ∷ []) d four = refl
+by_four (a ∷ b ∷ e ∷ f ∷ g ∷ more) d four = absurd (omega arith)
 
 -- what a line says by its words
 pub said_words : (line : List ℕ) (words : List (List ℕ)) → length line ≤ 200 → words ≡ words_of line → said_in line ≡ said_by words
