@@ -65,9 +65,9 @@ impl Connectivity {
         self.nonce
     }
 
-    /// The number of the next probe, which goes out now. Fewer than 2^32 went out before.
+    /// The number of the next probe, which goes out now. Fewer than 2^63 went out before.
     pub fn probe(&mut self) -> u64
-        requires { self.old.nonce < 2 ^ 32 }
+        requires { self.old.nonce < 2 ^ 63 }
         ensures nonce { result ≡ self.new.nonce }
         ensures after { self.new ≡ probed self.old }
     {

@@ -51,11 +51,11 @@ impl Monitor {
     }
 
     /// One clock at a port, with its sample, and the number of the probe that goes out. Fewer than
-    /// 2^32 went out before.
+    /// 2^63 went out before.
     pub fn sample(&mut self, port: u8, sample: Sample) -> Option<u64>
         requires least { 1 ≤ port }
         requires most { port ≤ LAST_PORT }
-        requires few { (p : Port) → slice_get self.old.ports (port - 1) ≡ Some p → p.far.nonce < 2 ^ 32 }
+        requires few { (p : Port) → slice_get self.old.ports (port - 1) ≡ Some p → p.far.nonce < 2 ^ 63 }
         ensures life { self.new.life ≡ self.old.life }
         ensures after { (histories : ℕ → History) → IsAfter self.old histories → IsAfter self.new (with_happening port (Sampled sample) histories) }
         ensures probe { (histories : ℕ → History) → IsAfter self.old histories → result ≡ probe_of (port_after (record { life = self.old.life; port = port }) (Sampled sample ∷ histories port)) }

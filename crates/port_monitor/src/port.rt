@@ -45,7 +45,7 @@ impl Port {
 
     /// One clock with this sample, and the number of the probe that goes out.
     pub fn sample(&mut self, sample: Sample) -> Option<u64>
-        requires { self.old.far.nonce < 2 ^ 32 }
+        requires { self.old.far.nonce < 2 ^ 63 }
         ensures after { self.new ≡ sampled sample self.old }
         ensures probe { result ≡ probe_of self.new }
     {
@@ -131,7 +131,7 @@ impl Port {
 
     // One clock at a port that is not down.
     fn keep_up(&mut self, is_host: bool)
-        requires { self.old.far.nonce < 2 ^ 32 }
+        requires { self.old.far.nonce < 2 ^ 63 }
         ensures { self.new ≡ kept_up self.old.phase is_host self.old }
     {
         match self.phase {
@@ -152,7 +152,7 @@ impl Port {
 
     // What is at the other end of a port that was checked.
     fn enter(&mut self, is_host: bool)
-        requires { self.old.far.nonce < 2 ^ 32 }
+        requires { self.old.far.nonce < 2 ^ 63 }
         ensures { self.new ≡ entered is_host self.old }
     {
         self.status.clear();
