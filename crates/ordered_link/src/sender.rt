@@ -11,7 +11,7 @@ use std::marker::Model;
 pub const WINDOW: usize = 8;
 
 /// After how many ticks an outstanding body is sent again.
-pub const PATIENCE: u32 = 4;
+pub const PATIENCE: u64 = 4;
 
 /// The sender of one direction of a session. Bodies are numbered from 1 in the order in which they
 /// are pushed; at most eight are outstanding, which is sent and not acknowledged, and the others
@@ -20,7 +20,7 @@ pub const PATIENCE: u32 = 4;
 pub struct Sender {
     acked: u32,
     outstanding: usize,
-    sent: [u32; 8],
+    sent: [u64; 8],
     bodies: VecDeque<Body>,
 }
 
@@ -32,7 +32,7 @@ impl Model for Sender {
 
     ghost view = { λ s. record { acked = s.acked; sent = take s.outstanding s.sent; bodies = s.bodies.items } };
 
-    ghost invariant = { λ s. (s.outstanding ≤ 8) × (s.outstanding ≤ length s.bodies.items) × (s.acked + length s.bodies.items ≤ 2 ^ 30) };
+    ghost invariant = { λ s. (s.outstanding ≤ 8) × (s.outstanding ≤ length s.bodies.items) × (s.acked + length s.bodies.items ≤ 2 ^ 31) };
 }
 
 impl Sender {
@@ -52,8 +52,8 @@ impl Sender {
     /// Pushes a body at this tick. It is sent now, with the number that is answered, unless eight
     /// bodies are outstanding or another one waits; then it waits, and none is answered. After want of
     /// memory the sender is as it was.
-    pub fn push(&mut self, body: Body, now: u32) -> Result<Option<u32>, OutOfMemory>
-        requires { self.old.acked + length self.old.bodies < 2 ^ 30 }
+    pub fn push(&mut self, body: Body, now: u64) -> Result<Option<u32>, OutOfMemory>
+        requires { self.old.acked + length self.old.bodies < 2 ^ 31 }
         ensures ok { IfOk result (λ number. (s : Sending) → IsKeptOf self.old s → IsKeptOf self.new (push body now s) × (number ≡ sent_by_push body s)) }
         ensures out { IfOk result (λ number. IfSome number (IsOut self.new)) }
         ensures err { OnErr result (self.new ≡ self.old) }
@@ -68,7 +68,7 @@ impl Sender {
 
     /// The number of the first waiting body, which is sent at this tick; none exactly where eight are
     /// outstanding or none waits, and then nothing changes.
-    pub fn more(&mut self, now: u32) -> Option<u32>
+    pub fn more(&mut self, now: u64) -> Option<u32>
         ensures sent { (s : Sending) → IsKeptOf self.old s → IsKeptOf self.new (send_next now s) × (result ≡ next_to_send s) }
         ensures out { IfSome result (IsOut self.new) }
     {
@@ -83,7 +83,7 @@ impl Sender {
     /// An acknowledgement of all bodies up to `n` comes at this tick. It counts where `n` is the number
     /// of an outstanding body: then these bodies are acknowledged, and the first waiting one is sent,
     /// with the number that is answered. None exactly where it does not count or none waits.
-    pub fn on_ack(&mut self, n: u32, now: u32) -> Option<u32>
+    pub fn on_ack(&mut self, n: u32, now: u64) -> Option<u32>
         ensures sent { (s : Sending) → IsKeptOf self.old s → IsKeptOf self.new (acknowledge n now s) × (result ≡ sent_by_ack n s) }
         ensures out { IfSome result (IsOut self.new) }
     {
@@ -96,7 +96,7 @@ impl Sender {
 
     /// The lowest number of an outstanding body that was last sent at least four ticks ago; none
     /// exactly where there is none.
-    pub fn due(&self, now: u32) -> Option<u32>
+    pub fn due(&self, now: u64) -> Option<u32>
         ensures out { IfSome result (IsOut self.now) }
         ensures due { IfSome result (λ k. (s : Sending) → IsKeptOf self.now s → IsDue s now k) }
         ensures least { IfSome result (λ k. (s : Sending) (j : ℕ) → IsKeptOf self.now s → IsDue s now j → k ≤ j) }
@@ -108,7 +108,7 @@ impl Sender {
     }
 
     /// The outstanding body with the number `k` is sent again at this tick.
-    pub fn resent(&mut self, k: u32, now: u32)
+    pub fn resent(&mut self, k: u32, now: u64)
         requires { IsOut self.old k }
         ensures { (s : Sending) → IsKeptOf self.old s → IsKeptOf self.new (send_again k now s) }
     {
@@ -123,7 +123,7 @@ impl Sender {
         &self.bodies[(k - self.acked - 1) as usize]
     }
 
-    /// How many bodies were pushed, at most 2^30.
+    /// How many bodies were pushed, at most 2^31.
     pub fn pushed(&self) -> u32
         ensures pushed { result ≡ self.now.acked + length self.now.bodies }
         ensures stands { (s : Sending) → IsKeptOf self.now s → result ≡ length s.pushed }
@@ -161,7 +161,7 @@ fn drop_front(bodies: &mut VecDeque<Body>, count: usize)
 }
 
 // The first place with a tick that is at most the latest.
-fn first_until(ticks: &[u32], latest: u32) -> Option<usize>
+fn first_until(ticks: &[u64], latest: u64) -> Option<usize>
     ensures some { IfSome result (λ i. (i < length ticks.now) × (slice_index_or ticks.now i 0 ≤ latest)) }
     ensures least { IfSome result (λ i. (j : ℕ) → j < i → latest < slice_index_or ticks.now j 0) }
     ensures none { IfNone result ((j : ℕ) → j < length ticks.now → latest < slice_index_or ticks.now j 0) }
