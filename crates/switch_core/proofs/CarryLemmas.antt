@@ -39,9 +39,9 @@ some_joined None joined card log is has = absurd (true≢false (sym is ∙ has))
 some_joined (Some core) joined card log is has = refl
 
 -- a core of few bodies has versions left for a window
-accepting_with : (o : Option CoreOf) (joined : Bool) (card : CardOf) (log : Log) (works held : ℕ) → is_some o ≡ true → HasJoined o joined card log → suc (length log + held) ≤ works → works < 2 ^ 28 → HasAccepting o
-accepting_with None joined card log works held some has came few = absurd (true≢false (sym some))
-accepting_with (Some core) joined card log works held some has came few =
+accepting_with : (o : Option CoreOf) (joined : Bool) (card : CardOf) (log : Log) (carried held : ℕ) → is_some o ≡ true → HasJoined o joined card log → length log + held ≤ carried → carried < 2 ^ 28 → HasAccepting o
+accepting_with None joined card log carried held some has came few = absurd (true≢false (sym some))
+accepting_with (Some core) joined card log carried held some has came few =
     let same : core.version ≡ version card log = has.1.stands.version ∙ ap (λ (c : CardOf). version c log) has.1.joined_with in
     let most = version_few card log in
     (core, refl, omega (arith, same, most, came, few))
@@ -51,7 +51,7 @@ pub room_accepts : (c : Control) → HasRoom c → is_some c.core ≡ true → H
 room_accepts c room some =
     let s = room.switch in
     let joined = joined_some c.core s.joined s.card s.log some room.stands.joined in
-    accepting_with c.core s.joined s.card s.log room.works (all_held s.receivings) some room.stands.joined (room.sound.came joined) room.few
+    accepting_with c.core s.joined s.card s.log room.carried (all_held s.receivings) some room.stands.joined (room.sound.came joined) room.few_carried
 
 -- a body was received, and it is acknowledged
 abbrev pub acknowledged : ℕ → EndId → ℕ → Body → SwitchOf → Step
@@ -94,22 +94,23 @@ numbers_then port k peer body old mid acked sends answer x y least most room som
       switch = receives port k body s;
       stands = (acks_it s room.stands).0;
       numbers = λ q.
-          subst (λ xs. length (s.sendings q).pushed + length (on_port q xs) ≤ 2 ^ 30) (sym (receives_it.sends s room.stands))
-          (numbers_of_body room.works port k body s room.sound joined room.few least most q);
+          subst (λ xs. length (s.sendings q).pushed + length (on_port q xs) ≤ 2 ^ 31) (sym (receives_it.sends s room.stands))
+          (numbers_of_body room.works room.carried port k body s room.sound joined room.few_carried least most q);
     }
 
 -- a switch that works has room once more when it has joined another epoch
-pub room_joined : (epoch : ℕ) (old new : Control) (x y : List BytesOut) → HasRoom old → is_some old.core ≡ true → Does (joins epoch) old new x y → HasRoom new
-room_joined epoch old new x y room some does =
+pub room_joined : (epoch : ℕ) (old new : Control) (x y : List BytesOut) → HasRoom old → Does (joins epoch) old new x y → HasRoom new
+room_joined epoch old new x y room does =
     let s = room.switch in
-    let joined = joined_some old.core s.joined s.card s.log some room.stands.joined in
     record {
       works = room.works;
+      carried = room.carried;
       switch = (joins epoch s).switch;
       few = room.few;
+      few_carried = room.few_carried;
       working = joins_spent epoch s ∙ room.working;
       stands = (does s room.stands).0;
-      sound = sound_joins room.works epoch s (omega (arith, room.sound.came joined)) room.sound;
+      sound = sound_joins room.works room.carried epoch s room.sound;
     }
 
 -- and it keeps a core then
@@ -177,4 +178,4 @@ does_else test f g old new x y fails does s stands = subst (λ b. Done new x y (
 pub counts_joined : (port : ℕ) (from to : EndId) (c : Control) → HasRoom c → ((s : SwitchOf) → Stands c s → true ≡ counts s port from to) → is_some c.core ≡ true
 counts_joined port from to c room counts_it =
     let s = room.switch in
-    some_joined c.core s.joined s.card s.log (counted_joined room.works port from to s room.sound room.working (sym (counts_it s room.stands))) room.stands.joined
+    some_joined c.core s.joined s.card s.log (counted_joined room.works room.carried port from to s room.sound room.working (sym (counts_it s room.stands))) room.stands.joined

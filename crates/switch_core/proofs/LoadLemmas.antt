@@ -1,5 +1,5 @@
 -- What a switch has finished with, and its table, by what it stands for.
-use Rattle.std.proofs.Common.{◌≡◌, ◌∙◌, sym, ap, subst, refl, ℕ, List, Option, Some, None, Any, Bool, true, false, cond, option_copied, Bor}
+use Rattle.std.proofs.Common.{◌≡◌, ◌∙◌, sym, ap, subst, ℕ, List, Option, Some, None, Any, Bool, true, false, cond, option_copied, Bor}
 use Rattle.std.proofs.lemmas.Option.{none-some}
 use Rattle.an_base.specs.Values.{EntryOf, LifeId, TopoOf}
 use Rattle.table_build.specs.Tables.{IsTableOf, TableOf}

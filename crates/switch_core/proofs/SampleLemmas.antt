@@ -92,7 +92,7 @@ sampled_all old c n now samples before out last does s stands =
     )
 
 -- the port that is sampled next was not sampled yet, and so fewer probes went out there than the switch has done works
-pub few_probes : (old c : Control) (i port now : ℕ) (samples : List Sample) (before out : List BytesOut) → HasRoom old → i < 12 → port ≡ get_or externals i 0 → Does (probed_to i now samples) old c before out → (p : Port) → slice_get c.monitor.ports (port - 1) ≡ Some p → p.far.nonce < 2 ^ 32
+pub few_probes : (old c : Control) (i port now : ℕ) (samples : List Sample) (before out : List BytesOut) → HasRoom old → i < 12 → port ≡ get_or externals i 0 → Does (probed_to i now samples) old c before out → (p : Port) → slice_get c.monitor.ports (port - 1) ≡ Some p → p.far.nonce < 2 ^ 63
 few_probes old c i port now samples before out has low here does p there =
     let s = has.switch in
     let stands = (does s has.stands).0 in

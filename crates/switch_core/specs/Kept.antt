@@ -1,7 +1,7 @@
 -- What callers see of a switch: for which switch of the definition it stands, and what comes of a clock, a
 -- frame or a load.
 
-use Rattle.std.specs.Prelude.{◌≡◌, ℕ, ◌≤◌, List, [], length, Some, Bool, true, false}
+use Rattle.std.specs.Prelude.{◌≡◌, ℕ, ◌+◌, ◌-◌, ◌≤◌, List, [], length, Some, Bool, true, false}
 use Rattle.an_base.specs.Numbers.{AreNumbers}
 use Rattle.an_base.specs.Values.{TopoOf}
 use Rattle.an_base.specs.declared.frame.Frame.{Frame}
@@ -12,16 +12,25 @@ use Rattle.frame_codec.specs.Spelling.{spelling}
 use Rattle.topo_graph.specs.Topology.{IsGraph}
 use Rattle.table_build.specs.Tables.{TableOf, IsTableOf}
 use Rattle.switch_core.specs.declared.control.Control.{Control}
+use Rattle.switch_core.specs.declared.control.Arrival.{Arrival}
+use Rattle.switch_core.specs.declared.control.Arrival.TheVariants.{NoFrame, Bodiless, Body}
 use Rattle.switch_core.specs.Bytes.{OutOf, all_spelled}
 use Rattle.switch_core.specs.Switch.{StartOf, SwitchOf, finish_of}
 use Rattle.switch_core.specs.Steps.{clocked, framed, is_spent_by, loaded, sampled_by}
+use Rattle.switch_core.specs.Sound.{carries}
 use Rattle.switch_core.specs.Stands.{Stands}
 
--- what it was started with, what is kept of what happened to it, and how many clocks and frames came
+-- what it was started with, what is kept of what happened to it, how many clocks and frames came, and how
+-- many of these carried no body
 pub record KeptOf : Type 0 where
   pub start : StartOf
   pub control : Control
   pub works : ℕ
+  pub bodiless : ℕ
+
+-- how many frames with a body came
+abbrev pub carried : KeptOf → ℕ
+carried kept = kept.works - kept.bodiless
 
 -- what is kept is that of all that happened to this switch
 abbrev pub StandsFor : KeptOf → SwitchOf → Type 0
@@ -49,6 +58,22 @@ pub record Handles (port : ℕ) (bytes : List ℕ) (switch : SwitchOf) (Is : Swi
       → Is (framed port frame switch).switch
       × (out ≡ record { frames = all_spelled (framed port frame switch).frames; noframe = false })
   pub no_frame : IsNoFrame bytes → Is switch × (out ≡ record { frames = []; noframe = true })
+
+-- what bytes that come in are: whether they are no frame, and how many bodies they carry
+abbrev pub is_noframe : Arrival → Bool
+is_noframe NoFrame = true
+is_noframe Bodiless = false
+is_noframe Body = false
+
+abbrev pub bodies : Arrival → ℕ
+bodies NoFrame = 0
+bodies Bodiless = 0
+bodies Body = 1
+
+-- bytes came, and the bodies of the frame that they are were counted
+pub record Counts (bytes : List ℕ) (before after : ℕ) : Type 0 where
+  pub frame : (frame : Frame) → IsFrame frame → bytes ≡ spelling frame → after ≡ before + carries frame
+  pub no_frame : IsNoFrame bytes → after ≡ before
 
 -- a clock came, and it is answered whether no epoch is left for a change that is due
 pub record Ticks (now : ℕ) (samples : List Sample) (switch : SwitchOf) (Is : SwitchOf → Type 0) (out : OutOf)

@@ -3,6 +3,8 @@
 
 use Rattle.std.specs.Prelude.{◌≡◌, ◌==◌, ℕ, zero, suc, ◌+◌, ◌*◌, ◌<◌, ◌≤◌, List, map, sum, filter, length, None, false, true, is_some, if◌then◌else◌}
 use Rattle.an_base.specs.Values.{PeerAt}
+use Rattle.an_base.specs.declared.frame.Frame.{Frame}
+use Rattle.an_base.specs.declared.frame.Frame.TheVariants.{Carry, Ack, Probe, Reply}
 use Rattle.an_base.specs.declared.limits.TheConstants.{MOST_NUMBER}
 use Rattle.ordered_link.specs.Receiving.{Receiving, last}
 use Rattle.port_monitor.specs.Histories.{externals}
@@ -24,8 +26,15 @@ all_held receivings = sum (map (λ port. held_count (receivings port)) externals
 abbrev pub links_at : ℕ → List PeerAt → List PeerAt
 links_at port links = filter (λ link. link.port == port) links
 
--- What is always so of a switch after so many clocks and frames:
-pub record IsSound (works : ℕ) (switch : SwitchOf) : Type 0 where
+-- how many bodies a frame carries
+abbrev pub carries : Frame → ℕ
+carries (Carry carry) = 1
+carries (Ack epoch from to number) = 0
+carries (Probe from nonce) = 0
+carries (Reply from to nonce) = 0
+
+-- What is always so of a switch after so many clocks and frames, of which so many carried a body:
+pub record IsSoundBy (works carried : ℕ) (switch : SwitchOf) : Type 0 where
   -- its card is of its life, and its number is one of 1 to 126
   pub me : switch.card.me ≡ switch.life
   pub least : 1 ≤ switch.number
@@ -43,6 +52,10 @@ pub record IsSound (works : ℕ) (switch : SwitchOf) : Type 0 where
   -- a frame
   pub near : (port number : ℕ) → last (switch.receivings port) + 8 < number
       → (switch.receivings port).held number ≡ None
-  pub came : switch.joined ≡ true → suc (length switch.log + all_held switch.receivings) ≤ works
+  pub came : switch.joined ≡ true → length switch.log + all_held switch.receivings ≤ carried
   -- and at each port at most four bodies were pushed for each one that was accepted, and one more
   pub pushed : (port : ℕ) → length (switch.sendings port).pushed ≤ 1 + 4 * length switch.log
+
+-- and so if each of them may have carried one
+abbrev pub IsSound : ℕ → SwitchOf → Type 0
+IsSound works = IsSoundBy works works

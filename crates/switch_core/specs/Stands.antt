@@ -16,7 +16,7 @@ use Rattle.switch_core.specs.declared.control.Control.{Control}
 use Rattle.switch_core.specs.Sessions.{AreSessions}
 use Rattle.switch_core.specs.Switch.{SwitchOf, at_port}
 use Rattle.switch_core.specs.Steps.{Step, carried_to, receives, all_added, log_with, ack_to, sampled_by, probes, accepts, is_spent_by, clocked}
-use Rattle.switch_core.specs.Sound.{IsSound}
+use Rattle.switch_core.specs.Sound.{IsSoundBy}
 use Rattle.switch_core.specs.Bytes.{BytesOut, all_spelled}
 
 -- what is kept of an epoch is that of the bodies that were accepted in it
@@ -60,7 +60,7 @@ Becomes change old new = (switch : SwitchOf) → Stands old switch → Stands ne
 pub record HasNumbers (control : Control) (items : List OnPort) : Type 0 where
   pub switch : SwitchOf
   pub stands : Stands control switch
-  pub numbers : (port : ℕ) → length (switch.sendings port).pushed + length (on_port port items) ≤ 2 ^ 30
+  pub numbers : (port : ℕ) → length (switch.sendings port).pushed + length (on_port port items) ≤ 2 ^ 31
 
 -- the number that it proposes is that of a table
 pub record MayJoin (control : Control) : Type 0 where
@@ -128,20 +128,22 @@ abbrev pub probed : ℕ → List Sample → SwitchOf → Step
 probed now samples switch =
     record { switch = sampled_by now samples switch; frames = probes (sampled_by now samples switch) }
 
--- so many clocks and frames lead to what is kept
-pub record HasState (works : ℕ) (control : Control) : Type 0 where
+-- so many clocks and frames, of which so many carried a body, lead to what is kept
+pub record HasState (works carried : ℕ) (control : Control) : Type 0 where
   pub switch : SwitchOf
   pub stands : Stands control switch
-  pub sound : IsSound works switch
+  pub sound : IsSoundBy works carried switch
 
 -- the switch works, and its numbers are far from their ends
 pub record HasRoom (control : Control) : Type 0 where
   pub works : ℕ
+  pub carried : ℕ
   pub switch : SwitchOf
-  pub few : works < 2 ^ 28
+  pub few : works < 2 ^ 60
+  pub few_carried : carried < 2 ^ 28
   pub working : switch.spent ≡ false
   pub stands : Stands control switch
-  pub sound : IsSound works switch
+  pub sound : IsSoundBy works carried switch
 
 abbrev pub accepting : ℕ → Body → SwitchOf → SwitchOf
 accepting port body switch =

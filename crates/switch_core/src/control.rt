@@ -9,7 +9,8 @@ ghost use Rattle.switch_core.specs.Steps.{all_pushed, all_resent, answers_body, 
 ghost use Rattle.switch_core.specs.Bytes.{BytesOut};
 ghost use Rattle.switch_core.specs.Sessions.{IsOutAt};
 ghost use Rattle.switch_core.specs.Stands.{answered, Accepts, AcceptsInTurn, Clocks, Does, HasAccepting, HasNumbers, HasRoom, HasState, HasWindows, IsSame, MayJoin, Carries, probed, Receives, Stands};
-ghost use Rattle.switch_core.specs.Kept.{Handles, Loads};
+ghost use Rattle.switch_core.specs.Kept.{Counts, Handles, Loads, bodies, is_noframe};
+ghost use Rattle.switch_core.specs.Sound.{carries};
 
 use crate::out::Frames;
 use crate::session::Sessions;
@@ -55,7 +56,7 @@ pub struct Control {
     /// Whether it has finished and is to load a table.
     pub load_due: bool,
     /// The tick of the last clock.
-    pub tick: u32,
+    pub tick: u64,
     /// Whether its epochs are spent.
     pub spent: bool,
     /// The bytes in which it writes a frame.
@@ -73,6 +74,30 @@ pub struct PowerOn {
     pub had: u8,
     /// Whether its tables are to have all legal routes, else the least ones alone.
     pub any: bool,
+}
+
+/// What bytes that come in are.
+#[derive(Clone, Copy)]
+pub enum Arrival {
+    /// No frame.
+    NoFrame,
+    /// A frame that carries no body.
+    Bodiless,
+    /// A frame that carries a body.
+    Body,
+}
+
+impl Arrival {
+    // What the bytes of a frame are.
+    fn of(frame: &Frame) -> Self
+        ensures frame { is_noframe result ≡ false }
+        ensures bodies { bodies result ≡ carries frame.now }
+    {
+        match frame {
+            Frame::Carry(_) => Arrival::Body,
+            Frame::Ack { .. } | Frame::Probe { .. } | Frame::Reply { .. } => Arrival::Bodiless,
+        }
+    }
 }
 
 // The other end of the link at a port, if there is one.
@@ -425,23 +450,31 @@ impl Control {
         }
     }
 
-    /// Bytes come by a port, 1 to 12. Answers whether they are a frame.
-    pub fn handle(&mut self, bytes: &[u8], port: u8, out: &mut Frames) -> Result<bool, OutOfMemory>
+    /// Bytes come by a port, 1 to 12. Answers what they are.
+    pub fn handle(
+        &mut self,
+        bytes: &[u8],
+        port: u8,
+        out: &mut Frames,
+    ) -> Result<Arrival, OutOfMemory>
         requires least { 1 ≤ port }
         requires most { port ≤ LAST_PORT }
         requires room { HasRoom self.old }
         requires none { out.old ≡ [] }
         ensures handled { (s : SwitchOf) → Stands self.old s
-            → IfOk result (λ is_frame. Handles port bytes.now s (Stands self.new) (record { frames = out.new; noframe = not is_frame })) }
-        ensures state { (works : ℕ) → HasState works self.old → OnOk result (HasState (works + 1) self.new) }
+            → IfOk result (λ arrival. Handles port bytes.now s (Stands self.new) (record { frames = out.new; noframe = is_noframe arrival })) }
+        ensures counts { (before : ℕ) → IfOk result (λ arrival. Counts bytes.now before (before + bodies arrival)) }
+        ensures state { (works carried : ℕ) → HasState works carried self.old
+            → IfOk result (λ arrival. HasState (works + 1) (carried + bodies arrival) self.new) }
         ensures working { OnOk result (self.new.spent ≡ false) }
     {
         match decode(self.alloc, bytes) {
             Ok(frame) => {
+                let arrival = Arrival::of(&frame);
                 self.on_frame(port, frame, out)?;
-                Ok(true)
+                Ok(arrival)
             }
-            Err(DecodeRefusal::NotAFrame) => Ok(false),
+            Err(DecodeRefusal::NotAFrame) => Ok(Arrival::NoFrame),
             Err(DecodeRefusal::OutOfMemory) => Err(OutOfMemory),
         }
     }
@@ -449,7 +482,7 @@ impl Control {
     // One clock at each port: its sample, and the probe that goes out.
     fn sample(
         &mut self,
-        now: u32,
+        now: u64,
         samples: &[Sample; 12],
         out: &mut Frames,
     ) -> Result<(), OutOfMemory>
@@ -509,7 +542,7 @@ impl Control {
     /// is left for.
     pub fn clock(
         &mut self,
-        now: u32,
+        now: u64,
         samples: &[Sample; 12],
         out: &mut Frames,
     ) -> Result<bool, OutOfMemory>
@@ -601,7 +634,7 @@ impl Control {
 
     /// Loads the table of what the life has finished with. After want of memory nothing has changed.
     pub fn load(&mut self) -> Result<Table, OutOfMemory>
-        requires state { (works : ℕ) × HasState works self.old }
+        requires state { (works carried : ℕ) × HasState works carried self.old }
         requires due { self.old.load_due ≡ true }
         ensures ok { (s : SwitchOf) → Stands self.old s → IfOk result (Loads s (Stands self.new)) }
         ensures err { OnErr result (self.new ≡ self.old) }

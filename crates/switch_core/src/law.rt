@@ -10,7 +10,7 @@ ghost use Rattle.ordered_link.specs.Receiving.{untouched};
 ghost use Rattle.epoch_core.specs.Log.{on_port};
 ghost use Rattle.epoch_core.specs.Epoch.{adds};
 ghost use Rattle.switch_core.specs.Switch.{CameBy, StartOf, SwitchOf, card_of, end_at, good_links, good_peer, started_as};
-ghost use Rattle.switch_core.specs.Sound.{IsSound};
+ghost use Rattle.switch_core.specs.Sound.{IsSound, IsSoundBy, carries};
 ghost use Rattle.switch_core.specs.Going.{IsSentBy};
 ghost use Rattle.switch_core.specs.Steps.{clocked, framed, joins, loaded, peer_among, still};
 
@@ -80,17 +80,20 @@ pub fn an_uncounted_frame_changes_nothing()
         → framed port (Ack epoch from to n) s ≡ still s }
 {}
 
-/// A switch is sound, which bounds its numbers by how many clocks and frames came, from its start on:
-/// each clock, each frame and each load of a number of 1 to 126 keeps it so.
+/// A switch is sound, which bounds its numbers by how many clocks and frames came and how many of these
+/// carried a body, from its start on: each clock, each frame and each load of a number of 1 to 126 keeps it
+/// so.
 pub fn a_switch_stays_sound()
-    ensures start { (x : StartOf) → 1 ≤ x.had → x.had ≤ MOST_NUMBER → IsSound 0 (started_as x) }
-    ensures more { (works later : ℕ) (s : SwitchOf) → works ≤ later → IsSound works s → IsSound later s }
-    ensures frame { (works port : ℕ) (frame : Frame) (s : SwitchOf) → 1 ≤ port → port ≤ LAST_PORT
-        → s.spent ≡ false → IsSound works s → IsSound (works + 1) (framed port frame s).switch }
-    ensures clock { (works now : ℕ) (samples : List Sample) (s : SwitchOf)
-        → IsSound works s → IsSound (works + 1) (clocked now samples s).switch }
-    ensures load { (works number : ℕ) (s : SwitchOf) → 1 ≤ number → number ≤ MOST_NUMBER
-        → IsSound works s → IsSound works (loaded number s) }
+    ensures start { (x : StartOf) → 1 ≤ x.had → x.had ≤ MOST_NUMBER → IsSoundBy 0 0 (started_as x) }
+    ensures more { (works carried later most : ℕ) (s : SwitchOf) → works ≤ later → carried ≤ most
+        → IsSoundBy works carried s → IsSoundBy later most s }
+    ensures frame { (works carried port : ℕ) (frame : Frame) (s : SwitchOf) → 1 ≤ port → port ≤ LAST_PORT
+        → s.spent ≡ false → IsSoundBy works carried s
+        → IsSoundBy (works + 1) (carried + carries frame) (framed port frame s).switch }
+    ensures clock { (works carried now : ℕ) (samples : List Sample) (s : SwitchOf)
+        → IsSoundBy works carried s → IsSoundBy (works + 1) carried (clocked now samples s).switch }
+    ensures load { (works carried number : ℕ) (s : SwitchOf) → 1 ≤ number → number ≤ MOST_NUMBER
+        → IsSoundBy works carried s → IsSoundBy works carried (loaded number s) }
 {}
 
 /// While its epochs are not spent, the links with which a switch joined its epoch are its good links.

@@ -36,8 +36,8 @@ impl Session {
     }
 
     // Pushes a body, and answers its number where it is to be sent now.
-    fn push(&mut self, body: Body, now: u32) -> Result<Option<u32>, OutOfMemory>
-        requires { self.old.sender.acked + length self.old.sender.bodies < 2 ^ 30 }
+    fn push(&mut self, body: Body, now: u64) -> Result<Option<u32>, OutOfMemory>
+        requires { self.old.sender.acked + length self.old.sender.bodies < 2 ^ 31 }
         ensures ok { IfOk result (λ number. SendsBy (push body now) (sent_by_push body) self.old self.new number) }
         ensures out { IfOk result (λ number. IfSome number (IsOut self.new.sender)) }
     {
@@ -45,7 +45,7 @@ impl Session {
     }
 
     // The number of the first waiting body, where it is to be sent now.
-    fn more(&mut self, now: u32) -> Option<u32>
+    fn more(&mut self, now: u64) -> Option<u32>
         ensures sent { SendsBy (send_next now) next_to_send self.old self.new result }
         ensures out { IfSome result (IsOut self.new.sender) }
     {
@@ -53,7 +53,7 @@ impl Session {
     }
 
     // An acknowledgement comes. Answers the number of the body that is to be sent now.
-    fn on_ack(&mut self, n: u32, now: u32) -> Option<u32>
+    fn on_ack(&mut self, n: u32, now: u64) -> Option<u32>
         ensures sent { SendsBy (acknowledge n now) (sent_by_ack n) self.old self.new result }
         ensures out { IfSome result (IsOut self.new.sender) }
     {
@@ -68,7 +68,7 @@ impl Session {
     }
 
     // The lowest number of an outstanding body that is due to be sent again.
-    fn due(&self, now: u32) -> Option<u32>
+    fn due(&self, now: u64) -> Option<u32>
         ensures first { (t : Sending) (r : Receiving) → IsSessionOf self.now t r → result ≡ first_due now t }
         ensures out { IfSome result (IsOut self.now.sender) }
     {
@@ -76,7 +76,7 @@ impl Session {
     }
 
     // An outstanding body is sent again.
-    fn resent(&mut self, k: u32, now: u32)
+    fn resent(&mut self, k: u32, now: u64)
         requires { IsOut self.old.sender k }
         ensures { (t : Sending) (r : Receiving) → IsSessionOf self.old t r → IsSessionOf self.new (send_again k now t) r }
     {
@@ -118,10 +118,10 @@ impl Sessions {
     }
 
     /// Pushes a body at a port, and answers its number where it is to be sent now.
-    pub fn push(&mut self, port: u8, body: Body, now: u32) -> Result<Option<u32>, OutOfMemory>
+    pub fn push(&mut self, port: u8, body: Body, now: u64) -> Result<Option<u32>, OutOfMemory>
         requires least { 1 ≤ port }
         requires most { port ≤ LAST_PORT }
-        requires room { OfSender self.old port (λ v. v.acked + length v.bodies < 2 ^ 30) }
+        requires room { OfSender self.old port (λ v. v.acked + length v.bodies < 2 ^ 31) }
         ensures ok { IfOk result (λ number. Sends port (push body now) (sent_by_push body) self.old self.new number) }
         ensures out { IfOk result (λ number. IfSome number (IsOutAt self.new port)) }
     {
@@ -132,7 +132,7 @@ impl Sessions {
     }
 
     /// The number of the first waiting body of a port, where it is to be sent now.
-    pub fn more(&mut self, port: u8, now: u32) -> Option<u32>
+    pub fn more(&mut self, port: u8, now: u64) -> Option<u32>
         requires least { 1 ≤ port }
         requires most { port ≤ LAST_PORT }
         ensures sent { Sends port (send_next now) next_to_send self.old self.new result }
@@ -142,7 +142,7 @@ impl Sessions {
     }
 
     /// An acknowledgement comes by a port. Answers the number of the body that is to be sent now.
-    pub fn on_ack(&mut self, port: u8, n: u32, now: u32) -> Option<u32>
+    pub fn on_ack(&mut self, port: u8, n: u32, now: u64) -> Option<u32>
         requires least { 1 ≤ port }
         requires most { port ≤ LAST_PORT }
         ensures sent { Sends port (acknowledge n now) (sent_by_ack n) self.old self.new result }
@@ -156,7 +156,7 @@ impl Sessions {
 
     /// The lowest number of an outstanding body of a port that was last sent at least four ticks ago;
     /// none exactly where there is none.
-    pub fn due(&self, port: u8, now: u32) -> Option<u32>
+    pub fn due(&self, port: u8, now: u64) -> Option<u32>
         requires least { 1 ≤ port }
         requires most { port ≤ LAST_PORT }
         ensures first { (t : ℕ → Sending) (r : ℕ → Receiving) → AreSessions self.now t r → result ≡ first_due now (t port) }
@@ -166,7 +166,7 @@ impl Sessions {
     }
 
     /// The outstanding body with this number at a port is sent again at this tick.
-    pub fn resent(&mut self, port: u8, k: u32, now: u32)
+    pub fn resent(&mut self, port: u8, k: u32, now: u64)
         requires least { 1 ≤ port }
         requires most { port ≤ LAST_PORT }
         requires out { IsOutAt self.old port k }

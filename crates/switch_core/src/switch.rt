@@ -4,10 +4,10 @@ ghost use Rattle.std.specs.Prelude.{◌≡◌, ◌+◌, ◌<◌, ◌≤◌, ◌^
 ghost use Rattle.an_base.specs.declared.limits.TheConstants.{LAST_PORT, MOST_NUMBER};
 ghost use Rattle.switch_core.specs.Switch.{CameBy, finish_of, note_of, started, started_as, SwitchOf};
 ghost use Rattle.switch_core.specs.Stands.{Stands};
-ghost use Rattle.switch_core.specs.Kept.{Handles, IsLoadDue, IsWorking, Loads, StandsFor, Ticks, is_spent, load_due};
+ghost use Rattle.switch_core.specs.Kept.{Counts, Handles, IsLoadDue, IsWorking, Loads, StandsFor, Ticks, carried, is_spent, load_due};
 ghost use Rattle.switch_core.specs.declared.switch.ClockRefusal.TheVariants as refusal;
 
-use crate::control::{Control, PowerOn};
+use crate::control::{Arrival, Control, PowerOn};
 use crate::out::Out;
 use an_base::body::TopoBody;
 use an_base::life::Life;
@@ -17,28 +17,33 @@ use std::alloc::Global;
 use std::marker::Model;
 use table_build::table::Table;
 
-/// The most clocks and frames that a switch takes in one life.
-pub const MOST_WORKS: u32 = 268_435_456;
+/// The most clocks and frames that a switch takes in one life, 2^60.
+pub const MOST_WORKS: u64 = 1_152_921_504_606_846_976;
 
-/// One life of a switch: what it keeps of what happened to it, and how many clocks and frames came.
+/// The most frames with a body that it takes in one life, 2^28.
+pub const MOST_CARRIED: u32 = 268_435_456;
+
+/// One life of a switch: what it keeps of what happened to it, how many clocks and frames came, and how
+/// many of the frames carried a body.
 #[derive(Drop)]
 pub struct Switch {
     start: PowerOn,
     control: Control,
-    works: u32,
+    works: u64,
+    carried: u32,
 }
 
 impl Model for Switch {
-    ghost use Rattle.std.specs.Prelude.{◌≤◌};
+    ghost use Rattle.std.specs.Prelude.{◌≤◌, ◌-◌};
     ghost use Rattle.switch_core.specs.Stands.{HasState};
     ghost use Rattle.switch_core.specs.Kept.{KeptOf};
     ghost use Rattle.an_base.specs.declared.limits.TheConstants.{MOST_NUMBER};
 
     ghost Value = { KeptOf };
 
-    ghost view = { λ v. record { start = record { life = v.start.life; epoch = v.start.epoch; had = v.start.had; any = v.start.any }; control = v.control; works = v.works } };
+    ghost view = { λ v. record { start = record { life = v.start.life; epoch = v.start.epoch; had = v.start.had; any = v.start.any }; control = v.control; works = v.works; bodiless = v.works - v.carried } };
 
-    ghost invariant = { λ v. (1 ≤ v.start.had) × (v.start.had ≤ MOST_NUMBER) × HasState v.works v.control };
+    ghost invariant = { λ v. (1 ≤ v.start.had) × (v.start.had ≤ MOST_NUMBER) × (v.carried ≤ v.works) × HasState v.works v.carried v.control };
 }
 
 /// A table, and the epoch whose topology it is of.
@@ -86,30 +91,39 @@ impl Switch {
             control: Control::start(alloc, &start)?,
             start,
             works: 0,
+            carried: 0,
         })
     }
 
     /// Bytes come by a port, 1 to 12. Where they are a frame, this is what happens; where they are none,
-    /// nothing does, and that is told. After want of memory the switch is as it was started, and no frame
-    /// goes out.
+    /// nothing does, and that is told. A frame that carries a body is counted. After want of memory the switch
+    /// is as it was started, no frame goes out, and no body is counted.
     pub fn handle(&mut self, frame: &[u8], port: u8, out: &mut Out) -> Result<(), OutOfMemory>
         requires least { 1 ≤ port }
         requires most { port ≤ LAST_PORT }
-        requires works { self.old.works < 2 ^ 28 }
+        requires works { self.old.works < 2 ^ 60 }
+        requires carried { carried self.old < 2 ^ 28 }
         requires working { IsWorking self.old }
         ensures start { self.new.start ≡ self.old.start }
         ensures works { self.new.works ≡ self.old.works + 1 }
+        ensures carried { OnOk result (Counts frame.now (carried self.old) (carried self.new)) }
         ensures handled { (s : SwitchOf) → StandsFor self.old s
             → OnOk result (Handles port frame.now s (StandsFor self.new) out.new) }
         ensures working { OnOk result (IsWorking self.new) }
         ensures lost { OnErr result (StandsFor self.new (started_as self.old.start)) }
+        ensures uncounted { OnErr result (carried self.new ≡ carried self.old) }
         ensures nothing { OnErr result (out.new ≡ record { frames = []; noframe = false }) }
     {
         out.clear();
         self.works += 1;
         match self.control.handle(frame, port, &mut out.frames) {
-            Ok(is_frame) => {
-                out.noframe = !is_frame;
+            Ok(Arrival::NoFrame) => {
+                out.noframe = true;
+                Ok(())
+            }
+            Ok(Arrival::Bodiless) => Ok(()),
+            Ok(Arrival::Body) => {
+                self.carried += 1;
                 Ok(())
             }
             Err(OutOfMemory) => {
@@ -127,14 +141,16 @@ impl Switch {
     /// no frame goes out.
     pub fn clock(
         &mut self,
-        now: u32,
+        now: u64,
         samples: &[Sample; 12],
         out: &mut Out,
     ) -> Result<(), ClockRefusal>
-        requires works { self.old.works < 2 ^ 28 }
+        requires works { self.old.works < 2 ^ 60 }
+        requires carried { carried self.old < 2 ^ 28 }
         requires working { IsWorking self.old }
         ensures start { self.new.start ≡ self.old.start }
         ensures works { self.new.works ≡ self.old.works + 1 }
+        ensures carried { carried self.new ≡ carried self.old }
         ensures ok { (s : SwitchOf) → StandsFor self.old s
             → OnOk result (Ticks now samples.now s (StandsFor self.new) out.new false) }
         ensures working { OnOk result (IsWorking self.new) }
@@ -165,6 +181,7 @@ impl Switch {
         requires { IsLoadDue self.old }
         ensures start { self.new.start ≡ self.old.start }
         ensures works { self.new.works ≡ self.old.works }
+        ensures carried { carried self.new ≡ carried self.old }
         ensures epoch { (s : SwitchOf) → StandsFor self.old s → IfOk result (λ loaded. loaded.epoch ≡ s.epoch) }
         ensures ok { (s : SwitchOf) → StandsFor self.old s
             → IfOk result (λ loaded. Loads s (StandsFor self.new) loaded.table) }
@@ -201,10 +218,17 @@ impl Switch {
     }
 
     /// How many clocks and frames came.
-    pub fn works(&self) -> u32
+    pub fn works(&self) -> u64
         ensures { result ≡ self.now.works }
     {
         self.works
+    }
+
+    /// How many frames with a body came.
+    pub fn carried(&self) -> u32
+        ensures { result ≡ carried self.now }
+    {
+        self.carried
     }
 
     /// Sets a note to what the switch shows of itself.

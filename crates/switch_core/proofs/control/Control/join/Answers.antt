@@ -14,7 +14,7 @@ push_all-requires c =
       switch = begun c.args.epoch s;
       stands = begun_stands c.args.self.now s c.args.epoch c.in_ok-core.core c.good_links-links.result c.new.result c.finish.result c.is_some-self.result
           c.requires.stands c.good_links-links.ensures c.in_ok-core.ensures.card c.in_ok-core.ensures.stands c.new.ensures c.finish.ensures c.is_some-self.ensures;
-      numbers = λ q. subst (λ (xs : List OnPort). length ((begun c.args.epoch s).sendings q).pushed + length (on_port q xs) ≤ 2 ^ 30) (sym sends) (numbers_of_joins c.args.epoch s q);
+      numbers = λ q. subst (λ (xs : List OnPort). length ((begun c.args.epoch s).sendings q).pushed + length (on_port q xs) ≤ 2 ^ 31) (sym sends) (numbers_of_joins c.args.epoch s q);
     }
 
 pub returns : goal.returns

@@ -8,7 +8,7 @@ use Rattle.switch_core.proofs.control.Control.load.Goals as goal
 
 pub build-requires-clause-member : goal.build-requires-clause-member
 build-requires-clause-member c =
-    let has = c.requires.state.1 in
+    let has = c.requires.state.2 in
     let s = has.switch in
     let topo = c.unwrap-topo.result in
     let is = finished_with s c.finish.result topo (c.finish.ensures s has.stands) c.unwrap-topo.ensures in

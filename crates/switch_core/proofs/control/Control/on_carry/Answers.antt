@@ -20,7 +20,7 @@ pub answer_body-requires-clause-room : goal.answer_body-requires-clause-room
 answer_body-requires-clause-room c =
     elim c.if-carry-self-2.branch [
       | then-carry-self-2+in_ok-join w ↦
-          subst HasRoom (sym w.self-is) (room_joined c.carry.inside.epoch c.args.self.now w.join.new.self c.args.out.now w.join.new.out c.requires.room c.requires.joined w.in_ok-join.ensures)
+          subst HasRoom (sym w.self-is) (room_joined c.carry.inside.epoch c.args.self.now w.join.new.self c.args.out.now w.join.new.out c.requires.room w.in_ok-join.ensures)
       | else-carry-self-2 w ↦
           subst HasRoom (sym w.self-is) c.requires.room
     ]
