@@ -46,8 +46,9 @@ extern "C" {
 /* No frame has more bytes. A link must carry as many. */
 #define AUTONET_MOST_FRAME 22591
 
-/* The most clocks and frames of one life. */
-#define AUTONET_MOST_WORKS 268435456
+/* The most clocks and frames of one life, 2^60, and the most frames of it that carry a body, 2^28. */
+#define AUTONET_MOST_WORKS UINT64_C(1152921504606846976)
+#define AUTONET_MOST_CARRIED 268435456
 
 /* What a call answers. Where it is not said otherwise, nothing was changed or written by a call that
  * answers another status than AUTONET_DONE. */
@@ -84,7 +85,8 @@ typedef struct {
 typedef struct {
     uint64_t epoch;       /* the epoch that it is in */
     uint64_t table_epoch; /* that of the table that it loaded last, 0 where number is 0 */
-    uint32_t works;       /* how many clocks and frames it took in this life */
+    uint64_t works;       /* how many clocks and frames it took in this life */
+    uint32_t carried;     /* how many of these frames carried a body */
     uint32_t members;     /* how many members it has finished with in its epoch, 0: not finished */
     uint8_t number;       /* its number in the table that it loaded last, 0: none was loaded */
     uint8_t load_due;     /* 1: a table is to be loaded, else 0 */
@@ -133,7 +135,7 @@ uint32_t autonet_start(autonet_switch *s, uint64_t uid, uint32_t boot, uint64_t 
  * longer than a frame takes to the other end and back with its handling: two probes in a row that stay
  * unanswered end a link. AUTONET_SPENT: the clock was taken, the ports have changed, nothing is joined.
  * AUTONET_OUT_OF_MEMORY: the life is over, and no frame goes out. AUTONET_OVER: nothing was done. */
-uint32_t autonet_clock(autonet_switch *s, uint32_t now, uint16_t up, uint16_t hosts);
+uint32_t autonet_clock(autonet_switch *s, uint64_t now, uint16_t up, uint16_t hosts);
 
 /* `length` bytes came by `port`, 1 to 12. Those of no frame change nothing (`noframe`).
  * AUTONET_ARGUMENT: there is no such port. AUTONET_OUT_OF_MEMORY and AUTONET_OVER as of a clock. */

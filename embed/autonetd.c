@@ -275,7 +275,7 @@ static void take(uint8_t port) {
     if (roll(again)) after(autonet_frame(&sw, port, bytes, (size_t)length));
 }
 
-static void tick(uint32_t now) {
+static void tick(uint64_t now) {
     uint16_t up = 0;
     for (int port = 1; port <= AUTONET_PORTS; port++)
         if (is_up(&cables[port])) up |= (uint16_t)(1u << port);
@@ -352,14 +352,15 @@ int main(int count, char **words) {
     signal(SIGTERM, on_signal);
     signal(SIGINT, on_signal);
     start(epoch);
-    uint32_t ticks = 0;
+    uint64_t ticks = 0;
     for (long long due = now_ms(); !stop; ticks++) {
         tick(ticks);
         due += tick_ms;
         if (due + tick_ms < now_ms()) due = now_ms(); /* it was held up: no clocks are made up for */
         wait_until(due);
     }
-    say("end ticks %u works %u came %lu left %lu dropped %lu", ticks, shown.works, came, left, dropped);
+    say("end ticks %llu works %llu carried %u came %lu left %lu dropped %lu", (unsigned long long)ticks,
+        (unsigned long long)shown.works, shown.carried, came, left, dropped);
     autonet_end(&sw);
     return 0;
 }

@@ -62,10 +62,10 @@ static void start(const char *line) {
 }
 
 static void tick(const char *line) {
-    unsigned now;
+    unsigned long long now;
     char samples[AUTONET_PORTS + 1];
     uint16_t up = 0, hosts = 0;
-    if (sscanf(line, "clock %u %12s", &now, samples) != 2 || strlen(samples) != AUTONET_PORTS) fail(line);
+    if (sscanf(line, "clock %llu %12s", &now, samples) != 2 || strlen(samples) != AUTONET_PORTS) fail(line);
     for (int port = 1; port <= AUTONET_PORTS; port++) {
         if (samples[port - 1] != 'd') up |= (uint16_t)(1u << port);
         if (samples[port - 1] == 'h') hosts |= (uint16_t)(1u << port);

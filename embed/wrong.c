@@ -63,6 +63,7 @@ static void ranges(autonet_switch *s) {
     want("port 13", autonet_port(s, 13, &port), AUTONET_ARGUMENT);
     want("show", autonet_show(s, &shown), AUTONET_DONE);
     want("no work was counted", shown.works, 0);
+    want("no body was counted", shown.carried, 0);
 }
 
 static void nothing_there(autonet_switch *s) {
@@ -118,7 +119,7 @@ static int without(autonet_switch *s, long well) {
         until = -1;
         return 1;
     }
-    for (uint32_t now = 0; now < 3 && status == AUTONET_DONE; now++) status = autonet_clock(s, now, 6, 4);
+    for (uint64_t now = 0; now < 3 && status == AUTONET_DONE; now++) status = autonet_clock(s, now, 6, 4);
     if (status != AUTONET_DONE) {
         want("a clock without memory", status, AUTONET_OUT_OF_MEMORY);
         want("no frame goes out", autonet_next(s, &frame, bytes, sizeof bytes), AUTONET_NO_MORE);

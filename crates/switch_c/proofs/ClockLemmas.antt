@@ -1,24 +1,25 @@
 -- A clock that was taken.
 use Rattle.std.proofs.Common.{◌≡◌, ℕ, ◌+◌, Bool, false, List, subst}
 use Rattle.an_base.specs.declared.port.Sample.{Sample}
-use Rattle.switch_core.specs.Kept.{StandsFor, Ticks}
+use Rattle.switch_core.specs.Kept.{StandsFor, Ticks, carried}
 use Rattle.switch_core.specs.Switch.{SwitchOf}
 use Rattle.switch_c.specs.declared.instance.Instance.{Instance}
-use Rattle.switch_c.specs.Calls.{IsTaken}
+use Rattle.switch_c.specs.Calls.{IsTaken, brings_none}
 
 -- the samples are those that were said
 pub clock_taken : (now : ℕ) (given said : List Sample) (spent : Bool) (old new : Instance) → given ≡ said
     → ((switch : SwitchOf) → StandsFor old.switch switch
     → Ticks now given switch (StandsFor new.switch) new.out spent)
     → new.given ≡ 0 → new.switch.start ≡ old.switch.start → new.switch.works ≡ old.switch.works + 1
-    → new.loaded ≡ old.loaded → new.lost ≡ false
-    → IsTaken (λ switch Is out. Ticks now said switch Is out spent) old new
-clock_taken now given said spent old new same ticks none start works loaded lost = record {
+    → carried new.switch ≡ carried old.switch → new.loaded ≡ old.loaded → new.lost ≡ false
+    → IsTaken (λ switch Is out. Ticks now said switch Is out spent) brings_none old new
+clock_taken now given said spent old new same ticks none start works counts loaded lost = record {
   comes = λ switch stands.
       subst (λ them. Ticks now them switch (StandsFor new.switch) new.out spent) same (ticks switch stands);
   given = none;
   start = start;
   works = works;
+  counts = counts;
   loaded = loaded;
   lost = lost;
 }

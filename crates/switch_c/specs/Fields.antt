@@ -21,14 +21,15 @@ abbrev pub shown_fields : Shown
 shown_fields = record {
   epoch = eight 1;
   table_epoch = eight 2;
-  works = four 3;
-  members = four 4;
-  number = 5;
-  load_due = 6;
-  unacked = 7;
-  spent = 8;
-  noframe = 9;
-  lost = 10;
+  works = eight 3;
+  carried = four 4;
+  members = four 5;
+  number = 6;
+  load_due = 7;
+  unacked = 8;
+  spent = 9;
+  noframe = 10;
+  lost = 11;
 }
 
 abbrev pub port_fields : PortShown

@@ -9,7 +9,7 @@ use Rattle.an_base.specs.Rows.{RowOf}
 use Rattle.an_base.specs.declared.port.PortState.{PortState}
 use Rattle.an_base.specs.declared.port.PortState.TheVariants as state
 use Rattle.switch_core.specs.Switch.{SwitchOf, finish_of, note_of}
-use Rattle.switch_core.specs.Kept.{StandsFor, is_spent}
+use Rattle.switch_core.specs.Kept.{StandsFor, carried, is_spent}
 use Rattle.switch_c.specs.declared.shown.Shown.{Shown}
 use Rattle.switch_c.specs.declared.shown.PortShown.{PortShown}
 use Rattle.switch_c.specs.declared.shown.RowShown.{RowShown}
@@ -38,6 +38,7 @@ pub record IsShown (instance : Instance) (shown : Shown) : Type 0 where
   pub epoch : (switch : SwitchOf) → StandsFor instance.switch switch → shown.epoch ≡ switch.epoch
   pub table_epoch : shown.table_epoch ≡ table_epoch_of instance
   pub works : shown.works ≡ instance.switch.works
+  pub carried_is : shown.carried ≡ carried instance.switch
   pub members : (switch : SwitchOf) → StandsFor instance.switch switch
       → shown.members ≡ member_count (finish_of switch)
   pub number : shown.number ≡ number_of instance

@@ -2,7 +2,7 @@
 
 ghost use Rattle.std.specs.Prelude.{◌≡◌, ◌+◌, ◌≤◌, ◌<◌, ◌^◌, [], length, slice_get, option_copied, is_some, IfOk, MatchResult, None, true, false};
 ghost use Rattle.an_base.specs.declared.limits.TheConstants.{LAST_PORT};
-ghost use Rattle.switch_core.specs.Kept.{IsWorking};
+ghost use Rattle.switch_core.specs.Kept.{IsWorking, carried};
 ghost use Rattle.switch_c.specs.Calls.{Clocks, HandsOut, HasNoRoom, IsStarted, IsTold, Loads, TakesFrame, has_port, is_in_range, is_over, is_port, sample_of, samples_of};
 ghost use Rattle.switch_c.specs.Shows.{AsksMember, AsksPort, AsksRow, Shows};
 ghost use Rattle.switch_c.specs.declared.status.Status.TheVariants as status;
@@ -15,7 +15,7 @@ use an_base::memory::OutOfMemory;
 use an_base::port::Sample;
 use std::alloc::Global;
 use switch_core::out::{FrameOut, Out};
-use switch_core::switch::{ClockRefusal, MOST_WORKS, Switch, TableFor};
+use switch_core::switch::{ClockRefusal, MOST_CARRIED, MOST_WORKS, Switch, TableFor};
 
 // The first number that is no identifier.
 const UIDS: u64 = 281_474_976_710_656;
@@ -168,15 +168,17 @@ impl Instance {
     fn is_over(&self) -> bool
         ensures over { result ≡ is_over self.now }
         ensures lost { result ≡ false → self.now.lost ≡ false }
-        ensures works { result ≡ false → self.now.switch.works < 2 ^ 28 }
+        ensures works { result ≡ false → self.now.switch.works < 2 ^ 60 }
+        ensures carried { result ≡ false → carried self.now.switch < 2 ^ 28 }
         ensures working { result ≡ false → IsWorking self.now.switch }
     {
-        self.lost || self.switch.works() >= MOST_WORKS || self.switch.is_spent()
+        let is_full = self.switch.works() >= MOST_WORKS || self.switch.carried() >= MOST_CARRIED;
+        self.lost || is_full || self.switch.is_spent()
     }
 
     /// A clock comes at this tick, as to a switch of `switch_core`: bit `p` of `up` says that port `p` has
     /// a link, and bit `p` of `hosts` that a host is at its other end.
-    pub fn clock(&mut self, now: u32, up: u16, hosts: u16) -> Status
+    pub fn clock(&mut self, now: u64, up: u16, hosts: u16) -> Status
         ensures { Clocks now up hosts self.old self.new result }
     {
         if self.is_over() {

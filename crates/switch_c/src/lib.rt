@@ -65,7 +65,7 @@ pub extern "C" fn autonet_start(
 pub extern "C" fn autonet_clock(
     alloc: Global,
     switch: &mut Handle,
-    now: u32,
+    now: u64,
     up: u16,
     hosts: u16,
 ) -> u32

@@ -19,8 +19,10 @@ pub struct Shown {
     pub epoch: u64,
     /// The epoch of the table that it loaded last, 0 where `number` is 0.
     pub table_epoch: u64,
-    /// How many clocks and frames came in this life, at most 2^28.
-    pub works: u32,
+    /// How many clocks and frames came in this life, at most 2^60.
+    pub works: u64,
+    /// How many of the frames carried a body, at most 2^28.
+    pub carried: u32,
     /// How many members it has finished with in its epoch, 0 where it has not finished.
     pub members: u32,
     /// Its number in the table that it loaded last, 1 to 126; 0 where it has loaded none.
@@ -117,6 +119,7 @@ impl Shown {
             epoch: note.epoch,
             table_epoch,
             works: instance.switch.works(),
+            carried: instance.switch.carried(),
             members: members_of(instance),
             number,
             load_due: flag(note.load_due),
@@ -134,14 +137,15 @@ impl Shown {
         Shown {
             epoch: 0x0101_0101_0101_0101,
             table_epoch: 0x0202_0202_0202_0202,
-            works: 0x0303_0303,
-            members: 0x0404_0404,
-            number: 5,
-            load_due: 6,
-            unacked: 7,
-            spent: 8,
-            noframe: 9,
-            lost: 10,
+            works: 0x0303_0303_0303_0303,
+            carried: 0x0404_0404,
+            members: 0x0505_0505,
+            number: 6,
+            load_due: 7,
+            unacked: 8,
+            spent: 9,
+            noframe: 10,
+            lost: 11,
         }
     }
 }
