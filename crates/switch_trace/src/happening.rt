@@ -23,7 +23,7 @@ pub enum Happening {
     /// A clock comes.
     Clock {
         /// The tick.
-        now: u32,
+        now: u64,
         /// What is at each port.
         samples: [Sample; 12],
     },
@@ -113,7 +113,7 @@ fn clock(words: &[&str]) -> Result<Happening, Fault> {
         *place = sample(*letter)?;
     }
     Ok(Happening::Clock {
-        now: short_number(words, 1)?,
+        now: number(words, 1)?,
         samples,
     })
 }

@@ -7,7 +7,7 @@ use an_base::life::Life;
 use an_base::port::Sample;
 use std::alloc::Global;
 use switch_core::out::Out;
-use switch_core::switch::{ClockRefusal, MOST_WORKS, Switch};
+use switch_core::switch::{ClockRefusal, MOST_CARRIED, MOST_WORKS, Switch};
 
 // A new switch.
 fn start(alloc: Global, life: Life, epoch: u64, had: u8, any: bool) -> Result<Switch, Fault> {
@@ -23,11 +23,14 @@ fn start(alloc: Global, life: Life, epoch: u64, had: u8, any: bool) -> Result<Sw
 // A clock comes. Answers whether the epochs are spent.
 fn clock(
     switch: &mut Switch,
-    now: u32,
+    now: u64,
     samples: &[Sample; 12],
     out: &mut Out,
 ) -> Result<bool, Fault> {
     if switch.works() >= MOST_WORKS {
+        return Err(Fault::Stopped);
+    }
+    if switch.carried() >= MOST_CARRIED {
         return Err(Fault::Stopped);
     }
     if switch.is_spent() {
@@ -43,6 +46,9 @@ fn clock(
 // Bytes come by a port.
 fn handle(switch: &mut Switch, bytes: &[u8], port: u8, out: &mut Out) -> Result<(), Fault> {
     if switch.works() >= MOST_WORKS {
+        return Err(Fault::Stopped);
+    }
+    if switch.carried() >= MOST_CARRIED {
         return Err(Fault::Stopped);
     }
     if switch.is_spent() {
@@ -92,7 +98,7 @@ impl Trace {
     }
 
     // A clock comes.
-    fn clock(&mut self, now: u32, samples: &[Sample; 12]) -> Result<(), Fault> {
+    fn clock(&mut self, now: u64, samples: &[Sample; 12]) -> Result<(), Fault> {
         let Some(switch) = &mut self.switch else {
             return Err(Fault::NoSwitch);
         };
