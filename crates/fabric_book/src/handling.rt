@@ -44,7 +44,7 @@ fn work(switch: &mut Switch, hand: Hand, bytes: &[u8], out: &mut Out) -> Result<
 {
     match hand {
         Hand::Empty => unreachable!(),
-        Hand::Clock { now, samples } => match switch.clock(now, &samples, out) {
+        Hand::Clock { now, samples } => match switch.clock(u64::from(now), &samples, out) {
             Ok(()) => Ok(()),
             Err(ClockRefusal::EpochsSpent) => Ok(()),
             Err(ClockRefusal::OutOfMemory) => Err(OutOfMemory),
