@@ -1,6 +1,6 @@
 -- Each call of a book is one event of the world.
 
-use Rattle.std.specs.Prelude.{◌≡◌, ◌⊎◌, ◌+◌, ◌-◌, ◌^◌, ◌&&◌, not, ◌==◌, ◌<◌, ◌≤◌, ℕ, List, [], ◌∷◌, ◌++◌, map, length, slice_index_or, slice_set, cond, Option, option_to_list, Bool, true, false, refl}
+use Rattle.std.specs.Prelude.{◌≡◌, ◌⊎◌, ◌+◌, ◌-◌, ◌^◌, ◌&&◌, not, ◌==◌, ◌<◌, ◌≤◌, ℕ, List, [], ◌∷◌, ◌++◌, map, length, nat_lt, slice_index_or, slice_set, cond, Option, Some, None, option_to_list, Bool, true, false, refl}
 use Rattle.std.specs.List.{range_with_len}
 use Rattle.std.proofs.Common.{sym, ◌∙◌, ap, subst, arith, true≢false, length-append, eq-eqb, ne_eqb, inl, inr}
 use Rattle.std.proofs.lemmas.Bool.{and_parts, cases_eq, ltb-true}
@@ -19,18 +19,18 @@ use Rattle.switch_core.specs.Bytes.{BytesOut}
 use Rattle.switch_core.specs.Steps.{loaded}
 use Rattle.switch_core.specs.Switch.{finish_of, note_of}
 use Rattle.switch_core.specs.declared.switch.TableFor.{TableFor}
-use Rattle.fabric_state.specs.Fabric.{FabricOf, clock_due_at, count, full_hands, has_frame, is_external, is_full_at, is_switch, places, side_of_port, station, switch_behind}
+use Rattle.fabric_state.specs.Fabric.{FabricOf, clock_due_at, count, full_hands, has_frame, is_external, is_full_at, is_some_spent, is_switch, places, samples_of, station}
+use Rattle.fabric_state.specs.Fabric.{room as room_of}
 use Rattle.fabric_state.specs.declared.hand.Hand.{Hand}
 use Rattle.fabric_state.specs.declared.hand.Hand.TheVariants as hand
 use Rattle.fabric_state.specs.declared.work.Work.{Work}
 use Rattle.fabric_state.specs.declared.work.Work.TheVariants as work
-use Rattle.fabric_state.specs.declared.told.Told.{Told}
-use Rattle.wire_set.specs.declared.side.Put.{Put}
-use Rattle.fabric_state.specs.Choices.{event_of_work, next_work}
+use Rattle.fabric_state.specs.declared.work.Why.TheVariants as why
+use Rattle.fabric_state.specs.Choices.{event_of_work, frame_work, next_port, next_work}
 use Rattle.fabric_state.specs.Lawful.{is_lawful, is_command}
 use Rattle.fabric_state.specs.Effects.{after_clock, after_command, after_handle, after_load, after_move, after_restart, after_take, after_tick}
-use Rattle.fabric_state.specs.Effects.{ShowsOnly, all_put_out, copy_becomes, emptied, shows, told_of}
-use Rattle.fabric_state.specs.Starts.{begun_fabric, life_of, next_note_at, started_note}
+use Rattle.fabric_state.specs.Effects.{ShowsOnly, all_put_out, emptied, shows}
+use Rattle.fabric_state.specs.Starts.{begun_fabric, life_of, next_life_at, next_note_at, started_note}
 use Rattle.fabric_state.specs.Fits.{Fits, IsHandPort}
 use Rattle.fabric_world.specs.World.{WorldOf, effect, handled, loads_with, next_life, step, table_for, world_after}
 use Rattle.fabric_world.specs.Histories.{HistoryOf, IsLawful, fabric_of, last_port, last_taken, with_event, world_of}
@@ -40,14 +40,15 @@ use Rattle.fabric_world.specs.Turns.{Drives}
 use Rattle.fabric_state.specs.declared.work.Drive.{Drive}
 use Rattle.fabric_state.specs.declared.work.Drive.TheVariants as drive
 use Rattle.fabric_state.specs.Choices.{next_drive}
-use Rattle.fabric_world.specs.declared.line.Line.{Line}
-use Rattle.fabric_world.specs.declared.line.PlacedLine.{PlacedLine}
+use Rattle.fabric_state.specs.declared.line.Line.{Line}
+use Rattle.fabric_state.specs.declared.line.PlacedLine.{PlacedLine}
 use Rattle.fabric_world.specs.Accounts.{placed, placed_lines}
-use Rattle.fabric_world.specs.Lines.{all_lines, copy_line, lines_of}
-use Rattle.fabric_book.specs.Kept.{IsKept, with_events}
-use Rattle.fabric_book.specs.Told.{command_lines}
+use Rattle.fabric_state.specs.Lines.{command_lines, move_lines, take_lines}
+use Rattle.host_traffic.specs.Packets.{packet_of}
+use Rattle.fabric_world.specs.Lines.{all_lines, lines_of}
+use Rattle.fabric_book.specs.Kept.{HasSamples, IsKept, with_events}
 use Rattle.fabric_book.proofs.HandLemmas.{hand_port, shows_only}
-use Rattle.fabric_book.proofs.TellLemmas.{command_told, take_told}
+use Rattle.fabric_book.proofs.TellLemmas.{command_told}
 use Rattle.fabric_book.proofs.WorldFacts.{event_more, step_makes, begun_is, fits_after, work_may_come, world_script, place_sound, boot_most, command_fits, emptied_note, emptied_room, handle_may_come, lawful_more, ready_is, room_is, handled_parts}
 
 -- the fabric is as fabrics are
@@ -375,6 +376,18 @@ drives_by h g did e told line is made after placed_is line_is =
       told_is = drive_told h e told line (placed_is ∙ ap (λ (x : HistoryOf). placed (fabric_of x).events (option_to_list line)) after) line_is;
     }
 
+-- where the next work is a clock, it has the samples of this moment
+next_samples : (f : FabricOf) (s last : ℕ) → HasSamples (next_work f s last) f s
+next_samples f s last = by (is_some_spent f) (nat_lt (room_of f) 2) (is_command f (Restart s)) (clock_due_at f s) (next_port f s last) where
+  by : (a b c d : Bool) (o : Option ℕ)
+      → HasSamples (cond a (work.Nothing why.Spent) (cond b (work.Nothing why.Full) (cond c (work.Restart (next_life_at f s)) (cond d (work.Clock f.tick (samples_of f s)) (frame_work o))))) f s
+  by true b c d o = tt
+  by false true c d o = tt
+  by false false true d o = tt
+  by false false false true o = refl
+  by false false false false None = tt
+  by false false false false (Some port) = tt
+
 -- Of the history of a book
 module _ (f : FabricOf) (es : List Event) (taken : List ℕ) (room : ℕ) (kept : IsKept f es taken room) (h : HistoryOf) (view_is : record { script = f.script; events = es } ≡ h) where
   pub good_at : IsScript h.script
@@ -412,16 +425,22 @@ module _ (f : FabricOf) (es : List Event) (taken : List ℕ) (room : ℕ) (kept 
         told_is = work_told h s job told line (placed_is ∙ ap (λ (x : HistoryOf). placed (fabric_of x).events (option_to_list line)) event) line_is;
       }
 
-  -- what is told of a frame that is taken, of a command but a restart, and of a hop
-  pub taken_told : (s port : ℕ) (far : Option (ℕ × ℕ)) (copied : Option Put) (line : Option Line) → far ≡ switch_behind (side_of_port f s port).far → copied ≡ copy_becomes f s port → option_to_list line ≡ copy_line far copied
-      → option_to_list line ≡ lines_of (world_of h) (Take s port)
-  taken_told s port far copied line far_is copied_is told =
-      let at = fabric_at f es taken room kept h view_is in
-      take_told (world_of h) s port far copied [] (option_to_list line) (far_is ∙ ap (λ (x : FabricOf). switch_behind (side_of_port x s port).far) at) (copied_is ∙ ap (λ (x : FabricOf). copy_becomes x s port) at) told
+  -- the samples of a clock are those of this moment
+  pub samples_at : (s last : ℕ) (job : Work) → job ≡ next_work f s last → HasSamples job (fabric_of h) s
+  samples_at s last job is =
+      subst (λ (j : Work). HasSamples j (fabric_of h) s) (sym (is ∙ ap (λ (x : FabricOf). next_work x s last) (fabric_at f es taken room kept h view_is))) (next_samples (fabric_of h) s last)
 
-  pub commanded_told : (e : Event) (what : Told) (line : Option Line) → is_command (fabric_of h) e ≡ true → is_restart e ≡ false → what ≡ told_of e f → option_to_list line ≡ command_lines e what
-      → option_to_list line ≡ lines_of (world_of h) e
-  commanded_told e what line command other what_is told =
+  -- what is told of a frame that is taken, of a hop, and of a command but a restart
+  pub taken_told : (s port : ℕ) (told : List Line) → told ≡ take_lines s port f → told ≡ lines_of (world_of h) (Take s port)
+  unfolding lines_of
+  taken_told s port told is = is ∙ ap (take_lines s port) (fabric_at f es taken room kept h view_is)
+
+  pub moved_told : (packet : ℕ) (told : List Line) → told ≡ move_lines (packet_of packet f.packets) f → told ≡ lines_of (world_of h) (Move packet)
+  unfolding lines_of
+  moved_told packet told is = is ∙ ap (λ (x : FabricOf). move_lines (packet_of packet x.packets) x) (fabric_at f es taken room kept h view_is)
+
+  pub commanded_told : (e : Event) (told : List Line) → is_command (fabric_of h) e ≡ true → is_restart e ≡ false → told ≡ command_lines e f → told ≡ lines_of (world_of h) e
+  commanded_told e told command other is =
       let good : IsScript (fabric_of h).script = subst IsScript (sym (world_script h.script h.events)) good_at in
-      told ∙ ap (command_lines e) (what_is ∙ ap (told_of e) (fabric_at f es taken room kept h view_is))
+      is ∙ ap (command_lines e) (fabric_at f es taken room kept h view_is)
       ∙ command_told (fabric_of h).script.wires (world_of h) e (command_fits (fabric_of h) e good command) other

@@ -12,7 +12,7 @@ use Rattle.fabric_world.specs.declared.ask.Reply.{Reply}
 use Rattle.fabric_world.specs.declared.ask.Reply.TheVariants as reply
 use Rattle.fabric_world.specs.Histories.{HistoryOf, IsLawful, fabric_of, owner_of}
 use Rattle.fabric_world.specs.Sound.{AllMayCome}
-use Rattle.fabric_world.specs.declared.line.PlacedLine.{PlacedLine}
+use Rattle.fabric_state.specs.declared.line.PlacedLine.{PlacedLine}
 use Rattle.fabric_world.specs.Turns.{AnswersLoad, Drives, LoadsOrNot}
 use Rattle.fabric_world.specs.World.{world_after}
 use Rattle.an_base.specs.declared.event.Event.{Event}

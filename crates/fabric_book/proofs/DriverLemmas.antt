@@ -14,7 +14,7 @@ use Rattle.fabric_state.specs.declared.work.Drive.TheVariants as drive
 use Rattle.fabric_state.specs.Choices.{event_of_drive, event_of_work, next_drive, next_work}
 use Rattle.fabric_state.specs.Fabric.{is_full_at, load_due_at}
 use Rattle.fabric_state.specs.Lawful.{is_barred}
-use Rattle.fabric_world.specs.declared.line.Line.{Line}
+use Rattle.fabric_state.specs.declared.line.Line.{Line}
 use Rattle.fabric_world.specs.Histories.{fabric_of, last_taken, owner_of, world_of}
 use Rattle.fabric_world.specs.Lines.{lines_of}
 use Rattle.fabric_world.specs.Solo.{worker_event}

@@ -1,6 +1,6 @@
 -- What a switch does with what it has in hand, and with a table that is due.
 
-use Rattle.std.specs.Prelude.{◌≡◌, ◌++◌, ◌∷◌, ◌==◌, ◌<◌, ◌≤◌, ◌^◌, ◌&&◌, ℕ, not, List, [], length, cond, Option, Some, None, is_some, option_copied, Bool, true, false, refl}
+use Rattle.std.specs.Prelude.{◌≡◌, ◌++◌, ◌∷◌, ◌==◌, ◌<◌, ◌≤◌, ◌^◌, ◌&&◌, ℕ, not, List, [], length, cond, Option, Some, None, is_some, option_copied, option_to_list, Bool, true, false, refl}
 use Rattle.std.specs.List.{flat_map}
 use Rattle.std.proofs.Common.{Bor, sym, ◌∙◌, ap, subst, arith, true≢false}
 use Rattle.std.proofs.lemmas.Bool.{and_parts, ltb-true}
@@ -16,7 +16,6 @@ use Rattle.frame_codec.proofs.Decoding.{frame_again, frame_takes}
 use Rattle.frame_codec.proofs.Readers.{IsBytes}
 use Rattle.frame_codec.specs.Reading.{frame_of}
 use Rattle.port_monitor.specs.Histories.{externals}
-use Rattle.wire_set.specs.declared.side.Put.{Put}
 use Rattle.table_build.proofs.MadeTables.{only_table}
 use Rattle.table_build.specs.Made.{number_in, table_of}
 use Rattle.table_build.specs.Tables.{TableOf}
@@ -28,18 +27,19 @@ use Rattle.switch_core.specs.Switch.{CameBy, SwitchOf, finish_of, note_of}
 use Rattle.switch_core.specs.declared.switch.TableFor.{TableFor}
 use Rattle.fabric_state.specs.declared.hand.Hand.TheVariants as hand
 use Rattle.fabric_state.specs.declared.hand.Hand.{Hand}
-use Rattle.fabric_state.specs.Effects.{ShowsOnly, all_put_becomes, wires_at_hand}
+use Rattle.fabric_state.specs.Effects.{ShowsOnly, wires_at_hand}
 use Rattle.fabric_state.specs.Fabric.{count, held_bytes, is_empty, is_full_at, is_switch, load_due_at, station}
 use Rattle.fabric_state.specs.Fits.{IsHandPort}
 use Rattle.fabric_state.specs.Lawful.{is_lawful}
-use Rattle.fabric_world.specs.Lines.{finish_line, finish_lines, has_joined, join_lines, lines_of, load_lines, lost_lines, no_frame_lines, port_line, spent_lines}
-use Rattle.fabric_world.specs.Turns.{Handled, IsToLoad}
+use Rattle.fabric_state.specs.Lines.{lost_lines}
+use Rattle.fabric_world.specs.Lines.{finish_line, finish_lines, has_joined, join_lines, lines_of, load_lines, no_frame_lines, port_line, spent_lines}
+use Rattle.fabric_world.specs.Turns.{AreTold, Handled, IsToLoad}
 use Rattle.fabric_world.specs.World.{WorldOf, handled, handles, handles_bytes, world_after}
-use Rattle.fabric_world.specs.declared.line.Line.TheVariants as line
-use Rattle.fabric_world.specs.declared.line.Line.{Line}
+use Rattle.fabric_state.specs.declared.line.Line.TheVariants as line
+use Rattle.fabric_state.specs.declared.line.Line.{Line}
 use Rattle.fabric_book.specs.Nets.{HasFrame, IsHandled, IsSwitchKept}
-use Rattle.fabric_book.specs.Told.{hand_lines, line_if, losses}
-use Rattle.fabric_book.proofs.TellLemmas.{handled_lines, losses_are, same_shown}
+use Rattle.fabric_book.specs.Told.{hand_lines, line_if}
+use Rattle.fabric_book.proofs.TellLemmas.{handled_lines, same_shown}
 use Rattle.fabric_book.proofs.WorldFacts.{fits_after, full_unspent, place_sound, ready_is, world_script}
 
 -- what is lent is there where it is
@@ -150,13 +150,13 @@ module _ (w : WorldOf) (s : ℕ) (h : Hand) (bytes : List ℕ) (is : h ≡ (stat
       ∙ ap (λ (xs : List Line). flat_map (port_line s (note_of x) (note_of y)) externals ++ xs ++ join_lines s x y ++ spent_lines s y ++ finish_lines s x y)
       (same_no_frame s (station w.fabric s).hand (held_bytes w.fabric s) bytes has)
 
-  pub handled_told : (frames : List BytesOut) (puts : List (Option Put)) (old mid new : List Line) → frames ≡ all_spelled (handles h bytes (w.switches s)).frames → puts ≡ all_put_becomes s frames (wires_at_hand w.fabric s)
-      → mid ≡ old ++ hand_lines s h bytes (w.switches s) (handles h bytes (w.switches s)).switch → new ≡ mid ++ losses s frames puts → new ≡ old ++ lines_of w (Handle s)
+  pub handled_told : (frames : List BytesOut) (puts : List (Option Line)) (old mid new : List Line) → frames ≡ all_spelled (handles h bytes (w.switches s)).frames → AreTold w.fabric s frames puts
+      → mid ≡ old ++ hand_lines s h bytes (w.switches s) (handles h bytes (w.switches s)).switch → new ≡ mid ++ flat_map option_to_list puts → new ≡ old ++ lines_of w (Handle s)
   unfolding lines_of
   handled_told frames puts old mid new frames_are puts_are hand_told told =
       let wires = wires_at_hand w.fabric s in
-      let lost : losses s frames puts ≡ lost_lines s (all_spelled (handled s w).frames) wires =
-      ap (losses s frames) puts_are ∙ losses_are s frames wires ∙ ap (λ (fs : List BytesOut). lost_lines s fs wires) (frames_are ∙ ap (λ (t : Step). all_spelled t.frames) step_is) in
+      let lost : flat_map option_to_list puts ≡ lost_lines s (all_spelled (handled s w).frames) wires =
+      puts_are ∙ ap (λ (fs : List BytesOut). lost_lines s fs wires) (frames_are ∙ ap (λ (t : Step). all_spelled t.frames) step_is) in
       told ∙ ap (λ (xs : List Line). mid ++ xs) lost ∙ ap (λ (xs : List Line). xs ++ lost_lines s (all_spelled (handled s w).frames) wires) (hand_told ∙ ap (λ (xs : List Line). old ++ xs) lines_at)
       ∙ handled_lines s (station w.fabric s).hand (held_bytes w.fabric s) (w.switches s) (handled s w).switch (lost_lines s (all_spelled (handled s w).frames) wires) old
 
@@ -236,9 +236,10 @@ number_made topo any life t made = ap (λ (u : TableOf). u.number) made
 pub number_is : (x : SwitchOf) (new : KeptOf) (table : TableOf) (is : Loads x (StandsFor new) table) → table.number ≡ number_in is.topo x.life
 number_is x new table is = number_made is.topo x.any x.life table (only_table is.topo x.any x.life table is.graph is.numbers (sym is.as_many) is.is_table)
 
-pub load_told : (w : WorldOf) (s epoch : ℕ) (new : KeptOf) (table : TableOf) (old lines : List Line) (is : Loads (w.switches s) (StandsFor new) table) → epoch ≡ (w.switches s).epoch
-    → lines ≡ old ++ line.Load s epoch table.number ∷ [] → lines ≡ old ++ lines_of w (Load s)
+pub load_told : (w : WorldOf) (s : ℕ) (table : TableFor) (note : NoteOf) (told : Line) → IsToLoad w s table note → told ≡ line.Load s table.epoch table.table.number → told ∷ [] ≡ lines_of w (Load s)
 unfolding lines_of
-load_told w s epoch new table old lines is epoch_is told =
-    told ∙ ap (λ (n : ℕ). old ++ line.Load s n table.number ∷ []) epoch_is ∙ ap (λ (n : ℕ). old ++ line.Load s (w.switches s).epoch n ∷ []) (number_is (w.switches s) new table is)
-    ∙ ap (λ (o : Option TopoOf). old ++ load_lines o s (w.switches s)) (sym is.finished)
+load_told w s table note told is told_is =
+    let x = w.switches s in
+    let number : table.table.number ≡ number_in is.topo x.life = number_made is.topo x.any x.life table.table (only_table is.topo x.any x.life table.table is.graph is.numbers is.as_many is.table) in
+    ap (λ (y : Line). y ∷ []) told_is ∙ ap (λ (n : ℕ). line.Load s n table.table.number ∷ []) is.epoch ∙ ap (λ (n : ℕ). line.Load s x.epoch n ∷ []) number
+    ∙ ap (λ (o : Option TopoOf). load_lines o s x) (sym is.finished)

@@ -8,7 +8,6 @@ pub mod NetLemmas
 pub mod OwnLemmas
 pub mod TellLemmas
 pub mod HandLemmas
-pub mod MoveLemmas
 pub mod WaitLemmas
 pub mod RoundLemmas
 pub mod WorkLemmas

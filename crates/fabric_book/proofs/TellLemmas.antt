@@ -1,11 +1,10 @@
 -- What is told of the parts of an event is what is told of it.
 
-use Rattle.std.specs.Prelude.{◌≡◌, ◌≢◌, ◌==◌, ◌++◌, ◌∷◌, ◌<◌, ◌≤◌, ◌-◌, ℕ, suc, min, not, take, slice_get, slice_index_or, ◌+◌, List, [], length, cond, Option, Some, None, is_some, Result, Ok, Err, Bool, true, false, refl}
+use Rattle.std.specs.Prelude.{◌≡◌, ◌≢◌, ◌==◌, ◌++◌, ◌∷◌, ◌<◌, ◌≤◌, ◌-◌, ℕ, suc, not, slice_get, slice_index_or, ◌+◌, List, [], cond, Some, is_some, Bool, true, false, refl}
 use Rattle.std.specs.List.{flat_map, range_with_len}
-use Rattle.std.specs.Option.{option_map_or}
-use Rattle.std.proofs.Common.{sym, ◌∙◌, ap, map, set, zero, append_assoc, arith, length-take, true≢false}
+use Rattle.std.proofs.Common.{sym, ◌∙◌, ap, map, set, zero, append_assoc, arith, true≢false}
 use Rattle.std.proofs.lemmas.Bool.{eq-eqb, eqb-false, eqb-true}
-use Rattle.std.proofs.lemmas.List.{append-nil, get_or-set_other, take_more}
+use Rattle.std.proofs.lemmas.List.{append-nil, get_or-set_other}
 use Rattle.std.proofs.lemmas.Option.{get_or_from_slice_get}
 use Rattle.std.proofs.lemmas.Grind.{flat_map-append}
 use Rattle.an_base.proofs.ListLemmas.{range_more}
@@ -14,30 +13,21 @@ use Rattle.an_base.specs.declared.event.Event.{Event}
 use Rattle.an_base.specs.declared.event.Event.TheVariants.{Tick, Clock, Take, Handle, Load, Fail, Repair, Lose, Again, Swap, Noise, Send, Move, Restart}
 use Rattle.net_graph.specs.Wires.{Wires}
 use Rattle.net_script.specs.Commands.{IsCommandEvent, is_restart}
-use Rattle.table_build.specs.Tables.{TableOf}
-use Rattle.host_traffic.specs.declared.hop.DropCause.{DropCause}
-use Rattle.host_traffic.specs.declared.hop.DropCause.TheVariants as cause
-use Rattle.host_traffic.specs.declared.hop.Hop.{Hop}
-use Rattle.host_traffic.specs.declared.hop.Hop.TheVariants as hop
-use Rattle.host_traffic.specs.Packets.{PacketOf}
 use Rattle.frame_codec.specs.Reading.{frame_of}
 use Rattle.port_monitor.specs.Histories.{externals}
-use Rattle.wire_set.specs.declared.side.Put.{Put}
-use Rattle.wire_set.specs.WireState.{WiresOf, is_link, place as port_place, side_at, what_becomes, wire_out}
-use Rattle.switch_core.specs.Bytes.{BytesOut}
 use Rattle.switch_core.specs.Switch.{CameBy, SwitchOf, note_of, port_of, ports_of, view_of}
 use Rattle.switch_core.proofs.NoteLemmas.{view_put}
 use Rattle.fabric_state.specs.declared.hand.Hand.{Hand}
 use Rattle.fabric_state.specs.declared.hand.Hand.TheVariants as hand
 use Rattle.fabric_state.specs.PortStates.{state_code}
-use Rattle.fabric_state.specs.Fabric.{FabricOf, host_at, host_on, no_view, side_of_port, switch_behind, table_at}
-use Rattle.fabric_state.specs.Effects.{copy_becomes, address_for, address_of, all_put_becomes, put_becomes, put_out, told_of, told_of_send}
-use Rattle.fabric_world.specs.declared.line.Line.{Line}
-use Rattle.fabric_world.specs.declared.line.Line.TheVariants as line
-use Rattle.fabric_world.specs.Lines.{copy_line, epoch_in_use, lines_of, send_line, sent_line, unsent_line, finish_lines, hop_line, join_lines, lost_line, lost_lines, no_frame_lines, port_line, shown_in, spent_lines}
+use Rattle.fabric_state.specs.Fabric.{no_view}
+use Rattle.fabric_state.specs.declared.line.Line.{Line}
+use Rattle.fabric_state.specs.declared.line.Line.TheVariants as line
+use Rattle.fabric_state.specs.Lines.{command_lines}
+use Rattle.fabric_world.specs.Lines.{lines_of, finish_lines, join_lines, no_frame_lines, port_line, shown_in, spent_lines}
 use Rattle.fabric_world.specs.Turns.{is_noise}
 use Rattle.fabric_world.specs.World.{WorldOf}
-use Rattle.fabric_book.specs.Told.{command_lines, hand_lines, line_if, losses, sent_lines, loss_lines, noise_lines, told_of_hop}
+use Rattle.fabric_book.specs.Told.{hand_lines, line_if, noise_lines}
 
 -- bytes that are no frame
 pub noise_is : (place : ℕ) (h : Hand) (bytes : List ℕ) → noise_lines place h (is_noise h bytes) ≡ no_frame_lines place h bytes
@@ -47,32 +37,6 @@ noise_is place (hand.Frame port) bytes = by (is_some (frame_of bytes)) where
   by : (b : Bool) → cond (not b) (line.NoFrame place port ∷ []) [] ≡ cond b [] (line.NoFrame place port ∷ [])
   by true = refl
   by false = refl
-
--- frames that were lost
-lost_by : (b : Bool) (place port : ℕ) (what : Put) → loss_lines place port (cond b (Some what) None) ≡ cond b (loss_lines place port (Some what)) []
-lost_by true place port what = refl
-lost_by false place port what = refl
-
-lost_is : (place : ℕ) (out : BytesOut) (wires : WiresOf) → loss_lines place out.port (put_becomes place out wires) ≡ lost_line place out wires
-lost_is place out wires =
-    lost_by (is_link (side_at wires (port_place place out.port)).far) place out.port (what_becomes (port_place place out.port) (wire_out wires place out.port) out.bytes wires)
-
-pub losses_are : (place : ℕ) (frames : List BytesOut) (wires : WiresOf) → losses place frames (all_put_becomes place frames wires) ≡ lost_lines place frames wires
-losses_are place [] wires = refl
-losses_are place (out ∷ more) wires =
-    ap (λ (xs : List Line). xs ++ losses place more (all_put_becomes place more (put_out place out wires))) (lost_is place out wires)
-    ∙ ap (λ (xs : List Line). lost_line place out wires ++ xs) (losses_are place more (put_out place out wires))
-
-pub all_become : (place : ℕ) (frames : List BytesOut) (wires : WiresOf) → length (all_put_becomes place frames wires) ≡ length frames
-all_become place [] wires = refl
-all_become place (out ∷ more) wires = λ i. suc (all_become place more (put_out place out wires) i)
-
--- as many as a list has places fill it
-pub filled : (n : ℕ) (xs ys : List (Option Put)) → length xs ≡ n → take n (xs ++ ys) ≡ xs
-filled n xs ys is = ap (λ (k : ℕ). take k (xs ++ ys)) (sym is) ∙ all xs where
-  all : (zs : List (Option Put)) → take (length zs) (zs ++ ys) ≡ zs
-  all [] = refl
-  all (z ∷ zs) = ap (λ (more : List (Option Put)). z ∷ more) (all zs)
 
 -- all that is told of what was in hand, and then of the frames that were lost
 pub handled_lines : (place : ℕ) (h : Hand) (bytes : List ℕ) (before after : SwitchOf) (lost lines : List Line)
@@ -86,7 +50,7 @@ told_all none ports noise all a b c d e one two three =
     let flat : ((((none ++ a) ++ b) ++ c) ++ d) ++ e ≡ none ++ ((((a ++ b) ++ c) ++ d) ++ e) = simp append_assoc in
     three ∙ ap (λ (xs : List Line). xs ++ c ++ d ++ e) (two ∙ ap (λ (xs : List Line). xs ++ b) one) ∙ flat
 
--- nothing of a tick and of a clock, and of a frame that is taken what became of its copy
+-- nothing of a tick and of a clock
 pub tick_told : (w : WorldOf) (e : Event) (old : List Line) → e ≡ Tick → old ≡ old ++ lines_of w e
 unfolding lines_of
 tick_told w e old is = sym (ap (λ (x : Event). old ++ lines_of w x) is ∙ append-nil old)
@@ -95,42 +59,12 @@ pub clock_told : (w : WorldOf) (e : Event) (s : ℕ) (old : List Line) → e ≡
 unfolding lines_of
 clock_told w e s old is = sym (ap (λ (x : Event). old ++ lines_of w x) is ∙ append-nil old)
 
-pub take_told : (w : WorldOf) (s port : ℕ) (far : Option (ℕ × ℕ)) (copied : Option Put) (old lines : List Line) → far ≡ switch_behind (side_of_port w.fabric s port).far → copied ≡ copy_becomes w.fabric s port
-    → lines ≡ old ++ copy_line far copied → lines ≡ old ++ lines_of w (Take s port)
-unfolding lines_of
-take_told w s port far copied old lines far_is copied_is told =
-    told ∙ ap (λ (f : Option (ℕ × ℕ)). old ++ copy_line f copied) far_is ∙ ap (λ (o : Option Put). old ++ copy_line (switch_behind (side_of_port w.fabric s port).far) o) copied_is
-
 pub restart_told : (w : WorldOf) (s : ℕ) (old lines : List Line) → lines ≡ old ++ line.Restarted s ∷ [] → lines ≡ old ++ lines_of w (Restart s)
 unfolding lines_of
 restart_told w s old lines told = told
 
--- a hop
-pub hop_is : (h : Hop) (fabric : FabricOf) (packet : PacketOf) → told_of_hop packet.packet packet.at (epoch_in_use fabric packet.at) packet.entry h ≡ hop_line h fabric packet
-hop_is (hop.Went exit) fabric packet = refl
-hop_is (hop.Delivered exit host) fabric packet = refl
-hop_is (hop.Dropped why) fabric packet = refl
-
 -- a command but a restart
-sent_by : (from to port : ℕ) (f : FabricOf) (table : Option TableOf) → port ≡ (host_on f to).port
-    → sent_lines from to (told_of_send (f.sent + 1) (option_map_or (λ (t : TableOf). Ok (address_of t port)) table (Err cause.NoTable)))
-    ≡ option_map_or (λ (t : TableOf). line.Packet (f.sent + 1) from to (address_of t port) ∷ []) table (unsent_line from to cause.NoTable f)
-sent_by from to port f None is = refl
-sent_by from to port f (Some t) is = refl
-
-send_by : (b : Bool) (from to : ℕ) (f : FabricOf) (address : Result ℕ DropCause) (sent : List Line) → sent_lines from to (told_of_send (f.sent + 1) address) ≡ sent
-    → sent_lines from to (told_of_send (f.sent + 1) (cond b address (Err cause.NoPort))) ≡ cond (not b) (unsent_line from to cause.NoPort f) sent
-send_by true from to f address sent is = is
-send_by false from to f address sent is = refl
-
-send_is : (from to : ℕ) (f : FabricOf) → sent_lines from to (told_of_send (f.sent + 1) (address_for f (host_on f from) (host_on f to))) ≡ send_line from to f
-send_is from to f =
-    send_by (is_some (host_at f (host_on f from).s (host_on f from).port)) from to f
-    (option_map_or (λ (t : TableOf). Ok (address_of t (host_on f to).port)) (table_at f (host_on f to).s) (Err cause.NoTable))
-    (option_map_or (sent_line from to f) (table_at f (host_on f to).s) (unsent_line from to cause.NoTable f))
-    (sent_by from to (host_on f to).port f (table_at f (host_on f to).s) refl)
-
-pub command_told : (wires : Wires) (w : WorldOf) (e : Event) → IsCommandEvent wires e → is_restart e ≡ false → command_lines e (told_of e w.fabric) ≡ lines_of w e
+pub command_told : (wires : Wires) (w : WorldOf) (e : Event) → IsCommandEvent wires e → is_restart e ≡ false → command_lines e w.fabric ≡ lines_of w e
 unfolding lines_of
 command_told wires w (Fail s p) fits other = refl
 command_told wires w (Repair s p) fits other = refl
@@ -138,7 +72,7 @@ command_told wires w (Lose s p n) fits other = refl
 command_told wires w (Again s p n) fits other = refl
 command_told wires w (Swap s p n) fits other = refl
 command_told wires w (Noise s p n) fits other = refl
-command_told wires w (Send from to) fits other = send_is from to w.fabric
+command_told wires w (Send from to) fits other = refl
 command_told wires w (Restart s) fits other = absurd (true≢false other)
 command_told wires w Tick fits other = absurd fits
 command_told wires w (Clock s) fits other = absurd fits
@@ -222,23 +156,3 @@ port_told s port x y before after u v old lines least most came before_is after_
     ∙ ap (λ (xs : List Line). old ++ xs)
     (port_line_is s port before after u v (state_code u.state == state_code v.state) old_is new_is refl ∙ ap (λ (n : NoteOf). port_line s n after port) before_is ∙ ap (λ (n : NoteOf). port_line s (note_of x) n port) after_is
     ∙ sym (only_one (port_line s (note_of x) (note_of y)) port 1 12 (λ q low other. no_line s port q x y least most came low other) (omega arith) least (omega (arith, most))))
-
--- one frame more
-losses-append : (s : ℕ) (xs : List BytesOut) (ys : List (Option Put)) (x : BytesOut) (y : Option Put) → length ys ≡ length xs → losses s (xs ++ x ∷ []) (ys ++ y ∷ []) ≡ losses s xs ys ++ loss_lines s x.port y
-losses-append s [] [] x y same = append-nil (loss_lines s x.port y)
-losses-append s [] (b ∷ ys) x y same = absurd (omega (arith, same))
-losses-append s (a ∷ xs) [] x y same = absurd (omega (arith, same))
-losses-append s (a ∷ xs) (b ∷ ys) x y same =
-    ap (λ (more : List Line). loss_lines s a.port b ++ more) (losses-append s xs ys x y (omega (arith, same))) ∙ sym (append_assoc (loss_lines s a.port b) (losses s xs ys) (loss_lines s x.port y))
-
-pub losses_more : (s : ℕ) (frames : List BytesOut) (puts : List (Option Put)) (i : ℕ) (x : BytesOut) (y : Option Put) (old lines more : List Line) → length puts ≡ length frames → i < length frames
-    → x ≡ slice_index_or frames i x → y ≡ slice_index_or puts i y → lines ≡ old ++ losses s (take i frames) (take i puts) → more ≡ lines ++ loss_lines s x.port y
-    → more ≡ old ++ losses s (take (i + 1) frames) (take (i + 1) puts)
-losses_more s frames puts i x y old lines more same below x_is y_is so_far next =
-    let in_puts : i < length puts = omega (arith, same, below) in
-    let fronts : length (take i puts) ≡ length (take i frames) = length-take i puts ∙ ap (min i) same ∙ sym (length-take i frames) in
-    let all : losses s (take (i + 1) frames) (take (i + 1) puts) ≡ losses s (take i frames) (take i puts) ++ loss_lines s x.port y =
-    ap (λ (xs : List BytesOut). losses s xs (take (i + 1) puts)) (take_more frames i x below ∙ ap (λ (z : BytesOut). take i frames ++ z ∷ []) (sym x_is))
-    ∙ ap (λ (ys : List (Option Put)). losses s (take i frames ++ x ∷ []) ys) (take_more puts i y in_puts ∙ ap (λ (z : Option Put). take i puts ++ z ∷ []) (sym y_is))
-    ∙ losses-append s (take i frames) (take i puts) x y fronts in
-    next ∙ ap (λ (xs : List Line). xs ++ loss_lines s x.port y) so_far ∙ append_assoc old (losses s (take i frames) (take i puts)) (loss_lines s x.port y) ∙ ap (λ (xs : List Line). old ++ xs) (sym all)

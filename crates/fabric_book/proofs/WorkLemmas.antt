@@ -21,7 +21,7 @@ use Rattle.fabric_state.specs.Starts.{next_life_at}
 use Rattle.fabric_world.specs.Histories.{HistoryOf, fabric_of, last_taken, with_event, world_of}
 use Rattle.fabric_world.specs.Solo.{worker_event}
 use Rattle.fabric_world.specs.Sound.{AllMayCome}
-use Rattle.fabric_world.specs.declared.line.PlacedLine.{PlacedLine}
+use Rattle.fabric_state.specs.declared.line.PlacedLine.{PlacedLine}
 use Rattle.fabric_world.specs.Turns.{HasBytes, TakesWork}
 use Rattle.fabric_world.specs.World.{WorldOf}
 use Rattle.fabric_book.specs.Kept.{with_events}

@@ -5,7 +5,9 @@ use Rattle.an_base.specs.declared.event.Event.{Event}
 use Rattle.an_base.specs.declared.event.Event.TheVariants.{Tick, Move}
 use Rattle.net_script.specs.Commands.{is_restart}
 use Rattle.net_script.specs.Scripts.{IsScript}
-use Rattle.fabric_state.specs.Fabric.{FabricOf, places}
+use Rattle.fabric_state.specs.Fabric.{FabricOf, places, samples_of}
+use Rattle.fabric_state.specs.declared.work.Work.{Work}
+use Rattle.fabric_state.specs.declared.work.Work.TheVariants as work
 use Rattle.fabric_state.specs.Lawful.{is_command}
 use Rattle.fabric_world.specs.World.{world_after}
 use Rattle.fabric_world.specs.Histories.{HistoryOf, IsLawful, last_taken}
@@ -22,6 +24,11 @@ pub record IsKept (fabric : FabricOf) (events : List Event) (taken : List ℕ) (
 
 abbrev pub with_events : List Event → HistoryOf → HistoryOf
 with_events events history = record history { events = history.events ++ events }
+
+-- the samples of a clock are those of this moment
+abbrev pub HasSamples : Work → FabricOf → ℕ → Type 0
+HasSamples (work.Clock now samples) fabric place = samples ≡ samples_of fabric place
+HasSamples other fabric place = Unit {0}
 
 -- what the driver makes: a tick, a hop, or a command that is no restart
 pub record IsPlainCommand (fabric : FabricOf) (event : Event) : Type 0 where

@@ -12,7 +12,7 @@ use Rattle.switch_core.specs.Kept.{KeptOf, StandsFor}
 use Rattle.fabric_state.specs.declared.hand.Hand.{Hand}
 use Rattle.fabric_state.specs.declared.hand.Hand.TheVariants as hand
 use Rattle.fabric_state.specs.Fabric.{station, held_bytes}
-use Rattle.fabric_world.specs.declared.line.Line.{Line}
+use Rattle.fabric_state.specs.declared.line.Line.{Line}
 use Rattle.fabric_world.specs.Accounts.{gathered}
 use Rattle.fabric_world.specs.Lines.{lines_of}
 use Rattle.fabric_world.specs.World.{WorldOf, handles, start_of}

@@ -6,7 +6,7 @@ use Rattle.fabric_state.specs.declared.ending.Ending.{Ending}
 use Rattle.fabric_state.specs.declared.work.Drive.TheVariants as drive
 use Rattle.fabric_state.specs.Choices.{next_drive}
 use Rattle.fabric_state.specs.declared.work.Drive.{Drive}
-use Rattle.fabric_world.specs.declared.line.Line.{Line}
+use Rattle.fabric_state.specs.declared.line.Line.{Line}
 use Rattle.fabric_world.specs.Histories.{fabric_of, last_taken, world_of}
 use Rattle.fabric_world.specs.Lines.{lines_of}
 use Rattle.fabric_world.specs.World.{WorldOf, begun}

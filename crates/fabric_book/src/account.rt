@@ -6,7 +6,7 @@ ghost use Rattle.fabric_book.specs.Accounts.{IsAccount, with_lines, with_load};
 
 use crate::lines::Lines;
 use an_base::row::Row;
-use fabric_world::line::PlacedLine;
+use fabric_state::line::PlacedLine;
 use std::alloc::Global;
 
 /// What is told of the events of a caller, and the rows of each table that it loaded, in order; and whether memory

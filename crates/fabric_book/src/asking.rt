@@ -5,12 +5,11 @@
 //! the reply, and serve for the next ask; a sheet is made for each table.
 
 use an_base::port::Note;
+use fabric_state::line::{Line, PlacedLine};
 use fabric_state::work::{Drive, Work};
 use fabric_world::ask::Done;
-use fabric_world::line::PlacedLine;
 use frame_region::buffer::FrameBuf;
 use switch_core::switch::TableFor;
-use wire_set::side::Put;
 
 /// On which a worker is told its next work.
 #[derive(Drop)]
@@ -28,8 +27,8 @@ pub struct Letter {
 pub struct Parcel {
     /// What came of it.
     pub done: Done,
-    /// Where what becomes of each frame is noted.
-    pub puts: Vec<Option<Put>>,
+    /// Where what is told of each frame is noted.
+    pub puts: Vec<Option<Line>>,
     /// The place of the event in the history, from 1, once there is one.
     pub event: u32,
 }
@@ -93,7 +92,7 @@ pub enum BookReply {
     },
     /// To `Put`.
     Put {
-        /// What was given, with what became of it.
+        /// What was given, with what is told of it.
         parcel: Box<Parcel>,
     },
     /// To `Load`: the table is in use.

@@ -1,6 +1,7 @@
 //! The book of a network.
 
 ghost use Rattle.std.specs.Prelude.{◌≡◌, ◌+◌, ◌++◌, ◌<◌, ◌≤◌, ◌&&◌, ◌==◌, ◌∷◌, ℕ, [], length, option_to_list, true, false, All, IfOk};
+ghost use Rattle.std.specs.List.{flat_map};
 ghost use Rattle.an_base.specs.declared.event.Event.TheVariants as events;
 ghost use Rattle.net_script.specs.Commands.{is_restart};
 ghost use Rattle.switch_core.specs.Bytes.{IsFrameOut};
@@ -8,42 +9,42 @@ ghost use Rattle.fabric_state.specs.declared.ending.Ending.TheVariants as ending
 ghost use Rattle.fabric_state.specs.declared.hand.Hand.TheVariants as in_hand;
 ghost use Rattle.fabric_state.specs.declared.work.Drive.TheVariants as drive;
 ghost use Rattle.fabric_state.specs.Choices.{event_of_work};
-ghost use Rattle.fabric_state.specs.Fabric.{count, full_hands, held_bytes, is_full_at, station};
+ghost use Rattle.fabric_state.specs.Fabric.{count, full_hands, held_bytes, is_full_at, samples_of, station};
 ghost use Rattle.fabric_state.specs.Agree.{is_settled};
-ghost use Rattle.fabric_state.specs.Effects.{ShowsOnly, all_put_becomes, all_put_out, shows};
+ghost use Rattle.fabric_state.specs.Effects.{ShowsOnly, all_put_out, shows};
 ghost use Rattle.fabric_state.specs.Fits.{IsHandPort};
 ghost use Rattle.fabric_state.specs.Lawful.{is_command, is_lawful};
+ghost use Rattle.fabric_state.specs.Lines.{lost_lines};
 ghost use Rattle.fabric_state.specs.Starts.{next_life_at};
+ghost use Rattle.fabric_state.specs.declared.line.Line.TheVariants as line;
 ghost use Rattle.fabric_world.specs.Histories.{IsLawful, fabric_of, owner_of, with_event, world_of};
 ghost use Rattle.fabric_world.specs.Accounts.{placed};
 ghost use Rattle.fabric_world.specs.Lines.{all_lines, lines_of};
 ghost use Rattle.fabric_world.specs.Sound.{AllMayCome};
-ghost use Rattle.fabric_world.specs.Turns.{AnswersAsk, AnswersLoad, Drives, Handled, HasBytes, IsDone, IsFit, IsToLoad, TakesWork, puts_at};
+ghost use Rattle.fabric_world.specs.Turns.{AnswersAsk, AnswersLoad, AreTold, Drives, Handled, HasBytes, IsDone, IsFit, IsToLoad, TakesWork};
 ghost use Rattle.fabric_world.proofs.FitLemmas.{fit_stays};
 ghost use Rattle.fabric_settling.specs.Settling.{HasTime, SettlesSoon};
 ghost use Rattle.fabric_book.specs.Asking.{ask_of, reply_of};
-ghost use Rattle.fabric_book.specs.Kept.{IsDrivers, with_events};
+ghost use Rattle.fabric_book.specs.Kept.{HasSamples, IsDrivers, with_events};
 ghost use Rattle.fabric_book.specs.declared.asking.BookReply.TheVariants as book_reply;
 
 use crate::asking::{BookAsk, BookReply, Parcel, Sheet};
-use crate::telling::{command_line, copy_line, epoch_of, hop_line};
 use an_base::event::{Event, Journal};
 use an_base::life::Life;
 use an_base::memory::OutOfMemory;
-use an_base::port::Note;
+use an_base::port::{Note, Sample};
 use fabric_state::fabric::Fabric;
 use fabric_state::hand::Hand;
+use fabric_state::line::{Line, PlacedLine};
 use fabric_state::work::{Drive, Work};
 use fabric_turn::Staged;
 use fabric_world::ask::Done;
-use fabric_world::line::{Line, PlacedLine};
 use frame_region::buffer::FrameBuf;
 use net_script::script::Script;
 use std::alloc::Global;
 use std::marker::Model;
 use switch_core::out::FrameOut;
 use switch_core::switch::TableFor;
-use wire_set::side::Put;
 
 /// The book of a network: its whole history, and the fabric that it makes. It has room from the beginning for
 /// as many events as the script allows.
@@ -67,13 +68,14 @@ impl Model for Book {
     ghost invariant = { λ b. IsKept b.fabric b.entries.items b.taken.items (vec_capacity b.entries) };
 }
 
-// The frames of a switch go out in turn. What becomes of each is noted.
-fn put_all(fabric: &mut Fabric, s: u8, frames: &[FrameOut], puts: &mut [Option<Put>])
+// The frames of a switch go out in turn. What is told of each is noted.
+fn put_all(fabric: &mut Fabric, s: u8, frames: &[FrameOut], puts: &mut [Option<Line>])
     requires within { s < count fabric.old }
     requires spelled { All IsFrameOut frames.now }
     requires room { length puts.old ≡ length frames.now }
     ensures put { fabric.new ≡ record fabric.old { wires = all_put_out s frames.now fabric.old.wires } }
-    ensures told { puts.new ≡ all_put_becomes s frames.now fabric.old.wires }
+    ensures told { flat_map option_to_list puts.new ≡ lost_lines s frames.now fabric.old.wires }
+    ensures room { length puts.new ≡ length puts.old }
 {
     'frames: for place in 0..frames.len() {
         puts[place] = fabric.put(s, &frames[place]);
@@ -166,18 +168,19 @@ impl Book {
 
     // A switch begins its next work, whose event may come. Answers what is told of it.
     fn begin_work(&mut self, s: u8, work: &Work, out: &mut FrameBuf) -> Option<Line>
-        requires { AllMayCome (fabric_of self.old) (event_of_work s work.now) }
+        requires next { AllMayCome (fabric_of self.old) (event_of_work s work.now) }
+        requires samples { HasSamples work.now (fabric_of self.old) s }
         ensures event { self.new ≡ with_events (event_of_work s work.now) self.old }
         ensures bytes { HasBytes work.now (fabric_of self.new) s out.new }
         ensures told { option_to_list result ≡ all_lines (world_of self.old) (event_of_work s work.now) }
     {
         match *work {
             Work::Restart { life: _ } => {
-                self.restart(s);
-                Some(Line::Restarted { s })
+                let (_life, told) = self.restart(s);
+                Some(told)
             }
-            Work::Clock { now: _, samples: _ } => {
-                self.clock(s);
+            Work::Clock { now: _, samples } => {
+                self.clock(s, samples);
                 None
             }
             Work::Frame { port } => self.take_at(s, port, out),
@@ -185,14 +188,14 @@ impl Book {
         }
     }
 
-    /// What came of what a switch had in hand: its frames go out, and it shows what it does then. What becomes of
+    /// What came of what a switch had in hand: its frames go out, and it shows what it does then. What is told of
     /// each frame is noted. Answers the place of the event in the history, from 1.
-    pub fn put(&mut self, s: u8, done: &Done, puts: &mut [Option<Put>]) -> u32
+    pub fn put(&mut self, s: u8, done: &Done, puts: &mut [Option<Line>]) -> u32
         requires within { s < length self.old.script.wires.switches }
         requires done { IsDone (world_of self.old) s done.now }
         requires room { length puts.old ≡ length done.now.frames }
         ensures handled { self.new ≡ with_event (events.Handle s) self.old }
-        ensures puts { puts.new ≡ puts_at (fabric_of self.old) s done.now.frames }
+        ensures told { AreTold (fabric_of self.old) s done.now.frames puts.new }
         ensures number { result ≡ (fabric_of self.new).events }
     {
         self.handle(s, done.frames.as_slice(), &done.note, done.spent, puts);
@@ -262,12 +265,13 @@ impl Book {
         self.entries.push_reserved(Event::Tick);
     }
 
-    // A switch takes its clock in hand.
-    pub(crate) fn clock(&mut self, s: u8)
-        requires { is_lawful (fabric_of self.old) (events.Clock s) ≡ true }
+    // A switch takes its clock in hand, with what the hardware says of its ports at this moment.
+    pub(crate) fn clock(&mut self, s: u8, samples: [Sample; 12])
+        requires lawful { is_lawful (fabric_of self.old) (events.Clock s) ≡ true }
+        requires samples { samples ≡ samples_of (fabric_of self.old) s }
         ensures { self.new ≡ with_event (events.Clock s) self.old }
     {
-        self.fabric.clock(s);
+        self.fabric.clock(s, samples);
         self.entries.push_reserved(Event::Clock { s });
     }
 
@@ -278,14 +282,13 @@ impl Book {
         ensures bytes { out.new ≡ held_bytes (fabric_of self.new) s }
         ensures told { option_to_list result ≡ lines_of (world_of self.old) (events.Take s port) }
     {
-        let far = self.fabric.far_switch(s, port);
-        let copied = self.fabric.take(s, port, out);
+        let told = self.fabric.take(s, port, out);
         self.taken[usize::from(s)] = port;
         self.entries.push_reserved(Event::Take { s, port });
-        copy_line(far, copied)
+        told
     }
 
-    // A switch has handled what it had in hand: these frames go out, and it shows this. What becomes of each frame is
+    // A switch has handled what it had in hand: these frames go out, and it shows this. What is told of each frame is
     // noted.
     pub(crate) fn handle(
         &mut self,
@@ -293,14 +296,15 @@ impl Book {
         frames: &[FrameOut],
         note: &Note,
         spent: bool,
-        puts: &mut [Option<Put>],
+        puts: &mut [Option<Line>],
     )
         requires within { s < length self.old.script.wires.switches }
         requires done { Handled (world_of self.old) s frames.now note.now spent }
         requires spelled { All IsFrameOut frames.now }
         requires room { length puts.old ≡ length frames.now }
         ensures handled { self.new ≡ with_event (events.Handle s) self.old }
-        ensures puts { puts.new ≡ puts_at (fabric_of self.old) s frames.now }
+        ensures told { AreTold (fabric_of self.old) s frames.now puts.new }
+        ensures room { length puts.new ≡ length puts.old }
     {
         let hand = self.fabric.station(s).hand();
         self.fabric.release(s);
@@ -309,25 +313,28 @@ impl Book {
         self.entries.push_reserved(Event::Handle { s });
     }
 
-    // A switch uses this table, and shows this then.
-    pub(crate) fn load_now(&mut self, s: u8, table: TableFor, note: &Note)
+    // A switch uses this table, and shows this then. Answers what is told of it.
+    pub(crate) fn load_now(&mut self, s: u8, table: TableFor, note: &Note) -> Line
         requires lawful { is_lawful (fabric_of self.old) (events.Load s) ≡ true }
         requires load { IsToLoad (world_of self.old) s table note.now }
-        ensures { self.new ≡ with_event (events.Load s) self.old }
+        ensures loaded { self.new ≡ with_event (events.Load s) self.old }
+        ensures told { result ∷ [] ≡ lines_of (world_of self.old) (events.Load s) }
     {
-        self.fabric.load(s, table, note);
+        let told = self.fabric.load(s, table, note);
         self.entries.push_reserved(Event::Load { s });
+        told
     }
 
-    // A switch begins its next life.
-    pub(crate) fn restart(&mut self, s: u8) -> Life
+    // A switch begins its next life. Answers this life, and what is told of it.
+    pub(crate) fn restart(&mut self, s: u8) -> (Life, Line)
         requires { is_lawful (fabric_of self.old) (events.Restart s) ≡ true }
         ensures restarted { self.new ≡ with_event (events.Restart s) self.old }
-        ensures life { result ≡ next_life_at (fabric_of self.old) s }
+        ensures life { result.0 ≡ next_life_at (fabric_of self.old) s }
+        ensures told { result.1 ≡ line.Restarted s }
     {
-        let life = self.fabric.restart(s);
+        let begun = self.fabric.restart(s);
         self.entries.push_reserved(Event::Restart { s });
-        life
+        begun
     }
 
     // The next command is done, which is no restart. Answers what is told of it.
@@ -340,7 +347,7 @@ impl Book {
     {
         let told = self.fabric.command(command);
         self.entries.push_reserved(*command);
-        command_line(command, told)
+        told
     }
 
     // A packet makes one hop. Answers what is told of it.
@@ -349,11 +356,9 @@ impl Book {
         ensures moved { self.new ≡ with_event (events.Move packet) self.old }
         ensures told { result ∷ [] ≡ lines_of (world_of self.old) (events.Move packet) }
     {
-        let (s, entry) = self.fabric.packet_place(packet).unwrap();
-        let epoch = epoch_of(self.fabric.station(s).table_for());
-        let hop = self.fabric.hop(packet);
+        let told = self.fabric.hop(packet);
         self.entries.push_reserved(Event::Move { packet });
-        hop_line(packet, s, epoch, entry, hop)
+        told
     }
 }
 

@@ -18,15 +18,14 @@ ghost use Rattle.fabric_book.specs.Told.{hand_lines};
 
 use crate::book::Book;
 use crate::lines::Lines;
-use crate::telling::{tell_finish, tell_losses, tell_noise, tell_port, tell_ports};
+use crate::telling::{tell_finish, tell_noise, tell_port, tell_ports};
 use an_base::memory::OutOfMemory;
 use an_base::port::Note;
 use fabric_state::hand::Hand;
+use fabric_state::line::Line;
 use fabric_state::station::write_note;
-use fabric_world::line::Line;
 use switch_core::out::Out;
 use switch_core::switch::{ClockRefusal, Switch};
-use wire_set::side::Put;
 
 // A switch does with what it has in hand what it does. After want of memory it is as it was started, and no frame
 // goes out.
@@ -150,7 +149,7 @@ pub(crate) fn handle_at(
     out: &mut Out,
     note: &mut Note,
     room: &mut Note,
-    puts: &mut Vec<Option<Put>>,
+    puts: &mut Vec<Option<Line>>,
     lines: &mut Lines,
 ) -> Result<(), OutOfMemory>
     requires script { IsScript book.old.script }
@@ -168,11 +167,10 @@ pub(crate) fn handle_at(
     let frames = out.frames.as_slice();
     puts.resize(frames.len(), None)?;
     book.handle(s, frames, note, switch.is_spent(), puts.as_mut_slice());
-    tell_losses(s, frames, puts, lines)
+    lines.push_all(puts)
 }
 
-/// The switch at a place loads the table that is due, and the book takes it; the line is added. Where memory is
-/// wanting the book is as it was.
+/// The switch at a place loads the table that is due, and the book takes it; the line is added.
 pub(crate) fn load_at(
     book: &mut Book,
     switch: &mut Switch,
@@ -186,15 +184,10 @@ pub(crate) fn load_at(
     ensures kept { (buffer : List ℕ) → IsSwitchKept (world_of book.old) s switch.old buffer
         → OnOk result (IsSwitchKept (world_of book.new) s switch.new buffer) }
     ensures told { OnOk result (lines.new ≡ lines.old ++ lines_of (world_of book.old) (events.Load s)) }
-    ensures lost { OnErr result (book.new ≡ book.old) }
+    ensures lost { OnErr result (IsSameOrNext (events.Load s) book.old book.new) }
 {
     let table = switch.load()?;
     let note = switch.note();
-    lines.push(Line::Load {
-        s,
-        epoch: table.epoch,
-        number: table.table.number(),
-    })?;
-    book.load_now(s, table, &note);
-    Ok(())
+    let told = book.load_now(s, table, &note);
+    lines.push(told)
 }

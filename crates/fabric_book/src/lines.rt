@@ -1,10 +1,11 @@
 //! What is told of an event, or of several.
 
 ghost use Rattle.std.specs.Prelude.{◌≡◌, ◌++◌, ◌∷◌, [], option_to_list, OnOk, OnErr};
+ghost use Rattle.std.specs.List.{flat_map};
 ghost use Rattle.fabric_book.specs.Told.{line_if};
 
 use an_base::memory::OutOfMemory;
-use fabric_world::line::Line;
+use fabric_state::line::Line;
 use std::alloc::Global;
 use std::marker::Model;
 
@@ -16,7 +17,7 @@ pub struct Lines {
 
 impl Model for Lines {
     ghost use Rattle.std.specs.Prelude.{List};
-    ghost use Rattle.fabric_world.specs.declared.line.Line.{Line};
+    ghost use Rattle.fabric_state.specs.declared.line.Line.{Line};
 
     ghost Value = { List Line };
 
@@ -65,6 +66,16 @@ impl Lines {
             Some(line) => self.push(line),
             None => Ok(()),
         }
+    }
+
+    /// Adds those lines at the end that are there.
+    pub fn push_all(&mut self, told: &[Option<Line>]) -> Result<(), OutOfMemory>
+        ensures { OnOk result (self.new ≡ self.old ++ flat_map option_to_list told.now) }
+    {
+        'lines: for line in told {
+            self.push_some(*line)?;
+        }
+        Ok(())
     }
 
     // Adds a line at the end where something is so.

@@ -25,9 +25,9 @@ use an_base::memory::OutOfMemory;
 use an_base::port::Note;
 use fabric_state::ending::Ending;
 use fabric_state::fabric::Fabric;
+use fabric_state::line::Line;
 use fabric_state::station::started_note;
 use fabric_state::work::{Drive, Work};
-use fabric_world::line::Line;
 use frame_region::buffer::FrameBuf;
 use net_graph::wiring::Wiring;
 use net_script::script::Script;
@@ -36,7 +36,6 @@ use std::marker::Model;
 use switch_core::out::Out;
 use switch_core::switch::Switch;
 use table_build::table::Table;
-use wire_set::side::Put;
 
 /// Why an event was not made.
 #[derive(Clone, Copy, PartialEq, Eq)]
@@ -70,7 +69,7 @@ pub struct Net {
     out: Out,
     note: Note,
     room: Note,
-    puts: Vec<Option<Put>>,
+    puts: Vec<Option<Line>>,
 }
 
 // With what each switch of a script is started.
@@ -253,7 +252,8 @@ impl Net {
         requires lawful { is_lawful (fabric_of (history_of self.old)) (events.Clock s) ≡ true }
         ensures { self.new ≡ with_step (events.Clock s) self.old }
     {
-        self.book.clock(s);
+        let samples = self.fabric().samples(s);
+        self.book.clock(s, samples);
     }
 
     // A switch takes a frame; a line where a copy was lost, which names the end that sent it.
@@ -325,11 +325,11 @@ impl Net {
     {
         self.lost = true;
         let place = usize::from(s);
-        let life = self.book.restart(s);
+        let (life, told) = self.book.restart(s);
         let power = self.powers[place];
         self.switches[place] = power.start(self.alloc, life)?;
         self.lost = false;
-        lines.push(Line::Restarted { s })
+        lines.push(told)
     }
 
     // The next command is done.

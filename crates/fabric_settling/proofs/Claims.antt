@@ -20,8 +20,8 @@ use Rattle.fabric_state.specs.Fabric.{FabricOf, next_command, if_due, room, due_
 use Rattle.fabric_state.specs.Agree.{agrees, is_idle, is_quiet, is_settled, is_unsettled, ending_of, ending_by, first_spent}
 use Rattle.fabric_state.specs.Lawful.{is_lawful, is_paced}
 use Rattle.fabric_state.proofs.LawfulLemmas.{lawful_is}
-use Rattle.fabric_world.specs.declared.line.Line.{Line}
-use Rattle.fabric_world.specs.declared.line.Line.TheVariants as line
+use Rattle.fabric_state.specs.declared.line.Line.{Line}
+use Rattle.fabric_state.specs.declared.line.Line.TheVariants as line
 use Rattle.fabric_world.specs.Lines.{lines_of}
 use Rattle.fabric_world.specs.World.{WorldOf, begun, effect, step, after_all, world_after, loads_with}
 use Rattle.fabric_world.specs.Histories.{AreLawful, IsLawful, end_of}

@@ -20,7 +20,7 @@ use Rattle.fabric_state.specs.declared.hand.Hand.TheVariants as hand
 use Rattle.fabric_state.specs.Effects.{put_out, all_put_out, released}
 use Rattle.fabric_state.proofs.QueueLemmas.{if_both, release_elsewhere}
 use Rattle.fabric_state.proofs.HoldLemmas.{held_is}
-use Rattle.fabric_world.specs.Lines.{loss_line, lost_line, lost_lines}
+use Rattle.fabric_state.specs.Lines.{loss_line, lost_line, lost_lines}
 use Rattle.fabric_settling.specs.Disturbances.{is_either, is_lost_by}
 
 -- bytes are on a wire

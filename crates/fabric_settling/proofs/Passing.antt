@@ -28,7 +28,8 @@ use Rattle.fabric_state.proofs.ReadyLemmas.{clock_ready, take_ready, empty_at}
 use Rattle.fabric_state.proofs.FitsLemmas.{switch_below}
 use Rattle.fabric_state.proofs.HoldLemmas.{empty_hand}
 use Rattle.fabric_state.proofs.QueueLemmas.{hands_differ, port_is_no_hand, take_elsewhere}
-use Rattle.fabric_world.specs.Lines.{lines_of, lost_lines, port_line, no_frame_lines, join_lines, spent_lines, finish_lines}
+use Rattle.fabric_state.specs.Lines.{lost_lines}
+use Rattle.fabric_world.specs.Lines.{lines_of, port_line, no_frame_lines, join_lines, spent_lines, finish_lines}
 use Rattle.fabric_world.specs.World.{WorldOf, effect, handled, loads_with, world_after}
 use Rattle.fabric_world.proofs.FabricLemmas.{world_fits}
 use Rattle.fabric_world.proofs.InductionLemmas.{world_script}

@@ -8,8 +8,8 @@ use Rattle.net_script.specs.Scripts.{ScriptOf}
 use Rattle.wire_set.specs.declared.side.Loss.{Loss}
 use Rattle.wire_set.specs.declared.side.Loss.TheVariants.{Down, Told, NoRoom}
 use Rattle.fabric_state.specs.Lawful.{is_lawful}
-use Rattle.fabric_world.specs.declared.line.Line.{Line}
-use Rattle.fabric_world.specs.declared.line.Line.TheVariants as line
+use Rattle.fabric_state.specs.declared.line.Line.{Line}
+use Rattle.fabric_state.specs.declared.line.Line.TheVariants as line
 use Rattle.fabric_world.specs.Lines.{lines_of}
 use Rattle.fabric_world.specs.World.{WorldOf, begun, step, world_after}
 

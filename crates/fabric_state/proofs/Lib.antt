@@ -16,3 +16,4 @@ pub mod PortLemmas
 pub mod EmptyLemmas
 pub mod HandleLemmas
 pub mod AskLemmas
+pub mod MoveLemmas

@@ -8,8 +8,8 @@ use Rattle.an_base.specs.declared.event.Event.TheVariants.{Fail, Repair, Lose, A
 use Rattle.net_graph.specs.declared.wiring.HostOn.{HostOn}
 use Rattle.wire_set.specs.declared.side.Put.{Put}
 use Rattle.wire_set.specs.WireState.{WiresOf, place as port_place, side_at, is_link, wire_out}
-use Rattle.wire_set.specs.WireState.{put_into, what_becomes, take_from, release_from, fail_at, repair_at}
-use Rattle.wire_set.specs.WireState.{dropped_at, lose_on, again_on, swap_on, held_from, taken_frame}
+use Rattle.wire_set.specs.WireState.{put_into, take_from, release_from, fail_at, repair_at}
+use Rattle.wire_set.specs.WireState.{lose_on, again_on, swap_on, held_from, taken_frame}
 use Rattle.wire_set.specs.WireState.{what_copy_becomes}
 use Rattle.switch_core.specs.Bytes.{BytesOut}
 use Rattle.switch_core.specs.declared.switch.TableFor.{TableFor}
@@ -20,8 +20,6 @@ use Rattle.host_traffic.specs.declared.hop.DropCause.TheVariants as cause
 use Rattle.host_traffic.specs.Packets.{PacketOf, packet_of, hop_in, hopped_in}
 use Rattle.fabric_state.specs.declared.hand.Hand.{Hand}
 use Rattle.fabric_state.specs.declared.hand.Hand.TheVariants as hand
-use Rattle.fabric_state.specs.declared.told.Told.{Told}
-use Rattle.fabric_state.specs.declared.told.Told.TheVariants as told
 use Rattle.fabric_state.specs.Fabric.{FabricOf, StationOf, station, with_station, samples_of, host_on, host_at}
 use Rattle.fabric_state.specs.Fabric.{next_at, no_view, table_at}
 
@@ -111,18 +109,6 @@ abbrev pub shows : ℕ → NoteOf → Bool → FabricOf → FabricOf
 shows place note spent fabric =
     counted (with_station place (showing note spent (station fabric place)) fabric)
 
--- what becomes of a frame that is put out
-abbrev pub put_becomes : ℕ → BytesOut → WiresOf → Option Put
-put_becomes place out wires =
-    if is_link (side_at wires (port_place place out.port)).far
-    then Some (what_becomes (port_place place out.port) (wire_out wires place out.port) out.bytes wires)
-    else None
-
-abbrev pub all_put_becomes : ℕ → List BytesOut → WiresOf → List (Option Put)
-all_put_becomes place [] wires = []
-all_put_becomes place (out ∷ more) wires =
-    put_becomes place out wires ∷ all_put_becomes place more (put_out place out wires)
-
 -- the wires on which the frames of a switch go out: what it has in hand is given up
 abbrev pub wires_at_hand : FabricOf → ℕ → WiresOf
 wires_at_hand fabric place = released (station fabric place).hand place fabric.wires
@@ -189,8 +175,8 @@ after_send from to fabric = done_command (record fabric {
   sent = fabric.sent + 1;
 })
 
--- What a command makes of the fabric, and what comes of it besides. A restart, which belongs to a switch, is
--- apart; other events are no commands.
+-- What a command makes of the fabric. A restart, which belongs to a switch, is apart; other events are no
+-- commands.
 abbrev pub after_command : Event → FabricOf → FabricOf
 after_command (Fail place port) fabric = on_wires (fail_at (port_place place port)) fabric
 after_command (Repair place port) fabric = on_wires (repair_at (port_place place port)) fabric
@@ -203,19 +189,6 @@ after_command (Swap place port times) fabric =
 after_command (Noise place port bytes) fabric = on_wires (noise_out place port bytes) fabric
 after_command (Send from to) fabric = after_send from to fabric
 after_command event fabric = fabric
-
-abbrev pub told_of_send : ℕ → Result ℕ DropCause → Told
-told_of_send packet (Ok address) = told.Sent packet address
-told_of_send packet (Err why) = told.Unsent packet why
-
-abbrev pub told_of : Event → FabricOf → Told
-told_of (Fail place port) fabric = told.Cut (dropped_at (port_place place port) fabric.wires)
-told_of (Noise place port bytes) fabric =
-    told.Noise
-    (what_becomes (port_place place port) (wire_out fabric.wires place port) (noise bytes) fabric.wires)
-told_of (Send from to) fabric =
-    told_of_send (fabric.sent + 1) (address_for fabric (host_on fabric from) (host_on fabric to))
-told_of event fabric = told.Nothing
 
 -- a packet makes one hop
 abbrev pub hop_of : FabricOf → PacketOf → Hop

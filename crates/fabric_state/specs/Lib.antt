@@ -9,3 +9,4 @@ pub mod Choices
 pub mod Fits
 pub mod Tallies
 pub mod Kept
+pub mod Lines

@@ -1,6 +1,6 @@
 //! The fabric of a network: all of it but what its switches alone know.
 
-ghost use Rattle.std.specs.Prelude.{◌≡◌, ◌==◌, ◌+◌, ◌-◌, ◌&&◌, ◌<◌, ◌≤◌, ◌^◌, ◌++◌, length, not, true, false, Some, All, AllPairs, IfOk, option_copied};
+ghost use Rattle.std.specs.Prelude.{◌≡◌, ◌==◌, ◌+◌, ◌-◌, ◌&&◌, ◌<◌, ◌≤◌, ◌^◌, ◌++◌, length, not, true, false, Some, All, AllPairs, IfOk, option_copied, option_to_list, [], ◌∷◌};
 ghost use Rattle.std.specs.List.{list_all};
 ghost use Rattle.std.specs.Option.{option_map};
 ghost use Rattle.an_base.specs.declared.event.Event.TheVariants as events;
@@ -18,15 +18,18 @@ ghost use Rattle.fabric_state.specs.Agree.{agrees, are_peers, ending_of, first_s
 ghost use Rattle.fabric_state.specs.Agree.{is_settled, is_unsettled, link_agrees};
 ghost use Rattle.fabric_state.specs.Lawful.{is_barred, is_command, is_lawful, is_paced, is_ready, is_tick_due};
 ghost use Rattle.fabric_state.specs.Effects.{address_for, admitted_as, after_clock, after_command, after_load, after_move};
-ghost use Rattle.fabric_state.specs.Effects.{after_restart, after_send, after_take, after_tick, copy_becomes, emptied};
-ghost use Rattle.fabric_state.specs.Effects.{hop_of, noise, noise_out, on_wires, put_becomes, put_out, released, shows};
-ghost use Rattle.fabric_state.specs.Effects.{ShowsOnly, told_of, told_of_send};
+ghost use Rattle.fabric_state.specs.Effects.{after_restart, after_send, after_take, after_tick, emptied};
+ghost use Rattle.fabric_state.specs.Effects.{hop_of, noise, noise_out, on_wires, put_out, released, shows};
+ghost use Rattle.fabric_state.specs.Effects.{ShowsOnly};
+ghost use Rattle.fabric_state.specs.Lines.{command_lines, lost_line, move_lines, send_line, take_lines};
+ghost use Rattle.fabric_state.specs.declared.line.Line.TheVariants as line;
 ghost use Rattle.fabric_state.specs.Fits.{HoldsFor};
 ghost use Rattle.fabric_state.specs.Choices.{command_or_move, next_drive, next_port, next_work};
 ghost use Rattle.fabric_state.specs.Starts.{begun_fabric, next_life_at, next_note_at};
 
 use crate::ending::Ending;
 use crate::hand::Hand;
+use crate::line::Line;
 use crate::past::Past;
 use crate::plan::Plan;
 use crate::ports::{
@@ -35,7 +38,7 @@ use crate::ports::{
 use crate::seen::Seen;
 use crate::station::{Station, started_note};
 use crate::stations::Stations;
-use crate::told::Told;
+use crate::telling::{copy_line, hop_line, loss_line, sent_line};
 use crate::work::{Drive, Why, Work};
 use an_base::event::Event;
 use an_base::life::{End, Life};
@@ -213,16 +216,15 @@ impl Fabric {
         self.traffic.first()
     }
 
-    /// The switch at which a packet is, and the port by which it came in; none exactly where it is not under
-    /// way.
-    pub fn packet_place(&self, packet: u32) -> Option<(u8, u8)>
+    // The switch at which a packet is, and the port by which it came in; none exactly where it is not under way.
+    fn packet_place(&self, packet: u32) -> Option<(u8, u8)>
         ensures { result ≡ option_map place_now (packet_of packet self.now.packets) }
     {
         self.traffic.place(packet)
     }
 
-    /// The switch and port behind a link of two switch ports, up or down. It answers for all values.
-    pub fn far_switch(&self, s: u8, port: u8) -> Option<(u8, u8)>
+    // The switch and port behind a link of two switch ports, up or down. It answers for all values.
+    fn far_switch(&self, s: u8, port: u8) -> Option<(u8, u8)>
         ensures { result ≡ switch_behind (side_of_port self.now s port).far }
     {
         switch_behind(self.wires.side(s, port).far)
@@ -545,7 +547,7 @@ impl Fabric {
         if self.is_clock_due(s) {
             return Work::Clock {
                 now: self.now(),
-                samples: samples(&self.wires, s),
+                samples: self.samples(s),
             };
         }
         match self.next_port(s, last) {
@@ -592,32 +594,37 @@ impl Fabric {
         self.past.tick();
     }
 
-    /// A switch takes its clock in hand: the tick, and what the hardware says of its ports at this moment.
-    pub fn clock(&mut self, s: u8) -> (u32, [Sample; 12])
-        requires { is_lawful self.old (events.Clock s) ≡ true }
-        ensures clock { self.new ≡ after_clock s self.old }
-        ensures tick { result.0 ≡ self.old.tick }
-        ensures samples { result.1 ≡ samples_of self.old s }
+    /// What the hardware says of the ports of a switch at this moment, by rising port. It answers for all values.
+    pub fn samples(&self, s: u8) -> [Sample; 12]
+        ensures { result ≡ samples_of self.now s }
     {
-        let samples = samples(&self.wires, s);
-        let now = self.stations.now();
-        self.stations.take_clock(s, samples);
-        self.past.event();
-        (now, samples)
+        samples(&self.wires, s)
     }
 
-    /// A switch takes a frame in hand from the wire into this port, and the buffer has its bytes then. Tells
-    /// what became of a copy, where one was told.
-    pub fn take(&mut self, s: u8, port: u8, out: &mut FrameBuf) -> Option<Put>
+    /// A switch takes its clock in hand, with what the hardware says of its ports at this moment. Nothing is told
+    /// of it.
+    pub fn clock(&mut self, s: u8, samples: [Sample; 12])
+        requires lawful { is_lawful self.old (events.Clock s) ≡ true }
+        requires samples { samples ≡ samples_of self.old s }
+        ensures { self.new ≡ after_clock s self.old }
+    {
+        self.stations.take_clock(s, samples);
+        self.past.event();
+    }
+
+    /// A switch takes a frame in hand from the wire into this port, and the buffer has its bytes then. Answers
+    /// what is told of it: a copy of the frame that was lost.
+    pub fn take(&mut self, s: u8, port: u8, out: &mut FrameBuf) -> Option<Line>
         requires { is_lawful self.old (events.Take s port) ≡ true }
         ensures taken { self.new ≡ after_take s port self.old }
         ensures bytes { out.new ≡ held_bytes self.new s }
-        ensures copied { result ≡ copy_becomes self.old s port }
+        ensures told { option_to_list result ≡ take_lines s port self.old }
     {
+        let far = self.far_switch(s, port);
         let taken = self.wires.take(s, port, out);
         self.stations.take_frame(s, port);
         self.past.event();
-        taken.copied
+        copy_line(far, taken.copied)
     }
 
     /// The first of the three parts of handling: what a switch has in hand is given up. `put` follows for
@@ -632,19 +639,19 @@ impl Fabric {
         self.stations.empty(s);
     }
 
-    /// A frame of a switch goes out. Tells what became of it; nothing does at a port without a link of two
-    /// switch ports.
-    pub fn put(&mut self, s: u8, frame: &FrameOut) -> Option<Put>
+    /// A frame of a switch goes out, if its port has a link of two switch ports. Answers what is told of it: that
+    /// it was lost.
+    pub fn put(&mut self, s: u8, frame: &FrameOut) -> Option<Line>
         requires within { s < count self.old }
         requires frame { IsFrameOut frame.now }
         ensures put { self.new ≡ record self.old { wires = put_out s frame.now self.old.wires } }
-        ensures what { result ≡ put_becomes s frame.now self.old.wires }
+        ensures told { option_to_list result ≡ lost_line s frame.now self.old.wires }
     {
         let port = frame.port();
         if !is_link(self.wires.side(s, port).far) {
             return None;
         }
-        Some(self.wires.put(s, port, frame.bytes()))
+        loss_line(s, port, self.wires.put(s, port, frame.bytes()))
     }
 
     /// The last of the three parts of handling: a switch shows this now, and the event has come. Where it has
@@ -672,27 +679,36 @@ impl Fabric {
         self.past.event();
     }
 
-    /// A switch uses a table, and shows this then.
-    pub fn load(&mut self, s: u8, table: TableFor, note: &Note)
+    /// A switch uses a table, and shows this then. Answers what is told of it.
+    pub fn load(&mut self, s: u8, table: TableFor, note: &Note) -> Line
         requires { is_lawful self.old (events.Load s) ≡ true }
-        ensures { self.new ≡ after_load s table note.now self.old }
+        ensures loaded { self.new ≡ after_load s table note.now self.old }
+        ensures told { result ≡ line.Load s table.epoch table.table.number }
     {
+        let told = Line::Load {
+            s,
+            epoch: table.epoch,
+            number: table.table.number(),
+        };
         self.stations.load(s, table, note);
         self.past.event();
+        told
     }
 
-    /// A switch is switched off and on, as the next command says: it begins its next life.
-    pub fn restart(&mut self, s: u8) -> Life
+    /// A switch is switched off and on, as the next command says: it begins its next life. Answers this life, and
+    /// what is told of it.
+    pub fn restart(&mut self, s: u8) -> (Life, Line)
         requires lawful { is_lawful self.old (events.Restart s) ≡ true }
         requires boot { (station self.old s).note.life.boot < 2 ^ 32 - 1 }
         ensures restarted { self.new ≡ after_restart s (next_note_at self.old s) self.old }
-        ensures life { result ≡ next_life_at self.old s }
+        ensures life { result.0 ≡ next_life_at self.old s }
+        ensures told { result.1 ≡ line.Restarted s }
     {
         let life = self.next_life(s);
         self.stations
             .restart(s, started_note(life, self.plan.epoch()));
         self.past.command();
-        life
+        (life, Line::Restarted { s })
     }
 
     // The address to which a packet goes, or why it is dropped before its first hop.
@@ -709,19 +725,19 @@ impl Fabric {
         }
     }
 
-    // A host sends a packet to another one, as the next command says.
-    fn send(&mut self, from: u16, to: u16) -> Result<u16, DropCause>
-        requires { is_lawful self.old (events.Send from to) ≡ true }
-        ensures sent { self.new ≡ after_send from to self.old }
-        ensures address { result ≡ address_for self.old (host_on self.old from) (host_on self.old to) }
+    // A host sends a packet to another one, as the next command says. Answers what is told of it.
+    fn send(&mut self, host: u16, to: u16) -> Line
+        requires { is_lawful self.old (events.Send host to) ≡ true }
+        ensures sent { self.new ≡ after_send host to self.old }
+        ensures told { result ≡ send_line host to self.old }
     {
-        let from = self.plan.host(from);
-        let to = self.plan.host(to);
-        let address = self.address_for(from, to);
+        let from = self.plan.host(host);
+        let target = self.plan.host(to);
+        let address = self.address_for(from, target);
         self.sent += 1;
-        admit(&mut self.traffic, self.sent, from, to, address);
+        admit(&mut self.traffic, self.sent, from, target, address);
         self.past.command();
-        address
+        sent_line(self.sent, host, to, address)
     }
 
     // The link of a port goes down, as the next command says. Answers how many frames were dropped.
@@ -783,51 +799,35 @@ impl Fabric {
         put
     }
 
-    // What is told of a send: the packet has the number of the last one that was made.
-    fn told_of_send(&self, address: Result<u16, DropCause>) -> Told
-        ensures { result ≡ told_of_send self.now.sent address }
-    {
-        let packet = self.sent;
-        match address {
-            Ok(address) => Told::Sent { packet, address },
-            Err(cause) => Told::Unsent { packet, cause },
-        }
-    }
-
-    /// The next command is done, which is due and is no restart. Tells what comes of it besides.
-    pub fn command(&mut self, event: &Event) -> Told
+    /// The next command is done, which is due and is no restart. Answers what is told of it.
+    pub fn command(&mut self, event: &Event) -> Option<Line>
         requires lawful { is_lawful self.old event.now ≡ true }
         requires command { is_command self.old event.now ≡ true }
         requires other { is_restart event.now ≡ false }
         ensures done { self.new ≡ after_command event.now self.old }
-        ensures told { result ≡ told_of event.now self.old }
+        ensures told { option_to_list result ≡ command_lines event.now self.old }
     {
         match *event {
             Event::Fail { s, port } => {
-                return Told::Cut {
-                    dropped: self.fail(s, port),
-                };
+                let dropped = self.fail(s, port);
+                return Some(Line::Cut { s, port, dropped });
             }
-            Event::Noise { s, port, n } => {
-                return Told::Noise {
-                    put: self.noise(s, port, n),
-                };
+            Event::Repair { s, port } => {
+                self.repair(s, port);
+                return Some(Line::Mended { s, port });
             }
-            Event::Send { host, to } => {
-                let address = self.send(host, to);
-                return self.told_of_send(address);
-            }
-            Event::Repair { s, port } => self.repair(s, port),
+            Event::Noise { s, port, n } => return loss_line(s, port, self.noise(s, port, n)),
+            Event::Send { host, to } => return Some(self.send(host, to)),
             Event::Lose { s, port, n } => self.lose(s, port, n),
             Event::Again { s, port, n } => self.again(s, port, n),
             Event::Swap { s, port, n } => self.swap(s, port, n),
             _ => {}
         }
-        Told::Nothing
+        None
     }
 
-    /// A packet makes one hop.
-    pub fn hop(&mut self, packet: u32) -> Hop
+    // A packet makes one hop. Answers which.
+    fn make_hop(&mut self, packet: u32) -> Hop
         requires { is_lawful self.old (events.Move packet) ≡ true }
         ensures moved { self.new ≡ after_move packet self.old }
         ensures hop { Some result ≡ option_map (hop_of self.old) (packet_of packet self.old.packets) }
@@ -840,5 +840,17 @@ impl Fabric {
         let hop = self.traffic.hop(packet, &seen);
         self.past.event();
         hop
+    }
+
+    /// A packet makes one hop. Answers what is told of it.
+    pub fn hop(&mut self, packet: u32) -> Line
+        requires { is_lawful self.old (events.Move packet) ≡ true }
+        ensures moved { self.new ≡ after_move packet self.old }
+        ensures told { result ∷ [] ≡ move_lines (packet_of packet self.old.packets) self.old }
+    {
+        let (s, entry) = self.packet_place(packet).unwrap();
+        let epoch = self.stations.epoch_in_use(s);
+        let hop = self.make_hop(packet);
+        hop_line(packet, s, epoch, entry, hop)
     }
 }

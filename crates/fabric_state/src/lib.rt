@@ -5,8 +5,9 @@
 //!
 //! It stands on `net_script` for the script, `wire_set` for links and frames, `host_traffic` for packets and
 //! `switch_core` for what goes between it and a switch. Its contract: a `Fabric` is a fabric, each call makes
-//! of it what the definition of the event says, and each question is answered by its definition: which events
-//! may come next, which end has come, what a switch or the driver is to do next. No call after the beginning takes
+//! of it what the definition of the event says and answers what is told of the event, and each question is
+//! answered by its definition: which events may come next, which end has come, what a switch or the driver is to
+//! do next. No call after the beginning takes
 //! memory. As the code is written, and by no clause, none looks at all switches, frames or packets, but for the end:
 //! where a network is quiet it looks at the links, and where a switch is spent it looks for the first one.
 #![tactic(auto)]
@@ -14,11 +15,13 @@
 pub mod ending;
 pub mod fabric;
 pub mod hand;
+pub mod host;
+pub mod line;
 mod past;
 mod plan;
 mod ports;
 mod seen;
 pub mod station;
 mod stations;
-pub mod told;
+mod telling;
 pub mod work;

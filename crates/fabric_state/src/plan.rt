@@ -3,6 +3,7 @@ ghost use Rattle.net_graph.specs.Wires.{uid_of};
 ghost use Rattle.net_script.specs.Scripts.{IsScript};
 ghost use Rattle.fabric_state.specs.Fabric.{no_host};
 
+use crate::host::host_at;
 use an_base::memory::OutOfMemory;
 use net_graph::wiring::{HostOn, LinkAt, SwitchAt};
 use net_script::command::Command;
@@ -12,7 +13,8 @@ use std::alloc::Global;
 use std::marker::Model;
 use std::snapshot::Snapshot;
 
-/// What a run reads of its script, which stays the same.
+/// What a run reads of its script, which stays the same. It is a copy: a fabric borrows nothing, since threads share
+/// the book that has it.
 #[derive(Drop)]
 pub struct Plan {
     script: Snapshot<Script>,
@@ -36,13 +38,6 @@ impl Model for Plan {
     ghost invariant = { λ p. IsPlanOf p.script.value p.switches.items p.links.items p.hosts.items
         p.commands.items p.epoch p.pace p.limits };
 }
-
-// No host.
-const NO_HOST: HostOn = HostOn {
-    uid: 0,
-    s: 0,
-    port: 0,
-};
 
 impl Plan {
     /// What a run reads of this script.
@@ -98,10 +93,7 @@ impl Plan {
     pub fn host(&self, host: u16) -> HostOn
         ensures { result ≡ slice_index_or self.now.wires.hosts host no_host }
     {
-        match self.hosts.get(usize::from(host)) {
-            Some(found) => *found,
-            None => NO_HOST,
-        }
+        host_at(&self.hosts, host)
     }
 
     /// The commands, in the order of their times.

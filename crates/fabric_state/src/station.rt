@@ -1,7 +1,7 @@
 //! What all may see at the place of a switch.
 
 ghost use Rattle.std.specs.Prelude.{◌≡◌, ◌==◌, ◌≤◌, None, Some, false, not, option_copied};
-ghost use Rattle.std.specs.Option.{option_map};
+ghost use Rattle.std.specs.Option.{option_map, option_map_or};
 ghost use Rattle.fabric_state.specs.declared.hand.Hand.TheVariants as in_hand;
 ghost use Rattle.fabric_state.specs.Fabric.{is_empty};
 ghost use Rattle.fabric_state.specs.Effects.{ShowsOnly, kept_table};
@@ -123,11 +123,14 @@ impl Station {
         self.clock
     }
 
-    /// The table in use, with the epoch of its topology.
-    pub fn table_for(&self) -> Option<&TableFor>
-        ensures { option_copied result ≡ self.now.table }
+    // The epoch of the table in use, 0 where there is none.
+    pub(crate) fn epoch_in_use(&self) -> u64
+        ensures { result ≡ option_map_or (λ used. used.epoch) self.now.table 0 }
     {
-        self.table.as_ref()
+        match &self.table {
+            Some(used) => used.epoch,
+            None => 0,
+        }
     }
 
     /// The table in use.

@@ -1,6 +1,6 @@
 ghost use Rattle.std.specs.Prelude.{◌≡◌, ◌+◌, ◌-◌, ◌<◌, ◌≤◌, ◌^◌, nat_le, nat_lt, true, false, length, map, slice_index_or, Some, IfOk, option_copied};
 ghost use Rattle.std.specs.List.{list_any, range_with_len};
-ghost use Rattle.std.specs.Option.{option_map};
+ghost use Rattle.std.specs.Option.{option_map, option_map_or};
 ghost use Rattle.fabric_state.specs.declared.hand.Hand.TheVariants as in_hand;
 ghost use Rattle.fabric_state.specs.declared.stations.TheConstants.{MOST_TICK};
 ghost use Rattle.fabric_state.specs.Fabric.{full_among, is_due_at, is_empty, no_view};
@@ -158,6 +158,16 @@ impl Stations {
         match self.items.get(usize::from(s)) {
             Some(station) => station.table(),
             None => None,
+        }
+    }
+
+    /// The epoch of the table in use at a switch, 0 where there is none. It answers for all values.
+    pub fn epoch_in_use(&self, s: u8) -> u64
+        ensures { result ≡ option_map_or (λ used. used.epoch) (station_in self.now s).table 0 }
+    {
+        match self.items.get(usize::from(s)) {
+            Some(station) => station.epoch_in_use(),
+            None => 0,
         }
     }
 

@@ -16,8 +16,8 @@ use Rattle.fabric_state.specs.Lawful.{is_lawful}
 use Rattle.fabric_world.specs.World.{WorldOf, begun, effect, step, world_after, handles}
 use Rattle.net_script.specs.Scripts.{ScriptOf}
 use Rattle.fabric_world.specs.Lines.{all_lines, lines_of}
-use Rattle.fabric_world.specs.declared.line.Line.{Line}
-use Rattle.fabric_world.specs.declared.line.Line.TheVariants as line
+use Rattle.fabric_state.specs.declared.line.Line.{Line}
+use Rattle.fabric_state.specs.declared.line.Line.TheVariants as line
 use Rattle.fabric_world.specs.Histories.{AreLawful, end_of}
 use Rattle.fabric_world.specs.Traces.{moved_line, trace_of}
 use Rattle.fabric_world.specs.Examples.{IsWorkedOut, restart_script, restart_history, restart_lines, packets_script, packets_history, packets_lines, spent_script, spent_history, spent_lines, full_script, full_history, full_lines, unsettled_script, unsettled_history, unsettled_lines, told_script, told_history, told_lines, first_table, second_table, routed_script, routed_history, routed_lines}

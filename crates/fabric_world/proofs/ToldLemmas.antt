@@ -1,9 +1,8 @@
 -- What is told of the hops of a packet is its trace.
 
-use Rattle.std.specs.Prelude.{◌≡◌, ◌==◌, ◌&&◌, ◌++◌, ℕ, not, List, [], ◌∷◌, cond, filter, map, Option, Some, None, is_some, Bool, true, false, refl}
+use Rattle.std.specs.Prelude.{◌≡◌, ◌==◌, ◌&&◌, ◌+◌, ◌++◌, ℕ, not, List, [], ◌∷◌, cond, filter, map, Option, Some, None, is_some, Result, Ok, Err, Bool, true, false, refl}
 use Rattle.std.specs.List.{flat_map}
-use Rattle.std.specs.Option.{option_map_or}
-use Rattle.std.proofs.Common.{true≢false, sym, ◌∙◌, ap}
+use Rattle.std.proofs.Common.{sym, ◌∙◌, ap}
 use Rattle.std.proofs.lemmas.Bool.{eqb-true}
 use Rattle.std.proofs.lemmas.List.{map-append}
 use Rattle.std.proofs.lemmas.List.Elements.{filter-append}
@@ -17,23 +16,24 @@ use Rattle.wire_set.specs.declared.side.Put.TheVariants as put
 use Rattle.wire_set.specs.WireState.{WiresOf, place as port_place, side_at, is_link, wire_out, what_becomes, taken_frame, held_from, what_copy_becomes}
 use Rattle.frame_codec.specs.Reading.{frame_of}
 use Rattle.an_base.specs.Ports.{NoteOf}
-use Rattle.table_build.specs.Tables.{TableOf}
 use Rattle.switch_core.specs.Switch.{SwitchOf, finish_of, note_of}
 use Rattle.switch_core.specs.Steps.{Step}
 use Rattle.switch_core.specs.Bytes.{BytesOut, all_spelled}
 use Rattle.host_traffic.specs.declared.hop.Hop.{Hop}
 use Rattle.host_traffic.specs.declared.hop.Hop.TheVariants as hop
-use Rattle.host_traffic.specs.declared.hop.DropCause.TheVariants as cause
+use Rattle.host_traffic.specs.declared.hop.DropCause.{DropCause}
 use Rattle.host_traffic.specs.Packets.{PacketOf, packet_of}
 use Rattle.fabric_state.specs.declared.hand.Hand.{Hand}
 use Rattle.fabric_state.specs.declared.hand.Hand.TheVariants as hand
 use Rattle.fabric_state.specs.PortStates.{state_code}
-use Rattle.fabric_state.specs.Fabric.{FabricOf, station, held_bytes, host_on, host_at, table_at, switch_behind, side_of_port}
+use Rattle.fabric_state.specs.Fabric.{station, held_bytes, host_on, switch_behind, side_of_port}
+use Rattle.fabric_state.proofs.MoveLemmas.{found_number}
 use Rattle.fabric_state.specs.Lawful.{is_lawful}
-use Rattle.fabric_state.specs.Effects.{released, put_out, noise, hop_of}
-use Rattle.fabric_world.specs.declared.line.Line.{Line}
-use Rattle.fabric_world.specs.declared.line.Line.TheVariants as line
-use Rattle.fabric_world.specs.Lines.{epoch_in_use, shown_in, port_line, no_frame_lines, has_joined, join_lines, spent_lines, finish_line, finish_lines, loss_line, lost_line, lost_lines, handle_lines, copy_line, load_lines, sent_line, unsent_line, send_line, hop_line, move_lines, lines_of, all_lines}
+use Rattle.fabric_state.specs.Effects.{address_for, released, put_out, noise, hop_of}
+use Rattle.fabric_state.specs.declared.line.Line.{Line}
+use Rattle.fabric_state.specs.declared.line.Line.TheVariants as line
+use Rattle.fabric_state.specs.Lines.{epoch_in_use, loss_line, lost_line, lost_lines, copy_line, sent_line, send_line, hop_line, move_lines}
+use Rattle.fabric_world.specs.Lines.{shown_in, port_line, no_frame_lines, has_joined, join_lines, spent_lines, finish_line, finish_lines, handle_lines, load_lines, lines_of, all_lines}
 use Rattle.fabric_world.specs.Histories.{AreLawful, IsLawful}
 use Rattle.fabric_world.specs.Traces.{event_hop, hopped_of, hopped_by, moved_line, tells_of_hop, trace_from, trace_of}
 use Rattle.fabric_world.specs.World.{WorldOf, begun, handled, step}
@@ -105,27 +105,17 @@ load_other : (k s : ℕ) (o : Option TopoOf) (u : SwitchOf) → AreOther k (load
 load_other k s None u = refl
 load_other k s (Some topo) u = refl
 
-send_other : (k a b : ℕ) (f : FabricOf) → AreOther k (send_line a b f)
-send_other k a b f = by (not (is_some (host_at f (host_on f a).s (host_on f a).port))) (table_at f (host_on f b).s) where
-  by : (c : Bool) (o : Option TableOf) → AreOther k (cond c (unsent_line a b cause.NoPort f) (option_map_or (sent_line a b f) o (unsent_line a b cause.NoTable f)))
-  by true o = refl
-  by false None = refl
-  by false (Some t) = refl
+send_other : (k n a b : ℕ) (r : Result ℕ DropCause) → AreOther k (sent_line n a b r ∷ [])
+send_other k n a b (Ok address) = refl
+send_other k n a b (Err why) = refl
 
 -- a hop that is made
-found_number : (k : ℕ) (xs : List PacketOf) (x : PacketOf) → packet_of k xs ≡ Some x → x.packet ≡ k
-found_number k [] x is = absurd (true≢false (sym (ap is_some is)))
-found_number k (y ∷ ys) x is = by (y.packet == k) refl is (found_number k ys x) where
-  by : (b : Bool) → (y.packet == k) ≡ b → cond b (Some y) (packet_of k ys) ≡ Some x → (packet_of k ys ≡ Some x → x.packet ≡ k) → x.packet ≡ k
-  by true same found rest = ap (λ (o : Option PacketOf). option_map_or (λ (z : PacketOf). z.packet) o 0) (sym found) ∙ eqb-true y.packet k same
-  by false differs found rest = rest found
-
-hop_told : (k n : ℕ) (made : Hop) (w : WorldOf) (x : PacketOf) → x.packet ≡ n → filter (tells_of_hop k) (hop_line made w.fabric x ∷ []) ≡ map (moved_line k) (cond (n == k) (hopped_by made w x) [])
+hop_told : (k n : ℕ) (made : Hop) (w : WorldOf) (x : PacketOf) → x.packet ≡ n → filter (tells_of_hop k) (hop_line x.packet x.at (epoch_in_use w.fabric x.at) x.entry made ∷ []) ≡ map (moved_line k) (cond (n == k) (hopped_by made w x) [])
 hop_told k n made w x is = by (n == k) refl made where
   same : (n == k) ≡ (x.packet == k)
   same = ap (λ m. m == k) (sym is)
 
-  by : (b : Bool) → (n == k) ≡ b → (a : Hop) → filter (tells_of_hop k) (hop_line a w.fabric x ∷ []) ≡ map (moved_line k) (cond b (hopped_by a w x) [])
+  by : (b : Bool) → (n == k) ≡ b → (a : Hop) → filter (tells_of_hop k) (hop_line x.packet x.at (epoch_in_use w.fabric x.at) x.entry a ∷ []) ≡ map (moved_line k) (cond b (hopped_by a w x) [])
   by true at (hop.Went exit) =
       let here : (x.packet == k) ≡ true = sym same ∙ at in
       let number : x.packet ≡ k = eqb-true x.packet k here in
@@ -165,7 +155,7 @@ event_told k w (Lose s p n) = refl
 event_told k w (Again s p n) = refl
 event_told k w (Swap s p n) = refl
 event_told k w (Noise s p n) = loss_other k s p (what_becomes (port_place s p) (wire_out w.fabric.wires s p) (noise n) w.fabric.wires)
-event_told k w (Send a b) = send_other k a b w.fabric
+event_told k w (Send a b) = send_other k (w.fabric.sent + 1) a b (address_for w.fabric (host_on w.fabric a) (host_on w.fabric b))
 event_told k w (Move n) = move_told k n w
 event_told k w (Restart s) = refl
 

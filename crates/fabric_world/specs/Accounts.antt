@@ -7,8 +7,8 @@ use Rattle.an_base.specs.declared.event.Event.{Event}
 use Rattle.an_base.specs.declared.event.Event.TheVariants.{Load}
 use Rattle.net_script.specs.Scripts.{ScriptOf}
 use Rattle.fabric_state.specs.Fabric.{FabricOf, table_at}
-use Rattle.fabric_world.specs.declared.line.Line.{Line}
-use Rattle.fabric_world.specs.declared.line.PlacedLine.{PlacedLine}
+use Rattle.fabric_state.specs.declared.line.Line.{Line}
+use Rattle.fabric_state.specs.declared.line.PlacedLine.{PlacedLine}
 use Rattle.fabric_world.specs.Histories.{owner_of}
 use Rattle.fabric_world.specs.Lines.{lines_of}
 use Rattle.fabric_world.specs.World.{WorldOf, begun, step}

@@ -9,8 +9,8 @@ use Rattle.wire_set.specs.declared.side.Loss.TheVariants as loss
 use Rattle.table_build.specs.Tables.{TableOf}
 use Rattle.fabric_state.specs.declared.ending.Ending.{Ending}
 use Rattle.host_traffic.specs.declared.hop.DropCause.TheVariants as cause
-use Rattle.fabric_world.specs.declared.line.Line.{Line}
-use Rattle.fabric_world.specs.declared.line.Line.TheVariants as line
+use Rattle.fabric_state.specs.declared.line.Line.{Line}
+use Rattle.fabric_state.specs.declared.line.Line.TheVariants as line
 use Rattle.fabric_world.specs.Lines.{all_lines}
 use Rattle.fabric_world.specs.World.{begun}
 use Rattle.fabric_world.specs.Histories.{IsLegal}

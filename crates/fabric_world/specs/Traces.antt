@@ -17,9 +17,10 @@ use Rattle.host_traffic.specs.declared.hop.Hop.TheVariants as hop
 use Rattle.host_traffic.specs.Packets.{PacketOf, packet_of, row_entry}
 use Rattle.fabric_state.specs.Lawful.{is_lawful}
 use Rattle.fabric_state.specs.Effects.{hop_of}
-use Rattle.fabric_world.specs.declared.line.Line.{Line}
-use Rattle.fabric_world.specs.declared.line.Line.TheVariants as line
-use Rattle.fabric_world.specs.Lines.{root_of, epoch_in_use}
+use Rattle.fabric_state.specs.declared.line.Line.{Line}
+use Rattle.fabric_state.specs.declared.line.Line.TheVariants as line
+use Rattle.fabric_state.specs.Lines.{epoch_in_use}
+use Rattle.fabric_world.specs.Lines.{root_of}
 use Rattle.fabric_world.specs.World.{WorldOf, begun, step, world_after}
 use Rattle.fabric_world.specs.Histories.{in_use, switch_after}
 

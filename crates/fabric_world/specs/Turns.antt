@@ -2,7 +2,6 @@
 
 use Rattle.std.specs.Prelude.{◌≡◌, ◌+◌, ◌<◌, ℕ, not, List, [], ◌∷◌, ◌++◌, length, Option, Some, is_some, option_to_list, Bool, true, false}
 use Rattle.std.specs.List.{flat_map}
-use Rattle.wire_set.specs.declared.side.Put.{Put}
 use Rattle.an_base.specs.Values.{TopoOf}
 use Rattle.an_base.specs.Numbers.{AreNumbers}
 use Rattle.an_base.specs.Ports.{NoteOf}
@@ -24,8 +23,10 @@ use Rattle.fabric_state.specs.declared.work.Drive.{Drive}
 use Rattle.fabric_state.specs.Fabric.{FabricOf, station, is_full_at, held_bytes, load_due_at}
 use Rattle.fabric_state.specs.Lawful.{is_barred}
 use Rattle.fabric_state.specs.Choices.{next_work, event_of_work, next_drive, event_of_drive}
-use Rattle.fabric_state.specs.Effects.{all_put_becomes, wires_at_hand}
-use Rattle.fabric_world.specs.declared.line.PlacedLine.{PlacedLine}
+use Rattle.fabric_state.specs.Effects.{wires_at_hand}
+use Rattle.fabric_state.specs.Lines.{lost_lines}
+use Rattle.fabric_state.specs.declared.line.Line.{Line}
+use Rattle.fabric_state.specs.declared.line.PlacedLine.{PlacedLine}
 use Rattle.fabric_world.specs.declared.ask.Done.{Done}
 use Rattle.fabric_world.specs.declared.ask.LoadReply.{LoadReply}
 use Rattle.fabric_world.specs.declared.ask.LoadReply.TheVariants as load
@@ -113,14 +114,15 @@ pub record TakesWork (script : ScriptOf) (history : List Event) (place : ℕ) (j
   pub bytes : HasBytes job (world_after script after).fabric place out
   pub told_is : IsTold script history (event_of_work place job) told
 
--- what becomes of the frames of a switch that gives up what it has in hand
-abbrev pub puts_at : FabricOf → ℕ → List BytesOut → List (Option Put)
-puts_at fabric place frames = all_put_becomes place frames (wires_at_hand fabric place)
+-- what is told of the frames of a switch that gives up what it has in hand
+abbrev pub AreTold : FabricOf → ℕ → List BytesOut → List (Option Line) → Type 0
+AreTold fabric place frames puts =
+    flat_map option_to_list puts ≡ lost_lines place frames (wires_at_hand fabric place)
 
 pub record PutsFrames (script : ScriptOf) (history : List Event) (place : ℕ) (done back : Done)
-    (puts : List (Option Put)) (number : ℕ) (after : List Event) : Type 0 where
+    (puts : List (Option Line)) (number : ℕ) (after : List Event) : Type 0 where
   pub same : back ≡ done
-  pub puts_are : puts ≡ puts_at (world_after script history).fabric place done.frames
+  pub puts_are : AreTold (world_after script history).fabric place done.frames puts
   pub event : after ≡ history ++ Handle place ∷ []
   pub number_is : number ≡ (world_after script after).fabric.events
 

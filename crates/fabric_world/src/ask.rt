@@ -1,13 +1,12 @@
 //! What may be asked of a book, and what it replies, as definitions name it; calls hand it over in boxes
 //! (`fabric_book::asking`).
 
-use crate::line::PlacedLine;
 use an_base::port::Note;
+use fabric_state::line::{Line, PlacedLine};
 use fabric_state::work::{Drive, Work};
 use frame_region::buffer::FrameBuf;
 use switch_core::out::Frames;
 use switch_core::switch::TableFor;
-use wire_set::side::Put;
 
 /// What came of what a switch had in hand.
 #[derive(Drop)]
@@ -50,8 +49,8 @@ pub enum Ask {
         s: u8,
         /// What came of it.
         done: Done,
-        /// Where what becomes of each frame is noted.
-        puts: Vec<Option<Put>>,
+        /// Where what is told of each frame is noted.
+        puts: Vec<Option<Line>>,
     },
     /// To use a table.
     Load {
@@ -82,8 +81,8 @@ pub enum Reply {
     Put {
         /// What was given.
         done: Done,
-        /// What became of each frame.
-        puts: Vec<Option<Put>>,
+        /// What is told of each frame.
+        puts: Vec<Option<Line>>,
         /// The place of the event in the history, from 1.
         event: u32,
     },

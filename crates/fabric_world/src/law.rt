@@ -33,7 +33,7 @@ ghost use Rattle.fabric_world.specs.Examples.{unsettled_script, unsettled_histor
 ghost use Rattle.fabric_world.specs.Examples.{told_script, told_history, told_lines};
 ghost use Rattle.fabric_world.specs.Examples.{first_table, second_table};
 ghost use Rattle.fabric_world.specs.Examples.{routed_script, routed_history, routed_lines};
-ghost use Rattle.fabric_world.specs.declared.line.Line.TheVariants as line;
+ghost use Rattle.fabric_state.specs.declared.line.Line.TheVariants as line;
 
 /// After any events of a script that can be, the world is sound.
 pub fn a_world_is_sound()

@@ -16,4 +16,3 @@
 pub mod ask;
 pub mod changed;
 pub mod law;
-pub mod line;

@@ -5,7 +5,7 @@ use Rattle.std.specs.Prelude.{count_by}
 use Rattle.an_base.specs.declared.event.Event.{Event}
 use Rattle.net_script.specs.Scripts.{ScriptOf}
 use Rattle.fabric_state.specs.declared.ending.Ending.{Ending}
-use Rattle.fabric_world.specs.declared.line.Line.{Line}
+use Rattle.fabric_state.specs.declared.line.Line.{Line}
 use Rattle.fabric_world.specs.World.{begun, world_after}
 use Rattle.fabric_book.specs.Nets.{driver_lines}
 use Rattle.net_gen.specs.Summary.{is_delivery, is_drop, line_on, summary_text}

@@ -7,7 +7,7 @@ use an_base::memory::OutOfMemory;
 use an_base::text::push_decimal;
 use fabric_book::solo::{ToldRun, solo};
 use fabric_state::ending::Ending;
-use fabric_world::line::Line;
+use fabric_state::line::Line;
 use net_script::script::Script;
 use std::alloc::Global;
 

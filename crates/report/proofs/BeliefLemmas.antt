@@ -26,7 +26,8 @@ use Rattle.fabric_state.specs.Lawful.{is_lawful}
 use Rattle.fabric_state.proofs.FitsLemmas.{event_fits}
 use Rattle.fabric_state.proofs.LawfulLemmas.{lawful_is}
 use Rattle.fabric_world.specs.Histories.{AreLawful, IsLawful}
-use Rattle.fabric_world.specs.Lines.{hop_line, lines_of, move_lines}
+use Rattle.fabric_state.specs.Lines.{epoch_in_use, hop_line, move_lines}
+use Rattle.fabric_world.specs.Lines.{lines_of}
 use Rattle.fabric_world.specs.World.{WorldOf, after_all, begun, effect, loads_with, step, world_after}
 use Rattle.fabric_world.proofs.FabricLemmas.{world_fits}
 use Rattle.fabric_world.proofs.InductionLemmas.{world_first, world_script}
@@ -162,14 +163,14 @@ arrivals_more script before event host =
 
 -- WHAT IS TOLD OF A HOP
 
-hop_told : (h : Hop) (f : FabricOf) (p : PacketOf) → delivery_in (hop_line h f p ∷ []) ≡ delivered_by h
-hop_told (hop.Went exit) f p = refl
-hop_told (hop.Delivered exit host) f p = refl
-hop_told (hop.Dropped why) f p = refl
+hop_told : (h : Hop) (packet place epoch entry : ℕ) → delivery_in (hop_line packet place epoch entry h ∷ []) ≡ delivered_by h
+hop_told (hop.Went exit) packet place epoch entry = refl
+hop_told (hop.Delivered exit host) packet place epoch entry = refl
+hop_told (hop.Dropped why) packet place epoch entry = refl
 
 move_told : (o : Option PacketOf) (f : FabricOf) → delivery_in (move_lines o f) ≡ option_and_then (λ (found : PacketOf). delivered_by (hop_of f found)) o
 move_told None f = refl
-move_told (Some p) f = hop_told (hop_of f p) f p
+move_told (Some p) f = hop_told (hop_of f p) p.packet p.at (epoch_in_use f p.at) p.entry
 
 pub delivery_told : (w : WorldOf) (packet : ℕ) → delivery_in (lines_of w (Move packet)) ≡ delivery_of w.fabric packet
 unfolding lines_of

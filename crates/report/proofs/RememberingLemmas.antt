@@ -22,7 +22,7 @@ use Rattle.replay.proofs.ReplayLemmas.{kept_there}
 use Rattle.fabric_world.specs.Histories.{IsLawful, fabric_of, world_of}
 use Rattle.fabric_world.specs.Lines.{lines_of}
 use Rattle.fabric_world.specs.World.{world_after}
-use Rattle.fabric_world.specs.declared.line.Line.{Line}
+use Rattle.fabric_state.specs.declared.line.Line.{Line}
 use Rattle.fabric_world.proofs.CountLemmas.{lawful_events}
 use Rattle.report.specs.declared.naming.Traced.{Traced}
 use Rattle.report.specs.Beliefs.{Belief, address_at, address_in, arrival_of, arrivals_by, arrivals_of, belief_by, belief_line, belief_of, belief_text, beliefs_of, counts_by, counts_words, delivery_of, fabric_behind, first_move, host_in, is_broadcast, is_host, is_known, is_move_of, sender_by, sender_of, senders, source_of}

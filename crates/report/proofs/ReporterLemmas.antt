@@ -13,7 +13,7 @@ use Rattle.fabric_world.specs.Accounts.{rows_behind}
 use Rattle.fabric_world.specs.Histories.{IsLawful, IsLegal, end_of, fabric_of, world_of}
 use Rattle.fabric_world.specs.Lines.{lines_of}
 use Rattle.fabric_world.specs.World.{WorldOf, after_all, begun, step, world_after}
-use Rattle.fabric_world.specs.declared.line.Line.{Line}
+use Rattle.fabric_state.specs.declared.line.Line.{Line}
 use Rattle.fabric_world.proofs.WorldLemmas.{world_after-event}
 use Rattle.fabric_settling.specs.Claims.{HoldsAndSettles}
 use Rattle.fabric_book.specs.Nets.{NetOf, history_of, with_step}

@@ -11,8 +11,8 @@ use Rattle.fabric_state.specs.declared.ending.Ending.{Ending}
 use Rattle.fabric_state.specs.Lawful.{is_lawful}
 use Rattle.fabric_state.proofs.LawfulLemmas.{lawful_is}
 use Rattle.fabric_state.proofs.ReadyLemmas.{clock_ready, handle_ready, load_ready, take_ready}
-use Rattle.fabric_world.specs.declared.line.Line.{Line}
-use Rattle.fabric_world.specs.declared.line.PlacedLine.{PlacedLine}
+use Rattle.fabric_state.specs.declared.line.Line.{Line}
+use Rattle.fabric_state.specs.declared.line.PlacedLine.{PlacedLine}
 use Rattle.fabric_world.specs.Accounts.{AccountOf, account_of, gathered, loaded_rows, placed, placed_lines, rows_behind}
 use Rattle.fabric_world.specs.Histories.{AreLawful, IsLegal, owner_of}
 use Rattle.fabric_world.specs.Lines.{lines_of}

@@ -17,8 +17,8 @@ use Rattle.host_traffic.specs.declared.hop.DropCause.TheVariants as cause
 use Rattle.fabric_state.specs.declared.ending.Ending.{Ending}
 use Rattle.fabric_state.specs.declared.ending.Ending.TheVariants as ending
 use Rattle.fabric_state.specs.Fabric.{FabricOf}
-use Rattle.fabric_world.specs.declared.line.Line.{Line}
-use Rattle.fabric_world.specs.declared.line.Line.TheVariants as line
+use Rattle.fabric_state.specs.declared.line.Line.{Line}
+use Rattle.fabric_state.specs.declared.line.Line.TheVariants as line
 use Rattle.fabric_world.specs.World.{WorldOf, begun, step, world_after}
 use Rattle.fabric_world.specs.Accounts.{rows_behind}
 use Rattle.fabric_world.specs.Lines.{lines_of}

@@ -11,8 +11,8 @@ use Rattle.fabric_state.specs.Fabric.{FabricOf}
 use Rattle.fabric_world.specs.Histories.{IsLawful}
 use Rattle.fabric_world.specs.Lines.{lines_of}
 use Rattle.fabric_world.specs.World.{world_after}
-use Rattle.fabric_world.specs.declared.line.Line.{Line}
-use Rattle.fabric_world.specs.declared.line.Line.TheVariants as line
+use Rattle.fabric_state.specs.declared.line.Line.{Line}
+use Rattle.fabric_state.specs.declared.line.Line.TheVariants as line
 use Rattle.report.specs.declared.naming.Traced.{Traced}
 use Rattle.report.specs.Beliefs.{address_at, address_in, arrivals_of, beliefs_of, fabric_behind, first_move, host_in, is_known}
 use Rattle.report.specs.Beliefs.{senders}

@@ -16,7 +16,8 @@ use fabric_book::lines::Lines;
 use fabric_book::net::Net;
 use fabric_state::ending::Ending;
 use fabric_state::fabric::Fabric;
-use fabric_world::line::Line;
+use fabric_state::host::host_at;
+use fabric_state::line::Line;
 use host_names::cache::Cache;
 use host_names::choice::Choice;
 use net_graph::wiring::HostOn;
@@ -35,21 +36,11 @@ struct Traced {
     source: Option<u16>,
 }
 
-// No host.
-const NO_HOST: HostOn = HostOn {
-    uid: 0,
-    s: 0,
-    port: 0,
-};
-
 // The host at a place.
-fn host_at(script: &Script, host: u16) -> HostOn
+fn host_in(script: &Script, host: u16) -> HostOn
     ensures { result ≡ host_in script.now host }
 {
-    match script.wiring().hosts().get(usize::from(host)) {
-        Some(found) => *found,
-        None => NO_HOST,
-    }
+    host_at(script.wiring().hosts(), host)
 }
 
 // The name of the host at a place.
@@ -212,7 +203,7 @@ impl<'a> Believing<'a> {
         requires ticks { CameUntil now self.now.caches.items }
         ensures { result ≡ choice_at self.now.script.now self.now.caches.items from to now }
     {
-        let uid = host_at(self.script, to).uid;
+        let uid = host_in(self.script, to).uid;
         self.caches[usize::from(from)].choose(uid, now)
     }
 
@@ -270,7 +261,7 @@ impl<'a> Believing<'a> {
         ensures ticks { CameUntil fabric.now.tick self.new.caches.items }
     {
         let place = packet as usize - 1;
-        let sender = host_at(self.script, self.packets[place].host);
+        let sender = host_in(self.script, self.packets[place].host);
         let address = note(&mut self.packets, place, address_in(fabric, sender));
         if let Some(host) = delivery_in(self.lines.as_slice()) {
             arrive(&mut self.caches, host, sender.uid, address, fabric.now());

@@ -10,7 +10,7 @@ ghost use Rattle.report.specs.Events.{line_of_end, loss_words, packet_words, pee
 ghost use Rattle.report.specs.Events.{rows_text, spaced, state_word, switch_text, told_text, told_words};
 ghost use Rattle.wire_set.specs.declared.side.Loss.TheVariants as loss;
 ghost use Rattle.fabric_state.specs.declared.ending.Ending.TheVariants as ending;
-ghost use Rattle.fabric_world.specs.declared.line.Line.TheVariants as told;
+ghost use Rattle.fabric_state.specs.declared.line.Line.TheVariants as told;
 
 use crate::course::Course;
 use an_base::life::{End, Life};
@@ -18,7 +18,7 @@ use an_base::memory::OutOfMemory;
 use an_base::port::PortState;
 use an_base::row::Row;
 use fabric_state::ending::Ending;
-use fabric_world::line::Line;
+use fabric_state::line::Line;
 use host_traffic::hop::DropCause;
 use itoa::Buffer;
 use net_script::script::Script;

@@ -9,7 +9,7 @@ use Rattle.fabric_state.specs.declared.ending.Ending.{Ending}
 use Rattle.fabric_state.specs.declared.work.Drive.TheVariants as drive
 use Rattle.fabric_state.specs.Agree.{ending_of}
 use Rattle.fabric_turn.specs.History.{Extends}
-use Rattle.fabric_world.specs.declared.line.PlacedLine.{PlacedLine}
+use Rattle.fabric_state.specs.declared.line.PlacedLine.{PlacedLine}
 use Rattle.fabric_world.specs.Histories.{end_of}
 use Rattle.fabric_world.specs.Turns.{Drives}
 use Rattle.fabric_world.specs.World.{WorldOf, world_after}

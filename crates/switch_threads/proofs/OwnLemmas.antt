@@ -28,7 +28,7 @@ use Rattle.fabric_state.specs.Effects.{restarted, showing}
 use Rattle.fabric_state.specs.Fabric.{FabricOf, StationOf, clock_due_at, held_bytes, is_empty, is_full_at, is_some_spent, room, samples_of, station, table_at}
 use Rattle.fabric_state.specs.Lawful.{is_barred, is_command, is_lawful}
 use Rattle.fabric_state.specs.Starts.{next_life_at}
-use Rattle.fabric_world.specs.declared.line.PlacedLine.{PlacedLine}
+use Rattle.fabric_state.specs.declared.line.PlacedLine.{PlacedLine}
 use Rattle.fabric_world.specs.Histories.{last_taken}
 use Rattle.fabric_world.specs.Sound.{AllMayCome}
 use Rattle.fabric_world.specs.Turns.{IsToLoad, TakesWork}

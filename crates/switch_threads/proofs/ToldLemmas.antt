@@ -1,6 +1,6 @@
 -- What callers have told, as events of their own and of others come.
 
-use Rattle.std.specs.Prelude.{◌≡◌, ◌+◌, ◌<◌, ℕ, List, [], ◌∷◌, ◌++◌, length, Option, true, refl}
+use Rattle.std.specs.Prelude.{◌≡◌, ◌+◌, ◌<◌, ℕ, List, [], ◌∷◌, ◌++◌, length, option_to_list, Option, true, refl}
 use Rattle.std.specs.List.{flat_map}
 use Rattle.std.specs.Option.{option_map_or}
 use Rattle.std.proofs.Common.{sym, ◌∙◌, ap, subst, arith}
@@ -11,7 +11,6 @@ use Rattle.an_base.specs.Values.{TopoOf}
 use Rattle.an_base.specs.declared.event.Event.{Event}
 use Rattle.an_base.specs.declared.event.Event.TheVariants.{Clock, Handle, Load, Restart, Take}
 use Rattle.net_script.specs.Scripts.{IsScript, ScriptOf}
-use Rattle.wire_set.specs.declared.side.Put.{Put}
 use Rattle.table_build.specs.Tables.{TableOf}
 use Rattle.switch_core.specs.Bytes.{BytesOut, all_spelled}
 use Rattle.switch_core.specs.declared.switch.TableFor.{TableFor}
@@ -29,19 +28,18 @@ use Rattle.fabric_turn.specs.History.{own_entries}
 use Rattle.fabric_turn.specs.declared.view.View.{View}
 use Rattle.fabric_world.specs.declared.ask.Ask.{Ask}
 use Rattle.fabric_world.specs.declared.ask.Reply.{Reply}
-use Rattle.fabric_world.specs.declared.line.Line.{Line}
-use Rattle.fabric_world.specs.declared.line.Line.TheVariants as line
-use Rattle.fabric_world.specs.declared.line.PlacedLine.{PlacedLine}
+use Rattle.fabric_state.specs.declared.line.Line.{Line}
+use Rattle.fabric_state.specs.declared.line.Line.TheVariants as line
+use Rattle.fabric_state.specs.declared.line.PlacedLine.{PlacedLine}
 use Rattle.fabric_world.specs.Accounts.{AccountOf, account_of, loaded_rows, placed, placed_lines}
 use Rattle.fabric_world.specs.Histories.{owner_of}
 use Rattle.fabric_world.specs.Lines.{lines_of, load_lines}
-use Rattle.fabric_world.specs.Turns.{AnswersAsk, IsToLoad, puts_at}
+use Rattle.fabric_world.specs.Turns.{AnswersAsk, AreTold, IsToLoad}
 use Rattle.fabric_world.specs.World.{WorldOf, handled, step, world_after}
 use Rattle.fabric_world.proofs.AccountLemmas.{account_next, account_stays}
 use Rattle.fabric_world.proofs.WorldLemmas.{world_after-event}
 use Rattle.fabric_book.specs.Accounts.{IsAccount, with_lines, with_load}
 use Rattle.fabric_book.specs.Nets.{HasFrame}
-use Rattle.fabric_book.specs.Told.{losses}
 use Rattle.fabric_book.specs.declared.account.Account.{Account}
 use Rattle.fabric_book.proofs.BookLemmas.{world_more}
 use Rattle.fabric_book.proofs.HandLemmas.{handled_told}
@@ -104,14 +102,14 @@ has_frame hand.Empty bytes = tt
 has_frame (hand.Clock now samples) bytes = tt
 has_frame (hand.Frame port) bytes = refl
 
-pub put_told : (script : ScriptOf) (h after : List Event) (s : ℕ) (frames : List BytesOut) (puts : List (Option Put)) (lines : List Line) (event : ℕ) → frames ≡ all_spelled (handled s (world_after script h)).frames
-    → puts ≡ puts_at (world_after script h).fabric s frames → lines ≡ lines_at_hand (world_after script h) s → after ≡ h ++ Handle s ∷ [] → event ≡ (world_after script after).fabric.events
-    → account_of script (s + 1) after ≡ with_lines (placed event (lines ++ losses s frames puts)) (account_of script (s + 1) h)
+pub put_told : (script : ScriptOf) (h after : List Event) (s : ℕ) (frames : List BytesOut) (puts : List (Option Line)) (lines : List Line) (event : ℕ) → frames ≡ all_spelled (handled s (world_after script h)).frames
+    → AreTold (world_after script h).fabric s frames puts → lines ≡ lines_at_hand (world_after script h) s → after ≡ h ++ Handle s ∷ [] → event ≡ (world_after script after).fabric.events
+    → account_of script (s + 1) after ≡ with_lines (placed event (lines ++ flat_map option_to_list puts)) (account_of script (s + 1) h)
 put_told script h after s frames puts lines event frames_are puts_are lines_are came place =
     let w = world_after script h in
     let old = account_of script (s + 1) h in
-    let all : lines ++ losses s frames puts ≡ lines_of w (Handle s) =
-    handled_told w s (station w.fabric s).hand (held_bytes w.fabric s) refl (has_frame (station w.fabric s).hand (held_bytes w.fabric s)) frames puts [] lines (lines ++ losses s frames puts) frames_are puts_are lines_are refl in
+    let all : lines ++ flat_map option_to_list puts ≡ lines_of w (Handle s) =
+    handled_told w s (station w.fabric s).hand (held_bytes w.fabric s) refl (has_frame (station w.fabric s).hand (held_bytes w.fabric s)) frames puts [] lines (lines ++ flat_map option_to_list puts) frames_are puts_are lines_are refl in
     ap (account_of script (s + 1)) came ∙ one_told script (s + 1) h (Handle s) refl refl
     ∙ ap (λ (n : ℕ). with_lines (placed n (lines_of w (Handle s))) old) (sym (place_is script h after (Handle s) event came place))
     ∙ ap (λ (xs : List Line). with_lines (placed event xs) old) (sym all)

@@ -1,6 +1,7 @@
 -- A worker and the driver, before and after a call of the turnstile.
 
 use Rattle.std.specs.Prelude.{◌≡◌, ◌+◌, ◌<◌, ◌≤◌, ℕ, List, [], ◌++◌, length, not, option_to_list, Bool, Option, Some, IfSome, true, false, refl}
+use Rattle.std.specs.List.{flat_map}
 use Rattle.std.specs.Box.{with_value}
 use Rattle.std.specs.Global.{Box}
 use Rattle.std.proofs.Common.{sym, ◌∙◌, ap, subst, arith, append_assoc}
@@ -12,7 +13,7 @@ use Rattle.an_base.specs.declared.event.Event.{Event}
 use Rattle.an_base.specs.declared.event.Event.TheVariants.{Clock, Load, Restart, Take}
 use Rattle.net_graph.specs.Wires.{network}
 use Rattle.net_script.specs.Scripts.{IsScript, ScriptOf, restarts_of}
-use Rattle.switch_core.specs.Bytes.{OutOf}
+use Rattle.switch_core.specs.Bytes.{BytesOut, OutOf}
 use Rattle.switch_core.specs.Kept.{KeptOf, Loads, StandsFor}
 use Rattle.switch_core.specs.Steps.{loaded}
 use Rattle.switch_core.specs.Switch.{note_of, started_as}
@@ -36,11 +37,11 @@ use Rattle.fabric_world.specs.declared.ask.LoadReply.{LoadReply}
 use Rattle.fabric_world.specs.declared.ask.LoadReply.TheVariants as load
 use Rattle.fabric_world.specs.declared.ask.Reply.{Reply}
 use Rattle.fabric_world.specs.declared.ask.Reply.TheVariants as reply
-use Rattle.fabric_world.specs.declared.line.Line.TheVariants as line
-use Rattle.fabric_world.specs.declared.line.PlacedLine.{PlacedLine}
+use Rattle.fabric_state.specs.declared.line.Line.TheVariants as line
+use Rattle.fabric_state.specs.declared.line.PlacedLine.{PlacedLine}
 use Rattle.fabric_world.specs.Accounts.{AccountOf, account_of, placed}
 use Rattle.fabric_world.specs.Histories.{end_of, owner_of}
-use Rattle.fabric_world.specs.Turns.{AnswersAsk, Drives, IsDone, IsToLoad, LoadsOrNot, PutsFrames, TakesWork, is_noise, puts_at}
+use Rattle.fabric_world.specs.Turns.{AnswersAsk, AreTold, Drives, IsDone, IsToLoad, LoadsOrNot, PutsFrames, TakesWork, is_noise}
 use Rattle.fabric_world.specs.World.{begun, first_station, handles, start_of, world_after}
 use Rattle.fabric_world.proofs.InductionLemmas.{world_script}
 use Rattle.fabric_world.proofs.NextLemmas.{handle_is_lawful, load_is_lawful}
@@ -48,7 +49,6 @@ use Rattle.fabric_world.proofs.PlaceLemmas.{world_places}
 use Rattle.fabric_book.specs.Accounts.{HasAccount, IsAccount, with_lines, with_load}
 use Rattle.fabric_book.specs.Asking.{ask_of, reply_of}
 use Rattle.fabric_book.specs.Nets.{HasFrame, IsHandled, IsStarted, PowerOf, power_of, start_with}
-use Rattle.fabric_book.specs.Told.{losses}
 use Rattle.fabric_book.specs.declared.account.Account.{Account}
 use Rattle.fabric_book.specs.declared.asking.BookAsk.{BookAsk}
 use Rattle.fabric_book.specs.declared.asking.BookReply.{BookReply}
@@ -231,14 +231,14 @@ module _ (view after : View Event ScriptOf) (place : ℕ) (power : PowerOf) (swi
         ∙ ap (λ (xs : List Event). note_of ((world_after step.script xs).switches place)) (sym put_does.event)
 
     -- and it tells of that
-    pub put_tells : (old new : Account) → ((told : AccountOf) → IsAccount told old → IsAccount (with_lines (placed back.event (tale.lines ++ losses place back.done.frames back.puts.items)) told) new)
+    pub put_tells : (old new : Account) → ((told : AccountOf) → IsAccount told old → IsAccount (with_lines (placed back.event (tale.lines ++ flat_map option_to_list back.puts.items)) told) new)
         → HasTold step.script view old → HasTold step.script after new
     put_tells old new adds told =
         let h = view.seen ++ called.between in
         let given : back.done.frames ≡ parcel.done.frames = ap (λ (d : Done). d.frames) put_does.same in
-        tells_there view after (ask.Put place parcel.done parcel.puts) (reply.Put back.done back.puts back.event) called place power switch pending.Put step old new (with_lines (placed back.event (tale.lines ++ losses place back.done.frames back.puts.items))) adds
+        tells_there view after (ask.Put place parcel.done parcel.puts) (reply.Put back.done back.puts back.event) called place power switch pending.Put step old new (with_lines (placed back.event (tale.lines ++ flat_map option_to_list back.puts.items))) adds
         (put_told step.script h after.seen place back.done.frames back.puts.items tale.lines back.event (given ∙ put_prepared.0.handled_is.frames_are)
-        (put_does.puts_are ∙ ap (puts_at (world_after step.script h).fabric place) (sym given)) put_prepared.1 put_does.event put_does.number_is) told
+        (subst (λ (frames : List BytesOut). AreTold (world_after step.script h).fabric place frames back.puts.items) (sym given) put_does.puts_are) put_prepared.1 put_does.event put_does.number_is) told
 
 -- a table is to be loaded, whose sheet is written on
 pub written_on : (view : View Event ScriptOf) (desk : Desk) (papers : Papers) (sheet : Box Sheet) (now : Sheet) → now ≡ sheet.value → IsAsking view desk papers (pending.Load sheet) → IsAsking view desk papers (pending.Load (with_value sheet now))

@@ -15,7 +15,7 @@ use Rattle.fabric_state.specs.declared.work.Work.{Work}
 use Rattle.fabric_state.specs.declared.work.Work.TheVariants as work
 use Rattle.fabric_state.specs.Fabric.{held_bytes, is_full_at, station}
 use Rattle.fabric_world.specs.declared.ask.Done.{Done}
-use Rattle.fabric_world.specs.declared.line.Line.{Line}
+use Rattle.fabric_state.specs.declared.line.Line.{Line}
 use Rattle.fabric_world.specs.Accounts.{account_of}
 use Rattle.fabric_world.specs.World.{WorldOf, handled, start_of, world_after}
 use Rattle.fabric_world.specs.Histories.{end_of, owner_of}

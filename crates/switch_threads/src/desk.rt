@@ -1,6 +1,7 @@
 //! What a worker works with.
 
-ghost use Rattle.std.specs.Prelude.{◌≡◌, ◌++◌, ◌<◌, List, [], length, false, IfOk, OnOk};
+ghost use Rattle.std.specs.Prelude.{◌≡◌, ◌++◌, ◌<◌, List, [], length, option_to_list, false, IfOk, OnOk};
+ghost use Rattle.std.specs.List.{flat_map};
 ghost use Rattle.an_base.specs.declared.event.Event.{Event};
 ghost use Rattle.net_script.specs.Scripts.{ScriptOf};
 ghost use Rattle.switch_core.specs.Kept.{StandsFor};
@@ -8,9 +9,8 @@ ghost use Rattle.switch_core.specs.Switch.{SwitchOf, note_of};
 ghost use Rattle.fabric_state.specs.declared.work.Work.TheVariants.{Restart};
 ghost use Rattle.fabric_turn.specs.Names.{turnstile_id};
 ghost use Rattle.fabric_world.specs.Accounts.{AccountOf, placed};
-ghost use Rattle.fabric_world.specs.declared.line.Line.TheVariants as line;
+ghost use Rattle.fabric_state.specs.declared.line.Line.TheVariants as line;
 ghost use Rattle.fabric_book.specs.Accounts.{IsAccount, with_lines, with_load};
-ghost use Rattle.fabric_book.specs.Told.{losses};
 ghost use Rattle.switch_threads.specs.declared.desk.Desk.{Desk as DeskOf};
 ghost use Rattle.switch_threads.specs.declared.desk.Next.TheVariants as next;
 ghost use Rattle.switch_threads.specs.declared.desk.Papers.{Papers as PapersOf};
@@ -28,13 +28,12 @@ use fabric_book::book::Book;
 use fabric_book::handling::handle;
 use fabric_book::lines::Lines;
 use fabric_book::power::PowerOn;
-use fabric_book::telling::tell_losses;
 use fabric_state::hand::Hand;
+use fabric_state::line::{Line, PlacedLine};
 use fabric_state::station::write_note;
 use fabric_state::work::{Why, Work};
 use fabric_turn::{Seat, Turnstile};
 use fabric_world::ask::Done;
-use fabric_world::line::{Line, PlacedLine};
 use frame_region::buffer::FrameBuf;
 use net_script::script::Script;
 use std::alloc::Global;
@@ -111,15 +110,13 @@ impl Tale {
         }
     }
 
-    // Tells of what a switch handled, by its event, with what became of its frames.
-    fn tell_handled(&mut self, s: u8, parcel: &Parcel)
-        requires { length parcel.now.puts.items ≡ length parcel.now.done.frames }
+    // Tells of what a switch handled, by its event, and of its frames that were lost.
+    fn tell_handled(&mut self, parcel: &Parcel)
         ensures { (told : AccountOf) → IsAccount told self.old.account → IsAccount (with_lines
-            (placed parcel.now.event (self.old.lines ++ losses s parcel.now.done.frames parcel.now.puts.items)) told)
+            (placed parcel.now.event (self.old.lines ++ flat_map option_to_list parcel.now.puts.items)) told)
             self.new.account }
     {
-        let frames = parcel.done.frames.as_slice();
-        match tell_losses(s, frames, &parcel.puts, &mut self.lines) {
+        match self.lines.push_all(&parcel.puts) {
             Ok(()) => self.account.tell_lines(parcel.event, &self.lines),
             Err(OutOfMemory) => self.account.failed = true,
         }
@@ -457,7 +454,7 @@ impl Desk {
         let BookReply::Put { parcel } = turnstile.call(rt, seat, ask) else {
             unreachable!()
         };
-        self.tale.tell_handled(self.s, &parcel);
+        self.tale.tell_handled(&parcel);
         Papers { parcel, ..papers }
     }
 

@@ -9,7 +9,7 @@ use Rattle.fabric_state.specs.declared.hand.Hand.{Hand}
 use Rattle.fabric_state.specs.Fits.{IsHandPort}
 use Rattle.fabric_state.specs.PortStates.{state_code}
 use Rattle.fabric_world.specs.World.{handles}
-use Rattle.fabric_world.specs.declared.line.Line.TheVariants as line
+use Rattle.fabric_state.specs.declared.line.Line.TheVariants as line
 use Rattle.fabric_book.specs.Told.{line_if}
 use Rattle.fabric_book.proofs.HandLemmas.{hand_came}
 use Rattle.fabric_book.proofs.TellLemmas.{port_told}

@@ -1,15 +1,21 @@
 -- What is told of the work that was begun.
 
-use Rattle.std.proofs.Common.{◌∙◌, refl, sym}
+use Rattle.std.proofs.Common.{◌∙◌, ◌∷◌, [], ap, refl, subst, sym}
 use Rattle.std.proofs.lemmas.List.{append-nil}
 use Rattle.an_base.specs.declared.event.Event.TheVariants.{Take}
-use Rattle.fabric_world.specs.Histories.{world_of}
+use Rattle.fabric_state.specs.declared.line.Line.{Line}
+use Rattle.fabric_state.specs.declared.work.Work.{Work}
+use Rattle.fabric_world.specs.Histories.{fabric_of, world_of}
 use Rattle.fabric_world.specs.Lines.{lines_of}
+use Rattle.fabric_book.specs.Kept.{HasSamples}
 use Rattle.fabric_book.proofs.book.Book.begin_work.Goals as goal
+
+pub clock-requires-clause-samples : goal.clock-requires-clause-samples
+clock-requires-clause-samples c = subst (λ (j : Work). HasSamples j (fabric_of c.args.self.now) c.args.s) c.in-Clock.is c.requires.samples
 
 pub returns-in-Restart-clause-told : goal.returns-in-Restart-clause-told
 unfolding lines_of
-returns-in-Restart-clause-told c = rw c.in-Restart.is refl
+returns-in-Restart-clause-told c = rw c.in-Restart.is (ap (λ (x : Line). x ∷ []) c.restart-_life.ensures.told)
 
 pub returns-in-Clock-clause-told : goal.returns-in-Clock-clause-told
 unfolding lines_of

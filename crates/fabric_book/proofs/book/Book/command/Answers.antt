@@ -25,8 +25,7 @@ invariant_of-self c =
 pub returns-clause-told : goal.returns-clause-told
 returns-clause-told c =
     let b = c.self.inside in
-    commanded_told b.fabric b.entries.items b.taken.items (vec_capacity b.entries) c.self.invariant c.args.self.now c.self.view_is c.args.command.now c.command-told.result c.command_line.result c.requires.command c.requires.other
-    c.command-told.ensures.told c.command_line.ensures
+    commanded_told b.fabric b.entries.items b.taken.items (vec_capacity b.entries) c.self.invariant c.args.self.now c.self.view_is c.args.command.now _ c.requires.command c.requires.other c.command-told.ensures.told
 
 pub returns-clause-done : goal.returns-clause-done
 returns-clause-done c =

@@ -5,8 +5,8 @@ use Rattle.an_base.specs.declared.event.Event.TheVariants.{Restart}
 use Rattle.fabric_book.proofs.BookLemmas.{boot_fits, has_room, kept_as, lawful_at, restart_below, restart_kept}
 use Rattle.fabric_book.proofs.book.Book.restart.Goals as goal
 
-pub restart-life-requires-clause-boot : goal.restart-life-requires-clause-boot
-restart-life-requires-clause-boot c =
+pub restart-begun-requires-clause-boot : goal.restart-begun-requires-clause-boot
+restart-begun-requires-clause-boot c =
     let b = c.self.inside in
     boot_fits b.fabric b.entries.items b.taken.items (vec_capacity b.entries) c.args.s c.self.invariant (restart_below b.fabric c.args.s c.self.invariant.script (lawful_at b.fabric b.entries.items b.taken.items (vec_capacity b.entries) c.self.invariant c.args.self.now c.self.view_is (Restart c.args.s) c.requires))
 
@@ -21,4 +21,4 @@ invariant_of-self c =
     let b = c.self.inside in
     let lawful = lawful_at b.fabric b.entries.items b.taken.items (vec_capacity b.entries) c.self.invariant c.args.self.now c.self.view_is (Restart c.args.s) c.requires in
     kept_as _ _ _ _ _ _ _ _ (restart_kept b.fabric b.entries.items c.args.s b.taken.items (vec_capacity b.entries) c.self.invariant (restart_below b.fabric c.args.s c.self.invariant.script lawful) lawful)
-    c.restart-life.ensures.restarted c.push_reserved.ensures.items refl c.push_reserved.ensures.capacity
+    c.restart-begun.ensures.restarted c.push_reserved.ensures.items refl c.push_reserved.ensures.capacity

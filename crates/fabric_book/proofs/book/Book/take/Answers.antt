@@ -1,7 +1,7 @@
 -- The next work of a switch.
 
 use Rattle.std.proofs.Common.{◌∙◌, ap, arith, slice_index_or, vec_capacity}
-use Rattle.fabric_book.proofs.BookLemmas.{below_at, boot_fits, taken_long, takes_at, work_at}
+use Rattle.fabric_book.proofs.BookLemmas.{below_at, boot_fits, samples_at, taken_long, takes_at, work_at}
 use Rattle.fabric_book.proofs.book.Book.take.Goals as goal
 
 pub index-requires : goal.index-requires
@@ -16,10 +16,15 @@ work-work-requires-clause-boot c =
     let b = c.self.inside in
     boot_fits b.fabric b.entries.items b.taken.items (vec_capacity b.entries) c.args.s c.self.invariant (below_at b.fabric b.entries.items b.taken.items (vec_capacity b.entries) c.self.invariant c.args.self.now c.self.view_is c.args.s c.requires.within)
 
-pub begin_work-line-requires : goal.begin_work-line-requires
-begin_work-line-requires c =
+pub begin_work-line-requires-clause-next : goal.begin_work-line-requires-clause-next
+begin_work-line-requires-clause-next c =
     let b = c.self.inside in
     work_at b.fabric b.entries.items b.taken.items (vec_capacity b.entries) c.self.invariant c.args.self.now c.self.view_is c.args.s c.index.result.now c.work-work.result c.work-work.ensures c.requires.within c.requires.empty
+
+pub begin_work-line-requires-clause-samples : goal.begin_work-line-requires-clause-samples
+begin_work-line-requires-clause-samples c =
+    let b = c.self.inside in
+    samples_at b.fabric b.entries.items b.taken.items (vec_capacity b.entries) c.self.invariant c.args.self.now c.self.view_is c.args.s c.index.result.now c.work-work.result c.work-work.ensures
 
 pub returns-clause-work : goal.returns-clause-work
 returns-clause-work c =

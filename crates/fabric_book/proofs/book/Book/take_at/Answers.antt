@@ -25,15 +25,14 @@ invariant_of-self c =
     let b = c.self.inside in
     let lawful = lawful_at b.fabric b.entries.items b.taken.items (vec_capacity b.entries) c.self.invariant c.args.self.now c.self.view_is (Take c.args.s c.args.port) c.requires in
     kept_as _ _ _ _ _ _ _ _ (take_kept b.fabric b.entries.items c.args.s c.args.port b.taken.items (vec_capacity b.entries) c.self.invariant (take_below b.fabric c.args.s c.args.port lawful) lawful)
-    c.take-copied.ensures.taken c.push_reserved.ensures.items (ap (λ k. slice_set b.taken.items k c.args.port) c.from.ensures) c.push_reserved.ensures.capacity
+    c.take-told.ensures.taken c.push_reserved.ensures.items (ap (λ k. slice_set b.taken.items k c.args.port) c.from.ensures) c.push_reserved.ensures.capacity
 
 pub returns-clause-bytes : goal.returns-clause-bytes
 returns-clause-bytes c =
-    let kept : IsKept c.take-copied.new.self c.push_reserved.new.self.items (slice_set c.self.inside.taken.items c.from.result c.args.port) (vec_capacity c.push_reserved.new.self) = invariant_of-self c in
-    c.take-copied.ensures.bytes ∙ ap (λ (f : FabricOf). held_bytes f c.args.s) kept.fabric_is
+    let kept : IsKept c.take-told.new.self c.push_reserved.new.self.items (slice_set c.self.inside.taken.items c.from.result c.args.port) (vec_capacity c.push_reserved.new.self) = invariant_of-self c in
+    c.take-told.ensures.bytes ∙ ap (λ (f : FabricOf). held_bytes f c.args.s) kept.fabric_is
 
 pub returns-clause-told : goal.returns-clause-told
 returns-clause-told c =
     let b = c.self.inside in
-    taken_told b.fabric b.entries.items b.taken.items (vec_capacity b.entries) c.self.invariant c.args.self.now c.self.view_is c.args.s c.args.port c.far_switch-far.result c.take-copied.result c.copy_line.result
-    c.far_switch-far.ensures c.take-copied.ensures.copied c.copy_line.ensures
+    taken_told b.fabric b.entries.items b.taken.items (vec_capacity b.entries) c.self.invariant c.args.self.now c.self.view_is c.args.s c.args.port _ c.take-told.ensures.told

@@ -6,8 +6,8 @@ use Rattle.fabric_book.proofs.NetLemmas.{here_at, may_at, net_as, net_below, net
 use Rattle.fabric_book.proofs.OwnLemmas.{clock_own}
 use Rattle.fabric_book.proofs.net.Net.clock.Goals as goal
 
-pub clock-requires : goal.clock-requires
-clock-requires c = let n = c.self.inside in may_at n.book n.lost c.args.self.now c.self.view_is (Clock c.args.s) c.requires.lawful
+pub clock-requires-clause-lawful : goal.clock-requires-clause-lawful
+clock-requires-clause-lawful c = let n = c.self.inside in may_at n.book n.lost c.args.self.now c.self.view_is (Clock c.args.s) c.requires.lawful
 
 pub invariant_of-self : goal.invariant_of-self
 invariant_of-self c =

@@ -10,7 +10,7 @@ use Rattle.fabric_state.specs.declared.work.Drive.TheVariants as drive
 use Rattle.fabric_state.specs.Choices.{next_drive}
 use Rattle.fabric_state.specs.Lawful.{is_lawful}
 use Rattle.fabric_world.specs.Histories.{HistoryOf, fabric_of, world_of}
-use Rattle.fabric_world.specs.declared.line.Line.{Line}
+use Rattle.fabric_state.specs.declared.line.Line.{Line}
 use Rattle.fabric_book.specs.Nets.{NetOf, history_of, with_events}
 use Rattle.fabric_book.proofs.DriveLemmas.{drive_lawful}
 use Rattle.fabric_book.proofs.DriverLemmas.{rest_events, rest_lines}

@@ -1,11 +1,11 @@
 -- A switch loaded the table that was due.
 
 use Rattle.std.proofs.Common.{◌∙◌, ◌<◌, [], ap, arith, length, refl, slice_index_or, slice_set, subst}
-use Rattle.std.proofs.lemmas.List.{get_or_default}
+use Rattle.std.proofs.lemmas.List.{get_or_default, length-set}
 use Rattle.an_base.specs.declared.event.Event.TheVariants.{Load}
 use Rattle.fabric_world.specs.Histories.{HistoryOf, world_of}
 use Rattle.fabric_book.specs.Nets.{IsSwitchKept}
-use Rattle.fabric_book.proofs.NetLemmas.{here_at, here_kept, may_at, net_as, net_below, net_switched}
+use Rattle.fabric_book.proofs.NetLemmas.{here_at, here_kept, may_at, net_as, net_below, net_lost_either, net_switched}
 use Rattle.fabric_book.proofs.net.Net.load.Goals as goal
 
 pub index_mut-requires : goal.index_mut-requires
@@ -27,6 +27,12 @@ load_at-requires-clause-kept c =
           (c.index_mut.ensures.value ∙ ap (λ k. slice_index_or n.switches.items k c.index_mut.result.now) c.from.ensures)
           (get_or_default n.bytes.items s [] (slice_index_or n.bytes.items s []) much),
     )
+
+pub invariant_of-self : goal.invariant_of-self
+invariant_of-self c =
+    let n = c.self.inside in
+    net_lost_either n.book c.load_at.new.book (Load c.args.s) n.lost n.powers.items n.switches.items (slice_set n.switches.items c.from.result c.load_at.new.switch) n.bytes.items c.self.invariant
+    (may_at n.book n.lost c.args.self.now c.self.view_is (Load c.args.s) c.requires.lawful) c.in_err-load_at.ensures.lost (length-set n.switches.items c.from.result c.load_at.new.switch)
 
 pub invariant_of-self-2 : goal.invariant_of-self-2
 invariant_of-self-2 c =

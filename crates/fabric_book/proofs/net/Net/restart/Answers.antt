@@ -1,6 +1,7 @@
 -- A switch began its next life.
 
-use Rattle.std.proofs.Common.{◌∙◌, ◌<◌, ap, arith, length, refl, slice_index_or, slice_set, subst}
+use Rattle.fabric_state.specs.declared.line.Line.{Line}
+use Rattle.std.proofs.Common.{◌≡◌, ◌∙◌, ◌++◌, ◌∷◌, ◌<◌, [], ap, arith, length, refl, slice_index_or, slice_set, subst}
 use Rattle.std.proofs.lemmas.Result.{on_ok_weaker}
 use Rattle.an_base.specs.declared.event.Event.TheVariants.{Restart}
 use Rattle.fabric_world.specs.Histories.{world_of}
@@ -41,10 +42,11 @@ invariant_of-self-2 c =
     let lawful = may_at n.book n.lost c.args.self.now c.self.view_is (Restart c.args.s) c.requires.lawful in
     let low = below (goal.at.invariant_of-self-2 c).After-from-place in
     let from = power_here n.book n.lost n.powers.items n.switches.items n.bytes.items c.self.invariant s low c.index-power.result.now (c.index-power.ensures ∙ ap (λ k. slice_index_or n.powers.items k c.index-power.result.now) c.from-place.ensures) in
-    let begins = subst (λ (p : PowerOf). IsStarted (start_with p c.restart-life.result) c.in_ok-self-inside.field-0) from c.in_ok-self-inside.ensures in
+    let begins = subst (λ (p : PowerOf). IsStarted (start_with p c.restart-life.result.0) c.in_ok-self-inside.field-0) from c.in_ok-self-inside.ensures in
     net_as _ _ _ _ _ _ _ _ _ (net_switched n.book (Restart s) n.lost n.powers.items n.switches.items n.bytes.items c.self.invariant (here_at n.book n.lost c.args.self.now c.self.view_is c.requires.here) lawful s one low refl
-    (λ switch buffer _ is. restart_own n.book.script c.self.invariant.script n.book.events s low lawful switch one buffer c.restart-life.result is c.restart-life.ensures.life begins))
+    (λ switch buffer _ is. restart_own n.book.script c.self.invariant.script n.book.events s low lawful switch one buffer c.restart-life.result.0 is c.restart-life.ensures.life begins))
     c.restart-life.ensures.restarted refl (ap (λ k. slice_set n.switches.items k one) c.from-place.ensures) refl
 
 pub returns-clause-told : goal.returns-clause-told
-returns-clause-told c = on_ok_weaker c.push.result (restart_told (world_of (history_of c.args.self.now)) c.args.s c.args.lines.now c.push.new.self) c.push.ensures.ok
+returns-clause-told c =
+    on_ok_weaker c.push.result (λ (more : c.push.new.self ≡ c.args.lines.now ++ c.restart-life.result.1 ∷ []). restart_told (world_of (history_of c.args.self.now)) c.args.s c.args.lines.now c.push.new.self (more ∙ ap (λ (x : Line). c.args.lines.now ++ x ∷ []) c.restart-life.ensures.told)) c.push.ensures.ok

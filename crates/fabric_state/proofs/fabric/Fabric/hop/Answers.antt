@@ -1,18 +1,15 @@
-use Rattle.fabric_state.proofs.FitsLemmas.{move_fits}
-use Rattle.fabric_state.proofs.LawfulLemmas.{lawful_is}
-use Rattle.std.specs.Prelude.{◌≡◌, true, refl}
-use Rattle.an_base.specs.declared.event.Event.TheVariants.{Move}
-use Rattle.fabric_state.proofs.LawfulLemmas.{lawful_in}
+use Rattle.std.specs.Prelude.{◌∷◌, ℕ, [], Option}
+use Rattle.std.specs.Option.{IsSome}
+use Rattle.std.proofs.Common.{◌∙◌, ap, subst, sym}
+use Rattle.fabric_state.specs.declared.line.Line.{Line}
+use Rattle.fabric_state.proofs.MoveLemmas.{hop_told, packet_some}
 use Rattle.fabric_state.proofs.fabric.Fabric.hop.Goals as goal
 
-pub hop-hop-requires : goal.hop-hop-requires
-hop-hop-requires c = record { under_way = (lawful_is _ (Move c.args.packet) (lawful_in _ c.self.view_is c.requires)).ready }
+pub unwrap-s-requires : goal.unwrap-s-requires
+unwrap-s-requires c = subst (λ (o : Option (ℕ × ℕ)). IsSome o) (sym c.packet_place.ensures) (packet_some c.args.self.now c.args.packet c.requires)
 
-pub invariant_of-self : goal.invariant_of-self
-invariant_of-self c = rw (c.hop-hop.ensures.packets, c.event.ensures) (record { fits = move_fits _ c.args.packet c.self.invariant.fits (lawful_in _ c.self.view_is c.requires); most = c.self.invariant.most })
-
-pub returns-clause-moved : goal.returns-clause-moved
-returns-clause-moved c = rw (c.hop-hop.ensures.packets, c.event.ensures, ← c.self.view_is) refl
-
-pub returns-clause-hop : goal.returns-clause-hop
-returns-clause-hop c = rw (← c.self.view_is) c.hop-hop.ensures.hop
+pub returns-clause-told : goal.returns-clause-told
+returns-clause-told c =
+    ap (λ (x : Line). x ∷ []) c.hop_line.ensures
+    ∙ hop_told c.args.self.now c.args.packet c.unwrap-s.result.0 c.unwrap-s.result.1 c.epoch_in_use-epoch.result c.make_hop-hop.result (sym c.packet_place.ensures ∙ c.unwrap-s.ensures) c.make_hop-hop.ensures.hop
+    (rw (← c.self.view_is) c.epoch_in_use-epoch.ensures)

@@ -7,7 +7,7 @@ use Rattle.fabric_state.specs.Fabric.{is_empty}
 use Rattle.fabric_state.specs.Fits.{IsHandPort}
 use Rattle.fabric_world.proofs.NextLemmas.{handle_is_lawful}
 use Rattle.fabric_world.specs.World.{handles, world_after}
-use Rattle.fabric_world.specs.declared.line.Line.{Line}
+use Rattle.fabric_state.specs.declared.line.Line.{Line}
 use Rattle.fabric_book.specs.Nets.{IsHandled}
 use Rattle.fabric_book.specs.Told.{hand_lines}
 use Rattle.fabric_book.specs.declared.asking.Letter.{Letter}

@@ -7,8 +7,8 @@ use Rattle.an_base.specs.Rows.{RowOf}
 use Rattle.fabric_world.specs.declared.ask.Ask.TheVariants as ask
 use Rattle.fabric_world.specs.declared.ask.LoadReply.TheVariants as load
 use Rattle.fabric_world.specs.declared.ask.Reply.TheVariants as reply
-use Rattle.fabric_world.specs.declared.line.Line.{Line}
-use Rattle.fabric_world.specs.declared.line.Line.TheVariants as line
+use Rattle.fabric_state.specs.declared.line.Line.{Line}
+use Rattle.fabric_state.specs.declared.line.Line.TheVariants as line
 use Rattle.fabric_book.specs.Accounts.{IsAccount, with_load}
 use Rattle.fabric_book.specs.Asking.{reply_of}
 use Rattle.fabric_book.specs.declared.asking.BookAsk.TheVariants as book_ask

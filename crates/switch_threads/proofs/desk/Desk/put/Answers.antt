@@ -2,7 +2,8 @@
 
 use Rattle.std.proofs.Common.{◌≡◌, ◌∙◌, ◌+◌, ◌++◌, ap, length, subst, sym}
 use Rattle.switch_core.specs.Bytes.{BytesOut}
-use Rattle.fabric_state.specs.Effects.{wires_at_hand}
+use Rattle.std.specs.List.{flat_map}
+use Rattle.std.specs.Prelude.{option_to_list}
 use Rattle.fabric_world.specs.Accounts.{placed}
 use Rattle.fabric_world.specs.World.{world_after}
 use Rattle.fabric_world.specs.declared.ask.Ask.TheVariants as ask
@@ -10,11 +11,9 @@ use Rattle.fabric_world.specs.declared.ask.Done.{Done}
 use Rattle.fabric_world.specs.declared.ask.Reply.TheVariants as reply
 use Rattle.fabric_book.specs.Accounts.{IsAccount, with_lines}
 use Rattle.fabric_book.specs.Asking.{reply_of}
-use Rattle.fabric_book.specs.Told.{losses}
 use Rattle.fabric_book.specs.declared.asking.BookAsk.TheVariants as book_ask
 use Rattle.fabric_book.specs.declared.asking.BookReply.TheVariants as book_reply
 use Rattle.fabric_book.specs.declared.asking.Parcel.{Parcel}
-use Rattle.fabric_book.proofs.TellLemmas.{all_become}
 use Rattle.switch_threads.specs.declared.desk.Pending.TheVariants as pending
 use Rattle.switch_threads.proofs.AskLemmas.{put_fit, replies_put}
 use Rattle.switch_threads.proofs.StayLemmas.{at_place}
@@ -37,19 +36,6 @@ unreachable-requires g c =
     let called = as_asked view after (book_ask.Put desk.s parcel) c.call.result c.call.ensures.called in
     replies_put step.script (view.seen ++ called.between) desk.s parcel.value.done c.call.result after.seen
     (answered view after (ask.Put desk.s parcel.value.done parcel.value.puts) (reply_of c.call.result) called step.script step.begun) c.in_default.not-Put
-
-pub tell_handled-requires : goal.tell_handled-requires
-tell_handled-requires g c =
-    let desk = c.args.self.now in
-    let step = c.requires.step in
-    let view = c.args.seat.now.1 in
-    let after = c.call.new.seat.1 in
-    let parcel = c.args.papers.parcel in
-    let called = as_asked view after (book_ask.Put desk.s parcel) (book_reply.Put c.in-Put.parcel) c.in-Put.ensures.called in
-    let does = put_does view after desk.s desk.power_on desk.switch.value parcel.value c.in-Put.parcel.value (at_place view desk c.args.papers pending.Put step) called in
-    subst (λ (p : Parcel). length p.puts.items ≡ length p.done.frames) (sym c.deref.ensures)
-    (ap (length {A = _}) does.puts_are ∙ all_become desk.s parcel.value.done.frames (wires_at_hand (world_after step.script (view.seen ++ called.between)).fabric desk.s)
-    ∙ ap (λ (d : Done). length {A = BytesOut} d.frames) (sym does.same))
 
 pub returns-clause-called : goal.returns-clause-called
 returns-clause-called g c =
@@ -81,6 +67,6 @@ returns-clause-step g c =
         prepared = put_note view after desk.s desk.power_on desk.switch.value parcel.value back place called desk.tale step.fits.prepared;
       };
       told = put_tells view after desk.s desk.power_on desk.switch.value parcel.value back place called desk.tale step.fits.prepared desk.tale.account new
-          (λ told before. subst (λ (p : Parcel). IsAccount (with_lines (placed p.event (desk.tale.lines ++ losses desk.s p.done.frames p.puts.items)) told) new) c.deref.ensures (c.tell_handled.ensures told before))
+          (λ told before. subst (λ (p : Parcel). IsAccount (with_lines (placed p.event (desk.tale.lines ++ flat_map option_to_list p.puts.items)) told) new) c.deref.ensures (c.tell_handled.ensures told before))
           step.told;
     }
