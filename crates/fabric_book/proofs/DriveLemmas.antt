@@ -5,15 +5,14 @@ use Rattle.std.proofs.Common.{sym, ◌∙◌, subst, inl, inr, true≢false}
 use Rattle.std.proofs.lemmas.List.{append-nil}
 use Rattle.std.proofs.lemmas.List.Elements.{All-head}
 use Rattle.net_script.specs.Scripts.{ScriptOf, IsScript}
-use Rattle.switch_core.specs.declared.switch.TableFor.{TableFor}
+use Rattle.std.specs.Global.{Box}
 use Rattle.fabric_turn.specs.History.{AppendsAtMostOne}
-use Rattle.fabric_world.specs.declared.ask.LoadReply.{LoadReply}
 use Rattle.fabric_world.specs.declared.ask.Reply.{Reply}
-use Rattle.fabric_world.specs.declared.ask.Reply.TheVariants as reply
+use Rattle.fabric_world.specs.declared.ask.Sheet.{Sheet}
 use Rattle.fabric_world.specs.Histories.{HistoryOf, IsLawful, fabric_of, owner_of}
 use Rattle.fabric_world.specs.Sound.{AllMayCome}
 use Rattle.fabric_state.specs.declared.line.PlacedLine.{PlacedLine}
-use Rattle.fabric_world.specs.Turns.{AnswersLoad, Drives, LoadsOrNot}
+use Rattle.fabric_world.specs.Turns.{Drives, LoadsOrNot}
 use Rattle.fabric_world.specs.World.{world_after}
 use Rattle.an_base.specs.declared.event.Event.{Event}
 use Rattle.an_base.specs.declared.event.Event.TheVariants.{Tick, Clock, Take, Handle, Load, Move, Restart}
@@ -90,16 +89,9 @@ driver_owns f (Load s) kept is = absurd (command_fits f (Load s) kept is.command
 driver_owns f e kept is = refl
 
 -- What a load and the driver append
-loads_append : (b : Bool) (table : TableFor) (answer : LoadReply) (s c : ℕ) (script : ScriptOf) (h after : List Event) → c ≡ s + 1 → LoadsOrNot b table answer s script h after → AppendsAtMostOne owner_of c h after
-loads_append true table answer s c script h after caller is = ([], inl refl, is.1 ∙ sym (append-nil h))
-loads_append false table answer s c script h after caller is = (Load s ∷ [], inr (Load s, refl, sym caller), is.1)
-
-pub load_appends : (table : TableFor) (answer : Reply) (s c : ℕ) (script : ScriptOf) (h after : List Event) → c ≡ s + 1 → AnswersLoad script h s table answer after → AppendsAtMostOne owner_of c h after
-load_appends table (reply.Load came) s c script h after caller is =
-    loads_append (is_barred (world_after script h).fabric) table came s c script h after caller is
-load_appends table (reply.Take job out told) s c script h after caller is = absurd is
-load_appends table (reply.Put done puts event) s c script h after caller is = absurd is
-load_appends table (reply.Drive did told) s c script h after caller is = absurd is
+pub loads_append : (b : Bool) (sheet : Box Sheet) (answer : Reply) (s c : ℕ) (script : ScriptOf) (h after : List Event) → c ≡ s + 1 → LoadsOrNot b sheet answer s script h after → AppendsAtMostOne owner_of c h after
+loads_append true sheet answer s c script h after caller is = ([], inl refl, is.1 ∙ sym (append-nil h))
+loads_append false sheet answer s c script h after caller is = (Load s ∷ [], inr (Load s, refl, sym caller), is.event)
 
 pub drive_appends : (script : ScriptOf) → IsScript script → (h : List Event) (did : Drive) (told : Option PlacedLine) (c : ℕ) (after : List Event) → c ≡ 0 → Drives script h did told after → AppendsAtMostOne owner_of c h after
 drive_appends script kept h (drive.Did e) told c after caller is =

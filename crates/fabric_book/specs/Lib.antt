@@ -1,4 +1,3 @@
-pub mod Asking
 pub mod Kept
 pub mod Nets
 pub mod Told

@@ -13,7 +13,7 @@ ghost use Rattle.fabric_state.specs.Fabric.{count, full_hands, held_bytes, is_fu
 ghost use Rattle.fabric_state.specs.Agree.{is_settled};
 ghost use Rattle.fabric_state.specs.Effects.{ShowsOnly, all_put_out, shows};
 ghost use Rattle.fabric_state.specs.Fits.{IsHandPort};
-ghost use Rattle.fabric_state.specs.Lawful.{is_command, is_lawful};
+ghost use Rattle.fabric_state.specs.Lawful.{is_barred, is_command, is_lawful};
 ghost use Rattle.fabric_state.specs.Lines.{lost_lines};
 ghost use Rattle.fabric_state.specs.Starts.{next_life_at};
 ghost use Rattle.fabric_state.specs.declared.line.Line.TheVariants as line;
@@ -21,14 +21,11 @@ ghost use Rattle.fabric_world.specs.Histories.{IsLawful, fabric_of, owner_of, wi
 ghost use Rattle.fabric_world.specs.Accounts.{placed};
 ghost use Rattle.fabric_world.specs.Lines.{all_lines, lines_of};
 ghost use Rattle.fabric_world.specs.Sound.{AllMayCome};
-ghost use Rattle.fabric_world.specs.Turns.{AnswersAsk, AnswersLoad, AreTold, Drives, Handled, HasBytes, IsDone, IsFit, IsToLoad, TakesWork};
+ghost use Rattle.fabric_world.specs.Turns.{AnswersAsk, AreTold, Drives, Handled, HasBytes, IsDone, IsFit, IsToLoad, LoadsOrNot, TakesWork};
 ghost use Rattle.fabric_world.proofs.FitLemmas.{fit_stays};
 ghost use Rattle.fabric_settling.specs.Settling.{HasTime, SettlesSoon};
-ghost use Rattle.fabric_book.specs.Asking.{ask_of, reply_of};
 ghost use Rattle.fabric_book.specs.Kept.{HasSamples, IsDrivers, with_events};
-ghost use Rattle.fabric_book.specs.declared.asking.BookReply.TheVariants as book_reply;
 
-use crate::asking::{BookAsk, BookReply, Parcel, Sheet};
 use an_base::event::{Event, Journal};
 use an_base::life::Life;
 use an_base::memory::OutOfMemory;
@@ -38,7 +35,7 @@ use fabric_state::hand::Hand;
 use fabric_state::line::{Line, PlacedLine};
 use fabric_state::work::{Drive, Work};
 use fabric_turn::Staged;
-use fabric_world::ask::Done;
+use fabric_world::ask::{Ask, Done, Parcel, Reply, Sheet};
 use frame_region::buffer::FrameBuf;
 use net_script::script::Script;
 use std::alloc::Global;
@@ -142,13 +139,22 @@ impl Book {
         self.fabric.settled()
     }
 
+    // A line of the event that came last, with its place.
+    fn at_its_place(&self, line: Line) -> PlacedLine
+        ensures { result ≡ record { event = (fabric_of self.now).events; line = line } }
+    {
+        PlacedLine {
+            event: self.fabric.events(),
+            line,
+        }
+    }
+
     // What is told of the event that came last, with its place.
     fn placed(&self, line: Option<Line>) -> Option<PlacedLine>
         ensures { option_to_list result ≡ placed (fabric_of self.now).events (option_to_list line) }
     {
-        let event = self.fabric.events();
         match line {
-            Some(line) => Some(PlacedLine { event, line }),
+            Some(line) => Some(self.at_its_place(line)),
             None => None,
         }
     }
@@ -204,20 +210,20 @@ impl Book {
 
     /// A switch is to use the table of this sheet, and shows what stands there then. The sheet is handed back exactly
     /// where a switch is spent or there is too little room.
-    pub fn load(&mut self, s: u8, sheet: Box<Sheet>) -> BookReply
+    pub fn load(&mut self, s: u8, sheet: Box<Sheet>) -> Reply
         requires within { s < length self.old.script.wires.switches }
         requires load { IsToLoad (world_of self.old) s sheet.value.table sheet.value.note }
         ensures script { self.new.script ≡ self.old.script }
-        ensures reply { AnswersLoad self.old.script self.old.events s sheet.value.table (reply_of result) self.new.events }
-        ensures back { (back : _) → result ≡ book_reply.NotNow back → back ≡ sheet }
+        ensures reply { LoadsOrNot (is_barred (fabric_of self.old)) sheet result s self.old.script self.old.events
+            self.new.events }
     {
         if self.fabric.is_barred() {
-            return BookReply::NotNow { sheet };
+            return Reply::NotNow { sheet };
         }
         let Sheet { table, note } = Box::into_inner(sheet);
-        self.load_now(s, table, &note);
-        BookReply::Loaded {
-            event: self.fabric.events(),
+        let line = self.load_now(s, table, &note);
+        Reply::Loaded {
+            told: self.at_its_place(line),
         }
     }
 
@@ -363,9 +369,9 @@ impl Book {
 }
 
 impl Staged for Book {
-    type Ask = BookAsk;
+    type Ask = Ask;
 
-    type Reply = BookReply;
+    type Reply = Reply;
 
     type Entry = Event;
 
@@ -377,33 +383,32 @@ impl Staged for Book {
 
     ghost owner = { owner_of };
 
-    ghost fit = { λ script history caller ask. IsFit script history caller (ask_of ask) };
+    ghost fit = { IsFit };
 
-    ghost answers = { λ script history _ ask reply after.
-        AnswersAsk script history (ask_of ask) (reply_of reply) after };
+    ghost answers = { λ script history _ ask reply after. AnswersAsk script history ask reply after };
 
-    fn act(&mut self, _caller: u32, ask: BookAsk) -> BookReply {
+    fn act(&mut self, _caller: u32, ask: Ask) -> Reply {
         match ask {
-            BookAsk::Take { s, mut letter } => {
+            Ask::Take { s, mut letter } => {
                 let (work, told) = self.take(s, &mut letter.buffer);
                 letter.work = work;
                 letter.told = told;
-                BookReply::Take { letter }
+                Reply::Take { letter }
             }
-            BookAsk::Put { s, mut parcel } => {
+            Ask::Put { s, mut parcel } => {
                 let Parcel { done, puts, event } = &mut *parcel;
                 *event = self.put(s, done, puts);
-                BookReply::Put { parcel }
+                Reply::Put { parcel }
             }
-            BookAsk::Load { s, sheet } => self.load(s, sheet),
-            BookAsk::Drive { mut slip } => {
+            Ask::Load { s, sheet } => self.load(s, sheet),
+            Ask::Drive { mut slip } => {
                 let (drive, told) = self.drive();
                 slip.drive = drive;
                 slip.told = told;
-                BookReply::Drive { slip }
+                Reply::Drive { slip }
             }
         }
     }
 
-    ghost stays_fit = { λ script history caller ask. fit_stays script history caller (ask_of ask) };
+    ghost stays_fit = { fit_stays };
 }

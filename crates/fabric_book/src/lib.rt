@@ -9,7 +9,6 @@
 #![tactic(auto)]
 
 pub mod account;
-pub mod asking;
 pub mod book;
 pub mod handling;
 pub mod lines;

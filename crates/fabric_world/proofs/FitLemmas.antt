@@ -75,7 +75,7 @@ done_stays w v s d same bytes done =
       noframe = done.noframe ∙ sym (ap (λ (x : StationOf). is_noise x.hand (held_bytes v.fabric s)) same.place ∙ ap (λ xs. is_noise (station w.fabric s).hand (slice_index_or xs 0 [])) bytes);
     }
 
-to_load_stays : (w v : WorldOf) (s : ℕ) (t : TableFor) (note : NoteOf) → AreSameAt s w v → IsToLoad w s t note → IsToLoad v s t note
+pub to_load_stays : (w v : WorldOf) (s : ℕ) (t : TableFor) (note : NoteOf) → AreSameAt s w v → IsToLoad w s t note → IsToLoad v s t note
 to_load_stays w v s t note same h = record {
   empty = ap (λ (x : StationOf). not (is_empty x.hand)) same.place ∙ h.empty;
   due = ap (λ (x : StationOf). x.note.load_due) same.place ∙ h.due;
@@ -94,16 +94,16 @@ others_of : (c s : ℕ) (more : List Event) → c ≡ s + 1 → filter (λ e. ow
 others_of c s more is none = subst (λ (n : ℕ). All (λ e. owner_of e ≢ n) more) is (others_from_none c more none)
 
 may_stay : (script : ScriptOf) → IsScript script → (h : List Event) (c : ℕ) (a : Ask) (more : List Event) → MayAsk script h c a → filter (λ e. owner_of e == c) more ≡ [] → MayAsk script (h ++ more) c a
-may_stay script kept h c (ask.Take s out) more fit none =
+may_stay script kept h c (ask.Take s letter) more fit none =
     let same = world_elsewhere script h more s (others_of c s more fit.0.caller_is none) in
     (fit.0, ap (λ (x : StationOf). not (is_empty x.hand)) same.place ∙ fit.1)
-may_stay script kept h c (ask.Put s d puts) more fit none =
+may_stay script kept h c (ask.Put s parcel) more fit none =
     let others = others_of c s more fit.0.caller_is none in
-    (fit.0, done_stays (world_after script h) (world_after script (h ++ more)) s d (world_elsewhere script h more s others) (world_hand_elsewhere script kept h more s others) fit.1, fit.2)
-may_stay script kept h c (ask.Load s t note) more fit none =
+    (fit.0, done_stays (world_after script h) (world_after script (h ++ more)) s parcel.value.done (world_elsewhere script h more s others) (world_hand_elsewhere script kept h more s others) fit.1, fit.2)
+may_stay script kept h c (ask.Load s sheet) more fit none =
     let others = others_of c s more fit.0.caller_is none in
-    (fit.0, to_load_stays (world_after script h) (world_after script (h ++ more)) s t note (world_elsewhere script h more s others) fit.1)
-may_stay script kept h c ask.Drive more fit none = fit
+    (fit.0, to_load_stays (world_after script h) (world_after script (h ++ more)) s sheet.value.table sheet.value.note (world_elsewhere script h more s others) fit.1)
+may_stay script kept h c (ask.Drive slip) more fit none = fit
 
 pub fit_stays : (script : ScriptOf) (h : List Event) (c : ℕ) (a : Ask) (more : List Event) → IsFit script h c a → filter (λ e. owner_of e == c) more ≡ [] → IsFit script (h ++ more) c a
 fit_stays script h c a more fit none = record { kept = fit.kept; may_ask = may_stay script fit.kept h c a more fit.may_ask none }

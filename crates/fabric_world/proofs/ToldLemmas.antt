@@ -32,7 +32,7 @@ use Rattle.fabric_state.specs.Lawful.{is_lawful}
 use Rattle.fabric_state.specs.Effects.{address_for, released, put_out, noise, hop_of}
 use Rattle.fabric_state.specs.declared.line.Line.{Line}
 use Rattle.fabric_state.specs.declared.line.Line.TheVariants as line
-use Rattle.fabric_state.specs.Lines.{epoch_in_use, loss_line, lost_line, lost_lines, copy_line, sent_line, send_line, hop_line, move_lines}
+use Rattle.fabric_state.specs.Lines.{epoch_in_use, loss_line, lost_line, lost_lines, copy_line, sent_line, hop_line, move_lines}
 use Rattle.fabric_world.specs.Lines.{shown_in, port_line, no_frame_lines, has_joined, join_lines, spent_lines, finish_line, finish_lines, handle_lines, load_lines, lines_of, all_lines}
 use Rattle.fabric_world.specs.Histories.{AreLawful, IsLawful}
 use Rattle.fabric_world.specs.Traces.{event_hop, hopped_of, hopped_by, moved_line, tells_of_hop, trace_from, trace_of}

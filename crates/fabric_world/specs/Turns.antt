@@ -1,6 +1,7 @@
 -- What may be asked of a book, which keeps a history for its callers, and what it answers.
 
 use Rattle.std.specs.Prelude.{◌≡◌, ◌+◌, ◌<◌, ℕ, not, List, [], ◌∷◌, ◌++◌, length, Option, Some, is_some, option_to_list, Bool, true, false}
+use Rattle.std.specs.Global.{Box}
 use Rattle.std.specs.List.{flat_map}
 use Rattle.an_base.specs.Values.{TopoOf}
 use Rattle.an_base.specs.Numbers.{AreNumbers}
@@ -28,8 +29,8 @@ use Rattle.fabric_state.specs.Lines.{lost_lines}
 use Rattle.fabric_state.specs.declared.line.Line.{Line}
 use Rattle.fabric_state.specs.declared.line.PlacedLine.{PlacedLine}
 use Rattle.fabric_world.specs.declared.ask.Done.{Done}
-use Rattle.fabric_world.specs.declared.ask.LoadReply.{LoadReply}
-use Rattle.fabric_world.specs.declared.ask.LoadReply.TheVariants as load
+use Rattle.fabric_world.specs.declared.ask.Parcel.{Parcel}
+use Rattle.fabric_world.specs.declared.ask.Sheet.{Sheet}
 use Rattle.fabric_world.specs.declared.ask.Ask.{Ask}
 use Rattle.fabric_world.specs.declared.ask.Ask.TheVariants as ask
 use Rattle.fabric_world.specs.declared.ask.Reply.{Reply}
@@ -80,14 +81,15 @@ pub record IsWorkerOf (script : ScriptOf) (place caller : ℕ) : Type 0 where
 
 -- what is asked is of the world after a history, and the caller's to ask
 abbrev pub MayAsk : ScriptOf → List Event → ℕ → Ask → Type 0
-MayAsk script history caller (ask.Take place out) =
+MayAsk script history caller (ask.Take place letter) =
     IsWorkerOf script place caller × (is_full_at (world_after script history).fabric place ≡ false)
-MayAsk script history caller (ask.Put place done puts) =
-    IsWorkerOf script place caller × IsDone (world_after script history) place done
-    × (length puts.items ≡ length done.frames)
-MayAsk script history caller (ask.Load place table note) =
-    IsWorkerOf script place caller × IsToLoad (world_after script history) place table note
-MayAsk script history caller ask.Drive = caller ≡ 0
+MayAsk script history caller (ask.Put place parcel) =
+    IsWorkerOf script place caller × IsDone (world_after script history) place parcel.value.done
+    × (length parcel.value.puts.items ≡ length parcel.value.done.frames)
+MayAsk script history caller (ask.Load place sheet) =
+    IsWorkerOf script place caller
+    × IsToLoad (world_after script history) place sheet.value.table sheet.value.note
+MayAsk script history caller (ask.Drive slip) = caller ≡ 0
 
 -- Which asks are fit after a history of a script that can be.
 pub record IsFit (script : ScriptOf) (history : List Event) (caller : ℕ) (ask : Ask) : Type 0 where
@@ -119,17 +121,24 @@ abbrev pub AreTold : FabricOf → ℕ → List BytesOut → List (Option Line) �
 AreTold fabric place frames puts =
     flat_map option_to_list puts ≡ lost_lines place frames (wires_at_hand fabric place)
 
-pub record PutsFrames (script : ScriptOf) (history : List Event) (place : ℕ) (done back : Done)
-    (puts : List (Option Line)) (number : ℕ) (after : List Event) : Type 0 where
-  pub same : back ≡ done
-  pub puts_are : AreTold (world_after script history).fabric place done.frames puts
+pub record PutsFrames (script : ScriptOf) (history : List Event) (place : ℕ) (given back : Parcel)
+    (after : List Event) : Type 0 where
+  pub same : back.done ≡ given.done
+  pub puts_are : AreTold (world_after script history).fabric place given.done.frames back.puts.items
   pub event : after ≡ history ++ Handle place ∷ []
-  pub number_is : number ≡ (world_after script after).fabric.events
+  pub number_is : back.event ≡ (world_after script after).fabric.events
 
-abbrev pub LoadsOrNot : Bool → TableFor → LoadReply → ℕ → ScriptOf → List Event → List Event → Type 0
-LoadsOrNot false table answer place script history after =
-    (answer ≡ load.Loaded (world_after script after).fabric.events) × (after ≡ history ++ Load place ∷ [])
-LoadsOrNot true table answer place script history after = (answer ≡ load.NotNow table) × (after ≡ history)
+-- a table is in use, or its sheet is handed back
+pub record Loads (script : ScriptOf) (history : List Event) (place : ℕ) (answer : Reply)
+    (after : List Event) : Type 0 where
+  pub told : PlacedLine
+  pub answer_is : answer ≡ reply.Loaded told
+  pub told_is : IsTold script history (Load place ∷ []) (Some told)
+  pub event : after ≡ history ++ Load place ∷ []
+
+abbrev pub LoadsOrNot : Bool → Box Sheet → Reply → ℕ → ScriptOf → List Event → List Event → Type 0
+LoadsOrNot false sheet answer place script history after = Loads script history place answer after
+LoadsOrNot true sheet answer place script history after = (answer ≡ reply.NotNow sheet) × (after ≡ history)
 
 pub record Drives (script : ScriptOf) (history : List Event) (did : Drive) (told : Option PlacedLine)
     (after : List Event) : Type 0 where
@@ -138,28 +147,25 @@ pub record Drives (script : ScriptOf) (history : List Event) (did : Drive) (told
   pub told_is : IsTold script history (event_of_drive did) told
 
 abbrev pub AnswersTake : ScriptOf → List Event → ℕ → Reply → List Event → Type 0
-AnswersTake script history place (reply.Take job out told) after =
-    TakesWork script history place job out told after
+AnswersTake script history place (reply.Take letter) after =
+    TakesWork script history place letter.value.work letter.value.buffer letter.value.told after
 AnswersTake script history place other after = ⊥
 
-abbrev pub AnswersPut : ScriptOf → List Event → ℕ → Done → Reply → List Event → Type 0
-AnswersPut script history place done (reply.Put back puts number) after =
-    PutsFrames script history place done back puts.items number after
-AnswersPut script history place done other after = ⊥
-
-abbrev pub AnswersLoad : ScriptOf → List Event → ℕ → TableFor → Reply → List Event → Type 0
-AnswersLoad script history place table (reply.Load answer) after =
-    LoadsOrNot (is_barred (world_after script history).fabric) table answer place script history after
-AnswersLoad script history place table other after = ⊥
+abbrev pub AnswersPut : ScriptOf → List Event → ℕ → Parcel → Reply → List Event → Type 0
+AnswersPut script history place given (reply.Put back) after =
+    PutsFrames script history place given back.value after
+AnswersPut script history place given other after = ⊥
 
 abbrev pub AnswersDrive : ScriptOf → List Event → Reply → List Event → Type 0
-AnswersDrive script history (reply.Drive did told) after = Drives script history did told after
+AnswersDrive script history (reply.Drive slip) after =
+    Drives script history slip.value.drive slip.value.told after
 AnswersDrive script history other after = ⊥
 
 abbrev pub AnswersAsk : ScriptOf → List Event → Ask → Reply → List Event → Type 0
-AnswersAsk script history (ask.Take place out) answer after = AnswersTake script history place answer after
-AnswersAsk script history (ask.Put place done puts) answer after =
-    AnswersPut script history place done answer after
-AnswersAsk script history (ask.Load place table note) answer after =
-    AnswersLoad script history place table answer after
-AnswersAsk script history ask.Drive answer after = AnswersDrive script history answer after
+AnswersAsk script history (ask.Take place letter) answer after =
+    AnswersTake script history place answer after
+AnswersAsk script history (ask.Put place parcel) answer after =
+    AnswersPut script history place parcel.value answer after
+AnswersAsk script history (ask.Load place sheet) answer after =
+    LoadsOrNot (is_barred (world_after script history).fabric) sheet answer place script history after
+AnswersAsk script history (ask.Drive slip) answer after = AnswersDrive script history answer after

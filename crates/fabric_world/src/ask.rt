@@ -1,5 +1,8 @@
-//! What may be asked of a book, and what it replies, as definitions name it; calls hand it over in boxes
-//! (`fabric_book::asking`).
+//! What callers ask of a book, and what it replies.
+//!
+//! All that is large lies in a box, which goes to and fro: so few bytes are moved, and the book takes no memory for
+//! what it is asked. A letter, a parcel and a slip come back with the reply, and serve for the next ask; a sheet is
+//! made for each table.
 
 use an_base::port::Note;
 use fabric_state::line::{Line, PlacedLine};
@@ -21,16 +24,44 @@ pub struct Done {
     pub spent: bool,
 }
 
-/// What becomes of a table that is to be loaded.
+/// On which a worker is told its next work.
 #[derive(Drop)]
-pub enum LoadReply {
-    /// It is in use.
-    Loaded {
-        /// The place of the event in the history, from 1.
-        event: u32,
-    },
-    /// It is handed back.
-    NotNow(TableFor),
+pub struct Letter {
+    /// Where the bytes of a frame go.
+    pub buffer: FrameBuf,
+    /// The work.
+    pub work: Work,
+    /// What is told of its event, if something is.
+    pub told: Option<PlacedLine>,
+}
+
+/// In which a worker puts what came of what its switch had in hand.
+#[derive(Drop)]
+pub struct Parcel {
+    /// What came of it.
+    pub done: Done,
+    /// Where what is told of each frame is noted.
+    pub puts: Vec<Option<Line>>,
+    /// The place of the event in the history, from 1, once there is one.
+    pub event: u32,
+}
+
+/// A table that a switch is to use.
+#[derive(Drop)]
+pub struct Sheet {
+    /// The table.
+    pub table: TableFor,
+    /// What the switch shows of itself then.
+    pub note: Note,
+}
+
+/// On which the driver is told what it did.
+#[derive(Drop)]
+pub struct Slip {
+    /// What was done.
+    pub drive: Drive,
+    /// What is told of its event, if something is.
+    pub told: Option<PlacedLine>,
 }
 
 /// What a caller asks.
@@ -40,29 +71,28 @@ pub enum Ask {
     Take {
         /// The place of the switch in the script, from 0.
         s: u8,
-        /// Where the bytes of a frame go.
-        out: FrameBuf,
+        /// Where the work is written.
+        letter: Box<Letter>,
     },
     /// To take what came of what a switch had in hand.
     Put {
         /// The place of the switch in the script, from 0.
         s: u8,
         /// What came of it.
-        done: Done,
-        /// Where what is told of each frame is noted.
-        puts: Vec<Option<Line>>,
+        parcel: Box<Parcel>,
     },
     /// To use a table.
     Load {
         /// The place of the switch in the script, from 0.
         s: u8,
         /// The table.
-        table: TableFor,
-        /// What the switch shows of itself then.
-        note: Note,
+        sheet: Box<Sheet>,
     },
     /// To do the next thing that belongs to no switch.
-    Drive,
+    Drive {
+        /// Where what was done is written.
+        slip: Box<Slip>,
+    },
 }
 
 /// What is replied.
@@ -71,31 +101,26 @@ pub enum Reply {
     /// To `Take`.
     Take {
         /// The work.
-        work: Work,
-        /// The bytes of a frame.
-        out: FrameBuf,
-        /// What is told of its event, if something is.
-        told: Option<PlacedLine>,
+        letter: Box<Letter>,
     },
-    /// To `Put`, with the memory of what was given.
+    /// To `Put`.
     Put {
-        /// What was given.
-        done: Done,
-        /// What is told of each frame.
-        puts: Vec<Option<Line>>,
-        /// The place of the event in the history, from 1.
-        event: u32,
+        /// What was given, with what is told of it.
+        parcel: Box<Parcel>,
     },
-    /// To `Load`.
-    Load {
-        /// What became of the table.
-        reply: LoadReply,
+    /// To `Load`: the table is in use.
+    Loaded {
+        /// What is told of it.
+        told: PlacedLine,
+    },
+    /// To `Load`: the table is handed back.
+    NotNow {
+        /// The table.
+        sheet: Box<Sheet>,
     },
     /// To `Drive`.
     Drive {
         /// What was done.
-        drive: Drive,
-        /// What is told of its event, if something is.
-        told: Option<PlacedLine>,
+        slip: Box<Slip>,
     },
 }

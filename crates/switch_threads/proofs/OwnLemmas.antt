@@ -38,7 +38,7 @@ use Rattle.fabric_world.proofs.InductionLemmas.{world_script}
 use Rattle.fabric_world.proofs.NextLemmas.{handle_is_lawful, load_is_lawful, work_is_lawful}
 use Rattle.fabric_world.proofs.StaysLemmas.{handles_stay}
 use Rattle.fabric_book.specs.Nets.{HasFrame, IsStarted, IsSwitchKept, PowerOf, start_with}
-use Rattle.fabric_book.specs.declared.asking.Sheet.{Sheet}
+use Rattle.fabric_world.specs.declared.ask.Sheet.{Sheet}
 use Rattle.fabric_book.proofs.BookLemmas.{world_more}
 use Rattle.fabric_book.proofs.OwnLemmas.{at_same, clock_own, restart_own, set_here, take_own}
 use Rattle.switch_threads.specs.declared.desk.Pending.TheVariants as pending

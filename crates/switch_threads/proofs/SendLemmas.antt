@@ -21,8 +21,8 @@ use Rattle.fabric_turn.proofs.seat.Seat.TheSendSync as seat
 use Rattle.fabric_turn.proofs.turnstile.Turnstile.TheSendSync as turnstile
 use Rattle.fabric_turn.specs.contracts.seat.Seat as Seat
 use Rattle.fabric_turn.specs.contracts.turnstile.Turnstile as Turnstile
-use Rattle.fabric_book.specs.contracts.asking.BookAsk as BookAsk
-use Rattle.fabric_book.specs.contracts.asking.BookReply as BookReply
+use Rattle.fabric_book.specs.contracts.asking.Ask as Ask
+use Rattle.fabric_book.specs.contracts.asking.Reply as Reply
 use Rattle.fabric_book.specs.contracts.book.Book as Book
 use Rattle.fabric_book.specs.contracts.book.BookStaged.TheImpl.{ghosts}
 use Rattle.switch_threads.proofs.desk.Desk.TheSendSync as desk
@@ -39,11 +39,11 @@ fabric_send = search (sendable, crosses, plan_send, wires.the_send, stations.the
 book_send : IsSend Book.the_row
 book_send = search (sendable, crosses, fabric_send, event.the_send) depth 30 fits 3000
 
-seat_send : IsSend (Seat.the_row Book.the_row BookAsk.the_row BookReply.the_row Event.the_row Script.the_row ghosts)
-seat_send = seat.the_send Book.the_row BookAsk.the_row BookReply.the_row Event.the_row Script.the_row ghosts book_send
+seat_send : IsSend (Seat.the_row Book.the_row Ask.the_row Reply.the_row Event.the_row Script.the_row ghosts)
+seat_send = seat.the_send Book.the_row Ask.the_row Reply.the_row Event.the_row Script.the_row ghosts book_send
 
-pub turnstile_sync : IsSync (Turnstile.the_row Book.the_row BookAsk.the_row BookReply.the_row Event.the_row Script.the_row ghosts)
-turnstile_sync = turnstile.the_sync Book.the_row BookAsk.the_row BookReply.the_row Event.the_row Script.the_row ghosts book_send
+pub turnstile_sync : IsSync (Turnstile.the_row Book.the_row Ask.the_row Reply.the_row Event.the_row Script.the_row ghosts)
+turnstile_sync = turnstile.the_sync Book.the_row Ask.the_row Reply.the_row Event.the_row Script.the_row ghosts book_send
 
 pub worker_send : IsSend Worker.the_row
 worker_send = search (sendable, crosses, seat_send, desk.the_send, desk.the_field_send, papers.the_send, next.the_send, next.the_field_send) depth 30 fits 3000

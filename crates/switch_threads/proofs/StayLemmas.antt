@@ -1,6 +1,6 @@
 -- What a worker has keeps up with the world when events of others come.
 
-use Rattle.std.specs.Prelude.{◌≡◌, ◌≢◌, ◌+◌, ◌<◌, ◌≤◌, ℕ, List, [], ◌∷◌, ◌++◌, All, length, not, slice_index_or, Some, refl}
+use Rattle.std.specs.Prelude.{◌≡◌, ◌≢◌, ◌+◌, ◌<◌, ◌≤◌, ℕ, List, [], ◌∷◌, ◌++◌, All, length, not, slice_index_or, Some}
 use Rattle.std.proofs.Common.{sym, ◌∙◌, ap, subst, arith, append_assoc}
 use Rattle.std.proofs.lemmas.List.{append-nil}
 use Rattle.an_base.specs.declared.event.Event.{Event}
@@ -12,17 +12,16 @@ use Rattle.switch_core.specs.Switch.{SwitchOf, note_of}
 use Rattle.fabric_state.specs.Fabric.{StationOf, held_bytes, is_empty, station}
 use Rattle.fabric_turn.specs.History.{NoneOf}
 use Rattle.fabric_turn.specs.declared.view.View.{View}
-use Rattle.fabric_world.specs.declared.ask.Ask.TheVariants as ask
 use Rattle.fabric_world.specs.Histories.{owner_of}
 use Rattle.fabric_world.specs.Turns.{IsToLoad}
 use Rattle.fabric_world.specs.World.{handled, start_of, world_after}
 use Rattle.fabric_world.proofs.CountLemmas.{event_counts}
 use Rattle.fabric_world.proofs.ElsewhereLemmas.{AreSameAt, world_elsewhere}
-use Rattle.fabric_world.proofs.FitLemmas.{done_stays, fit_stays, handled_same, others_from_none, world_hand_elsewhere}
+use Rattle.fabric_world.proofs.FitLemmas.{done_stays, handled_same, others_from_none, to_load_stays, world_hand_elsewhere}
 use Rattle.fabric_world.proofs.InductionLemmas.{kept_by}
 use Rattle.fabric_book.specs.Nets.{PowerOf}
 use Rattle.fabric_book.specs.Told.{hand_lines}
-use Rattle.fabric_book.specs.declared.asking.Parcel.{Parcel}
+use Rattle.fabric_world.specs.declared.ask.Parcel.{Parcel}
 use Rattle.switch_threads.specs.declared.desk.Desk.{Desk}
 use Rattle.switch_threads.specs.declared.desk.Papers.{Papers}
 use Rattle.switch_threads.specs.declared.desk.Pending.{Pending}
@@ -66,8 +65,8 @@ module _ (script : ScriptOf) (kept : IsScript script) (h more : List Event) (s :
       let w = world_after script h in
       let v = world_after script (h ++ more) in
       let note = note_of (loaded table.table.number (w.switches s)) in
-      let may = fit_stays script h (s + 1) (ask.Load s table note) more (record { kept = kept; may_ask = (record { within = below; caller_is = refl }, is.0) }) none in
-      (subst (λ (x : SwitchOf). IsToLoad v s table (note_of (loaded table.table.number x))) (sym same.switch) may.may_ask.1, subst (λ (x : SwitchOf). StandsFor switch (loaded table.table.number x)) (sym same.switch) is.1)
+      let may = to_load_stays w v s table note same is.0 in
+      (subst (λ (x : SwitchOf). IsToLoad v s table (note_of (loaded table.table.number x))) (sym same.switch) may, subst (λ (x : SwitchOf). StandsFor switch (loaded table.table.number x)) (sym same.switch) is.1)
 
   pub others_came : (power : PowerOf) (switch : KeptOf) (next : Pending) → KeepsUp script (world_after script h) s power switch next → KeepsUp script (world_after script (h ++ more)) s power switch next
   others_came power switch next is =

@@ -1,13 +1,12 @@
 -- What callers have told, as events of their own and of others come.
 
-use Rattle.std.specs.Prelude.{◌≡◌, ◌+◌, ◌<◌, ℕ, List, [], ◌∷◌, ◌++◌, length, option_to_list, Option, true, refl}
+use Rattle.std.specs.Prelude.{◌≡◌, ◌+◌, ◌<◌, ℕ, List, [], ◌∷◌, ◌++◌, length, option_to_list, Some, true, refl}
 use Rattle.std.specs.List.{flat_map}
 use Rattle.std.specs.Option.{option_map_or}
 use Rattle.std.proofs.Common.{sym, ◌∙◌, ap, subst, arith}
 use Rattle.std.proofs.lemmas.List.{append-nil}
 use Rattle.an_base.specs.Ports.{NoteOf}
 use Rattle.an_base.specs.Rows.{RowOf}
-use Rattle.an_base.specs.Values.{TopoOf}
 use Rattle.an_base.specs.declared.event.Event.{Event}
 use Rattle.an_base.specs.declared.event.Event.TheVariants.{Clock, Handle, Load, Restart, Take}
 use Rattle.net_script.specs.Scripts.{IsScript, ScriptOf}
@@ -29,12 +28,11 @@ use Rattle.fabric_turn.specs.declared.view.View.{View}
 use Rattle.fabric_world.specs.declared.ask.Ask.{Ask}
 use Rattle.fabric_world.specs.declared.ask.Reply.{Reply}
 use Rattle.fabric_state.specs.declared.line.Line.{Line}
-use Rattle.fabric_state.specs.declared.line.Line.TheVariants as line
 use Rattle.fabric_state.specs.declared.line.PlacedLine.{PlacedLine}
 use Rattle.fabric_world.specs.Accounts.{AccountOf, account_of, loaded_rows, placed, placed_lines}
 use Rattle.fabric_world.specs.Histories.{owner_of}
-use Rattle.fabric_world.specs.Lines.{lines_of, load_lines}
-use Rattle.fabric_world.specs.Turns.{AnswersAsk, AreTold, IsToLoad}
+use Rattle.fabric_world.specs.Lines.{lines_of}
+use Rattle.fabric_world.specs.Turns.{AnswersAsk, AreTold, IsToLoad, IsTold}
 use Rattle.fabric_world.specs.World.{WorldOf, handled, step, world_after}
 use Rattle.fabric_world.proofs.AccountLemmas.{account_next, account_stays}
 use Rattle.fabric_world.proofs.WorldLemmas.{world_after-event}
@@ -44,7 +42,7 @@ use Rattle.fabric_book.specs.declared.account.Account.{Account}
 use Rattle.fabric_book.proofs.BookLemmas.{world_more}
 use Rattle.fabric_book.proofs.HandLemmas.{handled_told}
 use Rattle.switch_threads.specs.Workers.{HasTold, lines_at_hand}
-use Rattle.switch_threads.proofs.OwnLemmas.{to_number, used_here}
+use Rattle.switch_threads.proofs.OwnLemmas.{used_here}
 
 -- One event of a caller that loads no table
 one_told : (script : ScriptOf) (caller : ℕ) (h : List Event) (e : Event) → owner_of e ≡ caller → loaded_rows (world_after script h) e ≡ []
@@ -115,13 +113,6 @@ put_told script h after s frames puts lines event frames_are puts_are lines_are 
     ∙ ap (λ (xs : List Line). with_lines (placed event xs) old) (sym all)
 
 -- A table that is in use
-line_made : (w : WorldOf) (s : ℕ) (table : TableFor) (note : NoteOf) → (to : IsToLoad w s table note) → lines_of w (Load s) ≡ line.Load s table.epoch table.table.number ∷ []
-unfolding lines_of
-line_made w s table note to =
-    ap (λ (o : Option TopoOf). load_lines o s (w.switches s)) to.finished
-    ∙ ap (λ (n : ℕ). line.Load s (w.switches s).epoch n ∷ []) (sym (to_number w s table note to))
-    ∙ ap (λ (n : ℕ). line.Load s n table.table.number ∷ []) (sym to.epoch)
-
 rows_made : (script : ScriptOf) → IsScript script → (h : List Event) (s : ℕ) → s < length script.wires.switches → (table : TableFor) (note : NoteOf) → is_lawful (world_after script h).fabric (Load s) ≡ true
     → IsToLoad (world_after script h) s table note → loaded_rows (world_after script h) (Load s) ≡ table.table.rows ∷ []
 rows_made script kept h s below table note lawful to =
@@ -129,16 +120,14 @@ rows_made script kept h s below table note lawful to =
     ap (λ (v : WorldOf). option_map_or (λ (t : TableOf). t.rows) (table_at v.fabric s) [] ∷ []) (sym (world_after-event script h (Load s)) ∙ world_more script h (Load s) lawful)
     ∙ ap (λ (o : Option TableOf). option_map_or (λ (t : TableOf). t.rows) o [] ∷ []) (used_here script kept h s below table note lawful to)
 
-pub load_told : (script : ScriptOf) → IsScript script → (h after : List Event) (s : ℕ) → s < length script.wires.switches → (table : TableFor) (note : NoteOf) (event : ℕ) → is_lawful (world_after script h).fabric (Load s) ≡ true
-    → IsToLoad (world_after script h) s table note → after ≡ h ++ Load s ∷ [] → event ≡ (world_after script after).fabric.events
-    → account_of script (s + 1) after ≡ with_load (record { event = event; line = line.Load s table.epoch table.table.number }) table.table.rows (account_of script (s + 1) h)
-load_told script kept h after s below table note event lawful to came place =
+pub load_told : (script : ScriptOf) → IsScript script → (h after : List Event) (s : ℕ) → s < length script.wires.switches → (table : TableFor) (note : NoteOf) (told : PlacedLine) → is_lawful (world_after script h).fabric (Load s) ≡ true
+    → IsToLoad (world_after script h) s table note → after ≡ h ++ Load s ∷ [] → IsTold script h (Load s ∷ []) (Some told) → account_of script (s + 1) after ≡ with_load told table.table.rows (account_of script (s + 1) h)
+load_told script kept h after s below table note told lawful to came told_is =
     let w = world_after script h in
     let old = account_of script (s + 1) h in
     ap (account_of script (s + 1)) came ∙ account_next script (s + 1) h (Load s) refl
     ∙ ap (λ (rows : List (List RowOf)). record { lines = old.lines ++ placed_lines w (Load s); rows = old.rows ++ rows }) (rows_made script kept h s below table note lawful to)
-    ∙ ap (λ (lines : List Line). record { lines = old.lines ++ placed (step w (Load s)).fabric.events lines; rows = old.rows ++ table.table.rows ∷ [] }) (line_made w s table note to)
-    ∙ ap (λ (n : ℕ). with_load (record { event = n; line = line.Load s table.epoch table.table.number }) table.table.rows old) (sym (place_is script h after (Load s) event came place))
+    ∙ ap (λ (lines : List PlacedLine). record { lines = old.lines ++ lines; rows = old.rows ++ table.table.rows ∷ [] }) (alone script h (Load s) ∙ sym told_is)
 
 -- Of a seat that made a call
 module _ (view after : View Event ScriptOf) (asked : Ask) (answer : Reply) (called : Called owner_of (λ script history caller. AnswersAsk script history) view asked answer after) where

@@ -33,11 +33,8 @@ use Rattle.fabric_turn.specs.declared.view.View.{View}
 use Rattle.fabric_world.specs.declared.ask.Ask.{Ask}
 use Rattle.fabric_world.specs.declared.ask.Ask.TheVariants as ask
 use Rattle.fabric_world.specs.declared.ask.Done.{Done}
-use Rattle.fabric_world.specs.declared.ask.LoadReply.{LoadReply}
-use Rattle.fabric_world.specs.declared.ask.LoadReply.TheVariants as load
 use Rattle.fabric_world.specs.declared.ask.Reply.{Reply}
 use Rattle.fabric_world.specs.declared.ask.Reply.TheVariants as reply
-use Rattle.fabric_state.specs.declared.line.Line.TheVariants as line
 use Rattle.fabric_state.specs.declared.line.PlacedLine.{PlacedLine}
 use Rattle.fabric_world.specs.Accounts.{AccountOf, account_of, placed}
 use Rattle.fabric_world.specs.Histories.{end_of, owner_of}
@@ -47,14 +44,13 @@ use Rattle.fabric_world.proofs.InductionLemmas.{world_script}
 use Rattle.fabric_world.proofs.NextLemmas.{handle_is_lawful, load_is_lawful}
 use Rattle.fabric_world.proofs.PlaceLemmas.{world_places}
 use Rattle.fabric_book.specs.Accounts.{HasAccount, IsAccount, with_lines, with_load}
-use Rattle.fabric_book.specs.Asking.{ask_of, reply_of}
 use Rattle.fabric_book.specs.Nets.{HasFrame, IsHandled, IsStarted, PowerOf, power_of, start_with}
 use Rattle.fabric_book.specs.declared.account.Account.{Account}
-use Rattle.fabric_book.specs.declared.asking.BookAsk.{BookAsk}
-use Rattle.fabric_book.specs.declared.asking.BookReply.{BookReply}
-use Rattle.fabric_book.specs.declared.asking.Letter.{Letter}
-use Rattle.fabric_book.specs.declared.asking.Parcel.{Parcel}
-use Rattle.fabric_book.specs.declared.asking.Sheet.{Sheet}
+use Rattle.fabric_book.specs.declared.asking.Ask.{Ask}
+use Rattle.fabric_world.specs.declared.ask.Letter.{Letter}
+use Rattle.fabric_world.specs.declared.ask.Parcel.{Parcel}
+use Rattle.fabric_world.specs.declared.ask.Slip.{Slip}
+use Rattle.fabric_world.specs.declared.ask.Sheet.{Sheet}
 use Rattle.fabric_book.proofs.DriveLemmas.{driven, driver_owns}
 use Rattle.fabric_book.proofs.HandLemmas.{done_is, stands_is}
 use Rattle.switch_threads.specs.declared.desk.Desk.{Desk}
@@ -149,25 +145,6 @@ module _ (script : ScriptOf) (h : List Event) (s : ℕ) (power : PowerOf) (old n
 abbrev pub AnswersBook : ScriptOf → List Event → ℕ → Ask → Reply → List Event → Type 0
 AnswersBook script history caller asked answer after = AnswersAsk script history asked answer after
 
-abbrev pub AnswersAsked : ScriptOf → List Event → ℕ → BookAsk → BookReply → List Event → Type 0
-AnswersAsked script history caller asked answer after =
-    AnswersAsk script history (ask_of asked) (reply_of answer) after
-
--- as the world has it
-pub as_asked : (view after : View Event ScriptOf) (asked : BookAsk) (answer : BookReply) → Called owner_of AnswersAsked view asked answer after → Called owner_of AnswersBook view (ask_of asked) (reply_of answer) after
-as_asked view after asked answer called = record {
-  start = called.start;
-  between = called.between;
-  added = called.added;
-  begun = called.begun;
-  others = called.others;
-  adds = called.adds;
-  seen = called.seen;
-  answer = called.answer;
-  mine = called.mine;
-  same = called.same;
-}
-
 module _ (view after : View Event ScriptOf) (asked : Ask) (answer : Reply) (called : Called owner_of AnswersBook view asked answer after) where
   pub calls_differ : DifferByCalls view after
   calls_differ =
@@ -205,25 +182,25 @@ module _ (view after : View Event ScriptOf) (asked : Ask) (answer : Reply) (call
         (subst (λ (n : ℕ). account_of step.script n after.seen ≡ more (account_of step.script n (view.seen ++ called.between))) (sym step.number) next) told
 
 -- what came of what was in hand was put
-module _ (view after : View Event ScriptOf) (place : ℕ) (power : PowerOf) (switch : KeptOf) (parcel back : Parcel) (step : IsAtPlace view place power switch pending.Put)
-    (called : Called owner_of AnswersBook view (ask.Put place parcel.done parcel.puts) (reply.Put back.done back.puts back.event) after) where
-  pub put_does : PutsFrames step.script (view.seen ++ called.between) place parcel.done back.done back.puts.items back.event after.seen
-  put_does = answered view after (ask.Put place parcel.done parcel.puts) (reply.Put back.done back.puts back.event) called step.script step.begun
+module _ (view after : View Event ScriptOf) (place : ℕ) (power : PowerOf) (switch : KeptOf) (given answer : Box Parcel) (step : IsAtPlace view place power switch pending.Put)
+    (called : Called owner_of AnswersBook view (ask.Put place given) (reply.Put answer) after) where
+  pub put_does : PutsFrames step.script (view.seen ++ called.between) place given.value answer.value after.seen
+  put_does = answered view after (ask.Put place given) (reply.Put answer) called step.script step.begun
 
   pub put_moment : KeepsUp step.script (world_after step.script (view.seen ++ called.between)) place power switch pending.Put
-  put_moment = moment view after (ask.Put place parcel.done parcel.puts) (reply.Put back.done back.puts back.event) called place power switch pending.Put step
+  put_moment = moment view after (ask.Put place given) (reply.Put answer) called place power switch pending.Put step
 
   pub put_keeps : KeepsUp step.script (world_after step.script after.seen) place power switch pending.Work
   put_keeps =
       subst (λ (xs : List Event). KeepsUp step.script (world_after step.script xs) place power switch pending.Work) (sym put_does.event)
       (put_own step.script (view.seen ++ called.between) place power switch put_moment)
 
-  module _ (tale : Tale) (prepared : IsPrepared (world_after step.script view.seen) place parcel tale pending.Put) where
-    put_prepared : IsPrepared (world_after step.script (view.seen ++ called.between)) place parcel tale pending.Put
-    put_prepared = prepared_then view after (ask.Put place parcel.done parcel.puts) (reply.Put back.done back.puts back.event) called place power switch pending.Put step parcel tale prepared
+  module _ (tale : Tale) (prepared : IsPrepared (world_after step.script view.seen) place given.value tale pending.Put) where
+    put_prepared : IsPrepared (world_after step.script (view.seen ++ called.between)) place given.value tale pending.Put
+    put_prepared = prepared_then view after (ask.Put place given) (reply.Put answer) called place power switch pending.Put step given.value tale prepared
 
     -- its switch shows the same
-    pub put_note : back.done.note ≡ note_of ((world_after step.script after.seen).switches place)
+    pub put_note : answer.value.done.note ≡ note_of ((world_after step.script after.seen).switches place)
     put_note =
         let h = view.seen ++ called.between in
         let lawful = handle_is_lawful step.script h place step.keeps_up.powered.within put_moment.fits.0 in
@@ -231,95 +208,96 @@ module _ (view after : View Event ScriptOf) (place : ℕ) (power : PowerOf) (swi
         ∙ ap (λ (xs : List Event). note_of ((world_after step.script xs).switches place)) (sym put_does.event)
 
     -- and it tells of that
-    pub put_tells : (old new : Account) → ((told : AccountOf) → IsAccount told old → IsAccount (with_lines (placed back.event (tale.lines ++ flat_map option_to_list back.puts.items)) told) new)
+    pub put_tells : (old new : Account) → ((told : AccountOf) → IsAccount told old → IsAccount (with_lines (placed answer.value.event (tale.lines ++ flat_map option_to_list answer.value.puts.items)) told) new)
         → HasTold step.script view old → HasTold step.script after new
     put_tells old new adds told =
         let h = view.seen ++ called.between in
-        let given : back.done.frames ≡ parcel.done.frames = ap (λ (d : Done). d.frames) put_does.same in
-        tells_there view after (ask.Put place parcel.done parcel.puts) (reply.Put back.done back.puts back.event) called place power switch pending.Put step old new (with_lines (placed back.event (tale.lines ++ flat_map option_to_list back.puts.items))) adds
-        (put_told step.script h after.seen place back.done.frames back.puts.items tale.lines back.event (given ∙ put_prepared.0.handled_is.frames_are)
-        (subst (λ (frames : List BytesOut). AreTold (world_after step.script h).fabric place frames back.puts.items) (sym given) put_does.puts_are) put_prepared.1 put_does.event put_does.number_is) told
+        let same : answer.value.done.frames ≡ given.value.done.frames = ap (λ (d : Done). d.frames) put_does.same in
+        tells_there view after (ask.Put place given) (reply.Put answer) called place power switch pending.Put step old new (with_lines (placed answer.value.event (tale.lines ++ flat_map option_to_list answer.value.puts.items))) adds
+        (put_told step.script h after.seen place answer.value.done.frames answer.value.puts.items tale.lines answer.value.event (same ∙ put_prepared.0.handled_is.frames_are)
+        (subst (λ (frames : List BytesOut). AreTold (world_after step.script h).fabric place frames answer.value.puts.items) (sym same) put_does.puts_are) put_prepared.1 put_does.event put_does.number_is) told
 
 -- a table is to be loaded, whose sheet is written on
 pub written_on : (view : View Event ScriptOf) (desk : Desk) (papers : Papers) (sheet : Box Sheet) (now : Sheet) → now ≡ sheet.value → IsAsking view desk papers (pending.Load sheet) → IsAsking view desk papers (pending.Load (with_value sheet now))
 written_on view desk papers sheet now same step = subst (λ (s : Sheet). IsAsking view desk papers (pending.Load (with_value sheet s))) (sym same) step
 
 -- it was loaded, or is left to be loaded
-abbrev pub IsLeft : LoadReply → Pending → Type 0
-IsLeft (load.Loaded event) left = left ≡ pending.Work
-IsLeft (load.NotNow table) left = (back : Box Sheet) × (left ≡ pending.Load back) × (back.value.table ≡ table)
+abbrev pub IsLeft : Reply → Pending → Type 0
+IsLeft (reply.Loaded told) left = left ≡ pending.Work
+IsLeft (reply.NotNow sheet) left = left ≡ pending.Load sheet
+IsLeft other left = ⊥
 
-abbrev pub told_of_load : LoadReply → ℕ → TableFor → AccountOf → AccountOf
-told_of_load (load.Loaded event) place table told = with_load (record { event = event; line = line.Load place table.epoch table.table.number }) table.table.rows told
-told_of_load (load.NotNow other) place table told = told
+abbrev pub told_of_load : Reply → List RowOf → AccountOf → AccountOf
+told_of_load (reply.Loaded line) rows told = with_load line rows told
+told_of_load other rows told = told
 
-module _ (view after : View Event ScriptOf) (place : ℕ) (power : PowerOf) (switch : KeptOf) (sheet : Box Sheet) (note : NoteOf) (came : LoadReply) (step : IsAtPlace view place power switch (pending.Load sheet))
-    (called : Called owner_of AnswersBook view (ask.Load place sheet.value.table note) (reply.Load came) after) where
+module _ (view after : View Event ScriptOf) (place : ℕ) (power : PowerOf) (switch : KeptOf) (sheet given : Box Sheet) (answer : Reply) (same : sheet.value.table ≡ given.value.table)
+    (step : IsAtPlace view place power switch (pending.Load sheet)) (called : Called owner_of AnswersBook view (ask.Load place given) answer after) where
   load_moment : KeepsUp step.script (world_after step.script (view.seen ++ called.between)) place power switch (pending.Load sheet)
-  load_moment = moment view after (ask.Load place sheet.value.table note) (reply.Load came) called place power switch (pending.Load sheet) step
+  load_moment = moment view after (ask.Load place given) answer called place power switch (pending.Load sheet) step
 
-  load_does : LoadsOrNot (is_barred (world_after step.script (view.seen ++ called.between)).fabric) sheet.value.table came place step.script (view.seen ++ called.between) after.seen
-  load_does = answered view after (ask.Load place sheet.value.table note) (reply.Load came) called step.script step.begun
+  load_does : LoadsOrNot (is_barred (world_after step.script (view.seen ++ called.between)).fabric) given answer place step.script (view.seen ++ called.between) after.seen
+  load_does = answered view after (ask.Load place given) answer called step.script step.begun
 
   load_lawful : is_barred (world_after step.script (view.seen ++ called.between)).fabric ≡ false → is_lawful (world_after step.script (view.seen ++ called.between)).fabric (Load place) ≡ true
   load_lawful free = load_is_lawful step.script (view.seen ++ called.between) place step.keeps_up.powered.within free load_moment.fits.0.empty load_moment.fits.0.due
 
-  pub load_keeps : (left : Pending) → IsLeft came left → KeepsUp step.script (world_after step.script after.seen) place power switch left
+  pub load_keeps : (left : Pending) → IsLeft answer left → KeepsUp step.script (world_after step.script after.seen) place power switch left
   load_keeps left leaves = by (is_barred (world_after step.script (view.seen ++ called.between)).fabric) refl load_does where
     Keeps : List Event → Pending → Type 0
     Keeps seen next = KeepsUp step.script (world_after step.script seen) place power switch next
 
-    by : (b : Bool) → is_barred (world_after step.script (view.seen ++ called.between)).fabric ≡ b → LoadsOrNot b sheet.value.table came place step.script (view.seen ++ called.between) after.seen → Keeps after.seen left
+    by : (b : Bool) → is_barred (world_after step.script (view.seen ++ called.between)).fabric ≡ b → LoadsOrNot b given answer place step.script (view.seen ++ called.between) after.seen → Keeps after.seen left
     by false free does =
-        let none = subst (λ (c : LoadReply). IsLeft c left) does.0 leaves in
+        let none : left ≡ pending.Work = subst (λ (a : Reply). IsLeft a left) does.answer_is leaves in
         subst (Keeps after.seen) (sym none)
-        (subst (λ (xs : List Event). Keeps xs pending.Work) (sym does.1) (load_own step.script (view.seen ++ called.between) place power switch sheet load_moment free))
+        (subst (λ (xs : List Event). Keeps xs pending.Work) (sym does.event) (load_own step.script (view.seen ++ called.between) place power switch sheet load_moment free))
     by true barred does =
-        let back = subst (λ (c : LoadReply). IsLeft c left) does.0 leaves in
+        let back : left ≡ pending.Load given = subst (λ (a : Reply). IsLeft a left) does.0 leaves in
         let w = world_after step.script (view.seen ++ called.between) in
-        let fits = subst (λ (t : TableFor). IsToLoad w place t (note_of (loaded t.table.number (w.switches place))) × StandsFor switch (loaded t.table.number (w.switches place))) (sym back.2) load_moment.fits in
-        let keeps : Keeps (view.seen ++ called.between) (pending.Load back.0) = record { powered = load_moment.powered; start = load_moment.start; works = load_moment.works; fits = fits } in
-        subst (Keeps after.seen) (sym back.1) (subst (λ (xs : List Event). Keeps xs (pending.Load back.0)) (sym does.1) keeps)
+        let fits = subst (λ (t : TableFor). IsToLoad w place t (note_of (loaded t.table.number (w.switches place))) × StandsFor switch (loaded t.table.number (w.switches place))) same load_moment.fits in
+        let keeps : Keeps (view.seen ++ called.between) (pending.Load given) = record { powered = load_moment.powered; start = load_moment.start; works = load_moment.works; fits = fits } in
+        subst (Keeps after.seen) (sym back) (subst (λ (xs : List Event). Keeps xs (pending.Load given)) (sym does.1) keeps)
 
   -- it shows the same, and has the same rows where the table is to be loaded later
-  pub load_prepared : (shown : Parcel) (tale : Tale) → IsPrepared (world_after step.script view.seen) place shown tale (pending.Load sheet) → (left : Pending) → IsLeft came left → IsPrepared (world_after step.script after.seen) place shown tale left
+  pub load_prepared : (shown : Parcel) (tale : Tale) → IsPrepared (world_after step.script view.seen) place shown tale (pending.Load sheet) → (left : Pending) → IsLeft answer left → IsPrepared (world_after step.script after.seen) place shown tale left
   load_prepared shown tale prepared left leaves = by (is_barred (world_after step.script (view.seen ++ called.between)).fabric) refl load_does where
     now : IsPrepared (world_after step.script (view.seen ++ called.between)) place shown tale (pending.Load sheet)
-    now = prepared_then view after (ask.Load place sheet.value.table note) (reply.Load came) called place power switch (pending.Load sheet) step shown tale prepared
+    now = prepared_then view after (ask.Load place given) answer called place power switch (pending.Load sheet) step shown tale prepared
 
-    by : (b : Bool) → is_barred (world_after step.script (view.seen ++ called.between)).fabric ≡ b → LoadsOrNot b sheet.value.table came place step.script (view.seen ++ called.between) after.seen
+    by : (b : Bool) → is_barred (world_after step.script (view.seen ++ called.between)).fabric ≡ b → LoadsOrNot b given answer place step.script (view.seen ++ called.between) after.seen
         → IsPrepared (world_after step.script after.seen) place shown tale left
     by false free does =
         let h = view.seen ++ called.between in
         let table = sheet.value.table in
-        let none = subst (λ (c : LoadReply). IsLeft c left) does.0 leaves in
+        let none : left ≡ pending.Work = subst (λ (a : Reply). IsLeft a left) does.answer_is leaves in
         let loads = loaded_here step.script h place table (note_of (loaded table.table.number ((world_after step.script h).switches place))) (load_lawful free) load_moment.fits.0 in
         subst (IsPrepared (world_after step.script after.seen) place shown tale) (sym none)
-        (now.0 ∙ ap note_of (sym loads) ∙ ap (λ (xs : List Event). note_of ((world_after step.script xs).switches place)) (sym does.1))
+        (now.0 ∙ ap note_of (sym loads) ∙ ap (λ (xs : List Event). note_of ((world_after step.script xs).switches place)) (sym does.event))
     by true barred does =
-        let back = subst (λ (c : LoadReply). IsLeft c left) does.0 leaves in
+        let back : left ≡ pending.Load given = subst (λ (a : Reply). IsLeft a left) does.0 leaves in
         let w = world_after step.script (view.seen ++ called.between) in
-        let same = subst (λ (t : TableFor). (shown.done.note ≡ note_of (loaded t.table.number (w.switches place))) × (tale.rows.items ≡ t.table.rows)) (sym back.2) now in
-        subst (IsPrepared (world_after step.script after.seen) place shown tale) (sym back.1)
-        (subst (λ (xs : List Event). IsPrepared (world_after step.script xs) place shown tale (pending.Load back.0)) (sym does.1) same)
+        let shows = subst (λ (t : TableFor). (shown.done.note ≡ note_of (loaded t.table.number (w.switches place))) × (tale.rows.items ≡ t.table.rows)) same now in
+        subst (IsPrepared (world_after step.script after.seen) place shown tale) (sym back)
+        (subst (λ (xs : List Event). IsPrepared (world_after step.script xs) place shown tale (pending.Load given)) (sym does.1) shows)
 
   -- and it tells of that
-  pub load_tells : (old new : Account) → ((told : AccountOf) → IsAccount told old → IsAccount (told_of_load came place sheet.value.table told) new) → HasTold step.script view old → HasTold step.script after new
+  pub load_tells : (old new : Account) → ((told : AccountOf) → IsAccount told old → IsAccount (told_of_load answer sheet.value.table.table.rows told) new) → HasTold step.script view old → HasTold step.script after new
   load_tells old new adds told =
-      tells_there view after (ask.Load place sheet.value.table note) (reply.Load came) called place power switch (pending.Load sheet) step old new (told_of_load came place sheet.value.table) adds
+      tells_there view after (ask.Load place given) answer called place power switch (pending.Load sheet) step old new (told_of_load answer sheet.value.table.table.rows) adds
       (by (is_barred (world_after step.script (view.seen ++ called.between)).fabric) refl load_does) told
     where
-      Next : LoadReply → Type 0
-      Next c = account_of step.script (place + 1) after.seen ≡ told_of_load c place sheet.value.table (account_of step.script (place + 1) (view.seen ++ called.between))
+      Next : Reply → Type 0
+      Next a = account_of step.script (place + 1) after.seen ≡ told_of_load a sheet.value.table.table.rows (account_of step.script (place + 1) (view.seen ++ called.between))
 
-      by : (b : Bool) → is_barred (world_after step.script (view.seen ++ called.between)).fabric ≡ b → LoadsOrNot b sheet.value.table came place step.script (view.seen ++ called.between) after.seen → Next came
+      by : (b : Bool) → is_barred (world_after step.script (view.seen ++ called.between)).fabric ≡ b → LoadsOrNot b given answer place step.script (view.seen ++ called.between) after.seen → Next answer
       by false free does =
           let h = view.seen ++ called.between in
           let at = step.keeps_up.powered in
           let table = sheet.value.table in
           let note = note_of (loaded table.table.number ((world_after step.script h).switches place)) in
-          subst Next (sym does.0)
-          (load_told step.script at.kept h after.seen place at.within table note (world_after step.script after.seen).fabric.events (load_lawful free) load_moment.fits.0 does.1 refl)
+          subst Next (sym does.answer_is)
+          (load_told step.script at.kept h after.seen place at.within table note does.told (load_lawful free) load_moment.fits.0 does.event does.told_is)
       by true barred does = subst Next (sym does.0) (ap (account_of step.script (place + 1)) does.1)
 
 -- what was read was told
@@ -361,11 +339,11 @@ module _ (script : ScriptOf) (h seen : List Event) (desk : Desk) (papers : Paper
       (taken_comes script h desk.s (work.Restart life) (Restart desk.s) letter.value.buffer letter.value.told seen at.powered.within at.fits.0 takes refl) new started)
 
 pub take_step : (view after : View Event ScriptOf) (desk : Desk) (papers : Papers) (letter : Box Letter) (tale : Tale) → desk.pending ≡ pending.Work → IsAsking view desk papers pending.Work
-    → Called owner_of AnswersBook view (ask.Take desk.s papers.letter.value.buffer) (reply.Take letter.value.work letter.value.buffer letter.value.told) after
+    → Called owner_of AnswersBook view (ask.Take desk.s papers.letter) (reply.Take letter) after
     → ((was : AccountOf) → IsAccount was desk.tale.account → IsAccount (with_lines (option_to_list letter.value.told) was) tale.account) → IsInStep after (record desk { tale = tale }) (record papers { letter = letter }) next.Do
 take_step view after desk papers letter tale asks step called adds =
-    let asked = ask.Take desk.s papers.letter.value.buffer in
-    let answer = reply.Take letter.value.work letter.value.buffer letter.value.told in
+    let asked = ask.Take desk.s papers.letter in
+    let answer = reply.Take letter in
     let at = at_place view desk papers pending.Work step in
     let h = view.seen ++ called.between in
     let does = answered view after asked answer called step.script step.begun in
@@ -449,23 +427,29 @@ end_after (drive.Did event) end = end
 end_after drive.Waits end = end
 end_after (drive.Ended end) before = Some end
 
-pub drive_step : (view after : View Event ScriptOf) (end : Option Ending) (old new : Account) (did : Drive) (told : Option PlacedLine) → IsDriving view end old → Called owner_of AnswersBook view ask.Drive (reply.Drive did told) after
-    → ((was : AccountOf) → IsAccount was old → IsAccount (with_lines (option_to_list told) was) new) → IsDriving after (end_after did end) new
-drive_step view after end old new did told is called adds = record {
+pub drive_step : (view after : View Event ScriptOf) (end : Option Ending) (old new : Account) (slip answer : Box Slip) → IsDriving view end old → Called owner_of AnswersBook view (ask.Drive slip) (reply.Drive answer) after
+    → ((was : AccountOf) → IsAccount was old → IsAccount (with_lines (option_to_list answer.value.told) was) new) → IsDriving after (end_after answer.value.drive end) new
+drive_step view after end old new slip answer is called adds = record {
   script = is.script;
   kept = is.kept;
-  begun = start_stays view after ask.Drive (reply.Drive did told) called is.script is.begun;
-  number = number_stays view after ask.Drive (reply.Drive did told) called 0 is.number;
+  begun = start_stays view after (ask.Drive slip) (reply.Drive answer) called is.script is.begun;
+  number = number_stays view after (ask.Drive slip) (reply.Drive answer) called 0 is.number;
   end_is = by did does;
-  told = tells_on view after ask.Drive (reply.Drive did told) called is.script old new (with_lines (option_to_list told)) adds
+  told = tells_on view after (ask.Drive slip) (reply.Drive answer) called is.script old new (with_lines (option_to_list told)) adds
       (subst (λ (n : ℕ). account_of is.script n after.seen ≡ with_lines (option_to_list told) (account_of is.script n h)) (sym is.number)
       (ap (account_of is.script 0) does.event ∙ drive_told is.script h did own ∙ ap (λ (lines : List PlacedLine). with_lines lines (account_of is.script 0 h)) (sym does.told_is))) is.told;
 } where
+  did : Drive
+  did = answer.value.drive
+
+  told : Option PlacedLine
+  told = answer.value.told
+
   h : List Event
   h = view.seen ++ called.between
 
   does : Drives is.script h did told after.seen
-  does = answered view after ask.Drive (reply.Drive did told) called is.script is.begun
+  does = answered view after (ask.Drive slip) (reply.Drive answer) called is.script is.begun
 
   own : (e : Event) → did ≡ drive.Did e → owner_of e ≡ 0
   own e is_that =
@@ -473,7 +457,7 @@ drive_step view after end old new did told is called adds = record {
       driver_owns f e (subst IsScript (sym (world_script is.script h)) is.kept) (driven f e (sym does.drive_is ∙ is_that))
 
   goes : Extends view.seen after.seen
-  goes = seen_extends view after ask.Drive (reply.Drive did told) called
+  goes = seen_extends view after (ask.Drive slip) (reply.Drive answer) called
 
   by : (d : Drive) → Drives is.script h d told after.seen → IfSome (end_after d end) (λ e. end_of is.script after.seen ≡ Some e)
   by (drive.Did event) does = told_extends is.script view.seen after.seen end goes is.end_is

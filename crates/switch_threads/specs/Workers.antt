@@ -24,7 +24,7 @@ use Rattle.fabric_book.specs.Accounts.{IsAccount}
 use Rattle.fabric_book.specs.Nets.{IsStarted, IsSwitchKept, PowerOf, power_of, start_with}
 use Rattle.fabric_book.specs.Told.{hand_lines}
 use Rattle.fabric_book.specs.declared.account.Account.{Account}
-use Rattle.fabric_book.specs.declared.asking.Parcel.{Parcel}
+use Rattle.fabric_world.specs.declared.ask.Parcel.{Parcel}
 use Rattle.fabric_turn.specs.History.{own_entries}
 use Rattle.fabric_turn.specs.declared.view.View.{View}
 use Rattle.switch_threads.specs.declared.desk.Desk.{Desk}

@@ -9,7 +9,6 @@ ghost use Rattle.switch_core.specs.Switch.{SwitchOf, note_of};
 ghost use Rattle.fabric_state.specs.declared.work.Work.TheVariants.{Restart};
 ghost use Rattle.fabric_turn.specs.Names.{turnstile_id};
 ghost use Rattle.fabric_world.specs.Accounts.{AccountOf, placed};
-ghost use Rattle.fabric_state.specs.declared.line.Line.TheVariants as line;
 ghost use Rattle.fabric_book.specs.Accounts.{IsAccount, with_lines, with_load};
 ghost use Rattle.switch_threads.specs.declared.desk.Desk.{Desk as DeskOf};
 ghost use Rattle.switch_threads.specs.declared.desk.Next.TheVariants as next;
@@ -23,24 +22,23 @@ use an_base::memory::OutOfMemory;
 use an_base::port::Note;
 use an_base::row::Row;
 use fabric_book::account::Account;
-use fabric_book::asking::{BookAsk, BookReply, Letter, Parcel, Sheet};
 use fabric_book::book::Book;
 use fabric_book::handling::handle;
 use fabric_book::lines::Lines;
 use fabric_book::power::PowerOn;
 use fabric_state::hand::Hand;
-use fabric_state::line::{Line, PlacedLine};
+use fabric_state::line::PlacedLine;
 use fabric_state::station::write_note;
 use fabric_state::work::{Why, Work};
 use fabric_turn::{Seat, Turnstile};
-use fabric_world::ask::Done;
+use fabric_world::ask::{Ask, Done, Letter, Parcel, Reply, Sheet};
 use frame_region::buffer::FrameBuf;
 use net_script::script::Script;
 use std::alloc::Global;
 use std::mem::{replace, swap};
 use std::sync::Wait;
 use switch_core::out::{FrameOut, Frames, Out};
-use switch_core::switch::{Switch, TableFor};
+use switch_core::switch::Switch;
 
 /// What a worker has to ask for next.
 #[derive(Drop)]
@@ -122,13 +120,13 @@ impl Tale {
         }
     }
 
-    // Tells of the load of a table, by the event at a place.
-    fn tell_load(&mut self, alloc: Global, event: u32, line: Line)
+    // Tells of the load of a table, with the rows that were copied of it.
+    fn tell_load(&mut self, alloc: Global, line: PlacedLine)
         ensures { (told : AccountOf) → IsAccount told self.old.account → IsAccount
-            (with_load (record { event = event; line = line }) self.old.rows.items told) self.new.account }
+            (with_load line self.old.rows.items told) self.new.account }
     {
         let rows = replace(&mut self.rows, Vec::new(alloc));
-        self.account.tell_load(PlacedLine { event, line }, rows);
+        self.account.tell_load(line, rows);
     }
 }
 
@@ -224,7 +222,7 @@ fn lay(switch: &Switch, out: &mut Out, parcel: &mut Parcel) -> Result<(), OutOfM
     Ok(())
 }
 
-// A copy of rows.
+// A copy of rows: the table itself goes to the book, which uses it when the report is made.
 fn copied(alloc: Global, rows: &[Row]) -> Result<Vec<Row>, OutOfMemory>
     ensures { IfOk result (λ copy. copy.items ≡ rows.now) }
 {
@@ -238,17 +236,6 @@ fn copied(alloc: Global, rows: &[Row]) -> Result<Vec<Row>, OutOfMemory>
         })?;
     }
     Ok(copy)
-}
-
-// What is told of the load of a table.
-fn load_line(s: u8, table: &TableFor) -> Line
-    ensures { result ≡ line.Load s table.now.epoch table.now.table.number }
-{
-    Line::Load {
-        s,
-        epoch: table.epoch,
-        number: table.table.number(),
-    }
 }
 
 impl Desk {
@@ -361,11 +348,11 @@ impl Desk {
         ensures called { HasCalled seat.old seat.new }
         ensures step { IsInStep seat.new.1 self.new result.0 result.1 }
     {
-        let ask = BookAsk::Take {
+        let ask = Ask::Take {
             s: self.s,
             letter: papers.letter,
         };
-        let BookReply::Take { letter } = turnstile.call(rt, seat, ask) else {
+        let Reply::Take { letter } = turnstile.call(rt, seat, ask) else {
             unreachable!()
         };
         self.tale.account.tell(letter.told);
@@ -447,11 +434,11 @@ impl Desk {
         ensures pending { self.new.pending ≡ self.old.pending }
         ensures step { IsAsking seat.new.1 self.new result pending.Work }
     {
-        let ask = BookAsk::Put {
+        let ask = Ask::Put {
             s: self.s,
             parcel: papers.parcel,
         };
-        let BookReply::Put { parcel } = turnstile.call(rt, seat, ask) else {
+        let Reply::Put { parcel } = turnstile.call(rt, seat, ask) else {
             unreachable!()
         };
         self.tale.tell_handled(&parcel);
@@ -473,15 +460,14 @@ impl Desk {
         ensures called { HasCalled seat.old seat.new }
         ensures step { IsInStep seat.new.1 self.new result.0 result.1 }
     {
-        let line = load_line(self.s, &sheet.table);
         let mut sheet = sheet;
         write_note(&mut sheet.note, &papers.parcel.done.note);
-        match turnstile.call(rt, seat, BookAsk::Load { s: self.s, sheet }) {
-            BookReply::Loaded { event } => {
-                self.tale.tell_load(self.alloc, event, line);
+        match turnstile.call(rt, seat, Ask::Load { s: self.s, sheet }) {
+            Reply::Loaded { told } => {
+                self.tale.tell_load(self.alloc, told);
                 (papers, Next::Ask)
             }
-            BookReply::NotNow { sheet } => {
+            Reply::NotNow { sheet } => {
                 self.pending = Pending::Load(sheet);
                 (papers, Next::Later)
             }

@@ -9,11 +9,11 @@ ghost use Rattle.switch_threads.specs.Workers.{IsDriving};
 
 use an_base::memory::OutOfMemory;
 use fabric_book::account::Account;
-use fabric_book::asking::{BookAsk, BookReply, Slip};
 use fabric_book::book::Book;
 use fabric_state::ending::Ending;
 use fabric_state::work::Drive;
 use fabric_turn::{Seat, Turnstile};
+use fabric_world::ask::{Ask, Reply, Slip};
 use std::alloc::Global;
 use std::marker::Model;
 use std::sync::Wait;
@@ -99,8 +99,8 @@ impl Driver {
         let Some(slip) = self.slip.take() else {
             unreachable!()
         };
-        let ask = BookAsk::Drive { slip };
-        let BookReply::Drive { slip } = turnstile.call(rt, &mut self.seat, ask) else {
+        let ask = Ask::Drive { slip };
+        let Reply::Drive { slip } = turnstile.call(rt, &mut self.seat, ask) else {
             unreachable!()
         };
         self.account.tell(slip.told);

@@ -10,8 +10,8 @@ use Rattle.fabric_world.specs.World.{handles, world_after}
 use Rattle.fabric_state.specs.declared.line.Line.{Line}
 use Rattle.fabric_book.specs.Nets.{IsHandled}
 use Rattle.fabric_book.specs.Told.{hand_lines}
-use Rattle.fabric_book.specs.declared.asking.Letter.{Letter}
-use Rattle.fabric_book.specs.declared.asking.Parcel.{Parcel}
+use Rattle.fabric_world.specs.declared.ask.Letter.{Letter}
+use Rattle.fabric_world.specs.declared.ask.Parcel.{Parcel}
 use Rattle.fabric_book.proofs.HandLemmas.{hand_filled, hand_port, hand_working, hand_works, lines_at}
 use Rattle.switch_threads.proofs.TurnLemmas.{handled_done, handled_fits}
 use Rattle.switch_threads.proofs.desk.Desk.handle.Goals as goal
