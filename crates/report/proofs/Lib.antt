@@ -2,7 +2,7 @@ pub mod ToldTexts
 pub mod ReporterLemmas
 pub mod ReadingLemmas
 pub mod MomentLemmas
-pub mod AccountLemmas
+pub mod ListenerLemmas
 pub mod BeliefLemmas
 pub mod RememberingLemmas
 pub mod CourseLemmas

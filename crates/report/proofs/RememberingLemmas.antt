@@ -17,16 +17,16 @@ use Rattle.host_names.specs.Caches.{ArrivalOf, choice_of, kept_of, with_arrival}
 use Rattle.host_names.proofs.KeptLaws.{one_more}
 use Rattle.fabric_state.specs.Fabric.{FabricOf}
 use Rattle.fabric_state.specs.Effects.{address_of}
-use Rattle.fabric_book.specs.Nets.{NetOf, history_of, with_step}
+use Rattle.fabric_book.specs.Nets.{NetOf, history_of}
 use Rattle.replay.proofs.ReplayLemmas.{kept_there}
-use Rattle.fabric_world.specs.Histories.{IsLawful, fabric_of, world_of}
+use Rattle.fabric_world.specs.Histories.{IsLawful, fabric_of}
 use Rattle.fabric_world.specs.Lines.{lines_of}
 use Rattle.fabric_world.specs.World.{world_after}
 use Rattle.fabric_state.specs.declared.line.Line.{Line}
 use Rattle.fabric_world.proofs.CountLemmas.{lawful_events}
 use Rattle.report.specs.declared.naming.Traced.{Traced}
 use Rattle.report.specs.Beliefs.{Belief, address_at, address_in, arrival_of, arrivals_by, arrivals_of, belief_by, belief_line, belief_of, belief_text, beliefs_of, counts_by, counts_words, delivery_of, fabric_behind, first_move, host_in, is_broadcast, is_host, is_known, is_move_of, sender_by, sender_of, senders, source_of}
-use Rattle.report.specs.Moments.{Moment}
+use Rattle.report.specs.Moments.{IsHeard, Moment}
 use Rattle.report.specs.Remembering.{AreRemembered, AreTraced, CameUntil, KeepBeliefs, Meets, arrival_in, cache_at, choice_at, delivery_in, nothing_sent, own_address, sender_in, source_at, source_with, traced_at, with_arrival_at, with_delivery, with_source}
 use Rattle.report.proofs.BeliefLemmas.{arrivals_more, beliefs_more, both_counts, count_push, delivery_told, first_move_more, first_move_same, move_tables, move_tick, packet_within, send_tick, sender_within, senders_more, sent_more, tick_rises}
 
@@ -373,20 +373,19 @@ module _ (script : ScriptOf) (before : List Event) (fabric : FabricOf) (place : 
       omega (arith, low, meets.keep.remembered.count)
 
 -- what is kept meets the event that a network has made
-pub meets_now : (net new : NetOf) (event : Event) (fabric : FabricOf) (place : ℕ) (lines : List Line) (own : ScriptOf) (packets : List Traced) (caches : List (List ArrivalOf)) (known : ℕ) → KeepBeliefs net.script net.events own packets caches known → new ≡ with_step event net → IsLawful new.script new.events → fabric ≡ fabric_of (history_of new) → IsScript fabric.script → place ≡ fabric.events → lines ≡ lines_of (world_of (history_of net)) event
-    → Meets net.script net.events event fabric place lines own packets caches known
-meets_now net new event fabric place lines own packets caches known keep stepped lawful fabric_is kept counted told =
-    let after = net.events ++ event ∷ [] in
-    let here : fabric ≡ fabric_behind net.script after = fabric_is ∙ ap (λ (n : NetOf). fabric_of (history_of n)) stepped in
-    let all : IsLawful net.script after = subst (λ (n : NetOf). IsLawful n.script n.events) stepped lawful in
+pub meets_now : (before : List Event) (event : Event) (net : NetOf) (fabric : FabricOf) (place : ℕ) (lines : List Line) (own : ScriptOf) (packets : List Traced) (caches : List (List ArrivalOf)) (known : ℕ) → KeepBeliefs net.script before own packets caches known → IsHeard before event net lines
+    → fabric ≡ fabric_of (history_of net) → IsScript fabric.script → place ≡ fabric.events → Meets net.script before event fabric place lines own packets caches known
+meets_now before event net fabric place lines own packets caches known keep heard fabric_is kept counted =
+    let after = before ++ event ∷ [] in
+    let here : fabric ≡ fabric_behind net.script after = fabric_is ∙ ap (λ (n : NetOf). fabric_of (history_of n)) heard.made.net_is in
     let can_be : IsScript net.script = kept_there net.script after fabric here kept in
     record {
       keep = keep;
       can_be = can_be;
-      lawful = all;
+      lawful = heard.made.lawful;
       fabric_is = here;
-      place_is = counted ∙ ap (λ (f : FabricOf). f.events) here ∙ lawful_events net.script can_be after all ∙ length_push net.events event;
-      lines_are = told;
+      place_is = counted ∙ ap (λ (f : FabricOf). f.events) here ∙ lawful_events net.script can_be after heard.made.lawful ∙ length_push before event;
+      lines_are = heard.lines_are;
     }
 
 -- the counts of the last line

@@ -7,7 +7,13 @@ use Rattle.an_base.specs.declared.event.Event.{Event}
 use Rattle.net_script.specs.Scripts.{ScriptOf}
 use Rattle.journal.specs.Texts.{IsJournal}
 use Rattle.fabric_state.specs.declared.ending.Ending.{Ending}
+use Rattle.fabric_state.specs.declared.line.Line.{Line}
 use Rattle.fabric_world.specs.Histories.{IsLegal}
+use Rattle.fabric_world.specs.Lines.{lines_of}
+use Rattle.fabric_world.specs.World.{world_after}
+use Rattle.fabric_settling.specs.Claims.{HoldsAndSettles}
+use Rattle.fabric_book.specs.Nets.{NetOf}
+use Rattle.replay.specs.Replays.{HasMade}
 
 -- an event of a history, with those before it
 pub record Moment : Type 0 where
@@ -32,11 +38,23 @@ unfoldable pub told_whole :
     List ℕ → (Moment → List ℕ) → (Ending → List ℕ) → List Event → Option Ending → List ℕ
 told_whole first told last history end = told_so_far first told history ++ option_map_or last end []
 
--- The bytes begin with the text of a legal journal, and this is what is told of it.
+-- A history is legal with this end, all that is claimed of it holds, and this is what is told of it.
+pub record IsTold (script : ScriptOf) (history : List Event) (first : List ℕ) (told : Moment → List ℕ)
+    (last : List Event → Ending → List ℕ) (end : Ending) (text : List ℕ) : Type 0 where
+  pub legal : IsLegal script history end
+  pub claims : HoldsAndSettles script history
+  pub says : text ≡ told_whole first told (last history) history (Some end)
+
+-- The bytes begin with the text of a journal, this is what is told of it, and what is kept is that of its events.
 pub record IsToldOf (script : ScriptOf) (bytes first : List ℕ) (told : Moment → List ℕ)
-    (last : List Event → Ending → List ℕ) (text : List ℕ) : Type 0 where
+    (last : List Event → Ending → List ℕ) (Stands : List Event → Type 0) (end : Ending) (text : List ℕ)
+    : Type 0 where
   pub journal : List Event
-  pub end : Ending
   pub is_journal : IsJournal script bytes journal
-  pub legal : IsLegal script journal end
-  pub says : text ≡ told_whole first told (last journal) journal (Some end)
+  pub is_told : IsTold script journal first told last end text
+  pub stands : Stands journal
+
+-- A network has made an event after those before it, each of which was lawful, and this is told of the last one.
+pub record IsHeard (before : List Event) (event : Event) (net : NetOf) (lines : List Line) : Type 0 where
+  pub made : HasMade net.script (before ++ event ∷ []) net
+  pub lines_are : lines ≡ lines_of (world_after net.script before) event

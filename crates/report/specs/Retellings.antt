@@ -9,7 +9,6 @@ use Rattle.fabric_world.specs.Accounts.{AccountOf, gathered, loaded_rows, placed
 use Rattle.fabric_world.specs.Histories.{AreLawful}
 use Rattle.fabric_world.specs.World.{WorldOf, begun, world_after}
 use Rattle.fabric_book.specs.declared.account.Account.{Account}
-use Rattle.fabric_book.specs.Nets.{NetOf}
 use Rattle.report.specs.Events.{CourseOf, course_after, events_text}
 
 -- An event comes in the network of a script that can be, which has come so far with a history: it is lawful.
@@ -18,10 +17,11 @@ pub record Comes (script : ScriptOf) (history : List Event) (event : Event) (cou
   pub lawful : is_lawful (world_after script history).fabric event ≡ true
   pub course_is : course ≡ course_after script history
 
--- The network of a script that can be has come so far.
-pub record HasCome (net : NetOf) (course : CourseOf) : Type 0 where
-  pub kept : IsScript net.script
-  pub course_is : course ≡ course_after net.script net.events
+-- By its own script, which is this one and can be, its network has come so far with a history.
+pub record HasCome (own : ScriptOf) (course : CourseOf) (script : ScriptOf) (history : List Event) : Type 0 where
+  pub kept : IsScript script
+  pub own_is : own ≡ script
+  pub course_is : course ≡ course_after script history
 
 -- what is told in an account
 abbrev pub told_in : Account → AccountOf

@@ -9,10 +9,9 @@ ghost use Rattle.report.specs.Beliefs.{AreNamesIn, address_in, belief_line, beli
 ghost use Rattle.report.specs.Remembering.{CameUntil, KeepBeliefs, Meets, arrival_in, choice_at, delivery_in};
 ghost use Rattle.report.specs.Remembering.{own_address, source_with, with_arrival_at, with_delivery, with_source};
 
-use crate::account::{Account, tell};
+use crate::listener::{Listener, tell};
 use an_base::event::Event;
 use an_base::memory::OutOfMemory;
-use fabric_book::lines::Lines;
 use fabric_book::net::Net;
 use fabric_state::ending::Ending;
 use fabric_state::fabric::Fabric;
@@ -23,7 +22,6 @@ use host_names::choice::Choice;
 use net_graph::wiring::HostOn;
 use net_script::script::Script;
 use replay::refusal::ReplayRefusal;
-use replay::world::step;
 use std::alloc::Global;
 use text_lines::names::Names;
 use text_lines::spelling::{decimal, push_line};
@@ -175,7 +173,6 @@ fn push_counts(
 struct Believing<'a> {
     alloc: Global,
     script: &'a Script,
-    lines: Lines,
     packets: Vec<Traced>,
     caches: Vec<Cache>,
     known: usize,
@@ -190,7 +187,6 @@ impl<'a> Believing<'a> {
         Ok(Believing {
             alloc,
             script,
-            lines: Lines::new(alloc),
             packets: Vec::new(alloc),
             caches: caches(alloc, script.wiring().hosts().len())?,
             known: 0,
@@ -246,8 +242,8 @@ impl<'a> Believing<'a> {
         Ok(())
     }
 
-    // A packet has made a hop, of which the lines tell.
-    fn hop(&mut self, fabric: &Fabric, packet: u32)
+    // A packet has made a hop, to the host of its delivery, if it was one.
+    fn hop(&mut self, fabric: &Fabric, packet: u32, delivered: Option<u16>)
         requires least { 1 ≤ packet }
         requires most { packet ≤ length self.old.packets.items }
         requires ticks { CameUntil fabric.now.tick self.old.caches.items }
@@ -257,13 +253,13 @@ impl<'a> Believing<'a> {
             (own_address self.old.script.now fabric.now self.old.packets.items (packet - 1)) }
         ensures caches { self.new.caches.items ≡ with_delivery
             (arrival_in self.old.script.now fabric.now self.old.packets.items (packet - 1))
-            (delivery_in self.old.lines) self.old.caches.items }
+            delivered self.old.caches.items }
         ensures ticks { CameUntil fabric.now.tick self.new.caches.items }
     {
         let place = packet as usize - 1;
         let sender = host_in(self.script, self.packets[place].host);
         let address = note(&mut self.packets, place, address_in(fabric, sender));
-        if let Some(host) = delivery_in(self.lines.as_slice()) {
+        if let Some(host) = delivered {
             arrive(&mut self.caches, host, sender.uid, address, fabric.now());
         }
     }
@@ -274,17 +270,18 @@ impl<'a> Believing<'a> {
         fabric: &Fabric,
         place: u32,
         event: &Event,
+        lines: &[Line],
         text: &mut Vec<u8>,
     ) -> Result<(), OutOfMemory>
         requires { (script : ScriptOf) × (before : List Event) × Meets script before event.now fabric.now
-            place self.old.lines self.old.script.now self.old.packets.items self.old.caches.items
+            place lines.now self.old.script.now self.old.packets.items self.old.caches.items
             self.old.known }
         ensures keep { (script : ScriptOf) (before : List Event) → Meets script before event.now fabric.now
-            place self.old.lines self.old.script.now self.old.packets.items self.old.caches.items
+            place lines.now self.old.script.now self.old.packets.items self.old.caches.items
             self.old.known → OnOk result (KeepBeliefs script (before ++ event.now ∷ []) self.new.script.now
             self.new.packets.items self.new.caches.items self.new.known) }
         ensures text { (script : ScriptOf) (before : List Event) → Meets script before event.now fabric.now
-            place self.old.lines self.old.script.now self.old.packets.items self.old.caches.items
+            place lines.now self.old.script.now self.old.packets.items self.old.caches.items
             self.old.known → OnOk result (text.new.items ≡ text.old.items
             ++ belief_text script (record { before = before; event = event.now })) }
     {
@@ -294,7 +291,7 @@ impl<'a> Believing<'a> {
                 Ok(())
             }
             Event::Move { packet } => {
-                self.hop(fabric, packet);
+                self.hop(fabric, packet, delivery_in(lines));
                 Ok(())
             }
             _ => Ok(()),
@@ -302,7 +299,7 @@ impl<'a> Believing<'a> {
     }
 }
 
-impl Account for Believing<'_> {
+impl Listener for Believing<'_> {
     ghost use Rattle.std.specs.Prelude.{[]};
     ghost use Rattle.text_lines.specs.Lines.{line_text};
     ghost use Rattle.report.specs.Beliefs.{belief_text, beliefs_of, counts_words};
@@ -317,16 +314,15 @@ impl Account for Believing<'_> {
     ghost stands = { λ b script history.
         KeepBeliefs script history b.script.now b.packets.items b.caches.items b.known };
 
-    fn step(
+    fn hear(
         &mut self,
-        net: &mut Net,
+        net: &Net,
         event: &Event,
+        lines: &[Line],
         text: &mut Vec<u8>,
-    ) -> Result<(), ReplayRefusal> {
-        step(net, event, &mut self.lines)?;
+    ) -> Result<(), OutOfMemory> {
         let fabric = net.fabric();
-        self.meet(fabric, fabric.events(), event, text)?;
-        Ok(())
+        self.meet(fabric, fabric.events(), event, lines, text)
     }
 
     fn finish(&self, _net: &Net, _end: &Ending, text: &mut Vec<u8>) -> Result<(), OutOfMemory> {

@@ -3,7 +3,6 @@
 ghost use Rattle.std.specs.Prelude.{◌≡◌, ◌∷◌, ◌++◌, [], List, IfOk, IfSome, IsNone, OnOk, codes, map};
 ghost use Rattle.an_base.specs.Rows.{RowOf};
 ghost use Rattle.an_base.specs.declared.event.Event.{Event};
-ghost use Rattle.net_script.specs.Scripts.{IsScript};
 ghost use Rattle.fabric_state.specs.declared.line.Line.{Line};
 ghost use Rattle.fabric_state.specs.declared.line.PlacedLine.{PlacedLine};
 ghost use Rattle.fabric_world.specs.Accounts.{loaded_rows, placed, rows_behind};
@@ -11,12 +10,11 @@ ghost use Rattle.fabric_world.specs.Histories.{IsLegal, owner_of};
 ghost use Rattle.fabric_world.specs.World.{WorldOf, step, world_after};
 ghost use Rattle.fabric_settling.specs.Claims.{HoldsAndSettles};
 ghost use Rattle.fabric_book.specs.Accounts.{AreAccounts};
-ghost use Rattle.report.specs.Events.{IsReport, all_told, course_after, line_of_end, report_text};
-ghost use Rattle.report.specs.Retellings.{IsNotNext, IsRetelling, told_in};
+ghost use Rattle.report.specs.Events.{IsReport, all_told, course_after, report_text};
+ghost use Rattle.report.specs.Retellings.{HasCome, IsNotNext, IsRetelling, told_in};
 
-use crate::course::Course;
 use crate::reporter::Report;
-use crate::telling::Telling;
+use crate::telling::{Telling, first_line};
 use an_base::event::{Event, Journal};
 use an_base::memory::OutOfMemory;
 use an_base::row::Row;
@@ -24,7 +22,6 @@ use fabric_book::account::Account;
 use fabric_state::ending::Ending;
 use fabric_state::line::{Line, PlacedLine};
 use net_script::script::Script;
-use row_text::decimals::Decimals;
 use std::alloc::Global;
 use std::marker::Model;
 
@@ -109,16 +106,16 @@ impl<'a> Left<'a> {
         text: &mut Vec<u8>,
     ) -> Result<(), OutOfMemory>
         ensures left { (lines : List Line) (more : List PlacedLine)
-            → self.old.lines ≡ placed telling.now.course.now.events lines ++ more
-            → IsNotNext telling.now.course.now.events more
+            → self.old.lines ≡ placed telling.now.course.events lines ++ more
+            → IsNotNext telling.now.course.events more
             → OnOk result (self.new ≡ record self.old { lines = more }) }
         ensures told { (lines : List Line) (more : List PlacedLine)
-            → self.old.lines ≡ placed telling.now.course.now.events lines ++ more
-            → IsNotNext telling.now.course.now.events more
+            → self.old.lines ≡ placed telling.now.course.events lines ++ more
+            → IsNotNext telling.now.course.events more
             → OnOk result (text.new.items
-            ≡ text.old.items ++ all_told telling.now.script.now telling.now.course.now rows.now lines) }
+            ≡ text.old.items ++ all_told telling.now.script.now telling.now.course rows.now lines) }
     {
-        'lines: while let Some(line) = self.next_line(telling.course.events()) {
+        'lines: while let Some(line) = self.next_line(telling.course().events()) {
             telling.push_line(text, line, rows)?;
         }
         Ok(())
@@ -128,10 +125,7 @@ impl<'a> Left<'a> {
 // A journal whose report is made of what each caller has told.
 #[derive(Drop)]
 struct Retelling<'a> {
-    alloc: Global,
-    script: &'a Script,
-    decimals: Decimals,
-    course: Course,
+    telling: Telling<'a>,
     left: Vec<Left<'a>>,
     text: Vec<u8>,
 }
@@ -154,72 +148,48 @@ impl<'a> Retelling<'a> {
         script: &'a Script,
         accounts: &'a [Account],
     ) -> Result<Self, OutOfMemory>
-        ensures script { IfOk result (λ retelling. retelling.script.now ≡ script.now) }
-        ensures kept { IsScript script.now }
-        ensures course { IfOk result (λ retelling. retelling.course ≡ course_after script.now []) }
+        ensures script { IfOk result (λ retelling. retelling.telling.script.now ≡ script.now) }
+        ensures come { IfOk result (λ retelling.
+            HasCome retelling.telling.script.now retelling.telling.course script.now []) }
         ensures left { IfOk result (λ retelling. retelling.left.items ≡ map told_in accounts.now) }
         ensures text { IfOk result (λ retelling. retelling.text.items ≡ codes "report 1\n") }
     {
         Ok(Retelling {
-            alloc,
-            script,
-            course: Course::begin(alloc, script)?,
-            decimals: Decimals::new(alloc)?,
+            telling: Telling::begin(alloc, script)?,
             left: all_left(alloc, accounts)?,
-            text: Vec::from_slice(alloc, b"report 1\n")?,
+            text: first_line(alloc)?,
         })
     }
 
     // The next event, with its lines.
     fn step(&mut self, event: &Event) -> Result<(), OutOfMemory>
-        requires { (before events : List Event) × IsRetelling self.old.script.now before (event.now ∷ events)
-            self.old.course self.old.left.items self.old.text.items }
-        ensures script { self.new.script.now ≡ self.old.script.now }
-        ensures told { (before events : List Event) → IsRetelling self.old.script.now before (event.now ∷ events)
-            self.old.course self.old.left.items self.old.text.items
-            → OnOk result (IsRetelling self.old.script.now (before ++ event.now ∷ []) events
-            self.new.course self.new.left.items self.new.text.items) }
+        requires { (before events : List Event) × IsRetelling self.old.telling.script.now before (event.now ∷ events)
+            self.old.telling.course self.old.left.items self.old.text.items }
+        ensures script { self.new.telling.script.now ≡ self.old.telling.script.now }
+        ensures told { (before events : List Event) → IsRetelling self.old.telling.script.now before (event.now ∷ events)
+            self.old.telling.course self.old.left.items self.old.text.items
+            → OnOk result (IsRetelling self.old.telling.script.now (before ++ event.now ∷ []) events
+            self.new.telling.course self.new.left.items self.new.text.items) }
     {
-        self.course.follow(event);
+        self.telling.follow(event);
         let left = &mut self.left[owner_of(event)];
         let rows = left.rows_behind(event);
-        let telling = Telling {
-            alloc: self.alloc,
-            script: self.script,
-            decimals: &self.decimals,
-            course: &self.course,
-        };
-        left.tell(&telling, rows, &mut self.text)
-    }
-
-    // The end, with the last line.
-    fn finish(&mut self, end: &Ending) -> Result<(), OutOfMemory>
-        ensures text { OnOk result (self.new.text.items
-            ≡ self.old.text.items ++ line_of_end self.old.script.now self.old.course end.now) }
-        ensures course { self.new.course ≡ self.old.course }
-    {
-        let telling = Telling {
-            alloc: self.alloc,
-            script: self.script,
-            decimals: &self.decimals,
-            course: &self.course,
-        };
-        telling.push_end_line(&mut self.text, end)
+        left.tell(&self.telling, rows, &mut self.text)
     }
 
     // The events of a journal, and this end.
     fn tell(&mut self, journal: &Journal, end: &Ending) -> Result<(), OutOfMemory>
-        requires legal { IsLegal self.old.script.now journal.now end.now }
-        requires first { IsRetelling self.old.script.now [] journal.now
-            self.old.course self.old.left.items self.old.text.items }
-        ensures text { OnOk result (self.new.text.items ≡ report_text self.old.script.now journal.now) }
-        ensures course { OnOk result (self.new.course ≡ course_after self.old.script.now journal.now) }
+        requires legal { IsLegal self.old.telling.script.now journal.now end.now }
+        requires first { IsRetelling self.old.telling.script.now [] journal.now
+            self.old.telling.course self.old.left.items self.old.text.items }
+        ensures text { OnOk result (self.new.text.items ≡ report_text self.old.telling.script.now journal.now) }
+        ensures course { OnOk result (self.new.telling.course ≡ course_after self.old.telling.script.now journal.now) }
     {
         let events = journal.as_slice();
         'events: for event in events {
             self.step(event)?;
         }
-        self.finish(end)
+        self.telling.push_end_line(&mut self.text, end)
     }
 }
 
@@ -242,7 +212,7 @@ pub fn retold(
     retelling.tell(journal, &end)?;
     Ok(Report {
         end,
-        tick: retelling.course.tick(),
+        tick: retelling.telling.course().tick(),
         text: retelling.text,
     })
 }

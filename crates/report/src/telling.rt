@@ -1,11 +1,17 @@
 //! The lines of an event.
 
-ghost use Rattle.std.specs.Prelude.{◌≡◌, ◌==◌, ◌++◌, ◌∷◌, [], codes, slice_get, OnOk, Some};
+ghost use Rattle.std.specs.Prelude.{◌≡◌, ◌==◌, ◌++◌, ◌∷◌, [], List, codes, slice_get, IfOk, OnOk, Some};
 ghost use Rattle.std.specs.Option.{option_map_or};
 ghost use Rattle.std.specs.List.{list_any};
 ghost use Rattle.std.specs.Fmt.{decimal};
+ghost use Rattle.an_base.specs.declared.event.Event.{Event};
+ghost use Rattle.net_script.specs.Scripts.{ScriptOf};
 ghost use Rattle.row_text.specs.Names.{life_text};
-ghost use Rattle.report.specs.Events.{all_told, deliver_words, drop_word, ending_words, has_line, host_text};
+ghost use Rattle.fabric_world.specs.Accounts.{rows_behind};
+ghost use Rattle.fabric_world.specs.Histories.{fabric_of};
+ghost use Rattle.fabric_book.specs.Nets.{history_of};
+ghost use Rattle.report.specs.Retellings.{Comes, HasCome};
+ghost use Rattle.report.specs.Events.{all_told, course_after, deliver_words, drop_word, ending_words, has_line, host_text};
 ghost use Rattle.report.specs.Events.{line_of_end, loss_words, packet_words, peer_words, place_words, rows_in_use};
 ghost use Rattle.report.specs.Events.{rows_text, spaced, state_word, switch_text, told_text, told_words};
 ghost use Rattle.wire_set.specs.declared.side.Loss.TheVariants as loss;
@@ -13,10 +19,13 @@ ghost use Rattle.fabric_state.specs.declared.ending.Ending.TheVariants as ending
 ghost use Rattle.fabric_state.specs.declared.line.Line.TheVariants as told;
 
 use crate::course::Course;
+use crate::listener::Listener;
+use an_base::event::Event;
 use an_base::life::{End, Life};
 use an_base::memory::OutOfMemory;
 use an_base::port::PortState;
 use an_base::row::Row;
+use fabric_book::net::Net;
 use fabric_state::ending::Ending;
 use fabric_state::line::Line;
 use host_traffic::hop::DropCause;
@@ -126,16 +135,52 @@ fn has_line(rows: &[Row], entry: u8) -> bool
     entry == 0 || has_rows(rows, entry)
 }
 
-/// What the lines of an event are told with: the script, and how far the network has come with the event.
-#[derive(Clone, Copy, Drop)]
-pub(crate) struct Telling<'a> {
-    pub(crate) alloc: Global,
-    pub(crate) script: &'a Script,
-    pub(crate) decimals: &'a Decimals,
-    pub(crate) course: &'a Course,
+/// The first line of a report.
+pub(crate) fn first_line(alloc: Global) -> Result<Vec<u8>, OutOfMemory>
+    ensures { IfOk result (λ text. text.items ≡ codes "report 1\n") }
+{
+    Ok(Vec::from_slice(alloc, b"report 1\n")?)
 }
 
-impl Telling<'_> {
+/// What the report of a journal is told with: the script, and how far its network has come.
+#[derive(Drop)]
+pub(crate) struct Telling<'a> {
+    alloc: Global,
+    script: &'a Script,
+    decimals: Decimals,
+    course: Course,
+}
+
+impl<'a> Telling<'a> {
+    /// At the beginning.
+    pub(crate) fn begin(alloc: Global, script: &'a Script) -> Result<Self, OutOfMemory>
+        ensures { IfOk result (λ telling. HasCome telling.script.now telling.course script.now []) }
+    {
+        Ok(Telling {
+            alloc,
+            script,
+            decimals: Decimals::new(alloc)?,
+            course: Course::begin(alloc, script)?,
+        })
+    }
+
+    /// How far the network has come.
+    pub(crate) fn course(&self) -> &Course
+        ensures { result.now ≡ self.now.course }
+    {
+        &self.course
+    }
+
+    /// A lawful event comes.
+    pub(crate) fn follow(&mut self, event: &Event)
+        requires { (script : ScriptOf) × (history : List Event) × Comes script history event.now self.old.course }
+        ensures script { self.new.script.now ≡ self.old.script.now }
+        ensures course { (script : ScriptOf) (history : List Event) → Comes script history event.now self.old.course
+            → self.new.course ≡ course_after script (history ++ event.now ∷ []) }
+    {
+        self.course.follow(event);
+    }
+
     // Appends a life behind a space.
     fn push_life(&self, text: &mut Vec<u8>, life: Life) -> Result<(), OutOfMemory>
         ensures { OnOk result (text.new.items
@@ -149,7 +194,7 @@ impl Telling<'_> {
     // Appends a switch behind a space.
     fn push_switch(&self, text: &mut Vec<u8>, s: u8) -> Result<(), OutOfMemory>
         ensures { OnOk result (text.new.items
-            ≡ text.old.items ++ spaced (switch_text self.now.script.now self.now.course.now.lives s ∷ [])) }
+            ≡ text.old.items ++ spaced (switch_text self.now.script.now self.now.course.lives s ∷ [])) }
     {
         match self.course.life(s) {
             None => push_word(text, b""),
@@ -166,7 +211,7 @@ impl Telling<'_> {
         number: u64,
     ) -> Result<(), OutOfMemory>
         ensures { OnOk result (text.new.items ≡ text.old.items
-            ++ spaced (switch_text self.now.script.now self.now.course.now.lives s
+            ++ spaced (switch_text self.now.script.now self.now.course.lives s
             ∷ word.now ∷ decimal number ∷ [])) }
     {
         self.push_switch(text, s)?;
@@ -178,7 +223,7 @@ impl Telling<'_> {
     fn push_end(&self, text: &mut Vec<u8>, word: &[u8], s: u8, port: u8) -> Result<(), OutOfMemory>
         ensures { OnOk result (text.new.items ≡ text.old.items
             ++ spaced (word.now
-            ∷ switch_text self.now.script.now self.now.course.now.lives s ∷ decimal port ∷ [])) }
+            ∷ switch_text self.now.script.now self.now.course.lives s ∷ decimal port ∷ [])) }
     {
         push_word(text, word)?;
         self.push_switch(text, s)?;
@@ -245,7 +290,7 @@ impl Telling<'_> {
     fn push_move(&self, text: &mut Vec<u8>, packet: u32, s: u8) -> Result<(), OutOfMemory>
         ensures { OnOk result (text.new.items ≡ text.old.items
             ++ spaced (codes "move" ∷ decimal packet
-            ∷ switch_text self.now.script.now self.now.course.now.lives s ∷ [])) }
+            ∷ switch_text self.now.script.now self.now.course.lives s ∷ [])) }
     {
         push_word(text, b"move")?;
         push_number(text, u64::from(packet))?;
@@ -304,7 +349,7 @@ impl Telling<'_> {
         peer: Option<End>,
     ) -> Result<(), OutOfMemory>
         ensures { OnOk result (text.new.items ≡ text.old.items
-            ++ spaced (told_words self.now.script.now self.now.course.now.lives (told.Port s port state peer))) }
+            ++ spaced (told_words self.now.script.now self.now.course.lives (told.Port s port state peer))) }
     {
         self.push_at(text, s, b"port", u64::from(port))?;
         push_word(text, state_word(state).as_bytes())?;
@@ -314,7 +359,7 @@ impl Telling<'_> {
     // Appends what is told of a switch whose epochs are spent.
     fn push_spent(&self, text: &mut Vec<u8>, s: u8) -> Result<(), OutOfMemory>
         ensures { OnOk result (text.new.items ≡ text.old.items
-            ++ spaced (told_words self.now.script.now self.now.course.now.lives (told.Spent s))) }
+            ++ spaced (told_words self.now.script.now self.now.course.lives (told.Spent s))) }
     {
         self.push_switch(text, s)?;
         push_word(text, b"spent")
@@ -330,7 +375,7 @@ impl Telling<'_> {
         members: u8,
     ) -> Result<(), OutOfMemory>
         ensures { OnOk result (text.new.items ≡ text.old.items
-            ++ spaced (told_words self.now.script.now self.now.course.now.lives
+            ++ spaced (told_words self.now.script.now self.now.course.lives
             (told.Finish s epoch root members))) }
     {
         self.push_at(text, s, b"finish", epoch)?;
@@ -343,7 +388,7 @@ impl Telling<'_> {
     // Appends what is told of a frame that was lost.
     fn push_lost(&self, text: &mut Vec<u8>, s: u8, port: u8, why: Loss) -> Result<(), OutOfMemory>
         ensures { OnOk result (text.new.items ≡ text.old.items
-            ++ spaced (told_words self.now.script.now self.now.course.now.lives (told.Lost s port why))) }
+            ++ spaced (told_words self.now.script.now self.now.course.lives (told.Lost s port why))) }
     {
         self.push_end(text, b"lost", s, port)?;
         push_loss(text, why)
@@ -358,7 +403,7 @@ impl Telling<'_> {
         number: u8,
     ) -> Result<(), OutOfMemory>
         ensures { OnOk result (text.new.items ≡ text.old.items
-            ++ spaced (told_words self.now.script.now self.now.course.now.lives (told.Load s epoch number))) }
+            ++ spaced (told_words self.now.script.now self.now.course.lives (told.Load s epoch number))) }
     {
         self.push_at(text, s, b"load", epoch)?;
         push_word(text, b"number")?;
@@ -368,7 +413,7 @@ impl Telling<'_> {
     // Appends what is told of a link that went down.
     fn push_cut(&self, text: &mut Vec<u8>, s: u8, port: u8, dropped: u32) -> Result<(), OutOfMemory>
         ensures { OnOk result (text.new.items ≡ text.old.items
-            ++ spaced (told_words self.now.script.now self.now.course.now.lives (told.Cut s port dropped))) }
+            ++ spaced (told_words self.now.script.now self.now.course.lives (told.Cut s port dropped))) }
     {
         self.push_end(text, b"fail", s, port)?;
         push_word(text, b"dropped")?;
@@ -378,7 +423,7 @@ impl Telling<'_> {
     // Appends what is told of a switch that began its next life.
     fn push_restarted(&self, text: &mut Vec<u8>, s: u8) -> Result<(), OutOfMemory>
         ensures { OnOk result (text.new.items ≡ text.old.items
-            ++ spaced (told_words self.now.script.now self.now.course.now.lives (told.Restarted s))) }
+            ++ spaced (told_words self.now.script.now self.now.course.lives (told.Restarted s))) }
     {
         push_word(text, b"restart")?;
         self.push_switch(text, s)
@@ -394,7 +439,7 @@ impl Telling<'_> {
         address: u16,
     ) -> Result<(), OutOfMemory>
         ensures { OnOk result (text.new.items ≡ text.old.items
-            ++ spaced (told_words self.now.script.now self.now.course.now.lives
+            ++ spaced (told_words self.now.script.now self.now.course.lives
             (told.Packet packet host to address))) }
     {
         self.push_packet(text, packet, host, to)?;
@@ -412,7 +457,7 @@ impl Telling<'_> {
         why: DropCause,
     ) -> Result<(), OutOfMemory>
         ensures { OnOk result (text.new.items ≡ text.old.items
-            ++ spaced (told_words self.now.script.now self.now.course.now.lives (told.Unsent packet host to why))) }
+            ++ spaced (told_words self.now.script.now self.now.course.lives (told.Unsent packet host to why))) }
     {
         self.push_packet(text, packet, host, to)?;
         push_drop(text, why)
@@ -427,7 +472,7 @@ impl Telling<'_> {
         why: DropCause,
     ) -> Result<(), OutOfMemory>
         ensures { OnOk result (text.new.items ≡ text.old.items
-            ++ spaced (told_words self.now.script.now self.now.course.now.lives (told.Fell packet s why))) }
+            ++ spaced (told_words self.now.script.now self.now.course.lives (told.Fell packet s why))) }
     {
         self.push_move(text, packet, s)?;
         push_drop(text, why)
@@ -436,7 +481,7 @@ impl Telling<'_> {
     // Appends the words of what is told of a packet.
     fn push_told_of_packet(&self, text: &mut Vec<u8>, line: &Line) -> Result<(), OutOfMemory>
         ensures { OnOk result (text.new.items ≡ text.old.items
-            ++ spaced (packet_words self.now.script.now self.now.course.now.lives line.now)) }
+            ++ spaced (packet_words self.now.script.now self.now.course.lives line.now)) }
     {
         match *line {
             Line::Packet {
@@ -470,7 +515,7 @@ impl Telling<'_> {
     // Appends the words of what is told.
     fn push_told(&self, text: &mut Vec<u8>, line: &Line) -> Result<(), OutOfMemory>
         ensures { OnOk result (text.new.items ≡ text.old.items
-            ++ spaced (told_words self.now.script.now self.now.course.now.lives line.now)) }
+            ++ spaced (told_words self.now.script.now self.now.course.lives line.now)) }
     {
         match *line {
             Line::Port {
@@ -510,7 +555,7 @@ impl Telling<'_> {
                     self.alloc,
                     text,
                     self.script,
-                    self.decimals,
+                    &self.decimals,
                     life,
                     rows,
                     entry,
@@ -524,7 +569,7 @@ impl Telling<'_> {
     fn push_used(&self, text: &mut Vec<u8>, s: u8, rows: &[Row]) -> Result<(), OutOfMemory>
         ensures { OnOk result (text.new.items ≡ text.old.items
             ++ option_map_or (λ life. rows_in_use self.now.script.now life rows.now)
-            (slice_get self.now.course.now.lives s) []) }
+            (slice_get self.now.course.lives s) []) }
     {
         let Some(life) = self.course.life(s) else {
             return Ok(());
@@ -535,7 +580,7 @@ impl Telling<'_> {
     // Appends the rows that stand behind a line.
     fn push_rows(&self, text: &mut Vec<u8>, line: &Line, rows: &[Row]) -> Result<(), OutOfMemory>
         ensures { OnOk result (text.new.items ≡ text.old.items
-            ++ rows_text self.now.script.now self.now.course.now.lives rows.now line.now) }
+            ++ rows_text self.now.script.now self.now.course.lives rows.now line.now) }
     {
         match *line {
             Line::Load { s, .. } => self.push_used(text, s, rows),
@@ -551,7 +596,7 @@ impl Telling<'_> {
         rows: &[Row],
     ) -> Result<(), OutOfMemory>
         ensures { OnOk result (text.new.items ≡ text.old.items
-            ++ told_text self.now.script.now self.now.course.now rows.now line.now) }
+            ++ told_text self.now.script.now self.now.course rows.now line.now) }
     {
         push_digits(text, u64::from(self.course.events()))?;
         self.push_told(text, line)?;
@@ -567,7 +612,7 @@ impl Telling<'_> {
         rows: &[Row],
     ) -> Result<(), OutOfMemory>
         ensures { OnOk result (text.new.items ≡ text.old.items
-            ++ all_told self.now.script.now self.now.course.now rows.now lines.now) }
+            ++ all_told self.now.script.now self.now.course rows.now lines.now) }
     {
         'lines: for line in lines {
             self.push_line(text, line, rows)?;
@@ -599,7 +644,7 @@ impl Telling<'_> {
 
     // Appends the tick, and the number of events.
     fn push_place(&self, text: &mut Vec<u8>) -> Result<(), OutOfMemory>
-        ensures { OnOk result (text.new.items ≡ text.old.items ++ spaced (place_words self.now.course.now)) }
+        ensures { OnOk result (text.new.items ≡ text.old.items ++ spaced (place_words self.now.course)) }
     {
         push_word(text, b"tick")?;
         push_number(text, u64::from(self.course.tick()))?;
@@ -610,12 +655,56 @@ impl Telling<'_> {
     /// Appends the last line.
     pub(crate) fn push_end_line(&self, text: &mut Vec<u8>, end: &Ending) -> Result<(), OutOfMemory>
         ensures { OnOk result (text.new.items ≡ text.old.items
-            ++ line_of_end self.now.script.now self.now.course.now end.now) }
+            ++ line_of_end self.now.script.now self.now.course end.now) }
     {
         text.extend_from_slice(b"end")?;
         self.push_ending(text, end)?;
         self.push_place(text)?;
         text.push(b'\n')?;
         Ok(())
+    }
+}
+
+// The rows behind an event: those of the table in use behind a load, and none behind others.
+fn rows_behind<'a>(net: &'a Net, event: &Event) -> &'a [Row]
+    ensures { result.now ≡ rows_behind (fabric_of (history_of net.now)) event.now }
+{
+    let Event::Load { s } = *event else {
+        return &[];
+    };
+    match net.table(s) {
+        Some(table) => table.as_slice(),
+        None => &[],
+    }
+}
+
+impl Listener for Telling<'_> {
+    ghost use Rattle.std.specs.Prelude.{codes};
+    ghost use Rattle.fabric_world.specs.World.{world_after};
+    ghost use Rattle.report.specs.Events.{course_after, event_text, line_of_end};
+    ghost use Rattle.report.specs.Retellings.{HasCome};
+
+    ghost first = { codes "report 1\n" };
+
+    ghost told = { λ script moment. event_text script (world_after script moment.before) moment.event };
+
+    ghost last = { λ script history end. line_of_end script (course_after script history) end };
+
+    ghost stands = { λ t script history. HasCome t.script.now t.course script history };
+
+    fn hear(
+        &mut self,
+        net: &Net,
+        event: &Event,
+        lines: &[Line],
+        text: &mut Vec<u8>,
+    ) -> Result<(), OutOfMemory> {
+        self.follow(event);
+        let rows = rows_behind(net, event);
+        self.push_lines(text, lines, rows)
+    }
+
+    fn finish(&self, _net: &Net, end: &Ending, text: &mut Vec<u8>) -> Result<(), OutOfMemory> {
+        self.push_end_line(text, end)
     }
 }

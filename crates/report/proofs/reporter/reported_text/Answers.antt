@@ -1,16 +1,14 @@
-use Rattle.std.proofs.Common.{subst, IfErr, IfOk}
-use Rattle.net_script.specs.Scripts.{ScriptOf}
-use Rattle.replay.specs.Replays.{IfIllegal, IsNoReplay}
-use Rattle.report.specs.Events.{IsReportOf}
+use Rattle.std.proofs.Common.{◌∙◌, ap}
+use Rattle.report.specs.Events.{CourseOf}
+use Rattle.report.proofs.ReporterLemmas.{report_told}
 use Rattle.report.proofs.reporter.reported_text.Goals as goal
 
--- the script of a reporter is the one that it began with
-pub returns-in-Ok-clause-report : goal.returns-in-Ok-clause-report
-returns-in-Ok-clause-report c =
-    subst (λ (s : ScriptOf). IfOk c.report_text.result (λ report. IsReportOf s c.args.bytes.now report.end report.tick report.text.items))
-    c.in-Ok.ensures.script c.report_text.ensures.report
-
-pub returns-in-Ok-clause-refused : goal.returns-in-Ok-clause-refused
-returns-in-Ok-clause-refused c =
-    subst (λ (s : ScriptOf). IfErr c.report_text.result (λ why. IfIllegal why (IsNoReplay s c.args.bytes.now)))
-    c.in-Ok.ensures.script c.report_text.ensures.refused
+pub returns-clause-report : goal.returns-clause-report
+returns-clause-report c =
+    let told = c.in_ok-end.ensures.told in
+    record {
+      journal = told.journal;
+      is_journal = told.is_journal;
+      is_report = report_told c.args.script.now told.journal c.in_ok-end.end _ told.is_told;
+      tick_is = c.tick.ensures ∙ ap (λ (course : CourseOf). course.tick) (c.course.ensures ∙ told.stands.course_is);
+    }

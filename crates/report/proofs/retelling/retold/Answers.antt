@@ -8,5 +8,5 @@ pub tell-requires-clause-first : goal.tell-requires-clause-first
 tell-requires-clause-first c =
     let new = c.in_ok-retelling.retelling in
     let begun = c.in_ok-retelling.ensures in
-    subst (λ (s : ScriptOf). IsRetelling s _ c.args.journal.now new.course new.left.items new.text.items) (sym begun.script)
-    (retelling_first c.args.script.now c.args.journal.now c.args.end c.args.accounts.now new.course new.left.items new.text.items begun.kept c.requires.legal c.requires.accounts begun.course begun.left begun.text)
+    subst (λ (s : ScriptOf). IsRetelling s _ c.args.journal.now new.telling.course new.left.items new.text.items) (sym begun.script)
+    (retelling_first c.args.script.now c.args.journal.now c.args.end c.args.accounts.now new.telling.course new.left.items new.text.items begun.come.kept c.requires.legal c.requires.accounts begun.come.course_is begun.left begun.text)

@@ -5,7 +5,7 @@ use Rattle.report.proofs.retelling.Left.tell.Given as goal
 
 -- these lines are told, and this is left
 abbrev pub invariant-lines : goal.invariant-lines
-invariant-lines l = AreTold l.telling.course.now.events (told_text l.telling.script.now l.telling.course.now l.rows) l.fn.self l.self l.fn.text.items l.text.items
+invariant-lines l = AreTold l.telling.course.events (told_text l.telling.script.now l.telling.course l.rows) l.fn.self l.self l.fn.text.items l.text.items
 
 abbrev pub decreases-lines : goal.decreases-lines
 decreases-lines l = length l.self.lines

@@ -1,5 +1,5 @@
 use Rattle.std.proofs.Common.{◌≡◌, ◌∙◌, ◌++◌, ◌+◌, ap, drop, take, take_all}
-use Rattle.std.proofs.lemmas.Result.{IfOk-weaker}
+use Rattle.std.proofs.lemmas.Result.{IfOk-weaker, on_ok_weaker}
 use Rattle.an_base.specs.declared.event.Event.TheVariants.{Tick}
 use Rattle.net_script.specs.Scripts.{ScriptOf}
 use Rattle.report.specs.Events.{CourseOf, course_after, line_of_end}
@@ -14,11 +14,11 @@ step-requires c =
     let k = c.events.event-index in
     let old = c.events.self in
     let is = c.events.invariant in
-    (take k journal, drop (k + 1) journal, at_event c.args.self.now.script.now old.script.now journal k Tick old.course old.left.items old.text.items is.same c.events-test.true is.so_far)
+    (take k journal, drop (k + 1) journal, at_event c.args.self.now.telling.script.now old.telling.script.now journal k Tick old.telling.course old.left.items old.text.items is.same c.events-test.true is.so_far)
 
 pub events-preserved : goal.events-preserved
 events-preserved c =
-    let script = c.args.self.now.script.now in
+    let script = c.args.self.now.telling.script.now in
     let journal = c.as_slice-events.result.now in
     let k = c.events.event-index in
     let old = c.events.self in
@@ -26,19 +26,25 @@ events-preserved c =
     let is = c.events.invariant in
     record {
       same = c.in_ok-step.ensures.script ∙ is.same;
-      so_far = past_event script old.script.now journal k Tick new.course new.left.items new.text.items is.same c.events-test.true
-          (c.in_ok-step.ensures.told (take k journal) (drop (k + 1) journal) (at_event script old.script.now journal k Tick old.course old.left.items old.text.items is.same c.events-test.true is.so_far));
+      so_far = past_event script old.telling.script.now journal k Tick new.telling.course new.left.items new.text.items is.same c.events-test.true
+          (c.in_ok-step.ensures.told (take k journal) (drop (k + 1) journal) (at_event script old.telling.script.now journal k Tick old.telling.course old.left.items old.text.items is.same c.events-test.true is.so_far));
     }
 
 -- behind the last one
 pub returns-clause-text : goal.returns-clause-text
 returns-clause-text c =
-    let script = c.args.self.now.script.now in
+    let script = c.args.self.now.telling.script.now in
     let journal = c.args.journal.now in
     let last = c.events.self in
     let is = c.events.invariant in
     let all : take c.events.event-index c.as_slice-events.result.now ≡ journal = take_all c.events.event-index c.as_slice-events.result.now c.events-test.false ∙ c.as_slice-events.ensures in
     let course = is.so_far.course_is ∙ ap (course_after script) all in
-    IfOk-weaker c.finish.result _ _ (λ done line. whole script journal c.args.end.now last.text.items c.finish.new.self.text.items c.requires.legal (is.so_far.says ∙ ap (so_far script) all)
-    (line ∙ ap (λ (s : ScriptOf). last.text.items ++ line_of_end s last.course c.args.end.now) is.same ∙ ap (λ (x : CourseOf). last.text.items ++ line_of_end script x c.args.end.now) course))
-    c.finish.ensures.text
+    IfOk-weaker c.push_end_line.result _ _ (λ done line. whole script journal c.args.end.now last.text.items c.push_end_line.new.text.items c.requires.legal (is.so_far.says ∙ ap (so_far script) all)
+    (line ∙ ap (λ (s : ScriptOf). last.text.items ++ line_of_end s last.telling.course c.args.end.now) is.same ∙ ap (λ (x : CourseOf). last.text.items ++ line_of_end script x c.args.end.now) course))
+    c.push_end_line.ensures
+
+pub returns-clause-course : goal.returns-clause-course
+returns-clause-course c =
+    let is = c.events.invariant in
+    let all : take c.events.event-index c.as_slice-events.result.now ≡ c.args.journal.now = take_all c.events.event-index c.as_slice-events.result.now c.events-test.false ∙ c.as_slice-events.ensures in
+    on_ok_weaker c.push_end_line.result (λ _. is.so_far.course_is ∙ ap (course_after c.args.self.now.telling.script.now) all) c.push_end_line.ensures

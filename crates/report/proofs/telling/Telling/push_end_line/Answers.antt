@@ -7,6 +7,6 @@ pub returns : goal.returns
 unfolding line_of_end
 returns c =
     let words = ending_words c.args.self.now.script.now c.args.end.now in
-    let place = place_words c.args.self.now.course.now in
+    let place = place_words c.args.self.now.course in
     let both = goes_on _ _ _ words place c.in_ok-push_ending.ensures c.in_ok-push_place.ensures in
     three_pieces c.args.text.now.items _ _ _ (codes "end") (spaced (words ++ place)) (10 ∷ []) c.in_ok-extend_from_slice.ensures.items both c.in_ok-push.ensures.items

@@ -9,7 +9,7 @@ pub returns : goal.returns
 unfolding told_text
 returns c =
     let script = c.args.self.now.script.now in
-    let course = c.args.self.now.course.now in
+    let course = c.args.self.now.course in
     let line = c.args.line.now in
     let number = c.in_ok-push_digits.ensures ∙ ap (λ (n : ℕ). c.args.text.now.items ++ decimal n) (c.from.ensures ∙ c.events.ensures) in
     IfOk-weaker c.push_rows.result _ _

@@ -8,4 +8,4 @@ returns-in_ok-push_move-in-Moved c =
 
 pub returns-in_default : goal.returns-in_default
 returns-in_default c =
-    rw (no_packet c.args.self.now.script.now c.args.self.now.course.now.lives c.args.line.now c.in_default.not-Packet c.in_default.not-Unsent c.in_default.not-Moved c.in_default.not-Fell) (no_words c.args.text.now.items)
+    rw (no_packet c.args.self.now.script.now c.args.self.now.course.lives c.args.line.now c.in_default.not-Packet c.in_default.not-Unsent c.in_default.not-Moved c.in_default.not-Fell) (no_words c.args.text.now.items)

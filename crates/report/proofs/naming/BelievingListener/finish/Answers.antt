@@ -2,7 +2,7 @@ use Rattle.std.proofs.Common.{◌∙◌, ◌++◌, ap, List, ℕ, arith}
 use Rattle.std.proofs.lemmas.Result.{on_ok_weaker}
 use Rattle.text_lines.specs.Lines.{line_text}
 use Rattle.report.proofs.RememberingLemmas.{counts_are, kept_few}
-use Rattle.report.proofs.naming.BelievingAccount.finish.Goals as goal
+use Rattle.report.proofs.naming.BelievingListener.finish.Goals as goal
 
 pub overflow_sub-broadcast : goal.overflow_sub-broadcast
 overflow_sub-broadcast c =

@@ -1,6 +1,6 @@
 use Rattle.std.proofs.lemmas.Result.{err_from_is_err_and}
 use Rattle.replay.proofs.ReplayLemmas.{refused_fault}
-use Rattle.report.proofs.account.tell.Goals as goal
+use Rattle.report.proofs.listener.tell.Goals as goal
 
 -- the first line is at fault
 pub returns-in_err-reader-clause-refused : goal.returns-in_err-reader-clause-refused

@@ -2,13 +2,14 @@ use Rattle.std.proofs.Common.{◌≡◌, ◌++◌, ◌∷◌, [], List, refl, su
 use Rattle.std.proofs.lemmas.Result.{err_from_is_err_and}
 use Rattle.an_base.specs.declared.event.Event.{Event}
 use Rattle.fabric_world.specs.Histories.{IsLegal}
+use Rattle.fabric_settling.specs.Claims.{HoldsAndSettles}
 use Rattle.replay.specs.Replays.{HasMade}
 use Rattle.journal.proofs.ReadingLemmas.{next_none, next_some}
 use Rattle.replay.proofs.ReplayLemmas.{events_are, made_these, refused_end, refused_fault, unlawful_there}
 use Rattle.report.specs.Moments.{told_so_far}
-use Rattle.report.proofs.AccountLemmas.{at_net, last_told, next_so, next_told, of_net, own_made, told_none}
+use Rattle.report.proofs.ListenerLemmas.{at_net, last_told, next_so, next_told, of_net, own_made, told_none}
 use Rattle.report.proofs.ReadingLemmas.{HasReadFrom, next_from}
-use Rattle.report.proofs.account.tell_events.Goals as goal
+use Rattle.report.proofs.listener.hear_read.Goals as goal
 
 -- at the beginning
 pub events-init : goal.events-init
@@ -18,8 +19,8 @@ events-init g c =
     let none = sym (events_are script [] net c.requires.made) in
     record {
       made = made_these script [] net c.requires.made;
-      stands = subst (λ (h : List Event). g.A.Account.stands c.args.account.now script h) none c.requires.stands;
-      says = subst (λ (h : List Event). c.args.text.now.items ≡ told_so_far g.A.Account.first (g.A.Account.told script) h) none (told_none g.A.Account.first (g.A.Account.told script) c.args.text.now.items c.requires.first);
+      stands = subst (λ (h : List Event). g.L.Listener.stands c.args.listener.now script h) none c.requires.stands;
+      says = subst (λ (h : List Event). c.args.text.now.items ≡ told_so_far g.L.Listener.first (g.L.Listener.told script) h) none (told_none g.L.Listener.first (g.L.Listener.told script) c.args.text.now.items c.requires.first);
       read = subst (λ (h : List Event). HasReadFrom script c.args.reader.now h c.args.reader.now) none (λ bytes has. has);
     }
 
@@ -31,14 +32,14 @@ returns-in_err-event-clause-refused g c = λ bytes has.
     rw (p.1, p.2) (refused_fault script bytes c.in_err-event.field-0.0 (c.in_err-event.ensures.fault script bytes c.events.net.events (c.events.invariant.read bytes has)))
 
 -- one event more
-pub step-requires : goal.step-requires
-step-requires g c =
+pub hear_next-requires : goal.hear_next-requires
+hear_next-requires g c =
     let script = c.args.net.now.script in
     let net = c.events.net in
     let before = c.events.invariant in
     record {
       made = own_made script net.events net before.made;
-      stands = of_net (λ s h. g.A.Account.stands c.events.account s h) script net.events net before.made before.stands;
+      stands = of_net (λ s h. g.L.Listener.stands c.events.listener s h) script net.events net before.made before.stands;
     }
 
 -- which is refused
@@ -56,14 +57,14 @@ pub events-preserved : goal.events-preserved
 events-preserved g c =
     let script = c.args.net.now.script in
     let net = c.events.net in
-    let new = c.step.new.net in
+    let new = c.hear_next.new.net in
     let event = c.in-Some.event in
     let before = c.events.invariant in
-    let events : new.events ≡ net.events ++ event ∷ [] = events_are net.script (net.events ++ event ∷ []) new c.in_default-step.ensures.made in
+    let events : new.events ≡ net.events ++ event ∷ [] = events_are net.script (net.events ++ event ∷ []) new c.in_default-hear_next.ensures.made in
     record {
-      made = next_so (λ s h. HasMade s h new) script event net new before.made events c.in_default-step.ensures.made;
-      stands = next_so (λ s h. g.A.Account.stands c.step.new.self s h) script event net new before.made events c.in_default-step.ensures.stands;
-      says = next_told g.A.Account.first g.A.Account.told script event net new c.events.text.items c.step.new.text.items before.made events before.says c.in_default-step.ensures.text;
+      made = next_so (λ s h. HasMade s h new) script event net new before.made events c.in_default-hear_next.ensures.made;
+      stands = next_so (λ s h. g.L.Listener.stands c.hear_next.new.listener s h) script event net new before.made events c.in_default-hear_next.ensures.stands;
+      says = next_told g.L.Listener.first g.L.Listener.told script event net new c.events.text.items c.hear_next.new.text.items before.made events before.says c.in_default-hear_next.ensures.text;
       read = subst (λ (h : List Event). HasReadFrom script c.args.reader.now h c.next.new.self) (sym events)
           (next_from script c.args.reader.now c.events.reader c.next.new.self net.events _ event before.read c.in-Some.is c.in_ok-event.ensures.next);
     }
@@ -89,7 +90,7 @@ finish-requires g c =
     let last = c.events.invariant in
     record {
       made = own_made script net.events net last.made;
-      stands = of_net (λ s h. g.A.Account.stands c.events.account s h) script net.events net last.made last.stands;
+      stands = of_net (λ s h. g.L.Listener.stands c.events.listener s h) script net.events net last.made last.stands;
     }
 
 pub returns-clause-told : goal.returns-clause-told
@@ -99,8 +100,11 @@ returns-clause-told g c = λ bytes has.
     let last = c.events.invariant in
     record {
       journal = net.events;
-      end = c.in_ok-end.end;
       is_journal = next_none script bytes net.events c.next.new.self _ c.in_default.is (c.in_ok-event.ensures.next script bytes net.events (last.read bytes has));
-      legal = at_net (λ s h. IsLegal s h c.in_ok-end.end) script net.events net last.made c.in_ok-end.ensures.legal;
-      says = last_told g.A.Account.first (g.A.Account.told script) g.A.Account.last script net.events net c.in_ok-end.end (Some c.in_ok-end.end) [] c.events.text.items c.finish.new.text.items last.made refl last.says c.in_ok-finish.ensures;
+      stands = last.stands;
+      is_told = record {
+        legal = at_net (λ s h. IsLegal s h c.in_ok-end.end) script net.events net last.made c.in_ok-end.ensures.legal;
+        claims = at_net HoldsAndSettles script net.events net last.made c.in_ok-end.ensures.claims;
+        says = last_told g.L.Listener.first (g.L.Listener.told script) g.L.Listener.last script net.events net c.in_ok-end.end (Some c.in_ok-end.end) [] c.events.text.items c.finish.new.text.items last.made refl last.says c.in_ok-finish.ensures;
+      };
     }
