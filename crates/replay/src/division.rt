@@ -1,4 +1,7 @@
 //! An input with a script and a journal.
+//!
+//! Its lines up to `end` are looked at twice, here and by the reader of scripts: where an input is parted does not
+//! depend on what its script says.
 
 ghost use Rattle.std.specs.Prelude.{◌≡◌, ◌<◌, ◌∷◌, [], ℕ, List, length, map, take, IfNone, IfOk, IfSome};
 ghost use Rattle.text_lines.specs.Lines.{is_blank, lines_of, without_comment, words_of};

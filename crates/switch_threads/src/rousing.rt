@@ -109,7 +109,8 @@ impl Rousing {
     }
 }
 
-/// The switches to which the links of a switch lead, by its ports.
+/// The switches to which the links of a switch lead, by its ports. They are copied from the script, so that a worker
+/// finds them beside its own.
 #[derive(Clone, Copy)]
 pub(crate) struct Neighbours {
     switches: [Option<u8>; PORTS],
