@@ -45,7 +45,7 @@ told_more s frames i x first before puts more told below is within was lost so_f
 
 -- as many as a list has places fill it
 pub filled : {A : Type 0} (n : ℕ) (xs ys : List A) → length xs ≡ n → take n (xs ++ ys) ≡ xs
-filled n xs ys is = ap (λ (k : ℕ). take k (xs ++ ys)) (sym is) ∙ all xs where
+filled {A = A} n xs ys is = ap (λ (k : ℕ). take k (xs ++ ys)) (sym is) ∙ all xs where
   all : (zs : List A) → take (length zs) (zs ++ ys) ≡ zs
   all [] = refl
   all (z ∷ zs) = ap (λ (more : List A). z ∷ more) (all zs)

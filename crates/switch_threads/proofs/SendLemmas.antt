@@ -21,8 +21,8 @@ use Rattle.fabric_turn.proofs.seat.Seat.TheSendSync as seat
 use Rattle.fabric_turn.proofs.turnstile.Turnstile.TheSendSync as turnstile
 use Rattle.fabric_turn.specs.contracts.seat.Seat as Seat
 use Rattle.fabric_turn.specs.contracts.turnstile.Turnstile as Turnstile
-use Rattle.fabric_book.specs.contracts.asking.Ask as Ask
-use Rattle.fabric_book.specs.contracts.asking.Reply as Reply
+use Rattle.fabric_world.specs.contracts.ask.Ask as Ask
+use Rattle.fabric_world.specs.contracts.ask.Reply as Reply
 use Rattle.fabric_book.specs.contracts.book.Book as Book
 use Rattle.fabric_book.specs.contracts.book.BookStaged.TheImpl.{ghosts}
 use Rattle.switch_threads.proofs.desk.Desk.TheSendSync as desk

@@ -9,6 +9,7 @@ use Rattle.std.proofs.lemmas.List.{append-nil}
 use Rattle.std.proofs.lemmas.List.FromFn.{get_or-map-range_with_len}
 use Rattle.std.proofs.lemmas.Option.{same_Some}
 use Rattle.an_base.specs.Ports.{NoteOf}
+use Rattle.an_base.specs.Rows.{RowOf}
 use Rattle.an_base.specs.declared.event.Event.{Event}
 use Rattle.an_base.specs.declared.event.Event.TheVariants.{Clock, Load, Restart, Take}
 use Rattle.net_graph.specs.Wires.{network}
@@ -46,7 +47,6 @@ use Rattle.fabric_world.proofs.PlaceLemmas.{world_places}
 use Rattle.fabric_book.specs.Accounts.{HasAccount, IsAccount, with_lines, with_load}
 use Rattle.fabric_book.specs.Nets.{HasFrame, IsHandled, IsStarted, PowerOf, power_of, start_with}
 use Rattle.fabric_book.specs.declared.account.Account.{Account}
-use Rattle.fabric_book.specs.declared.asking.Ask.{Ask}
 use Rattle.fabric_world.specs.declared.ask.Letter.{Letter}
 use Rattle.fabric_world.specs.declared.ask.Parcel.{Parcel}
 use Rattle.fabric_world.specs.declared.ask.Slip.{Slip}

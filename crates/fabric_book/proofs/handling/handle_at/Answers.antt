@@ -81,7 +81,7 @@ returns-clause-told c =
     let at : c.station-station.result.now ≡ station (fabric_of h) c.args.s = c.station-station.ensures ∙ ap (λ (f : FabricOf). station f c.args.s) c.fabric.ensures in
     let hand : c.hand-hand.result ≡ (station (fabric_of h) c.args.s).hand = c.hand-hand.ensures ∙ ap (λ (y : StationOf). y.hand) at in
     let is = c.in_ok-handle.ensures.handled x c.requires.kept.stands in
-    let long = c.handle-2.ensures.room ∙ c.in_ok-resize.ensures.len in
+    let long = c.handle-2.ensures.room ∙ c.as_mut_slice.ensures.len in
     let items : c.deref.result.now ≡ c.handle-2.new.puts = c.deref.ensures.value ∙ filled _ c.handle-2.new.puts _ long in
     let shown = c.write_note.ensures ∙ c.note.ensures ∙ ap (λ (y : StationOf). y.note) at ∙ (place_sound h.script c.requires.script h.events s (hand_within h.script c.requires.script h.events s c.requires.lawful)).note in
     on_ok_weaker c.push_all.result

@@ -1,7 +1,7 @@
 -- The table that is due is loaded, and the book takes it.
 
 use Rattle.std.proofs.lemmas.Result.{on_ok_weaker}
-use Rattle.std.proofs.Common.{◌∙◌, ◌++◌, ◌∷◌, ℕ, List, [], ap, subst, sym}
+use Rattle.std.proofs.Common.{◌≡◌, ◌∙◌, ◌++◌, ◌∷◌, ℕ, List, [], ap, subst, sym}
 use Rattle.switch_core.specs.Kept.{StandsFor}
 use Rattle.switch_core.specs.Steps.{loaded}
 use Rattle.fabric_world.specs.Histories.{HistoryOf, world_of}

@@ -15,7 +15,7 @@ clock-requires-clause-samples c = subst (λ (j : Work). HasSamples j (fabric_of 
 
 pub returns-in-Restart-clause-told : goal.returns-in-Restart-clause-told
 unfolding lines_of
-returns-in-Restart-clause-told c = rw c.in-Restart.is (ap (λ (x : Line). x ∷ []) c.restart-_life.ensures.told)
+returns-in-Restart-clause-told c = rw c.in-Restart.is (ap (λ (x : Line). x ∷ []) c.restart-life.ensures.told)
 
 pub returns-in-Clock-clause-told : goal.returns-in-Clock-clause-told
 unfolding lines_of

@@ -8,4 +8,4 @@ pub returns : goal.returns
 returns c =
     let script = c.args.script.now in
     let count : length c.hosts.result.now ≡ length script.wires.hosts = ap length c.hosts.ensures.all ∙ ap (λ (w : Wires). length w.hosts) c.wiring.ensures.wires in
-    nothing_kept script script c.new-2.result.items _ refl (search rules) (c.in_ok-caches.ensures ∙ ap (λ (n : ℕ). replicate n []) count)
+    nothing_kept script script c.new.result.items _ refl (search rules) (c.in_ok-caches.ensures ∙ ap (λ (n : ℕ). replicate n []) count)

@@ -4,6 +4,8 @@ use Rattle.std.specs.Prelude.{refl}
 use Rattle.std.specs.Box.{with_value}
 use Rattle.std.proofs.Common.{◌∙◌, ◌+◌, ◌++◌, List, ap, subst, sym}
 use Rattle.an_base.specs.Rows.{RowOf}
+use Rattle.fabric_state.specs.Lawful.{is_barred}
+use Rattle.fabric_world.specs.World.{world_after}
 use Rattle.fabric_world.specs.declared.ask.Ask.TheVariants as ask
 use Rattle.fabric_world.specs.declared.ask.Reply.TheVariants as reply
 use Rattle.fabric_book.specs.Accounts.{IsAccount, with_load}
@@ -24,7 +26,7 @@ call-requires-clause-fit g c =
     let sheet = with_value c.args.sheet now in
     let given = with_value c.args.sheet (record now { note = c.write_note.new.to }) in
     load_fit view desk.s desk.power_on desk.switch.value sheet given (at_place view desk c.args.papers (pending.Load sheet) step) refl
-    (c.write_note.ensures ∙ ap (λ (p : Parcel). p.done.note) c.deref-2.ensures ∙ step.fits.prepared.0)
+    (c.write_note.ensures ∙ ap (λ (p : Parcel). p.done.note) c.deref.ensures ∙ step.fits.prepared.0)
 
 pub unreachable-requires : goal.unreachable-requires
 unreachable-requires g c =
@@ -35,7 +37,7 @@ unreachable-requires g c =
     let after = c.call.new.seat.1 in
     let given = with_value c.args.sheet (record now { note = c.write_note.new.to }) in
     let called = c.call.ensures.called in
-    replies_load _ step.script (view.seen ++ called.between) desk.s given c.call.result after.seen
+    replies_load (is_barred (world_after step.script (view.seen ++ called.between)).fabric) step.script (view.seen ++ called.between) desk.s given c.call.result after.seen
     (answered view after (ask.Load desk.s given) c.call.result called step.script step.begun) c.in_default.not-Loaded c.in_default.not-NotNow
 
 pub returns-in-Loaded-clause-called : goal.returns-in-Loaded-clause-called
