@@ -1,5 +1,5 @@
 """What bench/expect, bench/check, bench/flood, bench/flow and bench/replay share: the proved program and, where rustc
-is there, the yardstick (bench/yard, an unverified Rust program with the same answers), each on the same input in turn.
+is there, the yardstick (yardsticks/build, an unverified Rust program with the same answers), each on the same input in turn.
 
 The proved program is out/autonet, or the one that the variable AUTONET names. Where it is not there, the yardstick
 is measured alone, and its columns have `-`."""
@@ -29,7 +29,7 @@ class Programs:
     def __init__(self):
         if "AUTONET" not in os.environ:
             subprocess.run([os.path.join(ROOT, "autonet")], stdin=subprocess.DEVNULL, capture_output=True)
-        has_yardstick = subprocess.run([os.path.join(ROOT, "bench", "yard")]).returncode == 0
+        has_yardstick = subprocess.run([os.path.join(ROOT, "yardsticks", "build")]).returncode == 0
         self.proved = PROVED if os.access(PROVED, os.X_OK) else None
         self.yardstick = YARDSTICK if has_yardstick else None
         if self.proved is None and self.yardstick is None:
