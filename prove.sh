@@ -43,43 +43,40 @@ is_current() {
         $(crates "$1" | sed 's|.*|&/src &/specs &/proofs|') -newer "$out/$1" -print -quit 2> /dev/null)" ])
 }
 
-# How far the build is, at the crate $1, with $2 crates left.
+# How many crates are proved at a time: one for each processor, as far as memory holds 2.5 GB for each.
+lanes() {
+    awk -v processors="$(nproc)" '/^MemAvailable:/ { room = int($2 / 2500000) }
+        END { print (room < 1 ? 1 : room < processors ? room : processors) }' /proc/meminfo
+}
+
+# How far the build of $1 crates is: rt begins what it tells of each with a line of its name.
 progress() {
+    left=$(($1 - $(grep -c '^== [a-z_]*$' "$log")))
     seconds=$(($(date +%s) - started))
-    printf '%s: proving %s, %s left, %d min %02d s' "$name" "$1" "$2" $((seconds / 60)) $((seconds % 60)) >&2
+    printf '%s: proving, %s of %s crates left, %d min %02d s' "$name" "$((left > 0 ? left : 0))" "$1" \
+        $((seconds / 60)) $((seconds % 60)) >&2
 }
 
-# Shows how far the build is: once where err is no terminal, and else again and again.
+# Shows how far the build of $1 crates is, again and again: each second on a terminal, else each minute.
 show() {
-    if [ -t 2 ]; then
-        while sleep 1; do
+    progress "$1"
+    [ -t 2 ] || echo >&2
+    while sleep 1; do
+        if [ -t 2 ]; then
             printf '\r' >&2
-            progress "$1" "$2"
-        done
-    else
-        progress "$1" "$2"
-        echo >&2
-    fi
+            progress "$1"
+        elif [ $((($(date +%s) - started) % 60)) = 0 ]; then
+            progress "$1"
+            echo >&2
+        fi
+    done
 }
 
-# Proves the crate $1, or the program with its last crate, with $2 crates left.
-prove() {
-    show "$1" "$2" &
-    ticker=$!
-    if [ "$2" -gt 0 ]; then
-        (cd "$root/crates/$1" && rt lib)
-    else
-        (cd "$root/crates/$1" && { rt run -- "$sample" || [ -x "out/$1" ]; })
-    fi < /dev/null >> "$log" 2>&1
-    status=$?
-    if [ -t 2 ]; then
-        kill "$ticker"
-        printf '\r\033[K' >&2
-    fi
-    wait "$ticker" 2> /dev/null
-    ticker=
-    return "$status"
-}
+# Proves the program $1 and the crates below it, several at a time, and builds it.
+prove() (
+    cd "$root/crates/$1" || exit
+    rt all check --jobs "$(lanes)" && { rt run -- "$sample" || [ -x "out/$1" ]; }
+) < /dev/null >> "$log" 2>&1
 
 # Proves and builds the program $1.
 build() {
@@ -87,11 +84,16 @@ build() {
     rm -f "$root/crates/$program/out/$program" # so that what stands there is what this build made
     # shellcheck disable=SC2046 # (names of crates have no spaces)
     set -- $(crates "$program")
-    while [ $# -gt 0 ]; do
-        prove "$1" $(($# - 1)) || return
-        shift
-    done
-    cp "$root/crates/$program/out/$program" "$out/$program.new" && mv "$out/$program.new" "$out/$program"
+    show $# &
+    ticker=$!
+    prove "$program"
+    status=$?
+    kill "$ticker"
+    wait "$ticker" 2> /dev/null
+    ticker=
+    [ ! -t 2 ] || printf '\r\033[K' >&2
+    [ "$status" = 0 ] &&
+        cp "$root/crates/$program/out/$program" "$out/$program.new" && mv "$out/$program.new" "$out/$program"
 }
 
 # Sees to it that there is an rt.

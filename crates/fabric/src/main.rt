@@ -4,14 +4,12 @@
 //! It has no contract of its own: what it prints, and its status, are those of the call.
 #![tactic(auto)]
 
-mod input;
-
 use an_base::memory::OutOfMemory;
 use an_base::text::Word;
 use calling::words::words_of_call;
 use ib_answering::status::{Status, finish};
 use ib_calls::fabric::fabric;
-use input::Input;
+use ib_judging::input::Input;
 use outside::standard::{StdSink, StdSource};
 use std::process::ExitCode;
 

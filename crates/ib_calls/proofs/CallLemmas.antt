@@ -2,11 +2,11 @@
 use Rattle.std.proofs.Common.{◌≡◌, sym, subst, ℕ, List}
 use Rattle.outside.specs.Told.{Seen}
 use Rattle.ib_answering.specs.Answer.{IsUsageAnswer, Streams}
-use Rattle.ib_calls.specs.declared.words.Call.{Call}
-use Rattle.ib_calls.specs.declared.words.Task.{Task}
+use Rattle.ib_judging.specs.declared.words.Call.{Call}
+use Rattle.ib_judging.specs.declared.words.Task.{Task}
 use Rattle.ib_calls.specs.Call.{IsAnswerOf, IsAnswerTo}
-use Rattle.ib_calls.specs.Words.{AreNoCall, IsCall}
-use Rattle.ib_calls.proofs.WordLemmas.{one_call}
+use Rattle.ib_judging.specs.Words.{AreNoCall, IsCall}
+use Rattle.ib_judging.proofs.WordLemmas.{one_call}
 
 module _ (words : List (List ℕ)) (ranks ranks' : Seen) (old new : Streams) (answer : ℕ) where
   pub answers_call : (call : Call) (task : Task) → IsCall words call → call.task ≡ task → IsAnswerOf task call.traffic ranks ranks' old new answer → IsAnswerTo words ranks ranks' old new answer

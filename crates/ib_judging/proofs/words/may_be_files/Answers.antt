@@ -1,9 +1,9 @@
 use Rattle.std.proofs.Common.{◌∙◌, sym, ap, ℕ, ◌+◌, arith}
 use Rattle.std.proofs.lemmas.List.Sums.{count_by_more_no, count_by_more_yes}
-use Rattle.ib_calls.specs.Words.{is_standard}
-use Rattle.ib_calls.proofs.WordLemmas.{standard_is}
-use Rattle.ib_calls.proofs.words.may_be_files.Goals as goal
-use Rattle.ib_calls.proofs.words.may_be_files.Goals.{then-is_standard, else-is_standard}
+use Rattle.ib_judging.specs.Words.{is_standard}
+use Rattle.ib_judging.proofs.WordLemmas.{standard_is}
+use Rattle.ib_judging.proofs.words.may_be_files.Goals as goal
+use Rattle.ib_judging.proofs.words.may_be_files.Goals.{then-is_standard, else-is_standard}
 
 pub files-preserved : goal.files-preserved
 files-preserved c =

@@ -1,9 +1,9 @@
 use Rattle.std.proofs.Common.{◌-◌, ◌∙◌, sym, ap, subst, List, ℕ, length, take, drop, Option, arith}
 use Rattle.std.specs.Prelude.{MatchOption}
-use Rattle.ib_calls.specs.declared.words.Call.{Call}
-use Rattle.ib_calls.specs.Words.{AreNoCall, IsCall, NameTraffic}
-use Rattle.ib_calls.proofs.WordLemmas.{cut_first, no_traffic}
-use Rattle.ib_calls.proofs.words.call_of.Goals as goal
+use Rattle.ib_judging.specs.declared.words.Call.{Call}
+use Rattle.ib_judging.specs.Words.{AreNoCall, IsCall, NameTraffic}
+use Rattle.ib_judging.proofs.WordLemmas.{cut_first, no_traffic}
+use Rattle.ib_judging.proofs.words.call_of.Goals as goal
 
 pub returns-in_err-traffic : goal.returns-in_err-traffic
 returns-in_err-traffic c =

@@ -5,24 +5,29 @@ use Rattle.std.specs.Str.{bytes_eq}
 use Rattle.ib_routes.specs.declared.traffic.Traffic.{Traffic}
 use Rattle.ib_routes.specs.declared.traffic.Traffic.TheVariants.{Hosts}
 use Rattle.ib_commands.specs.Words.{traffic_word}
-use Rattle.ib_calls.specs.declared.words.Task.{Task}
-use Rattle.ib_calls.specs.declared.words.Task.TheVariants.{Judge, Ranks, Verify, Dot, Route}
-use Rattle.ib_calls.specs.declared.words.Call.{Call}
+use Rattle.ib_judging.specs.declared.words.Task.{Task}
+use Rattle.ib_judging.specs.declared.words.Task.TheVariants.{Answer, Route}
+use Rattle.ib_judging.specs.declared.words.Question.{Question}
+use Rattle.ib_judging.specs.declared.words.Question.TheVariants.{Judge, Ranks, Verify, Dot}
+use Rattle.ib_judging.specs.declared.words.Call.{Call}
 
 -- the word of a task
+abbrev pub question_word : Question → List ℕ
+question_word Judge = codes "judge"
+question_word Ranks = codes "ranks"
+question_word Verify = codes "verify"
+question_word Dot = codes "dot"
+
 abbrev pub task_word : Task → List ℕ
-task_word Judge = codes "judge"
-task_word Ranks = codes "ranks"
-task_word Verify = codes "verify"
-task_word Dot = codes "dot"
+task_word (Answer question) = question_word question
 task_word Route = codes "route"
 
 -- how many files a task has: a topology, but for `route` tables too, and for `verify` ranks
 abbrev pub file_count : Task → ℕ
-file_count Judge = 2
-file_count Ranks = 2
-file_count Verify = 3
-file_count Dot = 2
+file_count (Answer Judge) = 2
+file_count (Answer Ranks) = 2
+file_count (Answer Verify) = 3
+file_count (Answer Dot) = 2
 file_count Route = 1
 
 -- at most one file is standard input

@@ -1,24 +1,31 @@
-//! The words of a call.
+//! The words of a call of `fabric`.
 
 ghost use Rattle.std.specs.Prelude.{◌≡◌, ◌≢◌, ◌↔◌, MatchOption, IsTrue, codes};
 ghost use Rattle.ib_routes.specs.declared.traffic.Traffic.{Traffic};
 ghost use Rattle.ib_commands.specs.Words.{traffic_word};
-ghost use Rattle.ib_calls.specs.Words.{AreNoCall, IsCall, MayBeFiles, NameTraffic, file_count, task_word};
+ghost use Rattle.ib_judging.specs.Words.{AreNoCall, IsCall, MayBeFiles, NameTraffic, file_count, task_word};
 
 use an_base::text::Word;
 use ib_routes::traffic::Traffic;
 
+/// What a call asks of tables.
+#[derive(Clone, Copy)]
+pub enum Question {
+    /// The verdict on them.
+    Judge,
+    /// The ranks of the channels, or the verdict if there is a credit loop.
+    Ranks,
+    /// Whether ranks fall.
+    Verify,
+    /// A picture of the credit loop.
+    Dot,
+}
+
 /// What a call is to do.
 #[derive(Clone, Copy)]
 pub enum Task {
-    /// To tell the verdict on tables.
-    Judge,
-    /// To tell the ranks of the channels, or the verdict where there is a credit loop.
-    Ranks,
-    /// To tell whether ranks fall.
-    Verify,
-    /// To draw the credit loop.
-    Dot,
+    /// To answer a question about tables.
+    Answer(Question),
     /// To make tables.
     Route,
 }
@@ -79,16 +86,16 @@ fn task_named(word: &Word) -> Option<Task>
     ensures { MatchOption result ((task : Task) → word.now ≢ task_word task) (λ task. word.now ≡ task_word task) }
 {
     if is(word, "judge") {
-        return Some(Task::Judge);
+        return Some(Task::Answer(Question::Judge));
     }
     if is(word, "ranks") {
-        return Some(Task::Ranks);
+        return Some(Task::Answer(Question::Ranks));
     }
     if is(word, "verify") {
-        return Some(Task::Verify);
+        return Some(Task::Answer(Question::Verify));
     }
     if is(word, "dot") {
-        return Some(Task::Dot);
+        return Some(Task::Answer(Question::Dot));
     }
     if is(word, "route") {
         return Some(Task::Route);
@@ -101,10 +108,10 @@ fn file_count(task: Task) -> usize
     ensures { result ≡ file_count task }
 {
     match task {
-        Task::Judge => 2,
-        Task::Ranks => 2,
-        Task::Verify => 3,
-        Task::Dot => 2,
+        Task::Answer(Question::Judge) => 2,
+        Task::Answer(Question::Ranks) => 2,
+        Task::Answer(Question::Verify) => 3,
+        Task::Answer(Question::Dot) => 2,
         Task::Route => 1,
     }
 }

@@ -1,7 +1,7 @@
 //! What the words of a call name.
 
+use crate::words::is_standard;
 use an_base::text::Word;
-use ib_calls::words::is_standard;
 use std::fs::{self, Files};
 use std::io::{self, ErrorKind, Read};
 use std::str;

@@ -1,7 +1,7 @@
 use Rattle.std.proofs.Common.{◌≡◌, ◌≤◌, take}
 use Rattle.std.specs.Prelude.{count_by}
-use Rattle.ib_calls.specs.Words.{is_standard}
-use Rattle.ib_calls.proofs.words.may_be_files.Given as goal
+use Rattle.ib_judging.specs.Words.{is_standard}
+use Rattle.ib_judging.proofs.words.may_be_files.Given as goal
 
 -- the files so far that are standard input
 abbrev pub invariant-files : goal.invariant-files

@@ -1,8 +1,8 @@
 use Rattle.std.proofs.Common.{refl, subst}
 use Rattle.ib_answering.specs.declared.status.Status.{Status}
 use Rattle.ib_answering.specs.Status.{IsToldOf}
-use Rattle.ib_calls.specs.Call.{not_read, read}
-use Rattle.ib_calls.proofs.fabric.answer_verify.Goals as goal
+use Rattle.ib_judging.specs.Questions.{not_read, read}
+use Rattle.ib_judging.proofs.question.answer_verify.Goals as goal
 
 pub returns-in-Ok : goal.returns-in-Ok
 returns-in-Ok g c = read (record { bytes = c.in-Ok.ranks.items; read = c.in-Ok.ensures.found; answers = c.answer.ensures })

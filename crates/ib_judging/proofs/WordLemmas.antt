@@ -8,10 +8,11 @@ use Rattle.std.proofs.lemmas.Slice.Eq.{bytes_eq-Decides}
 use Rattle.ib_routes.specs.declared.traffic.Traffic.{Traffic}
 use Rattle.ib_routes.specs.declared.traffic.Traffic.TheVariants.{Hosts, Lids, All}
 use Rattle.ib_commands.specs.Words.{traffic_word}
-use Rattle.ib_calls.specs.declared.words.Task.{Task}
-use Rattle.ib_calls.specs.declared.words.Task.TheVariants.{Judge, Ranks, Verify, Dot, Route}
-use Rattle.ib_calls.specs.declared.words.Call.{Call}
-use Rattle.ib_calls.specs.Words.{AreNoCall, IsCall, NameTraffic, file_count, is_standard, task_word}
+use Rattle.ib_judging.specs.declared.words.Task.{Task}
+use Rattle.ib_judging.specs.declared.words.Task.TheVariants.{Answer, Route}
+use Rattle.ib_judging.specs.declared.words.Question.TheVariants.{Judge, Ranks, Verify, Dot}
+use Rattle.ib_judging.specs.declared.words.Call.{Call}
+use Rattle.ib_judging.specs.Words.{AreNoCall, IsCall, NameTraffic, file_count, is_standard, task_word}
 
 -- no two words of traffics are equally long
 traffic_of_length : ℕ → Traffic
@@ -29,14 +30,14 @@ one_word one other same = sym (by_length one) ∙ ap (λ (w : List ℕ). traffic
 -- the words of tasks have different third letters
 task_of_letter : ℕ → Task
 task_of_letter letter =
-    cond (eqb letter 100) Judge (cond (eqb letter 110) Ranks (cond (eqb letter 114) Verify (cond (eqb letter 116) Dot Route)))
+    cond (eqb letter 100) (Answer Judge) (cond (eqb letter 110) (Answer Ranks) (cond (eqb letter 114) (Answer Verify) (cond (eqb letter 116) (Answer Dot) Route)))
 
 by_letter : (task : Task) → task_of_letter (slice_index (task_word task) 2) ≡ task
 unfolding task_of_letter
-by_letter Judge = refl
-by_letter Ranks = refl
-by_letter Verify = refl
-by_letter Dot = refl
+by_letter (Answer Judge) = refl
+by_letter (Answer Ranks) = refl
+by_letter (Answer Verify) = refl
+by_letter (Answer Dot) = refl
 by_letter Route = refl
 
 one_task : (one other : Task) → task_word one ≡ task_word other → one ≡ other

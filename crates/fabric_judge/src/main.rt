@@ -1,0 +1,50 @@
+//! The program of `judge`, `ranks`, `verify` and `dot` alone, which is proved and built long before that of all commands.
+//!
+//! It has no contract of its own: what it prints, and its status, are those of the call.
+#![tactic(auto)]
+
+use an_base::memory::OutOfMemory;
+use an_base::text::Word;
+use calling::words::words_of_call;
+use ib_answering::status::{Status, finish};
+use ib_judging::input::Input;
+use ib_judging::question::answer_question;
+use ib_judging::words::{Call, Task, call_of};
+use outside::standard::{StdSink, StdSource};
+use std::process::ExitCode;
+
+// Answers the words over the files that those after the first name.
+fn answer(rt: &HostRuntime, words: &[Word]) -> u8 {
+    let mut topology = StdSource::new(Input::named(rt, rt.stdin(), words.get(1)));
+    let mut tables = StdSource::new(Input::named(rt, rt.stdin(), words.get(2)));
+    let mut ranks = StdSource::new(Input::named(rt, rt.stdin(), words.get(3)));
+    let mut out = StdSink::new(rt.stdout());
+    let mut err = StdSink::new(rt.stderr());
+    let Some(
+        Call {
+            task: Task::Answer(question),
+            traffic,
+        },
+    ) = call_of(words)
+    else {
+        return finish(&mut err, Status::Usage);
+    };
+    answer_question(
+        rt.alloc(),
+        &mut topology,
+        &mut tables,
+        &mut ranks,
+        &mut out,
+        &mut err,
+        question,
+        traffic,
+    )
+}
+
+fn main(rt: HostRuntime) -> ExitCode {
+    let code = match words_of_call(&rt) {
+        Ok(words) => answer(&rt, &words),
+        Err(OutOfMemory) => finish(&mut StdSink::new(rt.stderr()), Status::OutOfMemory),
+    };
+    ExitCode::from(code)
+}

@@ -1,0 +1,79 @@
+//! A question about tables is answered.
+
+ghost use Rattle.std.specs.Prelude.{◌≡◌};
+ghost use Rattle.ib_answering.specs.Answer.{streams};
+ghost use Rattle.ib_judging.specs.Questions.{IsAnswerToQuestion, IsVerifyAnswer, ranks_unread_as};
+
+use crate::words::Question;
+use calling::input::{Unread, read_input};
+use ib_answering::command::answer;
+use ib_answering::status::{Status, finish};
+use ib_commands::commands::{Judge, Ranks};
+use ib_commands::dot::Dot;
+use ib_commands::verify::Verify;
+use ib_routes::traffic::Traffic;
+use outside::sink::Sink;
+use outside::source::Source;
+use std::alloc::Global;
+
+/// The most bytes of ranks.
+pub const RANKS_LIMIT: usize = 1 << 28;
+
+// The status of ranks that were not read.
+fn ranks_unread(why: Unread) -> Status
+    ensures { result ≡ ranks_unread_as why }
+{
+    match why {
+        Unread::Fault => Status::ReadFault,
+        Unread::TooLong { line } => Status::RanksTooLong { line },
+        Unread::OutOfMemory => Status::OutOfMemory,
+    }
+}
+
+// Answers `verify`.
+fn answer_verify<T: Source, S: Source, R: Source, O: Sink, E: Sink>(
+    alloc: Global,
+    topology: &mut T,
+    tables: &mut S,
+    ranks: &mut R,
+    out: &mut O,
+    err: &mut E,
+    traffic: Traffic,
+) -> u8
+    ensures { IsVerifyAnswer traffic (R.seen ranks.old) (R.seen ranks.new)
+        (streams (T.seen topology.old) (S.seen tables.old) (O.seen out.old) (E.seen err.old))
+        (streams (T.seen topology.new) (S.seen tables.new) (O.seen out.new) (E.seen err.new)) result }
+{
+    match read_input(alloc, ranks, RANKS_LIMIT) {
+        Ok(ranks) => {
+            let command = Verify { traffic, ranks };
+            answer(&command, alloc, topology, tables, out, err)
+        }
+        Err(why) => finish(err, ranks_unread(why)),
+    }
+}
+
+/// Answers a question about the tables of a topology, by the routes of a traffic: the sources are read to their ends, for
+/// `Verify` that of ranks first, which the others leave alone; out gains the verdict, the ranks, a picture, or whether the
+/// ranks fall. The answer is the number of how the call ended, and its line goes to err.
+pub fn answer_question<T: Source, S: Source, R: Source, O: Sink, E: Sink>(
+    alloc: Global,
+    topology: &mut T,
+    tables: &mut S,
+    ranks: &mut R,
+    out: &mut O,
+    err: &mut E,
+    question: Question,
+    traffic: Traffic,
+) -> u8
+    ensures { IsAnswerToQuestion question traffic (R.seen ranks.old) (R.seen ranks.new)
+        (streams (T.seen topology.old) (S.seen tables.old) (O.seen out.old) (E.seen err.old))
+        (streams (T.seen topology.new) (S.seen tables.new) (O.seen out.new) (E.seen err.new)) result }
+{
+    match question {
+        Question::Judge => answer(&Judge { traffic }, alloc, topology, tables, out, err),
+        Question::Ranks => answer(&Ranks { traffic }, alloc, topology, tables, out, err),
+        Question::Verify => answer_verify(alloc, topology, tables, ranks, out, err, traffic),
+        Question::Dot => answer(&Dot { traffic }, alloc, topology, tables, out, err),
+    }
+}
