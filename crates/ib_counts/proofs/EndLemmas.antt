@@ -46,7 +46,7 @@ module _ (hop_at : ℕ → Hop) (start : ℕ) where
       let e : hop_at at ≡ hop_at there = ap hop_at same in
       absurd (cc)
 
-  one_ending : (one other : Outcome) → EndsAs hop_at start one → EndsAs hop_at start other → one ≡ other
+  pub one_ending : (one other : Outcome) → EndsAs hop_at start one → EndsAs hop_at start other → one ≡ other
   one_ending (Arrives one) (Arrives other) first second = ap (λ (n : ℕ). Arrives n) (both_arrive one other first second)
   one_ending (Arrives one) (Stops cause) first second = absurd (arrives_or_stops one cause first second)
   one_ending (Arrives one) Loops (hops, at, walk, is, count) second = absurd (no_loop hops at walk (arrive_last at is) second)

@@ -10,7 +10,7 @@ use Rattle.ib_routes.specs.declared.hop.Outcome.TheVariants.{Arrives}
 use Rattle.ib_routes.specs.Routes.{EndsAs}
 use Rattle.ib_routes.proofs.TraceLemmas.{ends_longer}
 
-no_height : (count at : ℕ) → ◌≡◌ {A = ℕ} (get_or (replicate count 0) at 0) 0
+pub no_height : (count at : ℕ) → ◌≡◌ {A = ℕ} (get_or (replicate count 0) at 0) 0
 no_height count at = elim (cases_lt at count) [
   | inl low ↦ get_or-replicate count at 0 0 low
   | inr past ↦ (let size = length-replicate {A = ℕ} count 0 in get_or_past (replicate count 0) at 0 (omega arith))

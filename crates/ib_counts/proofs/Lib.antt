@@ -1,7 +1,7 @@
-mod LostLemmas
-mod EndLemmas
+pub mod LostLemmas
+pub mod EndLemmas
 mod MoreLemmas
-mod PlaceLemmas
+pub mod PlaceLemmas
 mod StepLemmas
-mod HeightLemmas
+pub mod HeightLemmas
 mod LongestLemmas

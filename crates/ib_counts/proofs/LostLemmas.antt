@@ -25,7 +25,7 @@ module _ (hop_at : ℕ → Hop) (start : ℕ) where
   place (suc hops) = next_of (hop_at (place hops)) (place hops)
 
   -- a walk comes there
-  walk_place : (hops at : ℕ) → WalksBy hop_at hops start at → at ≡ place hops
+  pub walk_place : (hops at : ℕ) → WalksBy hop_at hops start at → at ≡ place hops
   walk_place zero at walk = sym walk
   walk_place (suc hops) at (before, port, walk, on) =
       let same = walk_place hops before walk in
@@ -111,10 +111,10 @@ module _ (hop_at : ℕ → Hop) (start : ℕ) where
     place_low zero = low
     place_low (suc hops) = next_low (hop_at (place hops)) (place hops) refl (place_low hops)
 
-    abbrev GoesRound : Type 0
+    abbrev pub GoesRound : Type 0
     GoesRound = (base round : ℕ) × (0 < round) × (base + round ≤ count) × (place (base + round) ≡ place base)
 
-    two : GoesRound
+    pub two : GoesRound
     two =
         let (i, j, less, most, same) = pigeons count place (λ k few. place_low k) in
         let there : i + (j - i) ≡ j = omega arith in

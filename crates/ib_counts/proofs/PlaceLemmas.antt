@@ -17,7 +17,7 @@ use Rattle.ib_routes.proofs.WitnessLemmas.{owned_low}
 
 module _ (fabric : FabricOf) where
   -- one end port stands at a place
-  one_place : (a b : EndPort) → IsEndPort fabric a → IsEndPort fabric b → place_of fabric a ≡ place_of fabric b → a ≡ b
+  pub one_place : (a b : EndPort) → IsEndPort fabric a → IsEndPort fabric b → place_of fabric a ≡ place_of fabric b → a ≡ b
   one_place (Host a) (Host b) is other same = ap Host same
   one_place (Host a) (Switch b) is other same = absurd (omega arith)
   one_place (Switch a) (Host b) is other same = absurd (omega arith)

@@ -1,4 +1,5 @@
--- How routes are counted, LID by LID and end port by end port. Only private functions cite this.
+-- How routes are counted, LID by LID and end port by end port. But for `place_of` and `IsEndPort` only private
+-- functions cite this.
 use Rattle.std.specs.Prelude.{◌≡◌, ◌<◌, ◌≤◌, ◌≢◌, ◌+◌, ◌*◌, ◌^◌, ◌⊎◌, ℕ}
 use Rattle.std.specs.Prelude.{List, Option, Some, None, length}
 use Rattle.ib_cells.specs.Cells.{TablesOf}

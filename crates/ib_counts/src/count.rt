@@ -27,15 +27,16 @@ use ib_routes::trace::{Mark, Target, trace};
 use ib_routes::traffic::Traffic;
 use std::alloc::Global;
 
-// Marks all switches as new.
-fn forget(marks: &mut [Mark])
+/// Marks all switches as new.
+pub fn forget(marks: &mut [Mark])
     ensures { marks.new ≡ replicate (length marks.old) New }
 {
     marks.fill(Mark::New);
 }
 
-// How the route to a LID from a switch ends.
-fn end_from(
+/// How the route to a LID from a switch ends. The marks are of the same LID, and the path is a room for the switches of a
+/// route.
+pub fn end_from(
     fabric: &Fabric,
     cells: &Cells,
     lid: u16,
@@ -298,6 +299,7 @@ pub fn count_routes(
     requires owners { length fabric.now.owners ≤ 64 * cells.now.blocks }
     ensures counts { IfOk result (AreCounts fabric.now (tables_of cells.now) traffic) }
     ensures few { IfOk result (λ counts. sum_of counts.lost < 2 ^ 64) }
+    ensures most { IfOk result (λ counts. counts.routes ≤ 2 ^ 40) }
 {
     let senders = find_senders(alloc, fabric, traffic)?;
     let mut starts = vec![in alloc; 0u64; fabric.switches()]?;

@@ -1,6 +1,6 @@
-mod MarkLemmas
+pub mod MarkLemmas
 mod TakenLemmas
-mod WordLemmas
+pub mod WordLemmas
 mod RunLemmas
 pub mod StartLemmas
 mod FoundLemmas

@@ -14,7 +14,7 @@ use Rattle.ib_routes.specs.declared.traffic.Traffic.{Traffic}
 use Rattle.ib_routes.specs.Routes.{Channel, ComesBy, ComesTo, EndsAs, Sends, Takes}
 use Rattle.ib_routes.specs.Found.{IsLeastWitness}
 use Rattle.ib_routes.specs.Trace.{hop_to, way}
-use Rattle.ib_routes.specs.Witness.{GoesBy, IsFirstHost, IsFirstSource, IsFirstSwitch, IsLeastAt, IsLesser, NoHostComes, NoSourceComes, NoSourceTakes, NoSwitchComes}
+use Rattle.ib_routes.specs.Witness.{Comes, GoesBy, IsFirst, IsFirstSource, IsLeastAt, IsLesser, NoSourceTakes}
 use Rattle.ib_routes.proofs.StartLemmas.{cabled_low, source_low}
 use Rattle.ib_routes.proofs.UntilLemmas.{arrives_alone, arrives_comes, arrives_soon, comes_arrives}
 
@@ -50,47 +50,53 @@ module _ (fabric : FabricOf) (tables : TablesOf) (traffic : Traffic) (lid via : 
   pub switch_low : (switch : ℕ) → ComesTo fabric tables traffic lid (Switch switch) via → switch < switch_count fabric
   switch_low switch comes = source_low fabric traffic switch comes.sends.is_source
 
-  -- the first of hosts and the first of switches
-  module _ (fits : IsFabric fabric) where
-    first_host : (end : ℕ) → IsFirstHost fabric tables traffic lid via end → (other : ℕ) → ComesTo fabric tables traffic lid (Host other) via → guid_of fabric (Host end) ≤ guid_of fabric (Host other)
-    first_host end is other comes = elim (cases_lt other end) [
-      | inl before ↦ absurd (is.first other before comes)
-      | inr after ↦ (let low = host_low other comes in let same = fits.cables in host_guids fabric fits end other after (omega arith))
-    ]
+-- the first of hosts and the first of switches
+module _ (fabric : FabricOf) (fits : IsFabric fabric) (Is : EndPort → Type 0) (host_is : (end : ℕ) → Is (Host end) → end < length fabric.cables) (switch_is : (switch : ℕ) → Is (Switch switch) → switch < switch_count fabric) where
+  abbrev IsHost : ℕ → Type 0
+  IsHost end = Is (Host end)
 
-    first_switch : (switch : ℕ) → IsFirstSwitch fabric tables traffic lid via switch → (other : ℕ) → ComesTo fabric tables traffic lid (Switch other) via → guid_of fabric (Switch switch) ≤ guid_of fabric (Switch other)
-    first_switch switch is other comes = elim (cases_lt other switch) [
-      | inl before ↦ absurd (is.first other before comes)
-      | inr after ↦ switch_guids fabric fits switch other after (switch_low other comes)
-    ]
+  abbrev IsSwitch : ℕ → Type 0
+  IsSwitch switch = Is (Switch switch)
 
-    none_comes : NoHostComes fabric tables traffic lid via → NoSwitchComes fabric tables traffic lid via → (source : EndPort) → ComesTo fabric tables traffic lid source via → ⊥
-    none_comes hosts switches (Host end) comes = hosts end comes
-    none_comes hosts switches (Switch switch) comes = switches switch comes
+  first_host : (end : ℕ) → IsFirst IsHost end → (other : ℕ) → Is (Host other) → guid_of fabric (Host end) ≤ guid_of fabric (Host other)
+  first_host end has other is = elim (cases_lt other end) [
+    | inl before ↦ absurd (has.first other before is)
+    | inr after ↦ (let low = host_is other is in let same = fits.cables in host_guids fabric fits end other after (omega arith))
+  ]
 
-    is_host : (end : ℕ) → IsFirstHost fabric tables traffic lid via end → ((other : ℕ) → ComesTo fabric tables traffic lid (Switch other) via → guid_of fabric (Host end) ≤ guid_of fabric (Switch other)) → IsFirstSource fabric tables traffic lid via (Host end)
-    is_host end is switches = record { comes = is.comes; first = go }
-      where
-        go : (other : EndPort) → ComesTo fabric tables traffic lid other via → guid_of fabric (Host end) ≤ guid_of fabric other
-        go (Host other) comes = first_host end is other comes
-        go (Switch other) comes = switches other comes
+  first_switch : (switch : ℕ) → IsFirst IsSwitch switch → (other : ℕ) → Is (Switch other) → guid_of fabric (Switch switch) ≤ guid_of fabric (Switch other)
+  first_switch switch has other is = elim (cases_lt other switch) [
+    | inl before ↦ absurd (has.first other before is)
+    | inr after ↦ switch_guids fabric fits switch other after (switch_is other is)
+  ]
 
-    is_switch : (switch : ℕ) → IsFirstSwitch fabric tables traffic lid via switch → ((other : ℕ) → ComesTo fabric tables traffic lid (Host other) via → guid_of fabric (Switch switch) ≤ guid_of fabric (Host other)) → IsFirstSource fabric tables traffic lid via (Switch switch)
-    is_switch switch is hosts = record { comes = is.comes; first = go }
-      where
-        go : (other : EndPort) → ComesTo fabric tables traffic lid other via → guid_of fabric (Switch switch) ≤ guid_of fabric other
-        go (Host other) comes = hosts other comes
-        go (Switch other) comes = first_switch switch is other comes
+  none_is : ((end : ℕ) → Is (Host end) → ⊥) → ((switch : ℕ) → Is (Switch switch) → ⊥) → (source : EndPort) → Is source → ⊥
+  none_is hosts switches (Host end) is = hosts end is
+  none_is hosts switches (Switch switch) is = switches switch is
 
-    abbrev IsFound : Option EndPort → Type 0
-    IsFound found = MatchOption found (NoSourceComes fabric tables traffic lid via) (IsFirstSource fabric tables traffic lid via)
+  is_host : (end : ℕ) → IsFirst IsHost end → ((other : ℕ) → Is (Switch other) → guid_of fabric (Host end) ≤ guid_of fabric (Switch other)) → IsFirstSource fabric Is (Host end)
+  is_host end has switches = record { is = has.is; first = go }
+    where
+      go : (other : EndPort) → Is other → guid_of fabric (Host end) ≤ guid_of fabric other
+      go (Host other) is = first_host end has other is
+      go (Switch other) is = switches other is
 
-    pub first_of : (host switch : Option ℕ) (found : Option EndPort) → MatchOption host (NoHostComes fabric tables traffic lid via) (IsFirstHost fabric tables traffic lid via) → MatchOption switch (NoSwitchComes fabric tables traffic lid via) (IsFirstSwitch fabric tables traffic lid via) → IsLesser fabric host switch found → IsFound found
-    first_of None None found hosts switches is = subst IsFound (sym is) (none_comes hosts switches)
-    first_of (Some end) None found hosts switches is = subst IsFound (sym is) (is_host end hosts (λ other comes. absurd (switches other comes)))
-    first_of None (Some switch) found hosts switches is = subst IsFound (sym is) (is_switch switch switches (λ other comes. absurd (hosts other comes)))
-    first_of (Some end) (Some switch) found hosts switches (inl (is, le)) = subst IsFound (sym is) (is_host end hosts (λ other comes. (let more = first_switch switch switches other comes in omega arith)))
-    first_of (Some end) (Some switch) found hosts switches (inr (is, le)) = subst IsFound (sym is) (is_switch switch switches (λ other comes. (let more = first_host end hosts other comes in omega arith)))
+  is_switch : (switch : ℕ) → IsFirst IsSwitch switch → ((other : ℕ) → Is (Host other) → guid_of fabric (Switch switch) ≤ guid_of fabric (Host other)) → IsFirstSource fabric Is (Switch switch)
+  is_switch switch has hosts = record { is = has.is; first = go }
+    where
+      go : (other : EndPort) → Is other → guid_of fabric (Switch switch) ≤ guid_of fabric other
+      go (Host other) is = hosts other is
+      go (Switch other) is = first_switch switch has other is
+
+  abbrev IsFound : Option EndPort → Type 0
+  IsFound found = MatchOption found ((source : EndPort) → Is source → ⊥) (IsFirstSource fabric Is)
+
+  pub first_of : (host switch : Option ℕ) (found : Option EndPort) → MatchOption host ((end : ℕ) → Is (Host end) → ⊥) (IsFirst IsHost) → MatchOption switch ((at : ℕ) → Is (Switch at) → ⊥) (IsFirst IsSwitch) → IsLesser fabric host switch found → IsFound found
+  first_of None None found hosts switches is = subst IsFound (sym is) (none_is hosts switches)
+  first_of (Some end) None found hosts switches is = subst IsFound (sym is) (is_host end hosts (λ other there. absurd (switches other there)))
+  first_of None (Some switch) found hosts switches is = subst IsFound (sym is) (is_switch switch switches (λ other there. absurd (hosts other there)))
+  first_of (Some end) (Some switch) found hosts switches (inl (is, le)) = subst IsFound (sym is) (is_host end hosts (λ other there. (let more = first_switch switch switches other there in omega arith)))
+  first_of (Some end) (Some switch) found hosts switches (inr (is, le)) = subst IsFound (sym is) (is_switch switch switches (λ other there. (let more = first_host end hosts other there in omega arith)))
 
 -- who comes to the switch of a channel takes it and the next
 module _ (fabric : FabricOf) (tables : TablesOf) (traffic : Traffic) (lid : ℕ) (channel next : Channel) where
@@ -103,9 +109,9 @@ module _ (fabric : FabricOf) (tables : TablesOf) (traffic : Traffic) (lid : ℕ)
   abbrev IsAt : Option EndPort → Type 0
   IsAt found = MatchOption found (NoSourceTakes fabric tables traffic lid channel next) (IsLeastAt fabric tables traffic lid channel next)
 
-  pub least_at : GoesBy fabric tables lid channel next → (found : Option EndPort) → MatchOption found (NoSourceComes fabric tables traffic lid channel.switch) (IsFirstSource fabric tables traffic lid channel.switch) → IsAt found
+  pub least_at : GoesBy fabric tables lid channel next → (found : Option EndPort) → MatchOption found ((source : EndPort) → Comes fabric tables traffic lid channel.switch source → ⊥) (IsFirstSource fabric (Comes fabric tables traffic lid channel.switch)) → IsAt found
   least_at goes None none = λ source takes. none source takes.comes
-  least_at goes (Some source) is = record { takes = takes_of goes source is.comes; first = λ other takes. is.first other takes.comes }
+  least_at goes (Some source) has = record { takes = takes_of goes source has.is; first = λ other takes. has.first other takes.comes }
 
 -- to a LID beyond those that have owners no one sends
 pub owned_low : (fabric : FabricOf) (traffic : Traffic) (lid : ℕ) (source : EndPort) → Sends fabric traffic lid source → lid < length fabric.owners

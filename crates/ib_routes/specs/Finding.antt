@@ -39,11 +39,11 @@ pub record AreDependencies (fabric : FabricOf) (tables : TablesOf) (traffic : Tr
       (one other : ℕ) → LeadsTo graph one other
       → (channel next : Channel) × IsChannel fabric channel × IsChannel fabric next × (one ≡ number fabric channel) × (other ≡ number fabric next)
 
--- the number of port 1 of the switch to which a port leads
+-- the number of the first channel of the switch to which a port leads, if each switch has so many
 abbrev pub base_of : ℕ → Side → ℕ
-base_of most (To next entry) = next * most
-base_of most Bare = 0
-base_of most (End end) = 0
+base_of channels (To next entry) = next * channels
+base_of channels Bare = 0
+base_of channels (End end) = 0
 
 -- the first so many bases
 abbrev pub AreBases : FabricOf → ℕ → List ℕ → Type 0

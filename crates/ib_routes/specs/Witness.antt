@@ -1,4 +1,4 @@
--- How a witness is looked for. Only private functions cite this.
+-- How a witness is looked for. But for `IsFirst`, `IsFirstSource` and `IsLesser` only private functions cite this.
 use Rattle.std.specs.Prelude.{◌≡◌, ◌<◌, ◌≤◌, ◌⊎◌, ℕ, Option, Some, None}
 use Rattle.ib_net.specs.declared.node.EndPort.{EndPort}
 use Rattle.ib_net.specs.declared.node.EndPort.TheVariants.{Host, Switch}
@@ -20,28 +20,19 @@ GoesBy fabric tables lid channel next =
     (hop fabric tables channel.switch lid ≡ On channel.port next.switch)
     × ((after : ℕ) × (hop fabric tables next.switch lid ≡ On next.port after))
 
-module _ (fabric : FabricOf) (tables : TablesOf) (traffic : Traffic) (lid via : ℕ) where
-  abbrev pub NoHostComes : Type 0
-  NoHostComes = (end : ℕ) → ComesTo fabric tables traffic lid (Host end) via → ⊥
+-- the first number of a kind
+pub record IsFirst (Is : ℕ → Type 0) (number : ℕ) : Type 0 where
+  pub is : Is number
+  pub first : (other : ℕ) → other < number → Is other → ⊥
 
-  abbrev pub NoSwitchComes : Type 0
-  NoSwitchComes = (switch : ℕ) → ComesTo fabric tables traffic lid (Switch switch) via → ⊥
+-- the end port of least GUID of a kind
+pub record IsFirstSource (fabric : FabricOf) (Is : EndPort → Type 0) (source : EndPort) : Type 0 where
+  pub is : Is source
+  pub first : (other : EndPort) → Is other → guid_of fabric source ≤ guid_of fabric other
 
-  abbrev pub NoSourceComes : Type 0
-  NoSourceComes = (source : EndPort) → ComesTo fabric tables traffic lid source via → ⊥
-
-  -- the first that comes
-  pub record IsFirstHost (end : ℕ) : Type 0 where
-    pub comes : ComesTo fabric tables traffic lid (Host end) via
-    pub first : (other : ℕ) → other < end → ComesTo fabric tables traffic lid (Host other) via → ⊥
-
-  pub record IsFirstSwitch (switch : ℕ) : Type 0 where
-    pub comes : ComesTo fabric tables traffic lid (Switch switch) via
-    pub first : (other : ℕ) → other < switch → ComesTo fabric tables traffic lid (Switch other) via → ⊥
-
-  pub record IsFirstSource (source : EndPort) : Type 0 where
-    pub comes : ComesTo fabric tables traffic lid source via
-    pub first : (other : EndPort) → ComesTo fabric tables traffic lid other via → guid_of fabric source ≤ guid_of fabric other
+-- the route of an end port to a LID comes to a switch
+abbrev pub Comes : FabricOf → TablesOf → Traffic → (lid via : ℕ) → EndPort → Type 0
+Comes fabric tables traffic lid via source = ComesTo fabric tables traffic lid source via
 
 module _ (fabric : FabricOf) (tables : TablesOf) (traffic : Traffic) (lid : ℕ) where
   -- the first whose route takes a channel and then another one

@@ -141,15 +141,15 @@ pub struct Found {
     pub stopped: bool,
 }
 
-// The number of port 1 of the switch to which a port leads.
-fn find_base(most: usize, side: Side) -> u32
-    requires most { most < 255 }
+/// The number of the first channel of the switch to which a port leads, if each switch has so many; 0 if it leads to none.
+pub fn find_base(channels: usize, side: Side) -> u32
+    requires channels { channels < 2 ^ 12 }
     requires side { LeadsWithin (2 ^ 20) side }
-    ensures { result ≡ base_of most side }
+    ensures { result ≡ base_of channels side }
 {
     match side {
         Side::Bare => 0,
-        Side::To(next, _) => (next as usize * most) as u32,
+        Side::To(next, _) => (next as usize * channels) as u32,
         Side::End(_) => 0,
     }
 }

@@ -32,9 +32,9 @@ pub enum Outcome {
     Loops,
 }
 
-// Whether an end port of an adapter or router owns a LID.
+/// Whether an end port of an adapter or router owns a LID.
 #[inline]
-fn is_of_host(fabric: &Fabric, lid: usize, end: u32) -> bool
+pub fn is_of_host(fabric: &Fabric, lid: usize, end: u32) -> bool
     ensures { result ≡ is_host (owner_of fabric.now lid) end }
 {
     match fabric.owner(lid) {
@@ -44,9 +44,9 @@ fn is_of_host(fabric: &Fabric, lid: usize, end: u32) -> bool
     }
 }
 
-// Whether a switch owns a LID.
+/// Whether a switch owns a LID.
 #[inline]
-fn is_of_switch(fabric: &Fabric, lid: usize, switch: usize) -> bool
+pub fn is_of_switch(fabric: &Fabric, lid: usize, switch: usize) -> bool
     ensures { result ≡ is_switch (owner_of fabric.now lid) switch }
 {
     match fabric.owner(lid) {

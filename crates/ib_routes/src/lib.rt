@@ -9,7 +9,7 @@
 
 pub mod find;
 pub mod hop;
-mod link;
+pub mod link;
 pub mod start;
 pub mod trace;
 pub mod traffic;

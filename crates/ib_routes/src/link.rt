@@ -52,9 +52,9 @@ pub fn find_links(alloc: Global, fabric: &Fabric) -> Result<Vec<u64>, OutOfMemor
     Ok(links)
 }
 
-// Whether a port leads to a switch.
+/// Whether a port leads to a switch.
 #[inline]
-fn is_link(fabric: &Fabric, links: &[u64], switch: usize, port: u8) -> bool
+pub fn is_link(fabric: &Fabric, links: &[u64], switch: usize, port: u8) -> bool
     requires links { AreLinks fabric.now links.now }
     requires switch { switch < switch_count fabric.now }
     ensures { IsTrue result ↔ IsTo (side_of fabric.now switch port) }

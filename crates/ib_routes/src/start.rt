@@ -80,9 +80,9 @@ pub fn sender_start(fabric: &Fabric, traffic: Traffic, lid: usize, source: EndPo
     begins_at(fabric, source)
 }
 
-// Whether an end port owns a LID.
+/// Whether an end port owns a LID.
 #[inline]
-fn is_owner(fabric: &Fabric, lid: usize, who: EndPort) -> bool
+pub fn is_owner(fabric: &Fabric, lid: usize, who: EndPort) -> bool
     ensures { IsTrue result ↔ (owner_of fabric.now lid ≡ Some who) }
 {
     match fabric.owner(lid) {
@@ -139,8 +139,8 @@ fn owned_by(fabric: &Fabric, block: usize, who: EndPort) -> u64
     word
 }
 
-// The LIDs of a block to which end ports send.
-fn targets_of(fabric: &Fabric, traffic: Traffic, block: usize) -> u64
+/// The LIDs of a block to which end ports send, as bits.
+pub fn targets_of(fabric: &Fabric, traffic: Traffic, block: usize) -> u64
     requires { block < 1024 }
     ensures { AreTargets fabric.now traffic block result }
 {

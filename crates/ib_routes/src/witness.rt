@@ -1,14 +1,16 @@
 //! By which route a channel depends on another.
 
 ghost use Rattle.std.specs.Prelude.{◌≡◌, ◌<◌, ◌≤◌, ◌*◌, ◌^◌, ◌↔◌, ℕ, length, IfOk, IsTrue, MatchOption};
+ghost use Rattle.ib_net.specs.declared.node.EndPort.{EndPort};
+ghost use Rattle.ib_net.specs.declared.node.EndPort.TheVariants as port;
 ghost use Rattle.ib_net.specs.Fabric.{IsFabric, switch_count};
 ghost use Rattle.ib_cells.specs.Cells.{tables_of};
 ghost use Rattle.ib_routes.specs.Found.{IsLeastWitness, channel_of};
 ghost use Rattle.ib_routes.specs.Finding.{HasNoWitness};
 ghost use Rattle.ib_routes.specs.Routes.{ComesTo};
 ghost use Rattle.ib_routes.specs.Trace.{IsReady, hop_to, way};
-ghost use Rattle.ib_routes.specs.Witness.{GoesBy, IsFirstHost, IsFirstSource, IsFirstSwitch, IsNextBy, NoHostComes, NoSourceComes};
-ghost use Rattle.ib_routes.specs.Witness.{IsLesser, IsLesserOf, IsLeastAt, NoSwitchComes, NoSourceTakes};
+ghost use Rattle.ib_routes.specs.Witness.{Comes, GoesBy, IsFirst, IsFirstSource, IsNextBy};
+ghost use Rattle.ib_routes.specs.Witness.{IsLesser, IsLesserOf, IsLeastAt, NoSourceTakes};
 
 use crate::hop::{Hop, Outcome, hop_at};
 use crate::start::{begins_at, is_target, sends};
@@ -61,8 +63,9 @@ fn goes_by(fabric: &Fabric, cells: &Cells, lid: usize, channel: Spot, next: Spot
     }
 }
 
-// Whether the route of an end port to a LID comes to a switch.
-fn comes(
+/// Whether the route of an end port to a LID comes to a switch. The marks are those of routes to the LID that are followed
+/// until they come there, and the path is a room for the switches of a route.
+pub fn comes(
     fabric: &Fabric,
     cells: &Cells,
     traffic: Traffic,
@@ -116,8 +119,9 @@ fn first_host(
     requires ready { IsReady (hop_to fabric.now (tables_of cells.now) (way lid via)) (switch_count fabric.now)
         marks.old }
     ensures ready { IsReady (hop_to fabric.now (tables_of cells.now) (way lid via)) (switch_count fabric.now) marks.new }
-    ensures first { MatchOption result (NoHostComes fabric.now (tables_of cells.now) traffic lid via)
-        (IsFirstHost fabric.now (tables_of cells.now) traffic lid via) }
+    ensures first { MatchOption result
+        ((end : ℕ) → Comes fabric.now (tables_of cells.now) traffic lid via (port.Host end) → ⊥)
+        (IsFirst (λ end. Comes fabric.now (tables_of cells.now) traffic lid via (port.Host end))) }
 {
     'ends: for end in 0..fabric.ends() {
         let source = EndPort::Host(end as u32);
@@ -144,8 +148,9 @@ fn first_switch(
     requires room { switch_count fabric.now ≤ length path.old }
     requires ready { IsReady (hop_to fabric.now (tables_of cells.now) (way lid via)) (switch_count fabric.now)
         marks.old }
-    ensures { MatchOption result (NoSwitchComes fabric.now (tables_of cells.now) traffic lid via)
-        (IsFirstSwitch fabric.now (tables_of cells.now) traffic lid via) }
+    ensures { MatchOption result
+        ((switch : ℕ) → Comes fabric.now (tables_of cells.now) traffic lid via (port.Switch switch) → ⊥)
+        (IsFirst (λ switch. Comes fabric.now (tables_of cells.now) traffic lid via (port.Switch switch))) }
 {
     'switches: for switch in 0..fabric.switches() {
         let source = EndPort::Switch(switch as u32);
@@ -167,8 +172,8 @@ fn lesser_of(fabric: &Fabric, end: u32, place: u32) -> Option<EndPort>
     }
 }
 
-// The same where each of them may not be there.
-fn lesser(fabric: &Fabric, host: Option<u32>, switch: Option<u32>) -> Option<EndPort>
+/// Of an end port of an adapter or router and a switch the one of lesser GUID, where each of them may not be there.
+pub fn lesser(fabric: &Fabric, host: Option<u32>, switch: Option<u32>) -> Option<EndPort>
     ensures { IsLesser fabric.now host switch result }
 {
     match host {
@@ -200,8 +205,9 @@ fn first_of_all(
     requires ready { IsReady (hop_to fabric.now (tables_of cells.now) (way lid via)) (switch_count fabric.now)
         marks.old }
     requires fabric { IsFabric fabric.now }
-    ensures { MatchOption result (NoSourceComes fabric.now (tables_of cells.now) traffic lid via)
-        (IsFirstSource fabric.now (tables_of cells.now) traffic lid via) }
+    ensures { MatchOption result
+        ((source : EndPort) → Comes fabric.now (tables_of cells.now) traffic lid via source → ⊥)
+        (IsFirstSource fabric.now (Comes fabric.now (tables_of cells.now) traffic lid via)) }
 {
     let host = first_host(fabric, cells, traffic, lid, via, marks, path);
     let switch = first_switch(fabric, cells, traffic, lid, via, marks, path);
@@ -220,8 +226,8 @@ fn first_source(
     requires same { switch_count fabric.now ≡ cells.now.switches }
     requires lid { lid < 64 * cells.now.blocks }
     ensures { IfOk result (λ found. MatchOption found
-        (NoSourceComes fabric.now (tables_of cells.now) traffic lid via)
-        (IsFirstSource fabric.now (tables_of cells.now) traffic lid via)) }
+        ((source : EndPort) → Comes fabric.now (tables_of cells.now) traffic lid via source → ⊥)
+        (IsFirstSource fabric.now (Comes fabric.now (tables_of cells.now) traffic lid via))) }
 {
     let mut marks = vec![in alloc; Mark::New; fabric.switches()]?;
     let mut path = vec![in alloc; 0u32; fabric.switches()]?;

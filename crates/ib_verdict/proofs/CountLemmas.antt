@@ -1,5 +1,5 @@
 -- Counts of steps, and of dependencies.
-use Rattle.std.proofs.Common.{◌≡◌, ◌∙◌, sym, ap, subst, refl, ℕ, ◌+◌, ◌/◌, ◌≤◌, length, inl, inr, arith, mul_comm}
+use Rattle.std.proofs.Common.{◌≡◌, ◌∙◌, sym, ap, subst, refl, ℕ, ◌+◌, ◌/◌, ◌≤◌, length, inl, inr, arith, mul_comm, ◌↔◌}
 use Rattle.std.proofs.lemmas.Bool.{cases_eq, cases_lt}
 use Rattle.std.proofs.Math.Nat.{div-add-mod}
 use Rattle.channel_graph.specs.Graph.{GraphOf, HasNoNext, IsNext, LeadsTo}
@@ -8,10 +8,10 @@ use Rattle.ib_net.specs.Fabric.{FabricOf}
 use Rattle.ib_routes.specs.declared.traffic.Traffic.{Traffic}
 use Rattle.ib_routes.specs.Counting.{IsCountOf}
 use Rattle.ib_routes.specs.Finding.{AreDependencies}
-use Rattle.ib_routes.specs.Routes.{Channel, DependsOn}
-use Rattle.ib_routes.specs.Found.{number}
+use Rattle.ib_routes.specs.Routes.{DependsOn}
+use Rattle.ib_routes.specs.Found.{IsChannel, number}
 use Rattle.ib_routes.proofs.CountLemmas.{count_image, count_more, count_none, count_same, count_sum}
-use Rattle.ib_verdict.specs.Count.{IsDependency, IsDependencyCount}
+use Rattle.ib_verdict.specs.Count.{IsDependencyCount}
 use Rattle.ib_verdict.specs.Steps.{IsNextBelow, IsStep, IsStepBelow}
 use Rattle.ib_verdict.proofs.NumberLemmas.{both, channel_at, channel_back}
 
@@ -67,38 +67,43 @@ module _ (graph : GraphOf) where
   pub steps_all : (nodes count : ℕ) → length graph.bases ≤ nodes → IsCountOf (IsStepBelow graph nodes) count → IsCountOf (IsStep graph) count
   steps_all nodes count all so_far = count_same (ℕ × ℕ) (IsStepBelow graph nodes) (IsStep graph) count (λ pair is. is.0) (λ pair leads. (leads, (let low = leads.low in omega arith))) so_far
 
-module _ (fabric : FabricOf) (tables : TablesOf) (traffic : Traffic) (g : GraphOf) (are : AreDependencies fabric tables traffic g) where
-  number_back : (place : ℕ) → number fabric (channel_at fabric.most place) ≡ place
-  number_back place = let whole = div-add-mod place fabric.most in let turn = mul_comm fabric.most (place / fabric.most) in omega arith
+-- steps between nodes of any kind are as many as those between their numbers
+module _ {Node : Type 0} (Is : Node → Type 0) (number : Node → ℕ) (node_at : ℕ → Node) (back : (node : Node) → Is node → node_at (number node) ≡ node) (number_back : (place : ℕ) → number (node_at place) ≡ place) (Step : Node → Node → Type 0) (are : (one other : Node) → Step one other → Is one × Is other) (g : GraphOf) (exact : (one other : Node) → Is one → Is other → (LeadsTo g (number one) (number other) ↔ Step one other)) (only : (one other : ℕ) → LeadsTo g one other → (x y : Node) × Is x × Is y × (one ≡ number x) × (other ≡ number y)) where
+  abbrev IsStepOf : Node × Node → Type 0
+  IsStepOf pair = Step pair.0 pair.1
 
-  abbrev channels_at : ℕ × ℕ → Channel × Channel
-  channels_at pair = (channel_at fabric.most pair.0, channel_at fabric.most pair.1)
+  abbrev nodes_at : ℕ × ℕ → Node × Node
+  nodes_at pair = (node_at pair.0, node_at pair.1)
 
-  abbrev numbers : Channel × Channel → ℕ × ℕ
-  numbers pair = (number fabric pair.0, number fabric pair.1)
+  step_at : (pair : ℕ × ℕ) → IsStep g pair → IsStepOf (nodes_at pair)
+  step_at pair leads =
+      let (one, other, is, too, first, second) = only pair.0 pair.1 leads in
+      let a : node_at pair.0 ≡ one = subst (λ (n : ℕ). node_at n ≡ one) (sym first) (back one is) in
+      let b : node_at pair.1 ≡ other = subst (λ (n : ℕ). node_at n ≡ other) (sym second) (back other too) in
+      let step : Step one other = (exact one other is too).0 (subst (λ (n : ℕ). LeadsTo g (number one) n) second (subst (λ (n : ℕ). LeadsTo g n pair.1) first leads)) in
+      subst (λ (x : Node). Step x (node_at pair.1)) (sym a) (subst (λ (y : Node). Step one y) (sym b) step)
 
-  depends_at : (pair : ℕ × ℕ) → IsStep g pair → IsDependency fabric tables traffic (channels_at pair)
-  depends_at pair leads =
-      let (channel, next, is, too, first, second) = are.only pair.0 pair.1 leads in
-      let a : channel_at fabric.most pair.0 ≡ channel = subst (λ (n : ℕ). channel_at fabric.most n ≡ channel) (sym first) (channel_back fabric channel is) in
-      let b : channel_at fabric.most pair.1 ≡ next = subst (λ (n : ℕ). channel_at fabric.most n ≡ next) (sym second) (channel_back fabric next too) in
-      let depends : DependsOn fabric tables traffic channel next = (are.exact channel next is too).0 (subst (λ (n : ℕ). LeadsTo g (number fabric channel) n) second (subst (λ (n : ℕ). LeadsTo g n pair.1) first leads)) in
-      subst (λ (x : Channel). DependsOn fabric tables traffic x (channel_at fabric.most pair.1)) (sym a) (subst (λ (y : Channel). DependsOn fabric tables traffic channel y) (sym b) depends)
-
-  from_step : (pair : Channel × Channel) → IsDependency fabric tables traffic pair → (step : ℕ × ℕ) × IsStep g step × (channels_at step ≡ pair)
-  from_step pair depends =
-      let (is, too) = both fabric tables traffic g are pair.0 pair.1 depends in (
-        numbers pair,
-        (are.exact pair.0 pair.1 is too).1 depends,
-        ap (λ (c : Channel). let all : Channel × Channel = (c, channel_at fabric.most (number fabric pair.1)) in all) (channel_back fabric pair.0 is)
-            ∙ ap (λ (c : Channel). let all : Channel × Channel = (pair.0, c) in all) (channel_back fabric pair.1 too),
+  from_step : (pair : Node × Node) → IsStepOf pair → (step : ℕ × ℕ) × IsStep g step × (nodes_at step ≡ pair)
+  from_step pair step =
+      let (is, too) = are pair.0 pair.1 step in (
+        (number pair.0, number pair.1),
+        (exact pair.0 pair.1 is too).1 step,
+        ap (λ (x : Node). let all : Node × Node = (x, node_at (number pair.1)) in all) (back pair.0 is)
+            ∙ ap (λ (x : Node). let all : Node × Node = (pair.0, x) in all) (back pair.1 too),
       )
 
-  one_step : (one other : ℕ × ℕ) → channels_at one ≡ channels_at other → one ≡ other
+  one_step : (one other : ℕ × ℕ) → nodes_at one ≡ nodes_at other → one ≡ other
   one_step one other same =
-      let first : one.0 ≡ other.0 = sym (number_back one.0) ∙ ap (λ (pair : Channel × Channel). number fabric pair.0) same ∙ number_back other.0 in
-      let second : one.1 ≡ other.1 = sym (number_back one.1) ∙ ap (λ (pair : Channel × Channel). number fabric pair.1) same ∙ number_back other.1 in
+      let first : one.0 ≡ other.0 = sym (number_back one.0) ∙ ap (λ (pair : Node × Node). number pair.0) same ∙ number_back other.0 in
+      let second : one.1 ≡ other.1 = sym (number_back one.1) ∙ ap (λ (pair : Node × Node). number pair.1) same ∙ number_back other.1 in
       ap (λ (n : ℕ). let all : ℕ × ℕ = (n, one.1) in all) first ∙ ap (λ (n : ℕ). let all : ℕ × ℕ = (other.0, n) in all) second
 
-  pub dependencies : (count : ℕ) → IsCountOf (IsStep g) count → IsDependencyCount fabric tables traffic count
-  dependencies count is = count_image (ℕ × ℕ) (Channel × Channel) channels_at (IsStep g) (IsDependency fabric tables traffic) count depends_at from_step one_step is
+  pub count_of_steps : (count : ℕ) → IsCountOf (IsStep g) count → IsCountOf IsStepOf count
+  count_of_steps count is = count_image (ℕ × ℕ) (Node × Node) nodes_at (IsStep g) IsStepOf count step_at from_step one_step is
+
+-- the place of what stands at a place
+pub number_back : (fabric : FabricOf) (place : ℕ) → number fabric (channel_at fabric.most place) ≡ place
+number_back fabric place = let whole = div-add-mod place fabric.most in let turn = mul_comm fabric.most (place / fabric.most) in omega arith
+
+pub dependencies : (fabric : FabricOf) (tables : TablesOf) (traffic : Traffic) (g : GraphOf) → AreDependencies fabric tables traffic g → (count : ℕ) → IsCountOf (IsStep g) count → IsDependencyCount fabric tables traffic count
+dependencies fabric tables traffic g are count is = count_of_steps (IsChannel fabric) (number fabric) (channel_at fabric.most) (channel_back fabric) (number_back fabric) (DependsOn fabric tables traffic) (both fabric tables traffic g are) g are.exact are.only count is

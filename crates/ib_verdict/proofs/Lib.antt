@@ -7,8 +7,9 @@ mod PacketLemmas
 mod RingLemmas
 mod CycleLemmas
 mod TrafficLemmas
+pub mod LoopLemmas
 mod WitnessLemmas
-mod CountLemmas
+pub mod CountLemmas
 mod EndLemmas
 mod LinkLemmas
 mod VerifyLemmas

@@ -1,5 +1,5 @@
 -- Channels by their numbers, and the verdict on their graph.
-use Rattle.std.proofs.Common.{◌≡◌, ◌∙◌, sym, ap, subst, refl, ℕ, ◌+◌, ◌-◌, ◌*◌, ◌<◌, ◌≤◌, ◌≢◌, ◌⊎◌, max, List, [], ◌∷◌, Option, None, Less, Equal, Greater, map, mul_comm, inl, inr, arith}
+use Rattle.std.proofs.Common.{◌≡◌, ◌∙◌, sym, ap, subst, refl, ℕ, ◌+◌, ◌-◌, ◌*◌, ◌<◌, max, List, [], ◌∷◌, Option, None, Less, Equal, Greater, map, mul_comm, inl, inr, arith}
 use Rattle.std.specs.Prelude.{slice_get}
 use Rattle.std.specs.declared.cmp.Ordering.{Ordering}
 use Rattle.std.specs.Ordering.{nat_cmp, ordering_then}
@@ -32,9 +32,28 @@ cmp_greater m n less = grind (arith, nat_tests)
 cmp_equal : (m n : ℕ) → m ≡ n → nat_cmp m n ≡ Equal
 cmp_equal m n same = grind (arith, nat_tests)
 
+-- numbers that are as far apart are in the same order
+cmp_same : (m n k l : ℕ) → m + l ≡ n + k → nat_cmp m n ≡ nat_cmp k l
+cmp_same m n k l far = elim (cases_lt m n) [
+  | inl less ↦ cmp_less m n less ∙ sym (cmp_less k l (omega arith))
+  | inr more ↦ elim (cases_eq m n) [
+    | inl equal ↦ cmp_equal m n equal ∙ sym (cmp_equal k l (omega arith))
+    | inr away ↦ cmp_greater m n (omega arith) ∙ sym (cmp_greater k l (omega arith))
+  ]
+]
+
 -- places are in the order of what they are places of
 places_less : (a b most c d : ℕ) → a < b → c < most → a * most + c < b * most + d
 places_less a b most c d less low = let h : a * most + c < b * most = subst (λ (n : ℕ). a * most + c < n) (mul_comm most b) (mul-add-lt a most c b less low) in omega arith
+
+pub place_cmp : (a b most c d : ℕ) → c < most → d < most → ordering_then (nat_cmp a b) (nat_cmp c d) ≡ nat_cmp (a * most + c) (b * most + d)
+place_cmp a b most c d low too = elim (cases_lt a b) [
+  | inl less ↦ ap (λ (o : Ordering). ordering_then o (nat_cmp c d)) (cmp_less a b less) ∙ sym (cmp_less (a * most + c) (b * most + d) (places_less a b most c d less low))
+  | inr more ↦ elim (cases_eq a b) [
+    | inr away ↦ ap (λ (o : Ordering). ordering_then o (nat_cmp c d)) (cmp_greater a b (omega arith)) ∙ sym (cmp_greater (a * most + c) (b * most + d) (places_less b a most d c (omega arith) too))
+    | inl same ↦ ap (λ (o : Ordering). ordering_then o (nat_cmp c d)) (cmp_equal a b same) ∙ cmp_same c d (a * most + c) (b * most + d) (let e : a * most ≡ b * most = ap (λ (x : ℕ). x * most) same in omega arith)
+  ]
+]
 
 abbrev pub channel_at : ℕ → ℕ → Channel
 channel_at most place = channel_of (spot_at most place)
@@ -50,31 +69,17 @@ module _ (fabric : FabricOf) where
 
   pub in_order : (one other : Channel) → IsChannel fabric one → IsChannel fabric other → channel_cmp one other ≡ nat_cmp (number fabric one) (number fabric other)
   in_order one other is too =
-      let a = channel_low fabric one is in
-      let b = channel_low fabric other too in
-      let a0 = a.0 in
-      let a1 = a.1 in
-      let b0 = b.0 in
-      let b1 = b.1 in
-      elim (cases_lt one.switch other.switch) [
-        | inl less ↦ ap (λ (o : Ordering). ordering_then o (nat_cmp one.port other.port)) (cmp_less one.switch other.switch less) ∙ sym (cmp_less (number fabric one) (number fabric other) (places_less one.switch other.switch fabric.most (one.port - 1) (other.port - 1) less (omega arith)))
-        | inr more ↦ elim (cases_eq one.switch other.switch) [
-          | inr away ↦ ap (λ (o : Ordering). ordering_then o (nat_cmp one.port other.port)) (cmp_greater one.switch other.switch (omega arith)) ∙ sym (cmp_greater (number fabric one) (number fabric other) (places_less other.switch one.switch fabric.most (other.port - 1) (one.port - 1) (omega arith) (omega arith)))
-          | inl same ↦ ap (λ (o : Ordering). ordering_then o (nat_cmp one.port other.port)) (cmp_equal one.switch other.switch same) ∙ by_port same a.0 b.0 (cases_lt one.port other.port) (cases_eq one.port other.port)
-        ]
-      ]
-    where
-      by_port : one.switch ≡ other.switch → 0 < one.port → 0 < other.port → (one.port < other.port) ⊎ (other.port ≤ one.port) → (one.port ≡ other.port) ⊎ (one.port ≢ other.port) → nat_cmp one.port other.port ≡ nat_cmp (number fabric one) (number fabric other)
-      by_port same a b (inl less) either = let e : one.switch * fabric.most ≡ other.switch * fabric.most = ap (λ (x : ℕ). x * fabric.most) same in cmp_less one.port other.port less ∙ sym (cmp_less (number fabric one) (number fabric other) (omega arith))
-      by_port same a b (inr more) (inl equal) = let e : one.switch * fabric.most ≡ other.switch * fabric.most = ap (λ (x : ℕ). x * fabric.most) same in cmp_equal one.port other.port equal ∙ sym (cmp_equal (number fabric one) (number fabric other) (omega arith))
-      by_port same a b (inr more) (inr away) = let e : one.switch * fabric.most ≡ other.switch * fabric.most = ap (λ (x : ℕ). x * fabric.most) same in cmp_greater one.port other.port (omega arith) ∙ sym (cmp_greater (number fabric one) (number fabric other) (omega arith))
+      let (used, low) = channel_low fabric one is in
+      let (used_too, low_too) = channel_low fabric other too in
+      ap (λ (o : Ordering). ordering_then (nat_cmp one.switch other.switch) o) (cmp_same one.port other.port (one.port - 1) (other.port - 1) (omega arith))
+      ∙ place_cmp one.switch other.switch fabric.most (one.port - 1) (other.port - 1) (omega arith) (omega arith)
 
   -- the channels of ports of places
   maps : (most : ℕ) (places : List ℕ) → map channel_of (map (spot_at most) places) ≡ map (channel_at most) places
   maps most [] = refl
   maps most (place ∷ places) = ap (λ (xs : List Channel). channel_at most place ∷ xs) (maps most places)
 
-  rank_none : (side : Side) (rank : Option ℕ) → ((to entry : ℕ) → side ≡ To to entry → ⊥) → rank_over side rank ≡ None
+  pub rank_none : (side : Side) (rank : Option ℕ) → ((to entry : ℕ) → side ≡ To to entry → ⊥) → rank_over side rank ≡ None
   rank_none (To to entry) rank other = absurd (other to entry refl)
   rank_none Bare rank other = refl
   rank_none (End end) rank other = refl

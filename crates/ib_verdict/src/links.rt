@@ -1,6 +1,6 @@
 //! How many links and channels a fabric has.
 
-ghost use Rattle.std.specs.Prelude.{◌≡◌, ◌<◌, ◌≤◌, ◌⊎◌, ◌↔◌, ℕ, IsTrue};
+ghost use Rattle.std.specs.Prelude.{◌≡◌, ◌<◌, ◌≤◌, ◌^◌, ◌⊎◌, ◌↔◌, ℕ, IsTrue};
 ghost use Rattle.ib_net.specs.Fabric.{switch_count};
 ghost use Rattle.ib_routes.specs.Found.{IsChannel};
 ghost use Rattle.ib_routes.specs.Counting.{IsCountOf};
@@ -64,6 +64,7 @@ fn links_of(fabric: &Fabric, switch: usize) -> Links
 pub fn count_links(fabric: &Fabric) -> Links
     ensures links { IsLinkCount fabric.now result.links }
     ensures channels { IsChannelCount fabric.now result.channels }
+    ensures few { result.channels < 2 ^ 22 }
 {
     let mut links = 0u64;
     let mut channels = 0u64;

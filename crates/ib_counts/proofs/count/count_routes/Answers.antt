@@ -9,3 +9,6 @@ returns-clause-counts c = all_counts c.args.fabric.now (tables_of c.args.cells.n
 
 pub returns-clause-few : goal.returns-clause-few
 returns-clause-few c = few_lost c.args.fabric.now (tables_of c.args.cells.now) c.args.traffic (64 * c.args.cells.now.blocks) c.count_blocks.result (let low = c.count_blocks.ensures.low in omega arith) c.count_blocks.ensures.counts
+
+pub returns-clause-most : goal.returns-clause-most
+returns-clause-most c = (let few = c.count_blocks.ensures.counts.few in let low = c.count_blocks.ensures.low in omega arith)

@@ -19,7 +19,7 @@ ends-preserved c = record {
 }
 
 pub returns-then-comes-clause-first : goal.returns-then-comes-clause-first
-returns-then-comes-clause-first c = record { comes = c.comes.ensures.comes.0 c.if-comes.true; first = c.ends.invariant.none }
+returns-then-comes-clause-first c = record { is = c.comes.ensures.comes.0 c.if-comes.true; first = c.ends.invariant.none }
 
 pub returns-clause-first : goal.returns-clause-first
 returns-clause-first c = λ other comes. c.ends.invariant.none other (let low = host_low c.args.fabric.now (tables_of c.args.cells.now) c.args.traffic c.args.lid c.args.via other comes in omega arith) comes

@@ -19,7 +19,7 @@ switches-preserved c = record {
 }
 
 pub returns-then-comes : goal.returns-then-comes
-returns-then-comes c = record { comes = c.comes.ensures.comes.0 c.if-comes.true; first = c.switches.invariant.none }
+returns-then-comes c = record { is = c.comes.ensures.comes.0 c.if-comes.true; first = c.switches.invariant.none }
 
 pub returns : goal.returns
 returns c = λ other comes. c.switches.invariant.none other (let low = switch_low c.args.fabric.now (tables_of c.args.cells.now) c.args.traffic c.args.lid c.args.via other comes in omega arith) comes
