@@ -1,0 +1,9 @@
+mod MixtureLemmas
+mod PacketLemmas
+mod RowLemmas
+mod GrowLemmas
+mod TurnLemmas
+mod LoopLemmas
+mod CountLemmas
+mod VerdictLemmas
+mod ChangedLemmas

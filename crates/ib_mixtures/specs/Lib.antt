@@ -1,0 +1,5 @@
+pub mod Mixtures
+pub mod Moves
+pub mod Packets
+pub mod Verdict
+pub mod Steps

@@ -1,0 +1,75 @@
+-- How the graph of the channels that may follow one another is made. Only private functions and proofs cite this.
+use Rattle.std.specs.Prelude.{◌≡◌, ◌<◌, ◌⊎◌, ◌↔◌, ◌+◌, ◌-◌, ◌*◌, ℕ, Bool, true, false, Option, Some, None, length}
+use Rattle.channel_graph.specs.Graph.{GraphOf, LeadsTo}
+use Rattle.ib_cells.specs.Cells.{TablesOf}
+use Rattle.ib_net.specs.Fabric.{FabricOf, switch_count}
+use Rattle.ib_routes.specs.declared.hop.Hop.TheVariants.{On}
+use Rattle.ib_routes.specs.Found.{IsChannel, number}
+use Rattle.ib_routes.specs.Routes.{Channel, hop}
+use Rattle.ib_mixtures.specs.declared.turn.By.{By}
+use Rattle.ib_mixtures.specs.declared.turn.By.TheVariants.{Old, New, Both}
+use Rattle.ib_mixtures.specs.Mixtures.{IsSentTo, MayTake}
+use Rattle.ib_mixtures.specs.Verdict.{IsChanged}
+
+-- a graph has just these steps between channels
+pub record AreSteps (fabric : FabricOf) (Step : Channel → Channel → Type 0) (graph : GraphOf) : Type 0 where
+  pub count : length graph.bases ≡ switch_count fabric * fabric.most
+  pub exact :
+      (channel next : Channel) → IsChannel fabric channel → IsChannel fabric next
+      → (LeadsTo graph (number fabric channel) (number fabric next) ↔ Step channel next)
+  pub only :
+      (one other : ℕ) → LeadsTo graph one other
+      → (channel next : Channel) × IsChannel fabric channel × IsChannel fabric next × (one ≡ number fabric channel)
+      × (other ≡ number fabric next)
+
+-- a graph has these steps more, and no other
+pub record IsGrown (More : ℕ → ℕ → Type 0) (old new : GraphOf) : Type 0 where
+  pub leads : (one other : ℕ) → (LeadsTo new one other ↔ (LeadsTo old one other ⊎ More one other))
+  pub wide : new.wide ≡ old.wide
+  pub bases : new.bases ≡ old.bases
+
+-- the numbers of a channel out of a switch by one of two tables, and of the channel out of the next switch by the other
+pub record IsTurnBy (fabric : FabricOf) (first second : TablesOf) (lid at one other : ℕ) : Type 0 where
+  pub port : ℕ
+  pub next : ℕ
+  pub on : hop fabric first at lid ≡ On port next
+  pub next_port : ℕ
+  pub after : ℕ
+  pub next_on : hop fabric second next lid ≡ On next_port after
+  pub is_one : one ≡ at * fabric.most + (port - 1)
+  pub is_other : other ≡ next * fabric.most + (next_port - 1)
+
+-- the same, each by the old or by the new tables
+pub record IsTurnAt (fabric : FabricOf) (old new : TablesOf) (lid at one other : ℕ) : Type 0 where
+  pub port : ℕ
+  pub next : ℕ
+  pub on : MayTake fabric old new lid at port next
+  pub next_port : ℕ
+  pub after : ℕ
+  pub next_on : MayTake fabric old new lid next next_port after
+  pub is_one : one ≡ at * fabric.most + (port - 1)
+  pub is_other : other ≡ next * fabric.most + (next_port - 1)
+
+-- out of any of the first so many switches, and to any of the first so many LIDs that are sent to
+abbrev pub IsTurnBelow : FabricOf → (old new : TablesOf) → (lid switches one other : ℕ) → Type 0
+IsTurnBelow fabric old new lid switches one other =
+    (at : ℕ) × (at < switches) × IsTurnAt fabric old new lid at one other
+
+abbrev pub IsTurnTo : FabricOf → (old new : TablesOf) → (switches lids one other : ℕ) → Type 0
+IsTurnTo fabric old new switches lids one other =
+    (lid : ℕ) × (lid < lids) × IsSentTo fabric lid × IsTurnBelow fabric old new lid switches one other
+
+-- by which of two tables, if by any
+abbrev pub by_of : (by_old by_new : Bool) → Option By
+by_of true true = Some Both
+by_of true false = Some Old
+by_of false true = Some New
+by_of false false = None
+
+-- of the changed rows those for one LID, of the first so many switches, and those for the first so many LIDs
+abbrev pub IsChangedFor : FabricOf → (old new : TablesOf) → (lid switches : ℕ) → ℕ × ℕ → Type 0
+IsChangedFor fabric old new lid switches row =
+    IsChanged fabric old new row × (row.1 ≡ lid) × (row.0 < switches)
+
+abbrev pub IsChangedBelow : FabricOf → (old new : TablesOf) → ℕ → ℕ × ℕ → Type 0
+IsChangedBelow fabric old new lids row = IsChanged fabric old new row × (row.1 < lids)

@@ -1,0 +1,113 @@
+//! The graph of the channels that may follow one another.
+
+ghost use Rattle.std.specs.Prelude.{◌≡◌, ◌<◌, ◌≤◌, ◌*◌, ℕ, IfOk, length};
+ghost use Rattle.ib_cells.specs.Cells.{tables_of};
+ghost use Rattle.ib_net.specs.Fabric.{switch_count};
+ghost use Rattle.ib_routes.specs.Waves.{IsGraphOf};
+ghost use Rattle.ib_mixtures.specs.Mixtures.{MayBeFollowed};
+ghost use Rattle.ib_mixtures.specs.Steps.{AreSteps, IsGrown, IsTurnAt, IsTurnBelow, IsTurnBy, IsTurnTo};
+
+use crate::rows::no_steps;
+use an_base::memory::OutOfMemory;
+use channel_graph::graph::Graph;
+use ib_cells::cells::Cells;
+use ib_net::fabric::Fabric;
+use ib_routes::hop::{Hop, hop_at};
+use ib_routes::start::is_target;
+use ib_routes::traffic::Traffic;
+use std::alloc::Global;
+
+// Adds the step of what goes to a LID from a channel out of a switch, by the first tables, to one out of the next
+// switch, by the second, if there is one.
+#[inline]
+fn add_turn(
+    fabric: &Fabric,
+    first: &Cells,
+    second: &Cells,
+    lid: usize,
+    at: usize,
+    graph: &mut Graph,
+)
+    requires same { switch_count fabric.now ≡ first.now.switches }
+    requires same_second { switch_count fabric.now ≡ second.now.switches }
+    requires lid { lid < 64 * first.now.blocks }
+    requires lid_second { lid < 64 * second.now.blocks }
+    requires at { at < switch_count fabric.now }
+    requires graph { IsGraphOf fabric.now graph.old }
+    ensures { IsGrown (IsTurnBy fabric.now (tables_of first.now) (tables_of second.now) lid at) graph.old graph.new }
+{
+    if let Hop::On(port, next) = hop_at(fabric, first, at, lid) {
+        if let Hop::On(next_port, _after) = hop_at(fabric, second, next as usize, lid) {
+            let channel = at * fabric.most() + (usize::from(port) - 1);
+            graph.insert(channel, usize::from(next_port) - 1);
+        }
+    }
+}
+
+// Adds those by the old and by the new tables, each way.
+fn add_turns(fabric: &Fabric, old: &Cells, new: &Cells, lid: usize, at: usize, graph: &mut Graph)
+    requires same { switch_count fabric.now ≡ old.now.switches }
+    requires same_new { switch_count fabric.now ≡ new.now.switches }
+    requires lid { lid < 64 * old.now.blocks }
+    requires lid_new { lid < 64 * new.now.blocks }
+    requires at { at < switch_count fabric.now }
+    requires graph { IsGraphOf fabric.now graph.old }
+    ensures { IsGrown (IsTurnAt fabric.now (tables_of old.now) (tables_of new.now) lid at) graph.old graph.new }
+{
+    add_turn(fabric, old, old, lid, at, graph);
+    add_turn(fabric, old, new, lid, at, graph);
+    add_turn(fabric, new, old, lid, at, graph);
+    add_turn(fabric, new, new, lid, at, graph);
+}
+
+// The same of all switches.
+fn add_lid(fabric: &Fabric, old: &Cells, new: &Cells, lid: usize, graph: &mut Graph)
+    requires same { switch_count fabric.now ≡ old.now.switches }
+    requires same_new { switch_count fabric.now ≡ new.now.switches }
+    requires lid { lid < 64 * old.now.blocks }
+    requires lid_new { lid < 64 * new.now.blocks }
+    requires graph { IsGraphOf fabric.now graph.old }
+    ensures { IsGrown
+        (IsTurnBelow fabric.now (tables_of old.now) (tables_of new.now) lid (switch_count fabric.now))
+        graph.old graph.new }
+{
+    'switches: for at in 0..fabric.switches() {
+        add_turns(fabric, old, new, lid, at, graph);
+    }
+}
+
+// The same of all LIDs that are sent to.
+fn add_lids(fabric: &Fabric, old: &Cells, new: &Cells, graph: &mut Graph)
+    requires same { switch_count fabric.now ≡ old.now.switches }
+    requires same_new { switch_count fabric.now ≡ new.now.switches }
+    requires owners { length fabric.now.owners ≤ 64 * old.now.blocks }
+    requires owners_new { length fabric.now.owners ≤ 64 * new.now.blocks }
+    requires graph { IsGraphOf fabric.now graph.old }
+    ensures { IsGrown
+        (IsTurnTo fabric.now (tables_of old.now) (tables_of new.now) (switch_count fabric.now)
+        (length fabric.now.owners)) graph.old graph.new }
+{
+    'lids: for lid in 0..fabric.lids() {
+        if is_target(fabric, Traffic::All, lid) {
+            add_lid(fabric, old, new, lid, graph);
+        }
+    }
+}
+
+/// The graph of the channels of a fabric: which may be followed by which.
+pub fn find_followers(
+    alloc: Global,
+    fabric: &Fabric,
+    old: &Cells,
+    new: &Cells,
+) -> Result<Graph, OutOfMemory>
+    requires same { switch_count fabric.now ≡ old.now.switches }
+    requires same_new { switch_count fabric.now ≡ new.now.switches }
+    requires owners { length fabric.now.owners ≤ 64 * old.now.blocks }
+    requires owners_new { length fabric.now.owners ≤ 64 * new.now.blocks }
+    ensures { IfOk result (AreSteps fabric.now (MayBeFollowed fabric.now (tables_of old.now) (tables_of new.now))) }
+{
+    let mut graph = no_steps(alloc, fabric)?;
+    add_lids(fabric, old, new, &mut graph);
+    Ok(graph)
+}
