@@ -1,0 +1,5 @@
+pub mod PieceLemmas
+pub mod ReadLemmas
+pub mod TextLaws
+pub mod MapLemmas
+pub mod StepLemmas

@@ -1,0 +1,5 @@
+pub mod Causes
+pub mod Heads
+pub mod Says
+pub mod Texts
+pub mod Pieces

@@ -1,0 +1,2 @@
+pub mod LevelsLaws
+pub mod ReadingLemmas

@@ -1,0 +1,4 @@
+pub mod LevelLines
+pub mod Levels
+pub mod Readings
+pub mod Reads

@@ -1,0 +1,4 @@
+pub mod LineLemmas
+pub mod LanesLaws
+pub mod ReadingLemmas
+pub mod LaneLemmas

@@ -1,0 +1,4 @@
+pub mod LaneLines
+pub mod Lanes
+pub mod Readings
+pub mod Reads

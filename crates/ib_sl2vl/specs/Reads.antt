@@ -1,0 +1,25 @@
+-- What a source gave, as the text of lanes of a fabric.
+use Rattle.std.specs.Prelude.{◌≡◌, ℕ, List}
+use Rattle.outside.specs.Told.{Seen, Gave, IsAtEnd}
+use Rattle.ib_net.specs.Fabric.{FabricOf, switch_count}
+use Rattle.ib_rows.specs.Lanes.{lanes_of}
+use Rattle.ib_rows.specs.declared.lanes.LaneRows.{LaneRows}
+use Rattle.ib_lane_text.specs.Texts.{IsRefusedBy as IsRefusedFrom}
+use Rattle.ib_lane_text.specs.declared.reader.LaneRefusal.{LaneRefusal}
+use Rattle.ib_sl2vl.specs.Lanes.{AddsTo, IsEnded, IsFaultyAfter, IsLanesText, none_told}
+
+-- a source was read to its end, and what it gave is the text of these lanes
+pub record GaveLanes (fabric : FabricOf) (old new : Seen) (found : LaneRows) : Type 0 where
+  pub bytes : List ℕ
+  pub gave : Gave old new bytes
+  pub end : IsAtEnd new
+  pub text : IsLanesText fabric bytes (lanes_of found)
+
+-- there is a place for the rows of each switch and its ports
+pub record HasRows (fabric : FabricOf) (found : LaneRows) : Type 0 where
+  pub switches : found.switches ≡ switch_count fabric
+  pub most : found.most ≡ fabric.most
+
+-- why there are no lanes: what the source gave has this fault, it failed, or no memory was found
+abbrev pub IsRefusedBy : FabricOf → (old new : Seen) → LaneRefusal → Type 0
+IsRefusedBy fabric old new = IsRefusedFrom (AddsTo fabric) (IsFaultyAfter fabric) IsEnded old new none_told

@@ -1,0 +1,128 @@
+//! What a line of lanes says.
+
+ghost use Rattle.std.specs.Prelude.{◌≡◌, ◌≤◌, length, map};
+ghost use Rattle.ib_lane_text.specs.Says.{IsSaid};
+ghost use Rattle.ib_sl2vl.specs.LaneLines.{begins, lanes_in, packed, port_in, row_said, said_after};
+ghost use Rattle.ib_sl2vl.specs.LaneLines.{said_by, said_in};
+
+use ib_lane_text::cause::LaneCause;
+use ib_lane_text::head::{NodeHead, node_head};
+use ib_lane_text::takes::LaneStop;
+use ib_words::cut::after;
+use std::alloc::Global;
+use text_lines::line::words;
+use text_lines::stop::Stop;
+use text_lines::word::{is, number_between};
+
+/// What a line says.
+#[derive(Clone, Copy)]
+pub enum LaneLine {
+    /// Nothing: it is blank, or names columns.
+    Nothing,
+    /// The rows of a part begin, or end.
+    Dashes,
+    /// The part of a node begins.
+    Head(NodeHead),
+    /// The lanes of the sixteen levels for a port in and a port out, four bits each, that of level 0 the
+    /// lowest.
+    Row(u8, u8, u64),
+}
+
+/// What a line says, without what ends it.
+#[tactic(auto, unfolding(crate::specs::LaneLines::said_in))]
+pub fn lane_line(alloc: Global, line: &[u8]) -> Result<LaneLine, LaneStop>
+    ensures { IsSaid result (said_in line.now) }
+{
+    if begins(line, "#-") {
+        return Ok(LaneLine::Dashes);
+    }
+    if let Some(head) = node_head(line) {
+        return Ok(LaneLine::Head(head));
+    }
+    let words = words(alloc, line)?;
+    match said_by(&words) {
+        Ok(said) => Ok(said),
+        Err(cause) => Err(Stop::Fault(cause)),
+    }
+}
+
+// Whether a line begins with these bytes.
+fn begins(line: &[u8], front: &str) -> bool
+    ensures { result ≡ begins front.now line.now }
+{
+    after(line, front).is_some()
+}
+
+// What words say.
+fn said_by(words: &[&[u8]]) -> Result<LaneLine, LaneCause>
+    ensures { result ≡ said_by (map (λ w. w.now) words.now) }
+{
+    match words {
+        [] => Ok(LaneLine::Nothing),
+        [entry, port, colon, lanes @ ..] => said_after(colon, entry, port, lanes),
+        _ => Err(LaneCause::UnknownLine),
+    }
+}
+
+// What a row says, if a colon is before its lanes.
+fn said_after(
+    colon: &[u8],
+    entry: &[u8],
+    port: &[u8],
+    lanes: &[&[u8]],
+) -> Result<LaneLine, LaneCause>
+    ensures { result ≡ said_after colon.now entry.now port.now (map (λ w. w.now) lanes.now) }
+{
+    if is(colon, ":") {
+        return row_said(entry, port, lanes);
+    }
+    Err(LaneCause::UnknownLine)
+}
+
+// The lanes for a port in and a port out.
+fn row_said(entry: &[u8], port: &[u8], lanes: &[&[u8]]) -> Result<LaneLine, LaneCause>
+    ensures { result ≡ row_said entry.now port.now (map (λ w. w.now) lanes.now) }
+{
+    let Some(entry) = port_in(entry) else {
+        return Err(LaneCause::BadRow);
+    };
+    let Some(port) = port_in(port) else {
+        return Err(LaneCause::BadRow);
+    };
+    let Some(row) = lanes_in(lanes) else {
+        return Err(LaneCause::BadRow);
+    };
+    Ok(LaneLine::Row(entry, port, row))
+}
+
+// The number of a port, at most 255.
+fn port_in(word: &[u8]) -> Option<u8>
+    ensures { result ≡ port_in word.now }
+{
+    let port = number_between(word, 0, 255)?;
+    Some(port as u8)
+}
+
+// The row of sixteen lanes.
+fn lanes_in(lanes: &[&[u8]]) -> Option<u64>
+    ensures { result ≡ lanes_in (map (λ w. w.now) lanes.now) }
+{
+    if lanes.len() != 16 {
+        return None;
+    }
+    packed(lanes)
+}
+
+// At most sixteen lanes, four bits each, the first the lowest.
+fn packed(lanes: &[&[u8]]) -> Option<u64>
+    requires { length lanes.now ≤ 16 }
+    ensures { result ≡ packed (map (λ w. w.now) lanes.now) }
+{
+    let mut row = 0u64;
+    let mut left = lanes.len();
+    'lanes: while left > 0 {
+        left -= 1;
+        row = row * 16 + number_between(lanes[left], 0, 15)?;
+    }
+    Some(row)
+}
