@@ -1,0 +1,3 @@
+pub mod LaneRoutes
+pub mod LaneExits
+pub mod LaneFound

@@ -1,0 +1,178 @@
+ghost use Rattle.std.specs.Prelude.{◌≡◌, ◌<◌, ◌+◌, ◌*◌, ◌^◌};
+ghost use Rattle.ib_cells.specs.Cells.{TablesOf, tables_of};
+ghost use Rattle.ib_rows.specs.Lanes.{lanes_of};
+ghost use Rattle.ib_net.specs.Fabric.{owner_of, switch_count};
+ghost use Rattle.ib_lane_routes.specs.LaneRoutes.{lane_hop, lane_hop_over, lane_end_if, on_lane};
+ghost use Rattle.ib_lane_routes.specs.LaneExits.{IsByLaneLink, IsExit, exit_of};
+
+use ib_cells::cells::Cells;
+use ib_net::fabric::Fabric;
+use ib_net::node::{Side, Spot};
+use ib_routes::hop::{Cause, is_of_host, is_of_switch};
+use ib_rows::lanes::{DISCARD, LaneRows};
+
+/// What a switch does with what came in by a port, has a service level and goes to a LID: it sends it out of a port, on a
+/// lane, to a port of a switch; hands it to the owner; stops it; or discards it, since no lane takes it.
+#[derive(Clone, Copy)]
+pub enum LaneHop {
+    On(u8, u8, Spot),
+    Arrive,
+    Stop(Cause),
+    Discard,
+}
+
+/// How a route ends: it arrives, so many switches on; it stops; it is discarded; or it goes on for ever.
+#[derive(Clone, Copy)]
+pub enum LaneOutcome {
+    Arrives(u32),
+    Stops(Cause),
+    Discards,
+    Loops,
+}
+
+/// By which port a switch sends what goes to a LID: none, its own port 0, or a port that leads somewhere.
+#[derive(Clone, Copy)]
+pub enum Exit {
+    Nowhere,
+    Own,
+    By(u8, Side),
+}
+
+// The end of a route, at its target or at a wrong place.
+#[inline]
+fn end_of(is_own: bool) -> LaneHop
+    ensures { result ≡ lane_end_if is_own }
+{
+    if is_own {
+        LaneHop::Arrive
+    } else {
+        LaneHop::Stop(Cause::Wrong)
+    }
+}
+
+// What is sent out on a lane, which may discard it.
+#[inline]
+fn sent_on(lane: u8, does: LaneHop) -> LaneHop
+    ensures { result ≡ on_lane lane does }
+{
+    if lane == DISCARD {
+        LaneHop::Discard
+    } else {
+        does
+    }
+}
+
+// The hop by a port that is not 0, on a lane.
+#[inline]
+fn hop_by_side(fabric: &Fabric, lid: usize, port: u8, lane: u8, side: Side) -> LaneHop
+    ensures { result ≡ lane_hop_over (owner_of fabric.now lid) port lane side }
+{
+    match side {
+        Side::Bare => LaneHop::Stop(Cause::Dead),
+        Side::To(next, entry) => {
+            let spot = Spot {
+                switch: next,
+                port: entry,
+            };
+            sent_on(lane, LaneHop::On(port, lane, spot))
+        }
+        Side::End(end) => sent_on(lane, end_of(is_of_host(fabric, lid, end))),
+    }
+}
+
+/// By which port a switch sends what goes to a LID of a block.
+#[inline]
+pub fn find_exit(fabric: &Fabric, cells: &Cells, switch: usize, block: usize, bit: usize) -> Exit
+    requires same { switch_count fabric.now ≡ cells.now.switches }
+    requires switch { switch < switch_count fabric.now }
+    requires block { block < cells.now.blocks }
+    requires bit { bit < 64 }
+    ensures exit { result ≡ exit_of fabric.now switch (tables_of cells.now switch (64 * block + bit)) }
+    ensures within { IsExit fabric.now switch result }
+    ensures lid { 64 * block + bit < 2 ^ 16 }
+{
+    let port = cells.port(switch, block, bit);
+    match port {
+        None => Exit::Nowhere,
+        Some(0) => Exit::Own,
+        Some(port) => Exit::By(port, fabric.side(switch, port)),
+    }
+}
+
+/// The hop of a switch for what came in by a port, has a level and goes to a LID, by its exit.
+#[inline]
+pub fn hop_through(
+    fabric: &Fabric,
+    lanes: &LaneRows,
+    level: usize,
+    lid: usize,
+    at: Spot,
+    exit: Exit,
+) -> LaneHop
+    requires lanes { switch_count fabric.now ≡ lanes.now.switches }
+    requires level { level < 16 }
+    requires at { at.switch < switch_count fabric.now }
+    requires exit { IsExit fabric.now at.switch exit }
+    ensures hop { (tables : TablesOf) → exit ≡ exit_of fabric.now at.switch (tables at.switch lid)
+        → result ≡ lane_hop fabric.now tables (lanes_of lanes.now) level lid at }
+    ensures link { IsByLaneLink fabric.now (lanes_of lanes.now) level at result }
+{
+    match exit {
+        Exit::Nowhere => LaneHop::Stop(Cause::Missing),
+        Exit::Own => end_of(is_of_switch(fabric, lid, at.switch as usize)),
+        Exit::By(port, side) => {
+            let lane = lanes.lane(
+                at.switch as usize,
+                usize::from(at.port),
+                usize::from(port),
+                level,
+            );
+            hop_by_side(fabric, lid, port, lane, side)
+        }
+    }
+}
+
+/// The hop of a switch for what came in by a port, has a level and goes to a LID of a block.
+#[inline]
+pub fn find_lane_hop(
+    fabric: &Fabric,
+    cells: &Cells,
+    lanes: &LaneRows,
+    level: usize,
+    block: usize,
+    bit: usize,
+    at: Spot,
+) -> LaneHop
+    requires same { switch_count fabric.now ≡ cells.now.switches }
+    requires lanes { switch_count fabric.now ≡ lanes.now.switches }
+    requires level { level < 16 }
+    requires block { block < cells.now.blocks }
+    requires bit { bit < 64 }
+    requires at { at.switch < switch_count fabric.now }
+    ensures hop { result ≡ lane_hop fabric.now (tables_of cells.now) (lanes_of lanes.now) level (64 * block + bit) at }
+    ensures link { IsByLaneLink fabric.now (lanes_of lanes.now) level at result }
+{
+    let exit = find_exit(fabric, cells, at.switch as usize, block, bit);
+    hop_through(fabric, lanes, level, 64 * block + bit, at, exit)
+}
+
+/// The hop of a switch for what came in by a port, has a level and goes to a LID.
+#[inline]
+pub fn lane_hop_at(
+    fabric: &Fabric,
+    cells: &Cells,
+    lanes: &LaneRows,
+    level: usize,
+    lid: usize,
+    at: Spot,
+) -> LaneHop
+    requires same { switch_count fabric.now ≡ cells.now.switches }
+    requires lanes { switch_count fabric.now ≡ lanes.now.switches }
+    requires level { level < 16 }
+    requires lid { lid < 64 * cells.now.blocks }
+    requires at { at.switch < switch_count fabric.now }
+    ensures hop { result ≡ lane_hop fabric.now (tables_of cells.now) (lanes_of lanes.now) level lid at }
+    ensures link { IsByLaneLink fabric.now (lanes_of lanes.now) level at result }
+{
+    find_lane_hop(fabric, cells, lanes, level, lid / 64, lid % 64, at)
+}

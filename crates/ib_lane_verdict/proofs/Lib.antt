@@ -1,0 +1,5 @@
+mod LawLemmas
+mod ChannelLemmas
+mod NumberLemmas
+mod ArriveLemmas
+mod WitnessLemmas

@@ -1,0 +1,2 @@
+pub mod LaneVerdict
+pub mod LaneJudgements

@@ -1,0 +1,181 @@
+//! The judgement of the tables of a fabric with lanes.
+
+ghost use Rattle.std.specs.Prelude.{◌≡◌, ◌<◌, ◌≤◌, ◌*◌, ◌^◌, length, map, IfOk};
+ghost use Rattle.ib_cells.specs.Cells.{tables_of};
+ghost use Rattle.ib_net.specs.Fabric.{IsFabric, switch_count};
+ghost use Rattle.ib_rows.specs.Lanes.{lanes_of};
+ghost use Rattle.ib_rows.specs.Levels.{levels_of};
+ghost use Rattle.ib_lane_routes.specs.LaneFound.{IsLeastLaneWitness};
+ghost use Rattle.ib_lane_routes.specs.LaneRoutes.{LaneDependsOn};
+ghost use Rattle.ib_lane_waves.specs.LaneBlocks.{AreLaneDependencies};
+ghost use Rattle.ib_lane_witness.specs.Witness.{lane_channel_of};
+ghost use Rattle.ib_lane_verdict.specs.LaneJudgements.{IsLaneJudgement};
+ghost use Rattle.ib_lane_verdict.specs.LaneVerdict.{IsLaneVerdict, IsLeastLaneLoop, LaneCycleIs, lane_spot_at};
+
+use crate::verdict::{LaneLoopChannel, LaneVerdict};
+use an_base::memory::OutOfMemory;
+use channel_graph::graph::Graph;
+use channel_graph::verdict::{Verdict as GraphVerdict, verdict_of};
+use ib_cells::cells::Cells;
+use ib_lane_waves::find::find_lane_dependencies;
+use ib_lane_witness::witness::{LaneSpot, LaneWitness, find_lane_witness};
+use ib_net::fabric::Fabric;
+use ib_routes::traffic::Traffic;
+use ib_rows::lanes::LaneRows;
+use ib_rows::levels::Levels;
+use ib_verdict::count::count_steps;
+use ib_verdict::links::count_links;
+use std::alloc::Global;
+
+/// What the tables of a fabric do with the routes of a traffic, on lanes and with service levels.
+#[derive(Drop)]
+pub struct LaneJudgement {
+    /// The ranks of the channels, or the least credit loop with the routes that make it.
+    pub verdict: LaneVerdict,
+    /// Whether some route stops before its target, or is discarded.
+    pub stops: bool,
+    /// How many channels there are: the ports that lead to a switch, each on each of the lanes.
+    pub channels: u64,
+    /// How many pairs of channels there are of which the one depends on the other.
+    pub dependencies: u64,
+}
+
+/// The channel of a place, if a switch has at most so many ports and there are so many lanes. The channel out of port p of
+/// switch s on lane v has the place (s times the most ports, plus p - 1) times the lanes, plus v.
+pub fn lane_spot_of(most: usize, count: usize, place: u32) -> LaneSpot
+    requires some { 0 < most }
+    requires few { most < 255 }
+    requires some_lanes { 0 < count }
+    requires few_lanes { count ≤ 15 }
+    ensures { result ≡ lane_spot_at most count place }
+{
+    let place = place as usize;
+    let port = place / count;
+    LaneSpot {
+        switch: (port / most) as u32,
+        port: (port % most) as u8 + 1,
+        lane: (place % count) as u8,
+    }
+}
+
+// The least route by which a channel depends on another.
+fn witness_of(
+    alloc: Global,
+    fabric: &Fabric,
+    cells: &Cells,
+    lanes: &LaneRows,
+    levels: &Levels,
+    traffic: Traffic,
+    channel: LaneSpot,
+    next: LaneSpot,
+) -> Result<LaneWitness, OutOfMemory>
+    requires same { switch_count fabric.now ≡ cells.now.switches }
+    requires lanes { switch_count fabric.now ≡ lanes.now.switches }
+    requires owners { length fabric.now.owners ≤ 64 * cells.now.blocks }
+    requires fabric { IsFabric fabric.now }
+    requires depends { LaneDependsOn fabric.now (tables_of cells.now) (lanes_of lanes.now) traffic (levels_of levels.now)
+        (lane_channel_of channel) (lane_channel_of next) }
+    ensures { IfOk result (λ w. IsLeastLaneWitness fabric.now (tables_of cells.now) (lanes_of lanes.now) traffic
+        (levels_of levels.now) (lane_channel_of channel) (lane_channel_of next) w.lid w.source w.level) }
+{
+    match find_lane_witness(alloc, fabric, cells, lanes, levels, traffic, channel, next)? {
+        Some(witness) => Ok(witness),
+        None => unreachable!(),
+    }
+}
+
+// The channels of a credit loop, told by their places, each with the least route by which it depends on the next one.
+fn with_witnesses(
+    alloc: Global,
+    fabric: &Fabric,
+    cells: &Cells,
+    lanes: &LaneRows,
+    levels: &Levels,
+    traffic: Traffic,
+    most: usize,
+    count: usize,
+    places: &[u32],
+) -> Result<Vec<LaneLoopChannel>, OutOfMemory>
+    requires same { switch_count fabric.now ≡ cells.now.switches }
+    requires lanes { switch_count fabric.now ≡ lanes.now.switches }
+    requires owners { length fabric.now.owners ≤ 64 * cells.now.blocks }
+    requires fabric { IsFabric fabric.now }
+    requires some { 0 < most }
+    requires few { most < 255 }
+    requires some_lanes { 0 < count }
+    requires few_lanes { count ≤ 15 }
+    requires least { IsLeastLaneLoop fabric.now (tables_of cells.now) (lanes_of lanes.now) traffic (levels_of levels.now)
+        (map (lane_spot_at most count) places.now) }
+    ensures { IfOk result (λ channels. LaneCycleIs fabric.now (tables_of cells.now) (lanes_of lanes.now) traffic
+        (levels_of levels.now) channels.items) }
+{
+    let mut channels = Vec::with_capacity(alloc, places.len())?;
+    'places: for at in 0..places.len() {
+        let channel = lane_spot_of(most, count, places[at]);
+        let next = lane_spot_of(most, count, places[(at + 1) % places.len()]);
+        let witness = witness_of(alloc, fabric, cells, lanes, levels, traffic, channel, next)?;
+        channels.push(LaneLoopChannel { channel, witness })?;
+    }
+    Ok(channels)
+}
+
+// The verdict on a graph of the dependencies.
+fn verdict_on(
+    alloc: Global,
+    fabric: &Fabric,
+    cells: &Cells,
+    lanes: &LaneRows,
+    levels: &Levels,
+    traffic: Traffic,
+    graph: &Graph,
+) -> Result<LaneVerdict, OutOfMemory>
+    requires same { switch_count fabric.now ≡ cells.now.switches }
+    requires lanes { switch_count fabric.now ≡ lanes.now.switches }
+    requires owners { length fabric.now.owners ≤ 64 * cells.now.blocks }
+    requires graph { AreLaneDependencies fabric.now (tables_of cells.now) (lanes_of lanes.now) lanes.now.count traffic
+        (levels_of levels.now) graph.now }
+    ensures { IfOk result (λ verdict. IsLaneVerdict fabric.now (tables_of cells.now) (lanes_of lanes.now) traffic
+        (levels_of levels.now) lanes.now.count verdict) }
+{
+    let most = fabric.most().max(1);
+    let count = lanes.count().max(1);
+    match verdict_of(alloc, graph)? {
+        GraphVerdict::Ranks { ranks } => Ok(LaneVerdict::Ranks { ranks }),
+        GraphVerdict::Cycle { nodes } => {
+            let channels = with_witnesses(
+                alloc, fabric, cells, lanes, levels, traffic, most, count, &nodes,
+            )?;
+            Ok(LaneVerdict::Cycle { channels })
+        }
+    }
+}
+
+/// Judges the tables of a fabric by the routes of a traffic, on lanes and with service levels. A channel is a link on a
+/// lane. The ranks of the channels exactly if there is no credit loop, else the least one, with the least route that makes
+/// each of its dependencies; whether a route stops or is discarded; how many channels there are; and how many dependencies.
+/// If there is no credit loop and none stops, all arrive. The error is want of memory alone.
+pub fn judge(
+    alloc: Global,
+    fabric: &Fabric,
+    cells: &Cells,
+    lanes: &LaneRows,
+    levels: &Levels,
+    traffic: Traffic,
+) -> Result<LaneJudgement, OutOfMemory>
+    requires same { switch_count fabric.now ≡ cells.now.switches }
+    requires lanes { switch_count fabric.now ≡ lanes.now.switches }
+    requires owners { length fabric.now.owners ≤ 64 * cells.now.blocks }
+    ensures { IfOk result (IsLaneJudgement fabric.now (tables_of cells.now) (lanes_of lanes.now) traffic
+        (levels_of levels.now) lanes.now.count) }
+{
+    let channels = count_links(fabric).channels * lanes.count() as u64;
+    let found = find_lane_dependencies(alloc, fabric, cells, lanes, levels, traffic)?;
+    let dependencies = count_steps(&found.graph);
+    let verdict = verdict_on(alloc, fabric, cells, lanes, levels, traffic, &found.graph)?;
+    Ok(LaneJudgement {
+        verdict,
+        stops: found.stopped,
+        channels,
+        dependencies,
+    })
+}

@@ -1,0 +1,12 @@
+mod SpreadLemmas
+mod StepLemmas
+mod WayLemmas
+pub mod OnLemmas
+mod BlockLemmas
+pub mod FindLemmas
+mod BaseLemmas
+mod GateLemmas
+mod BeginLemmas
+mod SetLemmas
+mod LevelLemmas
+mod SentLemmas

@@ -1,0 +1,94 @@
+-- What a hop that goes on says of the table, the link and the lane.
+use Rattle.std.proofs.Common.{◌≡◌, ◌≢◌, ◌∙◌, sym, ap, refl, subst, ℕ, ◌-◌, ◌<◌, Bool, true, false, cond, eqb, Option, Some, None, inl, inr}
+use Rattle.std.proofs.lemmas.Bool.{eqb-false}
+use Rattle.ib_cells.specs.Cells.{TablesOf}
+use Rattle.ib_rows.specs.Lanes.{IsLaneCount, LanesOf}
+use Rattle.ib_net.specs.declared.node.EndPort.{EndPort}
+use Rattle.ib_net.specs.declared.node.Side.{Side}
+use Rattle.ib_net.specs.declared.node.Side.TheVariants.{Bare, To, End}
+use Rattle.ib_net.specs.declared.node.Spot.{Spot}
+use Rattle.ib_net.specs.Fabric.{FabricOf, IsFabric, owner_of, side_of, switch_count}
+use Rattle.ib_routes.specs.Found.{IsChannel}
+use Rattle.ib_routes.specs.Routes.{Channel, is_host, is_switch}
+use Rattle.ib_routes.proofs.ChannelLemmas.{channel_place}
+use Rattle.ib_lane_routes.specs.declared.hop.LaneHop.TheVariants.{On, Discard}
+use Rattle.ib_lane_routes.specs.LaneRoutes.{lane_end_if, lane_hop, lane_hop_by, lane_hop_over}
+use Rattle.ib_lane_waves.specs.LaneGates.{AreAlike}
+use Rattle.ib_lane_waves.specs.LaneSteps.{Leaves, departure_place}
+use Rattle.ib_lane_waves.proofs.StepLemmas.{below_row, on_parts}
+
+not_on : (b : Bool) (port lane : ℕ) (next : Spot) → lane_end_if b ≡ On port lane next → ⊥
+not_on true port lane next is = cc
+not_on false port lane next is = cc
+
+end_not : (b c : Bool) (port lane : ℕ) (next : Spot) → cond b Discard (lane_end_if c) ≡ On port lane next → ⊥
+end_not true c port lane next is = cc
+end_not false c port lane next is = not_on c port lane next is
+
+to_on : (b : Bool) (by on to entry port lane : ℕ) (next : Spot) → eqb on 15 ≡ b → cond b Discard (On by on (record { switch = to; port = entry })) ≡ On port lane next → (by ≡ port) × (on ≡ lane) × (on ≢ 15) × ((to ≡ next.switch) × (entry ≡ next.port))
+to_on true by on to entry port lane next test is = absurd (cc)
+to_on false by on to entry port lane next test is =
+    let there : Spot = record { switch = to; port = entry } in
+    let parts = on_parts by on port lane there next is in
+    (parts.0, parts.1, eqb-false on 15 test, (ap (λ (s : Spot). s.switch) parts.2, ap (λ (s : Spot). s.port) parts.2))
+
+over_on : (owner : Option EndPort) (by on : ℕ) (side : Side) (port lane : ℕ) (next : Spot) → lane_hop_over owner by on side ≡ On port lane next → (by ≡ port) × (on ≡ lane) × (on ≢ 15) × (side ≡ To next.switch next.port)
+over_on owner by on Bare port lane next is = absurd (cc)
+over_on owner by on (To to entry) port lane next is =
+    let parts = to_on (eqb on 15) by on to entry port lane next refl is in
+    (parts.0, parts.1, parts.2, ap (λ (s : ℕ). To s entry) parts.3.0 ∙ ap (λ (p : ℕ). To next.switch p) parts.3.1)
+over_on owner by on (End end) port lane next is = absurd (end_not (eqb on 15) (is_host owner end) port lane next is)
+
+cond_on : (b c : Bool) (owner : Option EndPort) (by on : ℕ) (side : Side) (port lane : ℕ) (next : Spot) → cond b (lane_end_if c) (lane_hop_over owner by on side) ≡ On port lane next → (by ≡ port) × (on ≡ lane) × (on ≢ 15) × (side ≡ To next.switch next.port)
+cond_on true c owner by on side port lane next is = absurd (not_on c port lane next is)
+cond_on false c owner by on side port lane next is = over_on owner by on side port lane next is
+
+by_on : (fabric : FabricOf) (lane_of : ℕ → ℕ) (switch lid : ℕ) (told : Option ℕ) (port lane : ℕ) (next : Spot) → lane_hop_by fabric lane_of switch lid told ≡ On port lane next → (told ≡ Some port) × (lane ≡ lane_of port) × (lane ≢ 15) × (side_of fabric switch port ≡ To next.switch next.port)
+by_on fabric lane_of switch lid None port lane next is = absurd (cc)
+by_on fabric lane_of switch lid (Some by) port lane next is =
+    let parts = cond_on (eqb by 0) (is_switch (owner_of fabric lid) switch) (owner_of fabric lid) by (lane_of by) (side_of fabric switch by) port lane next is in
+    (ap Some parts.0, sym parts.1 ∙ ap lane_of parts.0, (λ last. parts.2 (parts.1 ∙ last)), ap (λ (p : ℕ). side_of fabric switch p) (sym parts.0) ∙ parts.3)
+
+pub lane_on : (fabric : FabricOf) (tables : TablesOf) (lanes : LanesOf) (level lid : ℕ) (at : Spot) (port lane : ℕ) (next : Spot) → lane_hop fabric tables lanes level lid at ≡ On port lane next → (tables at.switch lid ≡ Some port) × (lane ≡ lanes at.switch at.port port level) × (lane ≢ 15) × (side_of fabric at.switch port ≡ To next.switch next.port)
+unfolding lane_hop
+lane_on fabric tables lanes level lid at port lane next is = by_on fabric (λ p. lanes at.switch at.port p level) at.switch lid (tables at.switch lid) port lane next is
+
+-- the switch is one of the fabric
+pub switch_low : (fabric : FabricOf) → IsFabric fabric → (switch port to entry : ℕ) → side_of fabric switch port ≡ To to entry → switch < switch_count fabric
+switch_low fabric fits switch port to entry leads =
+    let channel : Channel = record { switch = switch; port = port } in
+    let is : IsChannel fabric channel = record { to = to; entry = entry; leads = leads } in
+    below_row switch (port - 1) fabric.most (switch_count fabric) (channel_place fabric fits channel is)
+
+-- and the lane is one of so many
+pub lane_low : (lanes : LanesOf) (count : ℕ) → IsLaneCount lanes count → (switch entry port level lane : ℕ) → lane ≡ lanes switch entry port level → lane ≢ 15 → lane < count
+lane_low lanes count counted switch entry port level lane is other = elim (counted.each switch entry port level) [
+  | inl last ↦ absurd (other (is ∙ last))
+  | inr low ↦ subst (λ (n : ℕ). n < count) (sym is) low
+]
+
+-- a hop that goes on leaves the switch at a place
+pub on_leaves : (fabric : FabricOf) → IsFabric fabric → (tables : TablesOf) (lanes : LanesOf) (count : ℕ) → IsLaneCount lanes count → (level lid : ℕ) (at : Spot) (port lane : ℕ) (next : Spot) → lane_hop fabric tables lanes level lid at ≡ On port lane next → Leaves fabric tables lanes count lid (departure_place (switch_count fabric) count level at.switch lane) level (record { switch = at.switch; port = port; lane = lane }) next
+on_leaves fabric fits tables lanes count counted level lid at port lane next is =
+    let parts = lane_on fabric tables lanes level lid at port lane next is in
+    record {
+      is_at = refl;
+      switch_low = switch_low fabric fits at.switch port next.switch next.port parts.3;
+      lane_low = lane_low lanes count counted at.switch at.port port level lane parts.1 parts.2;
+      told = parts.0;
+      leads = parts.3;
+    }
+
+-- alike ports of a switch have the same hops
+cond_alike : (b c : Bool) (owner : Option EndPort) (port one other : ℕ) (side : Side) → one ≡ other → cond b (lane_end_if c) (lane_hop_over owner port one side) ≡ cond b (lane_end_if c) (lane_hop_over owner port other side)
+cond_alike b c owner port one other side same = ap (λ (n : ℕ). cond b (lane_end_if c) (lane_hop_over owner port n side)) same
+
+by_alike : (fabric : FabricOf) (one other : ℕ → ℕ) (switch lid : ℕ) (told : Option ℕ) → ((port : ℕ) → one port ≡ other port) → lane_hop_by fabric one switch lid told ≡ lane_hop_by fabric other switch lid told
+by_alike fabric one other switch lid None same = refl
+by_alike fabric one other switch lid (Some port) same = cond_alike (eqb port 0) (is_switch (owner_of fabric lid) switch) (owner_of fabric lid) port (one port) (other port) (side_of fabric switch port) (same port)
+
+pub alike_hop : (fabric : FabricOf) (tables : TablesOf) (lanes : LanesOf) (level lid : ℕ) (one other : Spot) → AreAlike lanes one other → lane_hop fabric tables lanes level lid one ≡ lane_hop fabric tables lanes level lid other
+unfolding lane_hop
+alike_hop fabric tables lanes level lid one other alike =
+    by_alike fabric (λ p. lanes one.switch one.port p level) (λ p. lanes other.switch other.port p level) one.switch lid (tables one.switch lid) (λ p. alike.1 p level)
+    ∙ ap (λ (s : ℕ). lane_hop_by fabric (λ p. lanes other.switch other.port p level) s lid (tables s lid)) alike.0

@@ -1,0 +1,9 @@
+use Rattle.ib_rows.specs.Lanes.{lanes_of}
+use Rattle.ib_lane_waves.specs.LaneGates.{AreGatesBelow, AreLastGates}
+use Rattle.ib_lane_waves.proofs.gate.put_gates.Given as goal
+
+abbrev pub invariant-sources : goal.invariant-sources
+invariant-sources l = record {
+  gates : AreGatesBelow l.fabric (lanes_of l.lanes) l.traffic l.place l.spots.items l.gates;
+  last : AreLastGates l.spots.items l.last;
+}

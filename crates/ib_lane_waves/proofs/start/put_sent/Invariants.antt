@@ -1,0 +1,6 @@
+use Rattle.ib_rows.specs.Levels.{levels_of}
+use Rattle.ib_lane_waves.proofs.SentLemmas.{AreSentBelow}
+use Rattle.ib_lane_waves.proofs.start.put_sent.Given as goal
+
+abbrev pub invariant-sources : goal.invariant-sources
+invariant-sources l = AreSentBelow l.fabric l.fn.traffic l.block (levels_of l.levels) l.gates.gates.items l.top l.place l.sent

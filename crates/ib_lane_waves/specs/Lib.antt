@@ -1,0 +1,5 @@
+pub mod Waves
+pub mod LaneSteps
+pub mod LaneWays
+pub mod LaneGates
+pub mod LaneBlocks

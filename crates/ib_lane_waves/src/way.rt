@@ -1,0 +1,49 @@
+ghost use Rattle.std.specs.Prelude.{◌≡◌, ◌<◌, ◌+◌, ◌*◌, MatchOption};
+ghost use Rattle.ib_cells.specs.Cells.{tables_of};
+ghost use Rattle.ib_net.specs.Fabric.{switch_count};
+ghost use Rattle.ib_lane_waves.specs.LaneWays.{HasNoWay, IsWayByLink};
+
+use ib_cells::cells::Cells;
+use ib_lane_routes::hop::{Exit, find_exit};
+use ib_net::fabric::Fabric;
+use ib_net::node::{Side, Spot};
+
+/// A link that a switch takes: out of a port, to a port of a switch.
+#[derive(Clone, Copy)]
+pub struct Way {
+    pub port: u8,
+    pub next: Spot,
+}
+
+/// The link by which a switch sends what goes to a LID of a block, if its table has a port for it that leads to a switch.
+#[inline]
+pub fn find_way(
+    fabric: &Fabric,
+    cells: &Cells,
+    switch: usize,
+    block: usize,
+    bit: usize,
+) -> Option<Way>
+    requires same { switch_count fabric.now ≡ cells.now.switches }
+    requires switch { switch < switch_count fabric.now }
+    requires block { block < cells.now.blocks }
+    requires bit { bit < 64 }
+    ensures { MatchOption result (HasNoWay fabric.now (tables_of cells.now) (64 * block + bit) switch)
+        (λ way. IsWayByLink fabric.now (tables_of cells.now) (64 * block + bit) switch way.port way.next) }
+{
+    match find_exit(fabric, cells, switch, block, bit) {
+        Exit::Nowhere => None,
+        Exit::Own => None,
+        Exit::By(port, side) => match side {
+            Side::Bare => None,
+            Side::To(next, entry) => Some(Way {
+                port,
+                next: Spot {
+                    switch: next,
+                    port: entry,
+                },
+            }),
+            Side::End(_) => None,
+        },
+    }
+}

@@ -1,0 +1,20 @@
+use Rattle.std.proofs.Common.{◌<◌}
+use Rattle.std.specs.List.{count_by}
+use Rattle.ib_cells.specs.Cells.{tables_of}
+use Rattle.ib_net.specs.Fabric.{switch_count}
+use Rattle.ib_rows.specs.Lanes.{lanes_of}
+use Rattle.ib_lane_routes.specs.LaneRoutes.{lane_hop}
+use Rattle.ib_lane_witness.specs.Witness.{lane_channel_of}
+use Rattle.ib_lane_witness.proofs.WalkLemmas.{IsFollowed, is_new}
+use Rattle.ib_lane_witness.proofs.walk.goes_by.Given as goal
+
+-- the route has come to a place
+abbrev pub invariant-hops : goal.invariant-hops
+invariant-hops l =
+    record {
+      low : l.at.switch < switch_count l.fabric;
+      followed : IsFollowed (lane_hop l.fabric (tables_of l.cells) (lanes_of l.lanes) l.level l.lid) (lane_channel_of l.channel) l.fn.start l.at l.marks;
+    }
+
+abbrev pub decreases-hops : goal.decreases-hops
+decreases-hops l = count_by is_new l.marks

@@ -1,0 +1,12 @@
+use Rattle.std.proofs.Common.{◌<◌, ℕ}
+use Rattle.ib_net.specs.declared.node.EndPort.{EndPort}
+use Rattle.ib_cells.specs.Cells.{tables_of}
+use Rattle.ib_rows.specs.Lanes.{lanes_of}
+use Rattle.ib_rows.specs.Levels.{levels_of}
+use Rattle.ib_lane_witness.specs.Search.{Takes}
+use Rattle.ib_lane_witness.specs.Witness.{lane_channel_of}
+use Rattle.ib_lane_witness.proofs.witness.find_lane_witness.Given as goal
+
+-- no route to a LID so far takes the two
+abbrev pub invariant-lids : goal.invariant-lids
+invariant-lids l = (other : ℕ) → other < l.lid → (source : EndPort) → Takes l.fabric (tables_of l.cells) (lanes_of l.lanes) l.traffic (levels_of l.levels) other (lane_channel_of l.channel) (lane_channel_of l.next) source → ⊥

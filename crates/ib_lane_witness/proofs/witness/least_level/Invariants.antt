@@ -1,0 +1,11 @@
+use Rattle.std.proofs.Common.{◌<◌, ℕ}
+use Rattle.ib_cells.specs.Cells.{tables_of}
+use Rattle.ib_rows.specs.Lanes.{lanes_of}
+use Rattle.ib_rows.specs.Levels.{levels_of}
+use Rattle.ib_lane_routes.specs.LaneRoutes.{LaneTakes}
+use Rattle.ib_lane_witness.specs.Witness.{lane_channel_of}
+use Rattle.ib_lane_witness.proofs.witness.least_level.Given as goal
+
+-- none of those so far
+abbrev pub invariant-levels : goal.invariant-levels
+invariant-levels l = (other : ℕ) → other < l.level → LaneTakes l.fabric (tables_of l.cells) (lanes_of l.lanes) l.fn.traffic (levels_of l.levels) l.sought.lid l.fn.source other (lane_channel_of l.sought.channel) (lane_channel_of l.sought.next) → ⊥

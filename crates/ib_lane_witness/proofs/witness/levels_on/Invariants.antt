@@ -1,0 +1,10 @@
+use Rattle.ib_cells.specs.Cells.{tables_of}
+use Rattle.ib_rows.specs.Lanes.{lanes_of}
+use Rattle.ib_lane_witness.specs.Search.{GoesOn}
+use Rattle.ib_lane_witness.specs.Witness.{lane_channel_of}
+use Rattle.ib_lane_witness.proofs.TakeLemmas.{AreBelow}
+use Rattle.ib_lane_witness.proofs.witness.levels_on.Given as goal
+
+-- the levels so far
+abbrev pub invariant-levels : goal.invariant-levels
+invariant-levels l = AreBelow (λ level. GoesOn l.fabric (tables_of l.cells) (lanes_of l.lanes) l.lid level (lane_channel_of l.fn.channel) (lane_channel_of l.next)) l.level l.word

@@ -1,0 +1,20 @@
+use Rattle.std.proofs.Common.{◌≡◌, ap, ℕ, arith}
+use Rattle.std.specs.Int.{bit_at}
+use Rattle.std.proofs.lemmas.Bool.{iff_false}
+use Rattle.std.proofs.lemmas.Nat.Bits.{bit_at-zero}
+use Rattle.ib_cells.specs.Cells.{tables_of}
+use Rattle.ib_rows.specs.Lanes.{lanes_of}
+use Rattle.ib_rows.specs.Levels.{levels_of}
+use Rattle.ib_lane_witness.specs.Witness.{lane_channel_of}
+use Rattle.ib_lane_witness.proofs.TakeLemmas.{on_of}
+use Rattle.ib_lane_witness.proofs.witness.witness_at.Goals as goal
+
+pub returns-then-not-is_target : goal.returns-then-not-is_target
+returns-then-not-is_target c = λ source (level, takes). absurd (let sends = takes.comes.sends.sends in iff_false c.is_target.ensures c.if-not-is_target.true (sends.owner, sends.owns, sends.is_target))
+
+pub returns-then-on-eq0 : goal.returns-then-on-eq0
+returns-then-on-eq0 c = λ source (level, takes). absurd (
+    let has = (c.levels_on-on.ensures level takes.comes.sends.has.0).1 (on_of c.args.fabric.now (tables_of c.args.cells.now) (lanes_of c.args.lanes.now) c.args.lid c.args.traffic (levels_of c.args.levels.now) (lane_channel_of c.args.channel) (lane_channel_of c.args.next) source level takes) in
+    let none = bit_at-zero level in
+    let zero : bit_at c.levels_on-on.result level ≡ bit_at 0 level = ap (λ (n : ℕ). bit_at n level) c.if-on-eq0.true in
+    omega arith)

@@ -1,0 +1,458 @@
+//! By which route a channel depends on another, with lanes.
+
+ghost use Rattle.std.specs.Prelude.{◌≡◌, ◌<◌, ◌≤◌, ◌*◌, ◌^◌, ◌↔◌, ℕ, length, IfOk, IsTrue, MatchOption};
+ghost use Rattle.std.specs.Int.{bit_at};
+ghost use Rattle.ib_cells.specs.Cells.{tables_of};
+ghost use Rattle.ib_net.specs.declared.node.EndPort.{EndPort};
+ghost use Rattle.ib_net.specs.declared.node.EndPort.TheVariants as port;
+ghost use Rattle.ib_net.specs.declared.node.Spot.{Spot};
+ghost use Rattle.ib_net.specs.Fabric.{IsFabric, switch_count};
+ghost use Rattle.ib_rows.specs.Lanes.{lanes_of};
+ghost use Rattle.ib_rows.specs.Levels.{levels_of};
+ghost use Rattle.ib_lane_routes.specs.declared.hop.LaneHop.TheVariants.{On};
+ghost use Rattle.ib_lane_routes.specs.LaneFound.{IsLeastLaneWitness};
+ghost use Rattle.ib_routes.specs.Witness.{IsFirst};
+ghost use Rattle.ib_lane_routes.specs.LaneRoutes.{lane_hop};
+ghost use Rattle.ib_lane_witness.specs.Search.{AreOn, AreOnFor, GoesBy, IsLeastAt, IsLeastLevel, IsReadyFor, LeadsTo};
+ghost use Rattle.ib_lane_witness.specs.Search.{Takes, TakesAs};
+ghost use Rattle.ib_lane_witness.specs.Witness.{HasNoLaneWitness, lane_channel_of};
+
+use crate::walk::goes_by;
+use an_base::memory::OutOfMemory;
+use ib_cells::cells::Cells;
+use ib_lane_routes::hop::{Exit, LaneHop, find_exit, lane_hop_at};
+use ib_lane_routes::start::begin_at;
+use ib_net::fabric::Fabric;
+use ib_net::node::{EndPort, Side, Spot};
+use ib_routes::start::is_target;
+use ib_routes::trace::Mark;
+use ib_routes::traffic::Traffic;
+use ib_routes::witness::{comes, lesser};
+use ib_routes::word::{has_bit, with_bit};
+use ib_rows::lanes::{LEVELS, LaneRows};
+use ib_rows::levels::Levels;
+use std::alloc::Global;
+
+/// A channel: the link out of a port of a switch, on a lane.
+#[derive(Clone, Copy)]
+pub struct LaneSpot {
+    pub switch: u32,
+    pub port: u8,
+    pub lane: u8,
+}
+
+/// A route: to a LID, from an end port, with a service level.
+#[derive(Clone, Copy)]
+pub struct LaneWitness {
+    pub lid: u16,
+    pub source: EndPort,
+    pub level: u8,
+}
+
+// What is sought: the routes to a LID that take a channel and then, directly, the next one; and the levels, as bits, with
+// which what goes by the channel goes on by the next one.
+#[derive(Clone, Copy)]
+struct Sought {
+    lid: usize,
+    channel: LaneSpot,
+    next: LaneSpot,
+    on: u64,
+}
+
+// Whether a switch sends by the port and on the lane of a channel.
+fn is_by(does: LaneHop, channel: LaneSpot) -> bool
+    ensures { IsTrue result ↔ ((after : Spot) × (does ≡ On channel.port channel.lane after)) }
+{
+    match does {
+        LaneHop::On(port, lane, _) => port == channel.port && lane == channel.lane,
+        LaneHop::Arrive => false,
+        LaneHop::Stop(_) => false,
+        LaneHop::Discard => false,
+    }
+}
+
+// The port of a switch to which the link of a channel leads, if what goes to a LID leaves its switch by it.
+fn comes_out(fabric: &Fabric, cells: &Cells, lid: usize, channel: LaneSpot) -> Option<Spot>
+    requires same { switch_count fabric.now ≡ cells.now.switches }
+    requires lid { lid < 64 * cells.now.blocks }
+    requires channel { channel.switch < switch_count fabric.now }
+    ensures { MatchOption result
+        ((spot : Spot) → LeadsTo fabric.now (tables_of cells.now) lid (lane_channel_of channel) spot → ⊥)
+        (LeadsTo fabric.now (tables_of cells.now) lid (lane_channel_of channel)) }
+{
+    let exit = find_exit(fabric, cells, channel.switch as usize, lid / 64, lid % 64);
+    let Exit::By(port, side) = exit else {
+        return None;
+    };
+    if port != channel.port {
+        return None;
+    }
+    match side {
+        Side::Bare => None,
+        Side::To(switch, entry) => Some(Spot {
+            switch,
+            port: entry,
+        }),
+        Side::End(_) => None,
+    }
+}
+
+// The levels with which what goes to a LID and leaves a switch by the link of a channel goes on by the next channel, as
+// bits.
+fn levels_on(
+    fabric: &Fabric,
+    cells: &Cells,
+    lanes: &LaneRows,
+    lid: usize,
+    channel: LaneSpot,
+    next: LaneSpot,
+) -> u64
+    requires same { switch_count fabric.now ≡ cells.now.switches }
+    requires lanes { switch_count fabric.now ≡ lanes.now.switches }
+    requires lid { lid < 64 * cells.now.blocks }
+    requires channel { channel.switch < switch_count fabric.now }
+    requires next { next.switch < switch_count fabric.now }
+    ensures { AreOn fabric.now (tables_of cells.now) (lanes_of lanes.now) lid
+        (lane_channel_of channel) (lane_channel_of next) result }
+{
+    let Some(spot) = comes_out(fabric, cells, lid, channel) else {
+        return 0;
+    };
+    if spot.switch != next.switch {
+        return 0;
+    }
+    let mut word = 0u64;
+    'levels: for level in 0..LEVELS {
+        if is_by(lane_hop_at(fabric, cells, lanes, level, lid, spot), next) {
+            word = with_bit(word, level);
+        }
+    }
+    word
+}
+
+// Whether a level is in a word and in that of what is sought, and what has it and goes to the LID goes by the channel, from
+// a port of a switch on.
+fn goes_with(
+    fabric: &Fabric,
+    cells: &Cells,
+    lanes: &LaneRows,
+    level: usize,
+    with: u64,
+    sought: Sought,
+    start: Spot,
+    seen: &mut [bool],
+) -> bool
+    requires same { switch_count fabric.now ≡ cells.now.switches }
+    requires lanes { switch_count fabric.now ≡ lanes.now.switches }
+    requires level { level < 16 }
+    requires lid { sought.lid < 64 * cells.now.blocks }
+    requires start { start.switch < switch_count fabric.now }
+    requires seen { length seen.old ≡ switch_count fabric.now }
+    ensures { IsTrue result ↔ ((bit_at with level ≡ 1) × (bit_at sought.on level ≡ 1)
+        × GoesBy (lane_hop fabric.now (tables_of cells.now) (lanes_of lanes.now) level sought.lid) start
+        (lane_channel_of sought.channel)) }
+{
+    if !has_bit(with, level) {
+        return false;
+    }
+    if !has_bit(sought.on, level) {
+        return false;
+    }
+    goes_by(
+        fabric,
+        cells,
+        lanes,
+        level,
+        sought.lid,
+        sought.channel,
+        start,
+        seen,
+    )
+}
+
+// The least level with which the route of an end port to the LID takes the channel and then, directly, the next one. Only
+// the routes that come to the switch of the channel on one lane are followed.
+fn least_level(
+    fabric: &Fabric,
+    cells: &Cells,
+    lanes: &LaneRows,
+    levels: &Levels,
+    traffic: Traffic,
+    sought: Sought,
+    marks: &mut [Mark],
+    path: &mut [u32],
+    seen: &mut [bool],
+    source: EndPort,
+) -> Option<u8>
+    requires same { switch_count fabric.now ≡ cells.now.switches }
+    requires lanes { switch_count fabric.now ≡ lanes.now.switches }
+    requires few { switch_count fabric.now ≤ 2 ^ 14 }
+    requires lid { sought.lid < 64 * cells.now.blocks }
+    requires on { AreOnFor fabric.now (tables_of cells.now) (lanes_of lanes.now) sought }
+    requires room { switch_count fabric.now ≤ length path.old }
+    requires seen { length seen.old ≡ switch_count fabric.now }
+    requires ready { IsReadyFor fabric.now (tables_of cells.now) sought marks.old }
+    ensures ready { IsReadyFor fabric.now (tables_of cells.now) sought marks.new }
+    ensures level { MatchOption result (TakesAs fabric.now (tables_of cells.now) (lanes_of lanes.now) traffic (levels_of levels.now) sought source → ⊥)
+        (IsLeastLevel fabric.now (tables_of cells.now) (lanes_of lanes.now) traffic (levels_of levels.now) sought.lid
+        (lane_channel_of sought.channel) (lane_channel_of sought.next) source) }
+{
+    let via = sought.channel.switch;
+    if !comes(fabric, cells, traffic, sought.lid, via, marks, path, source) {
+        return None;
+    }
+    let start = begin_at(fabric, source)?;
+    let with = u64::from(levels.levels(source, sought.lid));
+    'levels: for level in 0..LEVELS {
+        if goes_with(fabric, cells, lanes, level, with, sought, start, seen) {
+            return Some(level as u8);
+        }
+    }
+    None
+}
+
+// Whether it takes the two with some level.
+fn takes(
+    fabric: &Fabric,
+    cells: &Cells,
+    lanes: &LaneRows,
+    levels: &Levels,
+    traffic: Traffic,
+    sought: Sought,
+    marks: &mut [Mark],
+    path: &mut [u32],
+    seen: &mut [bool],
+    source: EndPort,
+) -> bool
+    requires same { switch_count fabric.now ≡ cells.now.switches }
+    requires lanes { switch_count fabric.now ≡ lanes.now.switches }
+    requires few { switch_count fabric.now ≤ 2 ^ 14 }
+    requires lid { sought.lid < 64 * cells.now.blocks }
+    requires on { AreOnFor fabric.now (tables_of cells.now) (lanes_of lanes.now) sought }
+    requires room { switch_count fabric.now ≤ length path.old }
+    requires seen { length seen.old ≡ switch_count fabric.now }
+    requires ready { IsReadyFor fabric.now (tables_of cells.now) sought marks.old }
+    ensures ready { IsReadyFor fabric.now (tables_of cells.now) sought marks.new }
+    ensures takes { IsTrue result ↔ TakesAs fabric.now (tables_of cells.now) (lanes_of lanes.now) traffic (levels_of levels.now) sought source }
+{
+    match least_level(
+        fabric, cells, lanes, levels, traffic, sought, marks, path, seen, source,
+    ) {
+        Some(_) => true,
+        None => false,
+    }
+}
+
+// The end port of an adapter or router of least GUID whose route does.
+fn first_host(
+    fabric: &Fabric,
+    cells: &Cells,
+    lanes: &LaneRows,
+    levels: &Levels,
+    traffic: Traffic,
+    sought: Sought,
+    marks: &mut [Mark],
+    path: &mut [u32],
+    seen: &mut [bool],
+) -> Option<u32>
+    requires same { switch_count fabric.now ≡ cells.now.switches }
+    requires lanes { switch_count fabric.now ≡ lanes.now.switches }
+    requires few { switch_count fabric.now ≤ 2 ^ 14 }
+    requires lid { sought.lid < 64 * cells.now.blocks }
+    requires on { AreOnFor fabric.now (tables_of cells.now) (lanes_of lanes.now) sought }
+    requires room { switch_count fabric.now ≤ length path.old }
+    requires seen { length seen.old ≡ switch_count fabric.now }
+    requires ready { IsReadyFor fabric.now (tables_of cells.now) sought marks.old }
+    ensures ready { IsReadyFor fabric.now (tables_of cells.now) sought marks.new }
+    ensures first { MatchOption result
+        ((end : ℕ) → TakesAs fabric.now (tables_of cells.now) (lanes_of lanes.now) traffic (levels_of levels.now) sought (port.Host end) → ⊥)
+        (IsFirst (λ end. TakesAs fabric.now (tables_of cells.now) (lanes_of lanes.now) traffic (levels_of levels.now) sought (port.Host end))) }
+{
+    'ends: for end in 0..fabric.ends() {
+        let source = EndPort::Host(end as u32);
+        if takes(
+            fabric, cells, lanes, levels, traffic, sought, marks, path, seen, source,
+        ) {
+            return Some(end as u32);
+        }
+    }
+    None
+}
+
+// The same of the switches.
+fn first_switch(
+    fabric: &Fabric,
+    cells: &Cells,
+    lanes: &LaneRows,
+    levels: &Levels,
+    traffic: Traffic,
+    sought: Sought,
+    marks: &mut [Mark],
+    path: &mut [u32],
+    seen: &mut [bool],
+) -> Option<u32>
+    requires same { switch_count fabric.now ≡ cells.now.switches }
+    requires lanes { switch_count fabric.now ≡ lanes.now.switches }
+    requires few { switch_count fabric.now ≤ 2 ^ 14 }
+    requires lid { sought.lid < 64 * cells.now.blocks }
+    requires on { AreOnFor fabric.now (tables_of cells.now) (lanes_of lanes.now) sought }
+    requires room { switch_count fabric.now ≤ length path.old }
+    requires seen { length seen.old ≡ switch_count fabric.now }
+    requires ready { IsReadyFor fabric.now (tables_of cells.now) sought marks.old }
+    ensures ready { IsReadyFor fabric.now (tables_of cells.now) sought marks.new }
+    ensures first { MatchOption result
+        ((switch : ℕ) → TakesAs fabric.now (tables_of cells.now) (lanes_of lanes.now) traffic (levels_of levels.now) sought (port.Switch switch) → ⊥)
+        (IsFirst (λ switch. TakesAs fabric.now (tables_of cells.now) (lanes_of lanes.now) traffic (levels_of levels.now) sought (port.Switch switch))) }
+{
+    'switches: for switch in 0..fabric.switches() {
+        let source = EndPort::Switch(switch as u32);
+        if takes(
+            fabric, cells, lanes, levels, traffic, sought, marks, path, seen, source,
+        ) {
+            return Some(switch as u32);
+        }
+    }
+    None
+}
+
+// The end port of least GUID whose route does, and its least level.
+fn first_of_all(
+    fabric: &Fabric,
+    cells: &Cells,
+    lanes: &LaneRows,
+    levels: &Levels,
+    traffic: Traffic,
+    sought: Sought,
+    marks: &mut [Mark],
+    path: &mut [u32],
+    seen: &mut [bool],
+) -> Option<(EndPort, u8)>
+    requires same { switch_count fabric.now ≡ cells.now.switches }
+    requires lanes { switch_count fabric.now ≡ lanes.now.switches }
+    requires few { switch_count fabric.now ≤ 2 ^ 14 }
+    requires lid { sought.lid < 64 * cells.now.blocks }
+    requires on { AreOnFor fabric.now (tables_of cells.now) (lanes_of lanes.now) sought }
+    requires room { switch_count fabric.now ≤ length path.old }
+    requires seen { length seen.old ≡ switch_count fabric.now }
+    requires ready { IsReadyFor fabric.now (tables_of cells.now) sought marks.old }
+    requires fabric { IsFabric fabric.now }
+    ensures { MatchOption result ((source : EndPort) → TakesAs fabric.now (tables_of cells.now) (lanes_of lanes.now) traffic (levels_of levels.now) sought source → ⊥)
+        (λ found. IsLeastAt fabric.now (tables_of cells.now) (lanes_of lanes.now) traffic (levels_of levels.now) sought.lid
+        (lane_channel_of sought.channel) (lane_channel_of sought.next) found.0 found.1) }
+{
+    let host = first_host(
+        fabric, cells, lanes, levels, traffic, sought, marks, path, seen,
+    );
+    let switch = first_switch(
+        fabric, cells, lanes, levels, traffic, sought, marks, path, seen,
+    );
+    let source = lesser(fabric, host, switch)?;
+    let level = least_level(
+        fabric, cells, lanes, levels, traffic, sought, marks, path, seen, source,
+    )?;
+    Some((source, level))
+}
+
+// The same, in rooms of its own.
+fn first_found(
+    alloc: Global,
+    fabric: &Fabric,
+    cells: &Cells,
+    lanes: &LaneRows,
+    levels: &Levels,
+    traffic: Traffic,
+    sought: Sought,
+) -> Result<Option<(EndPort, u8)>, OutOfMemory>
+    requires same { switch_count fabric.now ≡ cells.now.switches }
+    requires lanes { switch_count fabric.now ≡ lanes.now.switches }
+    requires lid { sought.lid < 64 * cells.now.blocks }
+    requires on { AreOnFor fabric.now (tables_of cells.now) (lanes_of lanes.now) sought }
+    ensures { IfOk result (λ found. MatchOption found ((source : EndPort) → TakesAs fabric.now (tables_of cells.now) (lanes_of lanes.now) traffic (levels_of levels.now) sought source → ⊥)
+        (λ least. IsLeastAt fabric.now (tables_of cells.now) (lanes_of lanes.now) traffic (levels_of levels.now) sought.lid
+        (lane_channel_of sought.channel) (lane_channel_of sought.next) least.0 least.1)) }
+{
+    let mut marks = vec![in alloc; Mark::New; fabric.switches()]?;
+    let mut path = vec![in alloc; 0u32; fabric.switches()]?;
+    let mut seen = vec![in alloc; false; fabric.switches()]?;
+    let found = first_of_all(
+        fabric, cells, lanes, levels, traffic, sought, &mut marks, &mut path, &mut seen,
+    );
+    Ok(found)
+}
+
+// The end port of least GUID whose route to a LID with some level takes a channel and then, directly, another one; and its
+// least level.
+fn witness_at(
+    alloc: Global,
+    fabric: &Fabric,
+    cells: &Cells,
+    lanes: &LaneRows,
+    levels: &Levels,
+    traffic: Traffic,
+    lid: usize,
+    channel: LaneSpot,
+    next: LaneSpot,
+) -> Result<Option<(EndPort, u8)>, OutOfMemory>
+    requires same { switch_count fabric.now ≡ cells.now.switches }
+    requires lanes { switch_count fabric.now ≡ lanes.now.switches }
+    requires lid { lid < 64 * cells.now.blocks }
+    requires channel { channel.switch < switch_count fabric.now }
+    requires next { next.switch < switch_count fabric.now }
+    ensures { IfOk result (λ found. MatchOption found
+        ((source : EndPort) → Takes fabric.now (tables_of cells.now) (lanes_of lanes.now) traffic (levels_of levels.now)
+        lid (lane_channel_of channel) (lane_channel_of next) source → ⊥)
+        (λ least. IsLeastAt fabric.now (tables_of cells.now) (lanes_of lanes.now) traffic (levels_of levels.now) lid
+        (lane_channel_of channel) (lane_channel_of next) least.0 least.1)) }
+{
+    if !is_target(fabric, traffic, lid) {
+        return Ok(None);
+    }
+    let on = levels_on(fabric, cells, lanes, lid, channel, next);
+    if on == 0 {
+        return Ok(None);
+    }
+    let sought = Sought {
+        lid,
+        channel,
+        next,
+        on,
+    };
+    let found = first_found(alloc, fabric, cells, lanes, levels, traffic, sought)?;
+    Ok(found)
+}
+
+/// The least LID, to it the end port of least GUID, and from that with the least level, whose route takes a channel and
+/// then, directly, another one. There is none exactly if the channel does not depend on the other. The error is want of
+/// memory alone.
+pub fn find_lane_witness(
+    alloc: Global,
+    fabric: &Fabric,
+    cells: &Cells,
+    lanes: &LaneRows,
+    levels: &Levels,
+    traffic: Traffic,
+    channel: LaneSpot,
+    next: LaneSpot,
+) -> Result<Option<LaneWitness>, OutOfMemory>
+    requires same { switch_count fabric.now ≡ cells.now.switches }
+    requires lanes { switch_count fabric.now ≡ lanes.now.switches }
+    requires owners { length fabric.now.owners ≤ 64 * cells.now.blocks }
+    requires channel { channel.switch < switch_count fabric.now }
+    requires next { next.switch < switch_count fabric.now }
+    ensures { IfOk result (λ found. MatchOption found
+        (HasNoLaneWitness fabric.now (tables_of cells.now) (lanes_of lanes.now) traffic (levels_of levels.now)
+        (lane_channel_of channel) (lane_channel_of next))
+        (λ w. IsLeastLaneWitness fabric.now (tables_of cells.now) (lanes_of lanes.now) traffic (levels_of levels.now)
+        (lane_channel_of channel) (lane_channel_of next) w.lid w.source w.level)) }
+{
+    'lids: for lid in 0..fabric.lids() {
+        let found = witness_at(
+            alloc, fabric, cells, lanes, levels, traffic, lid, channel, next,
+        )?;
+        if let Some((source, level)) = found {
+            let lid = lid as u16;
+            return Ok(Some(LaneWitness { lid, source, level }));
+        }
+    }
+    Ok(None)
+}
