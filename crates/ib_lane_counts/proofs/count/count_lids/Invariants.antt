@@ -1,0 +1,13 @@
+use Rattle.ib_cells.specs.Cells.{tables_of}
+use Rattle.ib_lane_counts.specs.Steps.{AreCountsUntil, AreRooms}
+use Rattle.ib_net.specs.Fabric.{switch_count}
+use Rattle.ib_rows.specs.Lanes.{lanes_of}
+use Rattle.ib_rows.specs.Levels.{levels_of}
+use Rattle.ib_lane_counts.proofs.count.count_lids.Given as goal
+
+-- the counts with the LIDs so far
+abbrev pub invariant-lids : goal.invariant-lids
+invariant-lids l = record {
+  rooms : AreRooms (switch_count l.fabric) l.rooms;
+  counts : AreCountsUntil l.fabric (tables_of l.cells) (lanes_of l.lanes) l.traffic (levels_of l.levels) l.lid 0 0 l.counts;
+}

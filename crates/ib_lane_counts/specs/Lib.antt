@@ -1,0 +1,3 @@
+pub mod LaneCounts
+pub mod Gone
+pub mod Steps

@@ -1,0 +1,75 @@
+-- How routes are counted, LID by LID, end port by end port and level by level. Only private functions cite this.
+use Rattle.std.specs.Prelude.{◌≡◌, ◌<◌, ◌≤◌, ◌+◌, ◌*◌, ◌^◌, ◌⊎◌, ℕ, Option, Some, None, length}
+use Rattle.ib_cells.specs.Cells.{TablesOf}
+use Rattle.ib_counts.specs.Counts.{Route}
+use Rattle.ib_counts.specs.Steps.{place_of}
+use Rattle.ib_lane_counts.specs.declared.counts.LaneCounts.{LaneCounts}
+use Rattle.ib_lane_counts.specs.declared.counts.LostLaneRoute.{LostLaneRoute}
+use Rattle.ib_lane_counts.specs.declared.more.BegunRoute.{BegunRoute}
+use Rattle.ib_lane_counts.specs.declared.room.Rooms.{Rooms}
+use Rattle.ib_lane_counts.specs.LaneCounts.{AreCountsOf, IsLaneRouteOf, IsSilent, LaneRoute}
+use Rattle.ib_lane_routes.specs.declared.hop.LaneOutcome.{LaneOutcome}
+use Rattle.ib_lane_routes.specs.declared.hop.LaneOutcome.TheVariants as lane
+use Rattle.ib_net.specs.declared.node.EndPort.{EndPort}
+use Rattle.ib_net.specs.Fabric.{FabricOf, guid_of}
+use Rattle.ib_routes.specs.Counting.{IsCountOf}
+use Rattle.ib_routes.specs.declared.hop.Outcome.{Outcome}
+use Rattle.ib_routes.specs.declared.hop.Outcome.TheVariants.{Arrives, Stops, Loops}
+use Rattle.ib_routes.specs.declared.traffic.Traffic.{Traffic}
+use Rattle.ib_rows.specs.Lanes.{LanesOf}
+use Rattle.ib_rows.specs.PathLevels.{LevelsOf}
+
+-- how a route ends on lanes that ends so on one lane, if nothing discards it
+abbrev pub on_lanes : Outcome → LaneOutcome
+on_lanes (Arrives switches) = lane.Arrives switches
+on_lanes (Stops cause) = lane.Stops cause
+on_lanes Loops = lane.Loops
+
+-- a route to a lesser LID; or to this one, from one of the first so many end ports; or from the next one, with a lesser
+-- level
+abbrev pub IsUntil : FabricOf → Traffic → LevelsOf → (lid place level : ℕ) → LaneRoute → Type 0
+IsUntil fabric traffic levels lid place level route =
+    IsLaneRouteOf fabric traffic levels route
+    × ((route.lid < lid)
+    ⊎ ((route.lid ≡ lid)
+    × ((place_of fabric route.source < place)
+    ⊎ ((place_of fabric route.source ≡ place) × (route.level < level)))))
+
+-- a pair without a level, of a lesser LID; or of this one and one of the first so many end ports
+abbrev pub IsSilentUntil : FabricOf → Traffic → LevelsOf → (lid place : ℕ) → Route → Type 0
+IsSilentUntil fabric traffic levels lid place pair =
+    IsSilent fabric traffic levels pair
+    × ((pair.lid < lid) ⊎ ((pair.lid ≡ lid) × (place_of fabric pair.source < place)))
+
+-- what goes by a route
+abbrev pub route_of : BegunRoute → LaneRoute
+route_of route = record { lid = route.lid; source = route.source; level = route.level }
+
+-- the routes before one, and those up to it
+abbrev pub IsBefore : FabricOf → Traffic → LevelsOf → BegunRoute → LaneRoute → Type 0
+IsBefore fabric traffic levels route =
+    IsUntil fabric traffic levels route.lid (place_of fabric route.source) route.level
+
+abbrev pub IsUpTo : FabricOf → Traffic → LevelsOf → BegunRoute → LaneRoute → Type 0
+IsUpTo fabric traffic levels route =
+    IsUntil fabric traffic levels route.lid (place_of fabric route.source) (route.level + 1)
+
+-- a route to a LID is to be told in place of the least one so far, if there is one
+abbrev pub IsLesser : FabricOf → Option LostLaneRoute → ℕ → EndPort → Type 0
+IsLesser fabric None lid source = Unit {0}
+IsLesser fabric (Some told) lid source =
+    (told.lid ≡ lid) × (guid_of fabric source < guid_of fabric told.source)
+
+-- rooms for so many switches
+pub record AreRooms (count : ℕ) (rooms : Rooms) : Type 0 where
+  pub marks : length rooms.marks.items ≡ count
+  pub path : length rooms.path.items ≡ count
+  pub gone : length rooms.gone.items ≡ count
+
+module _ (fabric : FabricOf) (tables : TablesOf) (lanes : LanesOf) (traffic : Traffic) (levels : LevelsOf) where
+  -- the counts of those, which are not too many
+  pub record AreCountsUntil (lid place level : ℕ) (counts : LaneCounts) : Type 0 where
+    pub exact : AreCountsOf fabric tables lanes (IsUntil fabric traffic levels lid place level) counts
+    pub silent : IsCountOf (IsSilentUntil fabric traffic levels lid place) counts.silent
+    pub few : counts.routes ≤ 16 * (lid * 2 ^ 17 + place) + level
+    pub few_silent : counts.silent ≤ lid * 2 ^ 17 + place

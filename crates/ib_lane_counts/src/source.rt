@@ -1,0 +1,24 @@
+//! Where the routes of an end port begin.
+
+ghost use Rattle.std.specs.Prelude.{◌≡◌, ◌<◌, Some, IfSome, MatchOption};
+ghost use Rattle.ib_lane_routes.specs.LaneRoutes.{begin_of};
+ghost use Rattle.ib_net.specs.Fabric.{switch_count};
+ghost use Rattle.ib_routes.specs.Routes.{Sends};
+
+use ib_lane_routes::start::begin_at;
+use ib_net::fabric::Fabric;
+use ib_net::node::{EndPort, Spot};
+use ib_routes::start::sends;
+use ib_routes::traffic::Traffic;
+
+/// The port of a switch by which the routes of an end port to a LID begin, if it sends to it.
+pub fn sender_begin(fabric: &Fabric, traffic: Traffic, lid: usize, source: EndPort) -> Option<Spot>
+    ensures begin { MatchOption result (Sends fabric.now traffic lid source → ⊥)
+        (λ start. Sends fabric.now traffic lid source × (begin_of fabric.now source ≡ Some start)) }
+    ensures within { IfSome result (λ start. start.switch < switch_count fabric.now) }
+{
+    if !sends(fabric, traffic, lid, source) {
+        return None;
+    }
+    begin_at(fabric, source)
+}
