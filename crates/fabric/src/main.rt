@@ -17,14 +17,16 @@ use std::process::ExitCode;
 fn answer(rt: &HostRuntime, words: &[Word]) -> u8 {
     let mut topology = StdSource::new(Input::named(rt, rt.stdin(), words.get(1)));
     let mut tables = StdSource::new(Input::named(rt, rt.stdin(), words.get(2)));
-    let mut ranks = StdSource::new(Input::named(rt, rt.stdin(), words.get(3)));
+    let mut third = StdSource::new(Input::named(rt, rt.stdin(), words.get(3)));
+    let mut fourth = StdSource::new(Input::named(rt, rt.stdin(), words.get(4)));
     let mut out = StdSink::new(rt.stdout());
     let mut err = StdSink::new(rt.stderr());
     fabric(
         rt.alloc(),
         &mut topology,
         &mut tables,
-        &mut ranks,
+        &mut third,
+        &mut fourth,
         &mut out,
         &mut err,
         words,

@@ -6,10 +6,12 @@ use Rattle.outside.specs.Told.{Seen}
 use Rattle.calling.specs.Ended.{IsLineTold}
 use Rattle.ib_fabric.specs.Causes.{cause_text as topology_cause}
 use Rattle.ib_tables.specs.Causes.{cause_text as tables_cause}
+use Rattle.ib_lane_text.specs.Causes.{cause_text as lanes_cause}
 use Rattle.ib_ranks.specs.Causes.{cause_text as ranks_cause}
 use Rattle.ib_answering.specs.declared.status.Status.{Status}
 use Rattle.ib_answering.specs.declared.status.Status.TheVariants.{Ok, Usage, TopologyRefused, TopologyTooLong, TablesRefused, ReadFault, WriteFault, RoutesLost, Cycle, OutOfMemory}
-use Rattle.ib_answering.specs.declared.status.Status.TheVariants.{RanksRefused, RanksTooLong, RanksRise}
+use Rattle.ib_answering.specs.declared.status.Status.TheVariants.{LanesRefused, LevelsRefused, RanksRefused, RanksTooLong, RanksRise}
+use Rattle.ib_answering.specs.declared.status.Status.TheVariants.{NewTablesRefused}
 
 -- the number of a status
 abbrev pub code_of : Status → ℕ
@@ -18,8 +20,11 @@ code_of Usage = 2
 code_of (TopologyRefused line cause) = 3
 code_of (TopologyTooLong line) = 3
 code_of (TablesRefused line cause) = 3
+code_of (LanesRefused line cause) = 3
+code_of (LevelsRefused line cause) = 3
 code_of (RanksRefused line cause) = 3
 code_of (RanksTooLong line) = 3
+code_of (NewTablesRefused line cause) = 3
 code_of ReadFault = 4
 code_of WriteFault = 5
 code_of RoutesLost = 7
@@ -41,11 +46,16 @@ line_of Usage =
     ++ codes "       fabric verify TOPOLOGY TABLES RANKS [hosts|lids|all]\n"
     ++ codes "       fabric dot TOPOLOGY TABLES [hosts|lids|all]\n"
     ++ codes "       fabric route TOPOLOGY [hosts|lids|all]\n"
+    ++ codes "       fabric lanes TOPOLOGY TABLES SL2VL LEVELS|any|LEVEL [hosts|lids|all]\n"
+    ++ codes "       fabric between TOPOLOGY OLD NEW\n"
 line_of (TopologyRefused line cause) = refusal_line (codes "topology") line (topology_cause cause)
 line_of (TopologyTooLong line) = refusal_line (codes "topology") line (codes "too many")
 line_of (TablesRefused line cause) = refusal_line (codes "tables") line (tables_cause cause)
+line_of (LanesRefused line cause) = refusal_line (codes "lanes") line (lanes_cause cause)
+line_of (LevelsRefused line cause) = refusal_line (codes "levels") line (lanes_cause cause)
 line_of (RanksRefused line cause) = refusal_line (codes "ranks") line (ranks_cause cause)
 line_of (RanksTooLong line) = refusal_line (codes "ranks") line (codes "too many")
+line_of (NewTablesRefused line cause) = refusal_line (codes "new tables") line (tables_cause cause)
 line_of ReadFault = codes "fabric: read fault\n"
 line_of WriteFault = codes "fabric: write fault\n"
 line_of RoutesLost = codes "fabric: routes lost\n"

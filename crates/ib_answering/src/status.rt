@@ -9,6 +9,7 @@ ghost use Rattle.ib_answering.specs.Status.{IsToldOf, code_of, line_of, refusal_
 use an_base::memory::OutOfMemory;
 use calling::end::tell;
 use ib_fabric::cause::FabricCause;
+use ib_lane_text::cause::LaneCause;
 use ib_ranks::cause::RanksCause;
 use ib_tables::cause::TablesCause;
 use ib_tables::reader::TablesRefusal;
@@ -42,6 +43,20 @@ pub enum Status {
         /// The first cause in that line.
         cause: TablesCause,
     },
+    /// The bytes of lanes are no text of lanes of the fabric.
+    LanesRefused {
+        /// The first faulty line, from 1.
+        line: u64,
+        /// The first cause in that line.
+        cause: LaneCause,
+    },
+    /// The bytes of service levels are no text of levels of the fabric.
+    LevelsRefused {
+        /// The first faulty line, from 1.
+        line: u64,
+        /// The first cause in that line.
+        cause: LaneCause,
+    },
     /// The bytes of ranks are no text of ranks for the fabric.
     RanksRefused {
         /// The first faulty line, from 1.
@@ -53,6 +68,13 @@ pub enum Status {
     RanksTooLong {
         /// The line of the first byte too many, from 1.
         line: u32,
+    },
+    /// The bytes that are to be new tables are no tables of the fabric.
+    NewTablesRefused {
+        /// The first faulty line, from 1.
+        line: u64,
+        /// The first cause in that line.
+        cause: TablesCause,
     },
     /// A source failed.
     ReadFault,
@@ -110,8 +132,11 @@ impl Status {
             Status::TopologyRefused { line: _, cause: _ } => 3,
             Status::TopologyTooLong { line: _ } => 3,
             Status::TablesRefused { line: _, cause: _ } => 3,
+            Status::LanesRefused { line: _, cause: _ } => 3,
+            Status::LevelsRefused { line: _, cause: _ } => 3,
             Status::RanksRefused { line: _, cause: _ } => 3,
             Status::RanksTooLong { line: _ } => 3,
+            Status::NewTablesRefused { line: _, cause: _ } => 3,
             Status::ReadFault => 4,
             Status::WriteFault => 5,
             Status::RoutesLost => 7,
@@ -144,6 +169,8 @@ const USAGE: &str = "usage: fabric judge TOPOLOGY TABLES [hosts|lids|all]
        fabric verify TOPOLOGY TABLES RANKS [hosts|lids|all]
        fabric dot TOPOLOGY TABLES [hosts|lids|all]
        fabric route TOPOLOGY [hosts|lids|all]
+       fabric lanes TOPOLOGY TABLES SL2VL LEVELS|any|LEVEL [hosts|lids|all]
+       fabric between TOPOLOGY OLD NEW
 ";
 
 // The fault of a file.
@@ -165,8 +192,11 @@ fn line_of(status: Status) -> Line
         }
         Status::TopologyTooLong { line } => fault("topology", u64::from(line), "too many"),
         Status::TablesRefused { line, cause } => fault("tables", line, cause.text()),
+        Status::LanesRefused { line, cause } => fault("lanes", line, cause.text()),
+        Status::LevelsRefused { line, cause } => fault("levels", line, cause.text()),
         Status::RanksRefused { line, cause } => fault("ranks", u64::from(line), cause.text()),
         Status::RanksTooLong { line } => fault("ranks", u64::from(line), "too many"),
+        Status::NewTablesRefused { line, cause } => fault("new tables", line, cause.text()),
         Status::ReadFault => Line::Plain("fabric: read fault\n"),
         Status::WriteFault => Line::Plain("fabric: write fault\n"),
         Status::RoutesLost => Line::Plain("fabric: routes lost\n"),

@@ -1,19 +1,18 @@
 -- The answer to words.
 use Rattle.std.proofs.Common.{◌≡◌, sym, subst, ℕ, List}
-use Rattle.outside.specs.Told.{Seen}
 use Rattle.ib_answering.specs.Answer.{IsUsageAnswer, Streams}
 use Rattle.ib_judging.specs.declared.words.Call.{Call}
 use Rattle.ib_judging.specs.declared.words.Task.{Task}
-use Rattle.ib_calls.specs.Call.{IsAnswerOf, IsAnswerTo}
+use Rattle.ib_calls.specs.Call.{IsAnswerOf, IsAnswerTo, More}
 use Rattle.ib_judging.specs.Words.{AreNoCall, IsCall}
 use Rattle.ib_judging.proofs.WordLemmas.{one_call}
 
-module _ (words : List (List ℕ)) (ranks ranks' : Seen) (old new : Streams) (answer : ℕ) where
-  pub answers_call : (call : Call) (task : Task) → IsCall words call → call.task ≡ task → IsAnswerOf task call.traffic ranks ranks' old new answer → IsAnswerTo words ranks ranks' old new answer
+module _ (words : List (List ℕ)) (has has' : More) (old new : Streams) (answer : ℕ) where
+  pub answers_call : (call : Call) (task : Task) → IsCall words call → call.task ≡ task → IsAnswerOf task words call.traffic has has' old new answer → IsAnswerTo words has has' old new answer
   answers_call call task is same answers = record {
-    call = λ other too. subst (λ (c : Call). IsAnswerOf c.task c.traffic ranks ranks' old new answer) (one_call words call other is too) (subst (λ (t : Task). IsAnswerOf t call.traffic ranks ranks' old new answer) (sym same) answers);
+    call = λ other too. subst (λ (c : Call). IsAnswerOf c.task words c.traffic has has' old new answer) (one_call words call other is too) (subst (λ (t : Task). IsAnswerOf t words call.traffic has has' old new answer) (sym same) answers);
     usage = λ none. absurd (none call is);
   }
 
-  pub answers_usage : AreNoCall words → ranks' ≡ ranks → IsUsageAnswer old new answer → IsAnswerTo words ranks ranks' old new answer
+  pub answers_usage : AreNoCall words → has' ≡ has → IsUsageAnswer old new answer → IsAnswerTo words has has' old new answer
   answers_usage none kept usage = record { call = λ call is. absurd (none call is); usage = λ _. (kept, usage) }

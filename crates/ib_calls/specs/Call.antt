@@ -1,30 +1,61 @@
 -- The answer to the words of a call.
 
-use Rattle.std.specs.Prelude.{◌≡◌, ℕ, List}
+use Rattle.std.specs.Prelude.{◌≡◌, ℕ, List, Some, slice_get}
 use Rattle.outside.specs.Told.{Seen}
 use Rattle.ib_routes.specs.declared.traffic.Traffic.{Traffic}
 use Rattle.ib_answering.specs.Answer.{IsUsageAnswer, Streams}
+use Rattle.ib_lane_lines.specs.declared.answer.LevelsAsked.{LevelsAsked}
+use Rattle.ib_lane_commands.specs.Asked.{IsAskedBy}
+use Rattle.ib_lane_commands.specs.Inputs.{lane_sources}
+use Rattle.ib_lane_commands.specs.LaneCall.{IsLanesAnswer}
+use Rattle.ib_between.specs.Answer.{IsBetweenAnswer, sources}
 use Rattle.ib_judging.specs.declared.words.Call.{Call}
 use Rattle.ib_judging.specs.declared.words.Task.{Task}
-use Rattle.ib_judging.specs.declared.words.Task.TheVariants.{Answer, Route}
+use Rattle.ib_judging.specs.declared.words.Task.TheVariants.{Answer, Route, Lanes, Between}
 use Rattle.ib_judging.specs.Questions.{IsAnswerToQuestion}
 use Rattle.ib_judging.specs.Words.{AreNoCall, IsCall}
 use Rattle.ib_routing.specs.Routed.{IsRouteAnswer}
 
--- `route` leaves tables and ranks alone
-pub record IsRouteAnswerOf (traffic : Traffic) (ranks ranks' : Seen) (old new : Streams) (answer : ℕ) : Type 0 where
-  pub ranks_kept : ranks' ≡ ranks
+-- the sources of a call's third and fourth file
+pub record More : Type 0 where
+  pub third : Seen
+  pub fourth : Seen
+
+abbrev pub more : (third fourth : Seen) → More
+more third fourth = record { third = third; fourth = fourth }
+
+-- `route` leaves all but the topology alone
+pub record IsRouteAnswerOf (traffic : Traffic) (has has' : More) (old new : Streams) (answer : ℕ) : Type 0 where
+  pub more_kept : has' ≡ has
   pub tables_kept : new.read.tables ≡ old.read.tables
   pub answers :
       IsRouteAnswer traffic old.read.topology new.read.topology old.out new.out old.err new.err answer
 
--- the answer of a task
-abbrev pub IsAnswerOf : Task → Traffic → (ranks ranks' : Seen) → (old new : Streams) → ℕ → Type 0
-IsAnswerOf (Answer question) traffic ranks ranks' old new answer =
-    IsAnswerToQuestion question traffic ranks ranks' old new answer
-IsAnswerOf Route traffic ranks ranks' old new answer = IsRouteAnswerOf traffic ranks ranks' old new answer
+-- `lanes` asks for the levels that its fourth file word names
+pub record IsLanesAnswerOf (words : List (List ℕ)) (traffic : Traffic) (has has' : More) (old new : Streams) (answer : ℕ)
+    : Type 0 where
+  pub asked : LevelsAsked
+  pub names : (word : List ℕ) → slice_get words 4 ≡ Some word → IsAskedBy word asked
+  pub answers :
+      IsLanesAnswer traffic asked (lane_sources old.read.topology old.read.tables has.third has.fourth)
+      (lane_sources new.read.topology new.read.tables has'.third has'.fourth) old.out new.out old.err new.err answer
 
--- the answer to words: that of the call that they are, and the usage line if they are none
-pub record IsAnswerTo (words : List (List ℕ)) (ranks ranks' : Seen) (old new : Streams) (answer : ℕ) : Type 0 where
-  pub call : (call : Call) → IsCall words call → IsAnswerOf call.task call.traffic ranks ranks' old new answer
-  pub usage : AreNoCall words → (ranks' ≡ ranks) × IsUsageAnswer old new answer
+-- `between` reads new tables from the source of the third file
+pub record IsBetweenAnswerOf (has has' : More) (old new : Streams) (answer : ℕ) : Type 0 where
+  pub fourth_kept : has'.fourth ≡ has.fourth
+  pub answers :
+      IsBetweenAnswer (sources old.read.topology old.read.tables has.third)
+      (sources new.read.topology new.read.tables has'.third) old.out new.out old.err new.err answer
+
+-- the answer of a task
+abbrev pub IsAnswerOf : Task → List (List ℕ) → Traffic → (has has' : More) → (old new : Streams) → ℕ → Type 0
+IsAnswerOf (Answer question) words traffic has has' old new answer =
+    (has'.fourth ≡ has.fourth) × IsAnswerToQuestion question traffic has.third has'.third old new answer
+IsAnswerOf Route words traffic has has' old new answer = IsRouteAnswerOf traffic has has' old new answer
+IsAnswerOf Lanes words traffic has has' old new answer = IsLanesAnswerOf words traffic has has' old new answer
+IsAnswerOf Between words traffic has has' old new answer = IsBetweenAnswerOf has has' old new answer
+
+-- the answer to words: that of the call that they are, and the usage lines if they are none
+pub record IsAnswerTo (words : List (List ℕ)) (has has' : More) (old new : Streams) (answer : ℕ) : Type 0 where
+  pub call : (call : Call) → IsCall words call → IsAnswerOf call.task words call.traffic has has' old new answer
+  pub usage : AreNoCall words → (has' ≡ has) × IsUsageAnswer old new answer

@@ -1,33 +1,51 @@
 //! The call.
 
-ghost use Rattle.std.specs.Prelude.{◌≡◌};
+ghost use Rattle.std.specs.Prelude.{◌≡◌, ℕ, List, Some, slice_get};
 ghost use Rattle.ib_answering.specs.Answer.{streams};
-ghost use Rattle.ib_calls.specs.Call.{IsAnswerTo};
+ghost use Rattle.ib_calls.specs.Call.{IsAnswerTo, more};
+ghost use Rattle.ib_lane_commands.specs.Asked.{IsAskedBy, IsOneOfSixteen};
 
 use an_base::text::Word;
 use ib_answering::status::{Status, finish};
+use ib_between::between::between;
 use ib_judging::question::answer_question;
 use ib_judging::words::{Task, call_of};
+use ib_lane_commands::asked::asked_by;
+use ib_lane_commands::lanes::lanes;
+use ib_lane_lines::answer::LevelsAsked;
 use ib_routing::route::route;
 use outside::sink::Sink;
 use outside::source::Source;
 use std::alloc::Global;
 
+// The levels for which words ask: the last one of four files names them.
+fn levels_asked(words: &[Word]) -> LevelsAsked
+    ensures named { (word : List ℕ) → slice_get words.now 4 ≡ Some word → IsAskedBy word result }
+    ensures low { IsOneOfSixteen result }
+{
+    match words.get(4) {
+        None => LevelsAsked::Any,
+        Some(word) => asked_by(word),
+    }
+}
+
 /// Answers a call. The words are `judge`, `ranks` or `dot` with TOPOLOGY and TABLES, `verify` with TOPOLOGY, TABLES and
-/// RANKS, or `route` with TOPOLOGY, and then `hosts`, `lids`, `all` or nothing: the call reads the sources that they name
-/// to their ends, the ranks first, and writes to out the verdict, the ranks, a picture, whether the ranks fall, or tables.
+/// RANKS, `route` with TOPOLOGY, or `lanes` with TOPOLOGY, TABLES, SL2VL and LEVELS, and then `hosts`, `lids`, `all` or
+/// nothing, or `between` with TOPOLOGY, OLD and NEW: the call reads the sources that they name to their ends, in this order,
+/// but for ranks, which come first. It writes to out the verdict, the ranks, a picture, whether the ranks fall, or tables.
 /// The answer is the number of how the call ended, and its line goes to err. For other words the sources and out are left
-/// alone.
-pub fn fabric<T: Source, S: Source, R: Source, O: Sink, E: Sink>(
+/// alone. OLD is read from the source of tables; RANKS, SL2VL and NEW from the third, and LEVELS from the fourth.
+pub fn fabric<T: Source, S: Source, R: Source, L: Source, O: Sink, E: Sink>(
     alloc: Global,
     topology: &mut T,
     tables: &mut S,
-    ranks: &mut R,
+    third: &mut R,
+    fourth: &mut L,
     out: &mut O,
     err: &mut E,
     words: &[Word],
 ) -> u8
-    ensures { IsAnswerTo words.now (R.seen ranks.old) (R.seen ranks.new)
+    ensures { IsAnswerTo words.now (more (R.seen third.old) (L.seen fourth.old)) (more (R.seen third.new) (L.seen fourth.new))
         (streams (T.seen topology.old) (S.seen tables.old) (O.seen out.old) (E.seen err.old))
         (streams (T.seen topology.new) (S.seen tables.new) (O.seen out.new) (E.seen err.new)) result }
 {
@@ -37,8 +55,15 @@ pub fn fabric<T: Source, S: Source, R: Source, O: Sink, E: Sink>(
     let traffic = call.traffic;
     match call.task {
         Task::Answer(question) => {
-            answer_question(alloc, topology, tables, ranks, out, err, question, traffic)
+            answer_question(alloc, topology, tables, third, out, err, question, traffic)
         }
         Task::Route => route(alloc, topology, out, err, traffic),
+        Task::Lanes => {
+            let asked = levels_asked(words);
+            lanes(
+                alloc, topology, tables, third, fourth, asked, out, err, traffic,
+            )
+        }
+        Task::Between => between(alloc, topology, tables, third, out, err),
     }
 }

@@ -9,8 +9,8 @@ use Rattle.ib_verdict.specs.declared.verify.Verified.{Verified}
 use Rattle.ib_verdict.specs.Verified.{IsVerified}
 use Rattle.ib_verdict.specs.Verdict.{CycleIs}
 use Rattle.ib_answering.specs.declared.status.Status.{Status}
-use Rattle.ib_answering.specs.declared.status.Status.TheVariants.{Ok, Usage, TopologyRefused, TopologyTooLong, TablesRefused, RanksRefused, RanksTooLong}
-use Rattle.ib_answering.specs.declared.status.Status.TheVariants.{ReadFault, WriteFault, RoutesLost, Cycle, RanksRise, OutOfMemory}
+use Rattle.ib_answering.specs.declared.status.Status.TheVariants.{Ok, Usage, TopologyRefused, TopologyTooLong, TablesRefused, LanesRefused, LevelsRefused}
+use Rattle.ib_answering.specs.declared.status.Status.TheVariants.{NewTablesRefused, RanksRefused, RanksTooLong, ReadFault, WriteFault, RoutesLost, Cycle, RanksRise, OutOfMemory}
 use Rattle.ib_answering.specs.Answer.{IsEnding}
 use Rattle.ib_commands.specs.Certified.{IsEndBy}
 use Rattle.ib_commands.specs.Judged.{IsEndOf, IsLoop}
@@ -32,8 +32,11 @@ module _ (fabric : FabricOf) (tables : TablesOf) (traffic : Traffic) where
   is_ending (TopologyRefused line cause) is = absurd is
   is_ending (TopologyTooLong line) is = absurd is
   is_ending (TablesRefused line cause) is = absurd is
+  is_ending (LanesRefused line cause) is = absurd is
+  is_ending (LevelsRefused line cause) is = absurd is
   is_ending (RanksRefused line cause) is = absurd is
   is_ending (RanksTooLong line) is = absurd is
+  is_ending (NewTablesRefused line cause) is = absurd is
   is_ending ReadFault is = absurd is
   is_ending WriteFault is = absurd is
   is_ending RoutesLost is = tt
@@ -62,8 +65,11 @@ module _ (fabric : FabricOf) (tables : TablesOf) (traffic : Traffic) where
   cycle_status (one ∷ rest) is (TopologyRefused line cause) ends = absurd ends
   cycle_status (one ∷ rest) is (TopologyTooLong line) ends = absurd ends
   cycle_status (one ∷ rest) is (TablesRefused line cause) ends = absurd ends
+  cycle_status (one ∷ rest) is (LanesRefused line cause) ends = absurd ends
+  cycle_status (one ∷ rest) is (LevelsRefused line cause) ends = absurd ends
   cycle_status (one ∷ rest) is (RanksRefused line cause) ends = absurd ends
   cycle_status (one ∷ rest) is (RanksTooLong line) ends = absurd ends
+  cycle_status (one ∷ rest) is (NewTablesRefused line cause) ends = absurd ends
   cycle_status (one ∷ rest) is ReadFault ends = absurd ends
   cycle_status (one ∷ rest) is WriteFault ends = absurd ends
   cycle_status (one ∷ rest) is RoutesLost ends = absurd (ends.1.no_cycle _ _ is.least.from.closed)

@@ -86,7 +86,8 @@ pub fn cycle_of(judged: &Judgement) -> &[LoopChannel]
     }
 }
 
-fn read_of(fabric: &Fabric, tables: &Tables, links: u64) -> Read
+/// What was read, with so many links between switches.
+pub fn read_of(fabric: &Fabric, tables: &Tables, links: u64) -> Read
     ensures { IsLinkCount fabric.now links → IsRead fabric.now tables.now result }
 {
     Read {

@@ -11,7 +11,7 @@ pub mod commands;
 pub mod dot;
 pub mod law;
 mod losses;
-mod names;
+pub mod names;
 mod ranks;
 mod steps;
 pub mod verify;

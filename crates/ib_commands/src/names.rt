@@ -72,8 +72,8 @@ fn guids_in(alloc: Global, steps: &[Step], lost: &[Lost]) -> Result<IndexSet<u64
     Ok(guids)
 }
 
-// Two nodes more.
-fn insert_two(guids: &mut IndexSet<u64>, one: u64, other: u64) -> Result<(), OutOfMemory>
+/// Adds two nodes to some, each if it is not among them.
+pub fn insert_two(guids: &mut IndexSet<u64>, one: u64, other: u64) -> Result<(), OutOfMemory>
     ensures { OnOk result (guids.new.keys ≡ insert_key nat_eq (insert_key nat_eq guids.old.keys one) other) }
 {
     guids.insert(one)?;

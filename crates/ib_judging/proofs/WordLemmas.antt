@@ -1,5 +1,5 @@
 -- Words are those of one call at most.
-use Rattle.std.proofs.Common.{◌≡◌, ◌∙◌, sym, ap, subst, refl, ℕ, ◌<◌, ◌↔◌, List, [], ◌∷◌, ◌++◌, Bool, true, false, cond, eqb, length, get_or, take, drop, ◌-◌, inl, inr}
+use Rattle.std.proofs.Common.{◌≡◌, ◌∙◌, sym, ap, subst, refl, ℕ, suc, ◌+◌, ◌<◌, ◌↔◌, List, [], ◌∷◌, ◌++◌, Bool, true, false, cond, eqb, length, get_or, take, drop, ◌-◌, inl, inr}
 use Rattle.std.specs.Prelude.{IsTrue, codes, slice_index}
 use Rattle.std.proofs.lemmas.Bool.{false_from_ne_true}
 use Rattle.std.proofs.lemmas.List.{drop_at}
@@ -9,10 +9,10 @@ use Rattle.ib_routes.specs.declared.traffic.Traffic.{Traffic}
 use Rattle.ib_routes.specs.declared.traffic.Traffic.TheVariants.{Hosts, Lids, All}
 use Rattle.ib_commands.specs.Words.{traffic_word}
 use Rattle.ib_judging.specs.declared.words.Task.{Task}
-use Rattle.ib_judging.specs.declared.words.Task.TheVariants.{Answer, Route}
+use Rattle.ib_judging.specs.declared.words.Task.TheVariants.{Answer, Route, Lanes, Between}
 use Rattle.ib_judging.specs.declared.words.Question.TheVariants.{Judge, Ranks, Verify, Dot}
 use Rattle.ib_judging.specs.declared.words.Call.{Call}
-use Rattle.ib_judging.specs.Words.{AreNoCall, IsCall, NameTraffic, file_count, is_standard, task_word}
+use Rattle.ib_judging.specs.Words.{AreNoCall, IsCall, NameTraffic, NameTrafficFor, file_count, is_standard, task_word}
 
 -- no two words of traffics are equally long
 traffic_of_length : ℕ → Traffic
@@ -27,27 +27,44 @@ by_length All = refl
 one_word : (one other : Traffic) → traffic_word one ≡ traffic_word other → one ≡ other
 one_word one other same = sym (by_length one) ∙ ap (λ (w : List ℕ). traffic_of_length (length w)) same ∙ by_length other
 
--- the words of tasks have different third letters
-task_of_letter : ℕ → Task
-task_of_letter letter =
-    cond (eqb letter 100) (Answer Judge) (cond (eqb letter 110) (Answer Ranks) (cond (eqb letter 114) (Answer Verify) (cond (eqb letter 116) (Answer Dot) Route)))
+-- the words of tasks differ in the sum of two letters and of their length
+task_of_sum : ℕ → Task
+task_of_sum sum =
+    cond (eqb sum 211) (Answer Judge) (cond (eqb sum 229) (Answer Ranks) (cond (eqb sum 238) (Answer Verify) (cond (eqb sum 219) (Answer Dot) (cond (eqb sum 236) Route (cond (eqb sum 223) Lanes Between)))))
 
-by_letter : (task : Task) → task_of_letter (slice_index (task_word task) 2) ≡ task
-unfolding task_of_letter
-by_letter (Answer Judge) = refl
-by_letter (Answer Ranks) = refl
-by_letter (Answer Verify) = refl
-by_letter (Answer Dot) = refl
-by_letter Route = refl
+sum_of : List ℕ → ℕ
+sum_of word = slice_index word 0 + slice_index word 2 + length word
+
+by_sum : (task : Task) → task_of_sum (sum_of (task_word task)) ≡ task
+unfolding task_of_sum sum_of
+by_sum (Answer Judge) = refl
+by_sum (Answer Ranks) = refl
+by_sum (Answer Verify) = refl
+by_sum (Answer Dot) = refl
+by_sum Route = refl
+by_sum Lanes = refl
+by_sum Between = refl
 
 one_task : (one other : Task) → task_word one ≡ task_word other → one ≡ other
-one_task one other same = sym (by_letter one) ∙ ap (λ (w : List ℕ). task_of_letter (slice_index w 2)) same ∙ by_letter other
+one_task one other same = sym (by_sum one) ∙ ap (λ (w : List ℕ). task_of_sum (sum_of w)) same ∙ by_sum other
 
 one_traffic : (words : List (List ℕ)) (one other : Traffic) → NameTraffic words one → NameTraffic words other → one ≡ other
 one_traffic words one other (inl (none, hosts)) (inl (none', hosts')) = hosts ∙ sym hosts'
 one_traffic words one other (inl (none, hosts)) (inr named) = absurd (let both : [] ≡ traffic_word other ∷ [] = sym none ∙ named in cc)
 one_traffic words one other (inr named) (inl (none, hosts)) = absurd (let both : [] ≡ traffic_word one ∷ [] = sym none ∙ named in cc)
 one_traffic words one other (inr named) (inr named') = one_word one other (let both : traffic_word one ∷ [] ≡ traffic_word other ∷ [] = sym named ∙ named' in cc)
+
+-- the same of the words of a task
+traffic_for_one : (task : Task) (words : List (List ℕ)) (one other : Traffic) → NameTrafficFor task words one → NameTrafficFor task words other → one ≡ other
+traffic_for_one (Answer question) words one other is too = one_traffic words one other is too
+traffic_for_one Route words one other is too = one_traffic words one other is too
+traffic_for_one Lanes words one other is too = one_traffic words one other is too
+traffic_for_one Between words one other is too = is.1 ∙ sym too.1
+
+-- what `between` says of no words
+pub between_names : (words : List (List ℕ)) → length words ≡ 0 → NameTrafficFor Between words Hosts
+between_names [] none = (refl, refl)
+between_names (one ∷ rest) none = absurd (let zero : suc (length rest) ≡ 0 = none in cc)
 
 same_call : (one other : Call) → one.task ≡ other.task → one.traffic ≡ other.traffic → one ≡ other
 same_call one other task traffic = ap (λ (t : Task). let c : Call = record { task = t; traffic = one.traffic } in c) task ∙ ap (λ (t : Traffic). let c : Call = record { task = other.task; traffic = t } in c) traffic
@@ -59,7 +76,7 @@ one_call words one other is too =
     let rest : is.files ++ is.last ≡ too.files ++ too.last = cc in
     let count : length too.files ≡ file_count one.task = too.count ∙ ap file_count (sym task) in
     let last : is.last ≡ too.last = sym (drop_at is.files is.last (file_count one.task) is.count) ∙ ap (drop (file_count one.task)) rest ∙ drop_at too.files too.last (file_count one.task) count in
-    same_call one other task (one_traffic too.last one.traffic other.traffic (subst (λ (ws : List (List ℕ)). NameTraffic ws one.traffic) last is.names) too.names)
+    same_call one other task (traffic_for_one other.task too.last one.traffic other.traffic (subst (λ (t : Task). NameTrafficFor t too.last one.traffic) task (subst (λ (ws : List (List ℕ)). NameTrafficFor one.task ws one.traffic) last is.names)) too.names)
 
 -- the test of a word for standard input
 pub standard_is : (told : Bool) (word : List ℕ) → (IsTrue told ↔ (word ≡ codes "-")) → told ≡ is_standard word
@@ -85,5 +102,5 @@ module _ (first : List ℕ) (rest : List (List ℕ)) where
     last_are : (call : Call) (is : IsCall (first ∷ rest) call) → drop (file_count task) rest ≡ is.last
     last_are call is = ap (drop (file_count task)) (parts call is) ∙ drop_at is.files is.last (file_count task) (count call is)
 
-    pub no_traffic : ((traffic : Traffic) → ¬ NameTraffic (drop (file_count task) rest) traffic) → AreNoCall (first ∷ rest)
-    no_traffic none call is = none call.traffic (subst (λ (ws : List (List ℕ)). NameTraffic ws call.traffic) (sym (last_are call is)) is.names)
+    pub no_traffic : ((traffic : Traffic) → ¬ NameTrafficFor task (drop (file_count task) rest) traffic) → AreNoCall (first ∷ rest)
+    no_traffic none call is = none call.traffic (subst (λ (t : Task). NameTrafficFor t (drop (file_count task) rest) call.traffic) (same_task call is) (subst (λ (ws : List (List ℕ)). NameTrafficFor call.task ws call.traffic) (sym (last_are call is)) is.names))

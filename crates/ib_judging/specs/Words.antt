@@ -6,7 +6,7 @@ use Rattle.ib_routes.specs.declared.traffic.Traffic.{Traffic}
 use Rattle.ib_routes.specs.declared.traffic.Traffic.TheVariants.{Hosts}
 use Rattle.ib_commands.specs.Words.{traffic_word}
 use Rattle.ib_judging.specs.declared.words.Task.{Task}
-use Rattle.ib_judging.specs.declared.words.Task.TheVariants.{Answer, Route}
+use Rattle.ib_judging.specs.declared.words.Task.TheVariants.{Answer, Route, Lanes, Between}
 use Rattle.ib_judging.specs.declared.words.Question.{Question}
 use Rattle.ib_judging.specs.declared.words.Question.TheVariants.{Judge, Ranks, Verify, Dot}
 use Rattle.ib_judging.specs.declared.words.Call.{Call}
@@ -21,14 +21,19 @@ question_word Dot = codes "dot"
 abbrev pub task_word : Task → List ℕ
 task_word (Answer question) = question_word question
 task_word Route = codes "route"
+task_word Lanes = codes "lanes"
+task_word Between = codes "between"
 
--- how many files a task has: a topology, but for `route` tables too, and for `verify` ranks
+-- how many files a task has: a topology, but for `route` tables too, and besides for `verify` ranks, for `lanes` lanes and
+-- levels, and for `between` new tables
 abbrev pub file_count : Task → ℕ
 file_count (Answer Judge) = 2
 file_count (Answer Ranks) = 2
 file_count (Answer Verify) = 3
 file_count (Answer Dot) = 2
 file_count Route = 1
+file_count Lanes = 4
+file_count Between = 3
 
 -- at most one file is standard input
 abbrev pub is_standard : List ℕ → Bool
@@ -41,13 +46,20 @@ MayBeFiles files = count_by is_standard files ≤ 1
 abbrev pub NameTraffic : List (List ℕ) → Traffic → Type 0
 NameTraffic words traffic = ((words ≡ []) × (traffic ≡ Hosts)) ⊎ (words ≡ traffic_word traffic ∷ [])
 
+-- .. of a task: `between` has none
+abbrev pub NameTrafficFor : Task → List (List ℕ) → Traffic → Type 0
+NameTrafficFor (Answer question) words traffic = NameTraffic words traffic
+NameTrafficFor Route words traffic = NameTraffic words traffic
+NameTrafficFor Lanes words traffic = NameTraffic words traffic
+NameTrafficFor Between words traffic = (words ≡ []) × (traffic ≡ Hosts)
+
 -- the word of a task, its files, and the word of the traffic
 pub record IsCall (words : List (List ℕ)) (call : Call) : Type 0 where
   pub files : List (List ℕ)
   pub last : List (List ℕ)
   pub count : length files ≡ file_count call.task
   pub may : MayBeFiles files
-  pub names : NameTraffic last call.traffic
+  pub names : NameTrafficFor call.task last call.traffic
   pub are : words ≡ task_word call.task ∷ (files ++ last)
 
 abbrev pub AreNoCall : List (List ℕ) → Type 0

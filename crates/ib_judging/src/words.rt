@@ -3,7 +3,7 @@
 ghost use Rattle.std.specs.Prelude.{◌≡◌, ◌≢◌, ◌↔◌, MatchOption, IsTrue, codes};
 ghost use Rattle.ib_routes.specs.declared.traffic.Traffic.{Traffic};
 ghost use Rattle.ib_commands.specs.Words.{traffic_word};
-ghost use Rattle.ib_judging.specs.Words.{AreNoCall, IsCall, MayBeFiles, NameTraffic, file_count, task_word};
+ghost use Rattle.ib_judging.specs.Words.{AreNoCall, IsCall, MayBeFiles, NameTraffic, NameTrafficFor, file_count, task_word};
 
 use an_base::text::Word;
 use ib_routes::traffic::Traffic;
@@ -28,6 +28,10 @@ pub enum Task {
     Answer(Question),
     /// To make tables.
     Route,
+    /// To judge tables with lanes and service levels.
+    Lanes,
+    /// To judge what may be while old tables are replaced by new ones.
+    Between,
 }
 
 /// A call.
@@ -81,6 +85,17 @@ fn traffic_of(words: &[Word]) -> Option<Traffic>
     }
 }
 
+// .. of a task: `between` has none, and takes no such word.
+fn traffic_for(task: Task, words: &[Word]) -> Option<Traffic>
+    ensures { MatchOption result ((traffic : Traffic) → ¬ NameTrafficFor task words.now traffic)
+        (NameTrafficFor task words.now) }
+{
+    match task {
+        Task::Between => words.is_empty().then_some(Traffic::Hosts),
+        _ => traffic_of(words),
+    }
+}
+
 // The task that a word names.
 fn task_named(word: &Word) -> Option<Task>
     ensures { MatchOption result ((task : Task) → word.now ≢ task_word task) (λ task. word.now ≡ task_word task) }
@@ -100,6 +115,12 @@ fn task_named(word: &Word) -> Option<Task>
     if is(word, "route") {
         return Some(Task::Route);
     }
+    if is(word, "lanes") {
+        return Some(Task::Lanes);
+    }
+    if is(word, "between") {
+        return Some(Task::Between);
+    }
     None
 }
 
@@ -113,6 +134,8 @@ fn file_count(task: Task) -> usize
         Task::Answer(Question::Verify) => 3,
         Task::Answer(Question::Dot) => 2,
         Task::Route => 1,
+        Task::Lanes => 4,
+        Task::Between => 3,
     }
 }
 
@@ -129,9 +152,10 @@ fn may_be_files(files: &[Word]) -> bool
     standard <= 1
 }
 
-/// The call that words are: `judge`, `ranks` or `dot` with TOPOLOGY and TABLES, `verify` with TOPOLOGY, TABLES and
-/// RANKS, or `route` with TOPOLOGY, and then `hosts`, `lids` or `all`, where at most one file is `-`. Without such a word
-/// the traffic is `hosts`.
+/// The call that words are: `judge`, `ranks` or `dot` with TOPOLOGY and TABLES, `verify` with
+/// TOPOLOGY, TABLES and RANKS, `route` with TOPOLOGY, or `lanes` with TOPOLOGY, TABLES, SL2VL and LEVELS, and then `hosts`,
+/// `lids` or `all`; or `between` with TOPOLOGY, OLD and NEW. At most one file is `-`. Without a word for it the traffic is
+/// `hosts`.
 pub fn call_of(words: &[Word]) -> Option<Call>
     ensures { MatchOption result (AreNoCall words.now) (IsCall words.now) }
 {
@@ -147,6 +171,6 @@ pub fn call_of(words: &[Word]) -> Option<Call>
     if !may_be_files(files) {
         return None;
     }
-    let traffic = traffic_of(last)?;
+    let traffic = traffic_for(task, last)?;
     Some(Call { task, traffic })
 }

@@ -49,12 +49,15 @@ channel_row step =
     codes "channel" ∷ guid_word step.guid ∷ decimal step.port ∷ codes "lid" ∷ decimal step.lid
     ∷ codes "from" ∷ guid_word step.source ∷ []
 
--- the cycle, if there is one
+-- the cycle, if there is one, with a row for each of its channels
 abbrev pub cycle_word : ℕ → List ℕ
 cycle_word many = if many == 0 then codes "none" else decimal many
 
+abbrev pub cycle_rows_by : {Channel : Type 0} → (Channel → Row) → List Channel → List Row
+cycle_rows_by row_of cycle = (codes "cycle" ∷ cycle_word (length cycle) ∷ []) ∷ map row_of cycle
+
 abbrev pub cycle_rows : List Step → List Row
-cycle_rows cycle = (codes "cycle" ∷ cycle_word (length cycle) ∷ []) ∷ map channel_row cycle
+cycle_rows cycle = cycle_rows_by channel_row cycle
 
 abbrev pub losses_row : Losses → Row
 losses_row losses =

@@ -10,4 +10,4 @@ mod label;
 pub mod picture;
 pub mod printer;
 pub mod ranks;
-mod row;
+pub mod row;

@@ -2,7 +2,7 @@
 
 ghost use Rattle.std.specs.Prelude.{◌≡◌, ◌++◌, OnOk, IfOk};
 ghost use Rattle.text_lines.specs.Lines.{line_text, lines_text};
-ghost use Rattle.ib_lines.specs.Answers.{answer_text, read_row, routes_row, channels_row, cycle_rows, cycle_word, judged_row, losses_row, lost_rows, cause_word};
+ghost use Rattle.ib_lines.specs.Answers.{answer_text, read_row, routes_row, channels_row, cycle_rows_by, cycle_word, judged_row, losses_row, lost_rows, cause_word};
 ghost use Rattle.ib_lines.specs.RowWords.{word_text};
 
 use crate::answer::{Answer, Cause, Losses, Lost, Name, Read, Routes, Step};
@@ -35,8 +35,8 @@ fn push_answer(alloc: Global, text: &mut Vec<u8>, answer: &Answer) -> Result<(),
     push_rows(alloc, text, &answer.names)
 }
 
-// What was read.
-fn push_read(alloc: Global, text: &mut Vec<u8>, read: Read) -> Result<(), OutOfMemory>
+/// Appends the row of what was read.
+pub fn push_read(alloc: Global, text: &mut Vec<u8>, read: Read) -> Result<(), OutOfMemory>
     ensures { OnOk result (text.new.items ≡ text.old.items ++ line_text (read_row read)) }
 {
     push_row(
@@ -79,7 +79,8 @@ pub(crate) fn push_judged(
     )
 }
 
-fn push_routes(alloc: Global, text: &mut Vec<u8>, of: Routes) -> Result<(), OutOfMemory>
+/// Appends the row of the routes.
+pub fn push_routes(alloc: Global, text: &mut Vec<u8>, of: Routes) -> Result<(), OutOfMemory>
     ensures { OnOk result (text.new.items ≡ text.old.items ++ line_text (routes_row of)) }
 {
     push_row(
@@ -96,7 +97,8 @@ fn push_routes(alloc: Global, text: &mut Vec<u8>, of: Routes) -> Result<(), OutO
     )
 }
 
-fn push_channels(
+/// Appends the row of how many channels and dependencies there are.
+pub fn push_channels(
     alloc: Global,
     text: &mut Vec<u8>,
     channels: u64,
@@ -117,9 +119,13 @@ fn push_channels(
     )
 }
 
-// The cycle, if there is one.
-fn push_cycle(alloc: Global, text: &mut Vec<u8>, cycle: &[Step]) -> Result<(), OutOfMemory>
-    ensures { OnOk result (text.new.items ≡ text.old.items ++ lines_text (cycle_rows cycle.now)) }
+/// Appends the rows of a cycle, by its channels: without channels there is none.
+pub fn push_cycle<T: HasRow>(
+    alloc: Global,
+    text: &mut Vec<u8>,
+    cycle: &[T],
+) -> Result<(), OutOfMemory>
+    ensures { OnOk result (text.new.items ≡ text.old.items ++ lines_text (cycle_rows_by T.words cycle.now)) }
 {
     push_row(alloc, text, Text(b"cycle"), &[cycle_word(cycle.len())])?;
     push_rows(alloc, text, cycle)

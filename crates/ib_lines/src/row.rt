@@ -14,7 +14,7 @@ use std::alloc::{AllocError, Global};
 
 /// A word of a row.
 #[derive(Clone, Copy)]
-pub(crate) enum RowWord<'a> {
+pub enum RowWord<'a> {
     /// These bytes.
     Text(&'a [u8]),
     /// A number, in decimal.
@@ -30,7 +30,7 @@ pub(crate) enum RowWord<'a> {
 }
 
 /// What has a row in a text.
-pub(crate) trait HasRow {
+pub trait HasRow {
     /// The words of its row.
     ghost words: { Self → List (List ℕ) };
 
@@ -40,7 +40,7 @@ pub(crate) trait HasRow {
 }
 
 /// Appends the row of each item.
-pub(crate) fn push_rows<T: HasRow>(
+pub fn push_rows<T: HasRow>(
     alloc: Global,
     text: &mut Vec<u8>,
     items: &[T],
@@ -54,7 +54,7 @@ pub(crate) fn push_rows<T: HasRow>(
 }
 
 /// Appends a row: its words are joined by one space each, and a line feed follows.
-pub(crate) fn push_row(
+pub fn push_row(
     alloc: Global,
     text: &mut Vec<u8>,
     first: RowWord,

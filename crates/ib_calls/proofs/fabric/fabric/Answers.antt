@@ -1,13 +1,19 @@
 use Rattle.std.proofs.Common.{refl}
-use Rattle.ib_judging.specs.declared.words.Task.TheVariants.{Answer, Route}
+use Rattle.ib_judging.specs.declared.words.Task.TheVariants.{Answer, Between, Lanes, Route}
 use Rattle.ib_calls.proofs.CallLemmas.{answers_call, answers_usage}
 use Rattle.ib_calls.proofs.fabric.fabric.Goals as goal
 
 pub returns-in-Answer : goal.returns-in-Answer
-returns-in-Answer g c = answers_call _ _ _ _ _ _ c.in-Some.call (Answer c.in-Answer.question) c.in-Some.ensures c.in-Answer.is c.answer_question.ensures
+returns-in-Answer g c = answers_call _ _ _ _ _ _ c.in-Some.call (Answer c.in-Answer.question) c.in-Some.ensures c.in-Answer.is (refl, c.answer_question.ensures)
 
 pub returns-in-Route : goal.returns-in-Route
-returns-in-Route g c = answers_call _ _ _ _ _ _ c.in-Some.call Route c.in-Some.ensures c.in-Route.is (record { ranks_kept = refl; tables_kept = refl; answers = c.route.ensures })
+returns-in-Route g c = answers_call _ _ _ _ _ _ c.in-Some.call Route c.in-Some.ensures c.in-Route.is (record { more_kept = refl; tables_kept = refl; answers = c.route.ensures })
+
+pub returns-in-Lanes : goal.returns-in-Lanes
+returns-in-Lanes g c = answers_call _ _ _ _ _ _ c.in-Some.call Lanes c.in-Some.ensures c.in-Lanes.is (record { asked = c.levels_asked-asked.result; names = c.levels_asked-asked.ensures.named; answers = c.lanes.ensures })
+
+pub returns-in-Between : goal.returns-in-Between
+returns-in-Between g c = answers_call _ _ _ _ _ _ c.in-Some.call Between c.in-Some.ensures c.in-Between.is (record { fourth_kept = refl; answers = c.between.ensures })
 
 pub returns-in_default : goal.returns-in_default
 returns-in_default g c = answers_usage _ _ _ _ _ _ c.in_default.ensures refl (record { read = refl; out = refl; told = c.finish.ensures })

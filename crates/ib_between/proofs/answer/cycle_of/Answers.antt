@@ -1,0 +1,14 @@
+use Rattle.std.proofs.Common.{subst, sym, List}
+use Rattle.ib_mixtures.specs.declared.judge.LoopChannel.{LoopChannel}
+use Rattle.ib_mixtures.specs.Verdict.{HasRanks, IsVerdict}
+use Rattle.ib_between.specs.Judged.{IsLoop}
+use Rattle.ib_between.proofs.EndLemmas.{loop_is}
+use Rattle.ib_between.proofs.answer.cycle_of.Goals as goal
+
+pub returns-in-Cycle : goal.returns-in-Cycle
+returns-in-Cycle c fabric old new is = subst (λ (found : List LoopChannel). IsLoop fabric old new found) (sym c.deref.ensures.value) (loop_is fabric old new c.in-Cycle.channels.items (subst (IsVerdict fabric old new) c.in-Cycle.is is.verdict))
+
+pub returns-in-Ranks : goal.returns-in-Ranks
+returns-in-Ranks c fabric old new is =
+    let ranks : HasRanks fabric old new c.in-Ranks.ranks.items = subst (IsVerdict fabric old new) c.in-Ranks.is is.verdict in
+    ranks.no_cycle

@@ -1,0 +1,95 @@
+-- The answer to a call of `between`.
+
+use Rattle.std.specs.Prelude.{◌≡◌, ℕ, List}
+use Rattle.outside.specs.Told.{Seen, Failed, Gains, GainsFront, IsKept}
+use Rattle.ib_net.specs.Fabric.{FabricOf}
+use Rattle.ib_tables.specs.declared.reader.Tables.{Tables}
+use Rattle.ib_tables.specs.declared.reader.TablesRefusal.{TablesRefusal}
+use Rattle.ib_tables.specs.declared.reader.TablesRefusal.TheVariants as refusal
+use Rattle.ib_tables.specs.Reads.{GaveTables, IsRefusedBy}
+use Rattle.ib_answering.specs.declared.status.Status.{Status}
+use Rattle.ib_answering.specs.declared.status.Status.TheVariants.{NewTablesRefused, OutOfMemory, ReadFault, WriteFault}
+use Rattle.ib_answering.specs.Answer.{GaveFabric, IsNoFabric, tables_refused}
+use Rattle.ib_answering.specs.Status.{IsToldOf}
+use Rattle.ib_between.specs.Judged.{IsBetween}
+
+-- the sources of a call at one moment
+pub record Sources : Type 0 where
+  pub topology : Seen
+  pub old : Seen
+  pub new : Seen
+
+abbrev pub sources : (topology old new : Seen) → Sources
+sources topology old new = record { topology = topology; old = old; new = new }
+
+-- the status of new tables that are refused
+abbrev pub new_refused : TablesRefusal → Status
+new_refused (refusal.Fault line cause) = NewTablesRefused line cause
+new_refused refusal.ReadFault = ReadFault
+new_refused refusal.OutOfMemory = OutOfMemory
+
+-- the source of the old tables was refused, and that of the new ones was not looked at
+pub record AreNoOldTables (was is : Sources) (status : Status) : Type 0 where
+  pub text : List ℕ
+  pub fabric : FabricOf
+  pub gave : GaveFabric was.topology is.topology text fabric
+  pub cause : TablesRefusal
+  pub refused : IsRefusedBy fabric was.old is.old cause
+  pub status_is : status ≡ tables_refused cause
+  pub kept : is.new ≡ was.new
+
+-- the old tables were read to their end, and the source of the new ones was refused
+pub record AreNoNewTables (was is : Sources) (status : Status) : Type 0 where
+  pub text : List ℕ
+  pub fabric : FabricOf
+  pub old : Tables
+  pub gave : GaveFabric was.topology is.topology text fabric
+  pub gave_old : GaveTables fabric was.old is.old old
+  pub cause : TablesRefusal
+  pub refused : IsRefusedBy fabric was.new is.new cause
+  pub status_is : status ≡ new_refused cause
+
+-- why there is no text to be written: there is no fabric, and no tables were looked at; the tables of a file are none;
+-- or memory is wanting
+pub data IsStop (was is : Sources) (status : Status) : Type 0 where
+  no_fabric : IsNoFabric was.topology is.topology status → is.old ≡ was.old → is.new ≡ was.new → IsStop was is status
+  no_old : AreNoOldTables was is status → IsStop was is status
+  no_new : AreNoNewTables was is status → IsStop was is status
+  wanting : status ≡ OutOfMemory → IsStop was is status
+
+-- the sources were read to their ends, and this is given for them
+pub record IsGiven (was is : Sources) (status : Status) (written : List ℕ) : Type 0 where
+  pub text : List ℕ
+  pub fabric : FabricOf
+  pub old : Tables
+  pub new : Tables
+  pub gave : GaveFabric was.topology is.topology text fabric
+  pub gave_old : GaveTables fabric was.old is.old old
+  pub gave_new : GaveTables fabric was.new is.new new
+  pub given : IsBetween text fabric old new status written
+
+-- the text was written
+pub record IsWritten (was is : Sources) (out out' : Seen) (status : Status) : Type 0 where
+  pub written : List ℕ
+  pub given : IsGiven was is status written
+  pub gains : Gains out out' written
+
+-- out failed, and has a front of the text
+pub record IsCutOff (was is : Sources) (out out' : Seen) : Type 0 where
+  pub end : Status
+  pub written : List ℕ
+  pub given : IsGiven was is end written
+  pub gains : GainsFront out out' written
+  pub failed : Failed out out'
+
+-- The cause of a status, and what out gained: the text, a front of it where out failed, and else nothing.
+pub data IsCause (was is : Sources) (out out' : Seen) (status : Status) : Type 0 where
+  written : IsWritten was is out out' status → IsCause was is out out' status
+  cut : status ≡ WriteFault → IsCutOff was is out out' → IsCause was is out out' status
+  stopped : IsStop was is status → IsKept out out' → IsCause was is out out' status
+
+-- the answer to a call of `between`: a status came about by its cause, and was told
+pub record IsBetweenAnswer (was is : Sources) (out out' err err' : Seen) (answer : ℕ) : Type 0 where
+  pub status : Status
+  pub cause : IsCause was is out out' status
+  pub told : IsToldOf err err' status answer

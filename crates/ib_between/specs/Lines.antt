@@ -1,0 +1,38 @@
+-- The lines of the answer for two tables.
+
+use Rattle.std.specs.Prelude.{ℕ, List, [], ◌∷◌, ◌++◌, map, codes}
+use Rattle.std.specs.Fmt.{decimal}
+use Rattle.text_lines.specs.Lines.{lines_text}
+use Rattle.ib_mixtures.specs.declared.turn.By.{By}
+use Rattle.ib_mixtures.specs.declared.turn.By.TheVariants.{Old, New, Both}
+use Rattle.ib_lines.specs.Answers.{Row, channels_row, cycle_rows_by, guid_word, name_row, read_row}
+use Rattle.ib_between.specs.declared.lines.Between.{Between}
+use Rattle.ib_between.specs.declared.lines.NewRows.{NewRows}
+use Rattle.ib_between.specs.declared.lines.Turn.{Turn}
+
+-- what was read of the new tables
+abbrev pub between_row : NewRows → Row
+between_row new =
+    codes "between" ∷ codes "rows" ∷ decimal new.rows ∷ codes "unowned" ∷ decimal new.unowned
+    ∷ codes "changed" ∷ decimal new.changed ∷ []
+
+abbrev pub by_word : By → List ℕ
+by_word Old = codes "old"
+by_word New = codes "new"
+by_word Both = codes "both"
+
+-- a channel of the cycle, with the LID for which the next one may follow it, and by which tables each is taken
+abbrev pub turn_row : Turn → Row
+turn_row turn =
+    codes "channel" ∷ guid_word turn.guid ∷ decimal turn.port ∷ codes "lid" ∷ decimal turn.lid
+    ∷ codes "by" ∷ by_word turn.by ∷ codes "then" ∷ by_word turn.next_by ∷ []
+
+-- all of it
+unfoldable pub between_rows : Between → List Row
+between_rows answer =
+    (codes "fabric" ∷ codes "1" ∷ []) ∷ read_row answer.read ∷ between_row answer.new
+    ∷ channels_row answer.channels answer.dependencies
+    ∷ (cycle_rows_by turn_row answer.cycle.items ++ map name_row answer.names.items)
+
+abbrev pub between_text : Between → List ℕ
+between_text answer = lines_text (between_rows answer)

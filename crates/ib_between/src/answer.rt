@@ -1,0 +1,132 @@
+//! The answer for two tables of a fabric.
+
+ghost use Rattle.std.specs.Prelude.{◌≡◌, IfOk, map};
+ghost use Rattle.ib_cells.specs.Cells.{TablesOf, tables_of};
+ghost use Rattle.ib_net.specs.Fabric.{FabricOf};
+ghost use Rattle.ib_tables.specs.Reads.{HasCells};
+ghost use Rattle.ib_mixtures.specs.Verdict.{IsJudgement};
+ghost use Rattle.ib_between.specs.Judged.{IsAnswerFor, IsBetween, IsEndOf, IsLoop, switches_of, turn_of};
+
+use crate::lines::{Between, NewRows, Turn, print_between};
+use an_base::memory::OutOfMemory;
+use ib_answering::command::Given;
+use ib_answering::input::Topology;
+use ib_answering::status::Status;
+use ib_commands::answer::read_of;
+use ib_commands::names::names_for;
+use ib_mixtures::changed::count_changed;
+use ib_mixtures::judge::{Judgement, LoopChannel, Verdict, judge};
+use ib_net::fabric::Fabric;
+use ib_net::node::EndPort;
+use ib_tables::reader::Tables;
+use ib_verdict::links::count_links;
+use indexmap::IndexSet;
+use std::alloc::Global;
+
+/// What `between` gives for two tables of a fabric.
+pub fn given_for(
+    alloc: Global,
+    topology: &Topology,
+    old: &Tables,
+    new: &Tables,
+) -> Result<Given, OutOfMemory>
+    requires old { HasCells topology.now.fabric old.now }
+    requires new { HasCells topology.now.fabric new.now }
+    ensures { IfOk result (λ given. IsBetween topology.now.text.items topology.now.fabric old.now new.now
+        given.status given.text.items) }
+{
+    let judged = judge(alloc, &topology.fabric, &old.cells, &new.cells)?;
+    let answer = answer_for(alloc, topology, old, new, &judged)?;
+    Ok(Given {
+        status: status_of(&judged),
+        text: print_between(alloc, &answer)?,
+    })
+}
+
+// How a call ends whose answer was written.
+fn status_of(judged: &Judgement) -> Status
+    ensures { (fabric : FabricOf) (old new : TablesOf)
+        → IsJudgement fabric old new judged.now → IsEndOf fabric old new result }
+{
+    match &judged.verdict {
+        Verdict::Ranks { ranks: _ } => Status::Ok,
+        Verdict::Cycle { channels: _ } => Status::Cycle,
+    }
+}
+
+// The answer for two tables of a fabric, which were judged.
+fn answer_for(
+    alloc: Global,
+    topology: &Topology,
+    old: &Tables,
+    new: &Tables,
+    judged: &Judgement,
+) -> Result<Between, OutOfMemory>
+    requires old { HasCells topology.now.fabric old.now }
+    requires new { HasCells topology.now.fabric new.now }
+    requires judged { IsJudgement topology.now.fabric (tables_of old.now.cells) (tables_of new.now.cells) judged.now }
+    ensures { IfOk result (IsAnswerFor topology.now.text.items topology.now.fabric old.now new.now) }
+{
+    let fabric = &topology.fabric;
+    let links = count_links(fabric);
+    let cycle = turns_of(alloc, fabric, cycle_of(judged))?;
+    let switches = switches_of(alloc, &cycle)?;
+    Ok(Between {
+        read: read_of(fabric, old, links.links),
+        new: NewRows {
+            rows: new.rows,
+            unowned: new.unowned,
+            changed: count_changed(fabric, &old.cells, &new.cells),
+        },
+        channels: links.channels,
+        dependencies: judged.dependencies,
+        names: names_for(alloc, &topology.text, &switches)?,
+        cycle,
+    })
+}
+
+// The channels of the cycle, none where there is no cycle.
+fn cycle_of(judged: &Judgement) -> &[LoopChannel]
+    ensures { (fabric : FabricOf) (old new : TablesOf)
+        → IsJudgement fabric old new judged.now → IsLoop fabric old new result.now }
+{
+    match &judged.verdict {
+        Verdict::Ranks { ranks: _ } => &[],
+        Verdict::Cycle { channels } => channels,
+    }
+}
+
+// The channels of a cycle, as an answer tells them.
+fn turns_of(alloc: Global, fabric: &Fabric, cycle: &[LoopChannel]) -> Result<Vec<Turn>, OutOfMemory>
+    ensures { IfOk result (λ turns. turns.items ≡ map (turn_of fabric.now) cycle.now) }
+{
+    let mut turns = Vec::with_capacity(alloc, cycle.len())?;
+    'channels: for one in cycle {
+        turns.push(turn_of(fabric, *one))?;
+    }
+    Ok(turns)
+}
+
+// The same of one channel.
+fn turn_of(fabric: &Fabric, one: LoopChannel) -> Turn
+    ensures { result ≡ turn_of fabric.now one }
+{
+    Turn {
+        guid: fabric.guid(EndPort::Switch(one.channel.switch)),
+        port: one.channel.port,
+        lid: one.turn.lid,
+        by: one.turn.by,
+        next_by: one.turn.next_by,
+    }
+}
+
+// The switches of a cycle.
+fn switches_of(alloc: Global, cycle: &[Turn]) -> Result<IndexSet<u64>, OutOfMemory>
+    ensures { IfOk result (λ switches. switches.keys ≡ switches_of cycle.now) }
+{
+    let mut switches = IndexSet::new(alloc);
+    'turns: for turn in cycle {
+        switches.insert(turn.guid)?;
+    }
+    Ok(switches)
+}

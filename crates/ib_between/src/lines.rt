@@ -1,0 +1,131 @@
+//! The answer as a text.
+
+ghost use Rattle.std.specs.Prelude.{◌≡◌, ◌++◌, IfOk, OnOk};
+ghost use Rattle.text_lines.specs.Lines.{line_text};
+ghost use Rattle.ib_between.specs.Lines.{between_row, between_text, by_word};
+
+use an_base::memory::OutOfMemory;
+use ib_lines::answer::{Name, Read};
+use ib_lines::printer::{push_channels, push_cycle, push_read};
+use ib_lines::row::RowWord::{Guid, Number, Text};
+use ib_lines::row::{HasRow, push_row, push_rows};
+use ib_mixtures::turn::By;
+use std::alloc::Global;
+
+/// A channel of a cycle, and by what the next one may follow it.
+#[derive(Clone, Copy)]
+pub struct Turn {
+    /// The GUID of the switch of the channel.
+    pub guid: u64,
+    /// The port of the channel.
+    pub port: u8,
+    /// The LID for which the next one may follow it.
+    pub lid: u16,
+    /// By which tables the channel is taken for this LID.
+    pub by: By,
+    /// By which the next one is.
+    pub next_by: By,
+}
+
+/// What was read of the new tables.
+#[derive(Clone, Copy)]
+pub struct NewRows {
+    /// Rows that name a port.
+    pub rows: u64,
+    /// Those of these rows that are for LIDs without an owner.
+    pub unowned: u64,
+    /// Rows that have not the same port in both tables.
+    pub changed: u64,
+}
+
+/// The answer for a topology and two tables.
+#[derive(Drop)]
+pub struct Between {
+    /// What was read of the topology and of the old tables.
+    pub read: Read,
+    /// What was read of the new ones.
+    pub new: NewRows,
+    /// How many channels the fabric has.
+    pub channels: u64,
+    /// How many pairs of channels may follow one another.
+    pub dependencies: u64,
+    /// The channels of the least cycle, or none where no cycle exists.
+    pub cycle: Vec<Turn>,
+    /// The names of the nodes above.
+    pub names: Vec<Name>,
+}
+
+/// The text of the answer for two tables.
+pub fn print_between(alloc: Global, answer: &Between) -> Result<Vec<u8>, OutOfMemory>
+    ensures { IfOk result (λ text. text.items ≡ between_text answer.now) }
+{
+    let mut text = Vec::new(alloc);
+    match push_between(alloc, &mut text, answer) {
+        Ok(()) => Ok(text),
+        Err(error) => Err(error),
+    }
+}
+
+fn push_between(alloc: Global, text: &mut Vec<u8>, answer: &Between) -> Result<(), OutOfMemory>
+    ensures { OnOk result (text.new.items ≡ text.old.items ++ between_text answer.now) }
+{
+    push_row(alloc, text, Text(b"fabric"), &[Text(b"1")])?;
+    push_read(alloc, text, answer.read)?;
+    push_new(alloc, text, answer.new)?;
+    push_channels(alloc, text, answer.channels, answer.dependencies)?;
+    push_cycle(alloc, text, &answer.cycle)?;
+    push_rows(alloc, text, &answer.names)
+}
+
+// What was read of the new tables.
+fn push_new(alloc: Global, text: &mut Vec<u8>, new: NewRows) -> Result<(), OutOfMemory>
+    ensures { OnOk result (text.new.items ≡ text.old.items ++ line_text (between_row new)) }
+{
+    push_row(
+        alloc,
+        text,
+        Text(b"between"),
+        &[
+            Text(b"rows"),
+            Number(new.rows),
+            Text(b"unowned"),
+            Number(new.unowned),
+            Text(b"changed"),
+            Number(new.changed),
+        ],
+    )
+}
+
+impl HasRow for Turn {
+    ghost use Rattle.ib_between.specs.Lines.{turn_row};
+
+    ghost words = { turn_row };
+
+    fn push(&self, alloc: Global, text: &mut Vec<u8>) -> Result<(), OutOfMemory> {
+        push_row(
+            alloc,
+            text,
+            Text(b"channel"),
+            &[
+                Guid(self.guid),
+                Number(u64::from(self.port)),
+                Text(b"lid"),
+                Number(u64::from(self.lid)),
+                Text(b"by"),
+                Text(by_word(self.by).as_bytes()),
+                Text(b"then"),
+                Text(by_word(self.next_by).as_bytes()),
+            ],
+        )
+    }
+}
+
+fn by_word(by: By) -> &'static str
+    ensures { result.now ≡ by_word by }
+{
+    match by {
+        By::Old => "old",
+        By::New => "new",
+        By::Both => "both",
+    }
+}

@@ -1,0 +1,10 @@
+use Rattle.std.proofs.Common.{◌≡◌, [], take}
+use Rattle.ib_lane_commands.specs.LaneJudged.{lane_mentioned}
+use Rattle.ib_lane_commands.proofs.names.guids_in.Given as goal
+
+-- the nodes so far
+abbrev pub invariant-steps : goal.invariant-steps
+invariant-steps l = l.guids.keys ≡ lane_mentioned (take l.one-index l.steps) []
+
+abbrev pub invariant-lost : goal.invariant-lost
+invariant-lost l = l.guids.keys ≡ lane_mentioned l.steps (take l.route-index l.lost)

@@ -1,0 +1,57 @@
+-- With which service levels end ports send, as a call asks.
+
+use Rattle.std.specs.Prelude.{◌≡◌, ◌≢◌, ◌<◌, ◌^◌, ℕ, List, true, false, codes}
+use Rattle.outside.specs.Told.{Seen}
+use Rattle.text_lines.specs.Words.{is_number_in, number_value}
+use Rattle.ib_net.specs.Fabric.{FabricOf}
+use Rattle.ib_rows.specs.declared.levels.LevelRows.{LevelRows}
+use Rattle.ib_rows.specs.PathLevels.{LevelsOf, told_levels}
+use Rattle.ib_lane_text.specs.declared.reader.LaneRefusal.{LaneRefusal}
+use Rattle.ib_lane_text.specs.declared.reader.LaneRefusal.TheVariants as refusal
+use Rattle.ib_levels.specs.Reads.{GaveLevels, IsRefusedBy}
+use Rattle.ib_lane_lines.specs.declared.answer.LevelsAsked.{LevelsAsked}
+use Rattle.ib_lane_lines.specs.declared.answer.LevelsAsked.TheVariants.{File, Same, Any}
+use Rattle.ib_lane_verdict.specs.LaneVerdict.{any_level}
+use Rattle.ib_answering.specs.declared.status.Status.{Status}
+use Rattle.ib_answering.specs.declared.status.Status.TheVariants.{LevelsRefused, ReadFault, OutOfMemory}
+
+-- what a word asks for: all sixteen levels, one of them, or those of the file that it names
+abbrev pub IsAskedBy : List ℕ → LevelsAsked → Type 0
+IsAskedBy word Any = word ≡ codes "any"
+IsAskedBy word (Same level) = (is_number_in 0 15 word ≡ true) × (level ≡ number_value word)
+IsAskedBy word File = (word ≢ codes "any") × (is_number_in 0 15 word ≡ false)
+
+-- a level is one of 0 to 15
+abbrev pub IsOneOfSixteen : LevelsAsked → Type 0
+IsOneOfSixteen (Same level) = level < 16
+IsOneOfSixteen File = Unit {0}
+IsOneOfSixteen Any = Unit {0}
+
+-- one level, for each end port and LID
+abbrev pub one_level : ℕ → LevelsOf
+one_level level source lid = 2 ^ level
+
+-- the levels of a source that was read to its end, and what it gave is their text
+pub record AreGiven (fabric : FabricOf) (old new : Seen) (levels : LevelsOf) : Type 0 where
+  pub found : LevelRows
+  pub gave : GaveLevels fabric old new found
+  pub are : levels ≡ told_levels found
+
+-- those that were asked for: if not of a file, the source is left alone
+abbrev pub GaveLevelsFor : FabricOf → LevelsAsked → (old new : Seen) → LevelsOf → Type 0
+GaveLevelsFor fabric File old new levels = AreGiven fabric old new levels
+GaveLevelsFor fabric (Same level) old new levels = (new ≡ old) × (levels ≡ one_level level)
+GaveLevelsFor fabric Any old new levels = (new ≡ old) × (levels ≡ any_level)
+
+-- the status of levels that are refused
+abbrev pub levels_refused : LaneRefusal → Status
+levels_refused (refusal.Fault line cause) = LevelsRefused line cause
+levels_refused refusal.ReadFault = ReadFault
+levels_refused refusal.OutOfMemory = OutOfMemory
+
+-- the source of levels was refused
+pub record AreLevelsRefused (fabric : FabricOf) (asked : LevelsAsked) (old new : Seen) (status : Status) : Type 0 where
+  pub file : asked ≡ File
+  pub refusal : LaneRefusal
+  pub refused : IsRefusedBy fabric old new refusal
+  pub status_is : status ≡ levels_refused refusal

@@ -1,0 +1,4 @@
+pub mod Asked
+pub mod Inputs
+pub mod LaneJudged
+pub mod LaneCall

@@ -1,0 +1,67 @@
+//! With which service levels end ports send, as a call asks.
+
+ghost use Rattle.std.specs.Prelude.{◌≡◌, IfErr, IfOk};
+ghost use Rattle.outside.specs.Told.{Seen};
+ghost use Rattle.ib_rows.specs.Levels.{levels_of};
+ghost use Rattle.ib_lane_commands.specs.Asked.{AreLevelsRefused, GaveLevelsFor, IsAskedBy, IsOneOfSixteen, levels_refused};
+
+use an_base::text::Word;
+use ib_answering::status::Status;
+use ib_lane_lines::answer::LevelsAsked;
+use ib_lane_text::reader::LaneRefusal;
+use ib_levels::reader::read_levels;
+use ib_net::fabric::Fabric;
+use ib_rows::levels::Levels;
+use outside::source::Source;
+use std::alloc::Global;
+use text_lines::word::{is, number_between};
+
+/// The levels that a word asks for: all sixteen if it is `any`, one if it is a number of 0 to 15, else those of the file
+/// that it names.
+pub fn asked_by(word: &Word) -> LevelsAsked
+    ensures asked { IsAskedBy word.now result }
+    ensures low { IsOneOfSixteen result }
+{
+    let word = word.as_bytes();
+    if is(word, "any") {
+        return LevelsAsked::Any;
+    }
+    match number_between(word, 0, 15) {
+        Some(level) => LevelsAsked::Same(level as u8),
+        None => LevelsAsked::File,
+    }
+}
+
+// The status of levels that are refused.
+fn levels_refused(refusal: LaneRefusal) -> Status
+    ensures { result ≡ levels_refused refusal }
+{
+    match refusal {
+        LaneRefusal::Fault { line, cause } => Status::LevelsRefused { line, cause },
+        LaneRefusal::ReadFault => Status::ReadFault,
+        LaneRefusal::OutOfMemory => Status::OutOfMemory,
+    }
+}
+
+/// The levels that were asked for: those of the source, which is read to its end, or else one or all sixteen for each
+/// end port and LID, and the source is left alone.
+pub fn read_asked<P: Source>(
+    alloc: Global,
+    source: &mut P,
+    fabric: &Fabric,
+    asked: LevelsAsked,
+) -> Result<Levels, Status>
+    requires { IsOneOfSixteen asked }
+    ensures levels { IfOk result (λ levels.
+        GaveLevelsFor fabric.now asked (P.seen source.old) (P.seen source.new) (levels_of levels)) }
+    ensures refused { IfErr result (AreLevelsRefused fabric.now asked (P.seen source.old) (P.seen source.new)) }
+{
+    match asked {
+        LevelsAsked::File => match read_levels(alloc, source, fabric) {
+            Ok(told) => Ok(Levels::Told(told)),
+            Err(refusal) => Err(levels_refused(refusal)),
+        },
+        LevelsAsked::Same(level) => Ok(Levels::Same(1u16 << level)),
+        LevelsAsked::Any => Ok(Levels::Same(u16::MAX)),
+    }
+}

@@ -1,0 +1,44 @@
+//! The names of the nodes of an answer.
+
+ghost use Rattle.std.specs.Prelude.{◌≡◌, IfOk};
+ghost use Rattle.ib_commands.specs.Names.{names_for};
+ghost use Rattle.ib_lane_commands.specs.LaneJudged.{lane_mentioned};
+
+use an_base::memory::OutOfMemory;
+use ib_commands::names::{insert_two, names_for};
+use ib_lane_lines::answer::{LaneLost, LaneStep};
+use ib_lines::answer::Name;
+use indexmap::IndexSet;
+use std::alloc::Global;
+
+/// The names that the text of a topology tells of the nodes of these steps and lost routes, each once, in the order in
+/// which they stand there.
+pub fn names_in(
+    alloc: Global,
+    text: &[u8],
+    steps: &[LaneStep],
+    lost: &[LaneLost],
+) -> Result<Vec<Name>, OutOfMemory>
+    ensures { IfOk result (λ names. names.items ≡ names_for text.now (lane_mentioned steps.now lost.now)) }
+{
+    let guids = guids_in(alloc, steps, lost)?;
+    names_for(alloc, text, &guids)
+}
+
+// The nodes of steps and of lost routes.
+fn guids_in(
+    alloc: Global,
+    steps: &[LaneStep],
+    lost: &[LaneLost],
+) -> Result<IndexSet<u64>, OutOfMemory>
+    ensures { IfOk result (λ guids. guids.keys ≡ lane_mentioned steps.now lost.now) }
+{
+    let mut guids = IndexSet::new(alloc);
+    'steps: for one in steps {
+        insert_two(&mut guids, one.step.guid, one.step.source)?;
+    }
+    'lost: for route in lost {
+        insert_two(&mut guids, route.source, route.at)?;
+    }
+    Ok(guids)
+}

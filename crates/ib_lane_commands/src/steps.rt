@@ -1,0 +1,43 @@
+//! The dependencies of a credit loop on lanes, as an answer tells them.
+
+ghost use Rattle.std.specs.Prelude.{◌≡◌, map, IfOk};
+ghost use Rattle.ib_lane_commands.specs.LaneJudged.{lane_step_of};
+
+use an_base::memory::OutOfMemory;
+use ib_lane_lines::answer::LaneStep;
+use ib_lane_verdict::verdict::LaneLoopChannel;
+use ib_lines::answer::Step;
+use ib_net::fabric::Fabric;
+use ib_net::node::EndPort;
+use std::alloc::Global;
+
+/// Of each channel of a loop the switch, the port, the lane, and the route that takes it and then the next one.
+pub fn steps_of(
+    alloc: Global,
+    fabric: &Fabric,
+    cycle: &[LaneLoopChannel],
+) -> Result<Vec<LaneStep>, OutOfMemory>
+    ensures { IfOk result (λ steps. steps.items ≡ map (lane_step_of fabric.now) cycle.now) }
+{
+    let mut steps = Vec::with_capacity(alloc, cycle.len())?;
+    'channels: for one in cycle {
+        steps.push(step_of(fabric, *one))?;
+    }
+    Ok(steps)
+}
+
+// The same of one channel.
+fn step_of(fabric: &Fabric, one: LaneLoopChannel) -> LaneStep
+    ensures { result ≡ lane_step_of fabric.now one }
+{
+    LaneStep {
+        step: Step {
+            guid: fabric.guid(EndPort::Switch(one.channel.switch)),
+            port: one.channel.port,
+            lid: one.witness.lid,
+            source: fabric.guid(one.witness.source),
+        },
+        lane: one.channel.lane,
+        level: one.witness.level,
+    }
+}

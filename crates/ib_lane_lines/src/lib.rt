@@ -1,0 +1,8 @@
+//! The answers of `fabric` for tables with lanes, as texts.
+//!
+//! It stands on `an_base` and `ib_lines`, of which it takes the lines that are the same. Its one contract: `printer::print`
+//! gives the lines of an answer, which `specs/LaneAnswers` defines.
+#![tactic(auto)]
+
+pub mod answer;
+pub mod printer;

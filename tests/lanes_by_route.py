@@ -1,0 +1,211 @@
+"""Judges tables with lanes route by route, with nothing of the program: each end port, LID and service level by itself.
+Takes a folder with what OpenSM dumps, opensm-subnet.lst, opensm-lfts.dump and opensm-sl2vl.dump. Slow."""
+
+import collections
+import re
+
+NODE = (r"\{ ([\w-]+) Ports:(\w+) SystemGUID:\w+ NodeGUID:(\w+) PortGUID:(\w+) VenID:.*?\} "
+        r"LID:(\w+) PN:(\w+) \}")
+PAIR = re.compile(f"{NODE} {NODE}")
+HEAD = re.compile(r"(Switch|Channel Adapter|Router) 0x(\w{16}), base LID ")
+DISCARD = 15
+
+Node = collections.namedtuple("Node", "is_switch guid ports lid port")
+
+
+def node_of(words):
+    """A node and a port of it, as a line of the topology tells them: an adapter by the GUID of its port."""
+    kind, ports, node, guid, lid, port = words
+    is_switch = kind.startswith("SW")
+    return Node(is_switch, int(node if is_switch else guid, 16), int(ports, 16), int(lid, 16), int(port, 16))
+
+
+class Fabric:
+    """What the files of a folder say."""
+
+    def __init__(self, folder):
+        self.far, self.cable, self.owner, self.ports = {}, {}, {}, {}
+        for line in open(folder / "opensm-subnet.lst", errors="replace"):
+            found = PAIR.match(line)
+            if found:
+                one, other = node_of(found.groups()[:6]), node_of(found.groups()[6:])
+                self.add(one, other)
+                self.add(other, one)
+        self.table = collections.defaultdict(dict)
+        for line in open(folder / "opensm-lfts.dump", errors="replace"):
+            head = re.match(r"Unicast lids.*? guid 0x(\w{16})", line)
+            row = re.match(r"0x(\w{4}) (\d{3})", line)
+            if head:
+                table = self.table[int(head[1], 16)]
+            elif row and row[2] != "255":
+                table[int(row[1], 16)] = int(row[2])
+        self.lanes = {}
+        for switch, line in parts_of(folder / "opensm-sl2vl.dump", "Switch"):
+            ports, _, row = line.partition(":")
+            if row:
+                self.lanes[(switch, *map(int, ports.split()))] = [int(lane) for lane in row.split()]
+        self.count = 1 + max((lane for row in self.lanes.values() for lane in row if lane < DISCARD), default=-1)
+
+    def add(self, node, far):
+        """A node, with the far side of its port."""
+        self.owner[node.lid] = node.is_switch, node.guid
+        if node.is_switch:
+            self.ports[node.guid] = node.ports
+            self.far[node.guid, node.port] = far
+        else:
+            self.cable[node.guid] = far.guid, far.port
+
+    def hop(self, switch, entry, level, lid):
+        """What a switch does with a packet that came in by a port: how its route ends, or on which channel it goes on,
+        and to which port of which switch."""
+        port = self.table[switch].get(lid)
+        owner = self.owner.get(lid)
+        if port is None:
+            return "missing", None
+        if port == 0:
+            return ("arrive" if owner == (True, switch) else "wrong"), None
+        far = self.far.get((switch, port))
+        if far is None or port > self.ports[switch]:
+            return "dead", None
+        lane = self.lanes.get((switch, entry, port), [DISCARD] * 16)[level]
+        if lane == DISCARD:
+            return "discard", None
+        if not far.is_switch:
+            return ("arrive" if owner == (False, far.guid) else "wrong"), None
+        return (switch, port, lane), (far.guid, far.port)
+
+
+def parts_of(path, kind):
+    """The lines of the parts of nodes of a kind, each with the GUID of its node; no comments."""
+    guid = None
+    for line in open(path, errors="replace"):
+        head = HEAD.match(line)
+        if head:
+            guid = int(head[2], 16) if head[1] == kind else None
+        elif guid is not None and not line.startswith("#"):
+            yield guid, line
+
+
+def levels_in(path):
+    """The levels of each pair of an end port and a LID, as a file tells them in parts."""
+    levels = collections.defaultdict(set)
+    for guid, line in parts_of(path, "Channel Adapter"):
+        lid, level = line.split(":")
+        levels[guid, int(lid, 16)].add(int(level))
+    return lambda source, lid: sorted(levels[source, lid])
+
+
+class Answer:
+    """The counts, the dependencies with their least routes, and the lost routes of all that is sent."""
+
+    def __init__(self, fabric, levels, traffic):
+        self.fabric, self.levels = fabric, levels
+        self.routes = self.arrived = self.hops = self.silent = 0
+        self.depends, self.lost, self.first = {}, collections.Counter(), {}
+        sources = {guid: begin for guid, begin in fabric.cable.items()}
+        if traffic == "all":
+            sources.update({guid: (guid, 0) for guid in fabric.ports})
+        for lid, (is_switch, owner) in sorted(fabric.owner.items()):
+            if is_switch and traffic == "hosts":
+                continue
+            for source in sorted(sources):
+                if source != owner:
+                    self.add(sources[source], source, lid)
+
+    def add(self, begin, source, lid):
+        """The routes of a pair, each level one."""
+        levels = self.levels(source, lid)
+        self.silent += not levels
+        for level in levels:
+            self.routes += 1
+            self.follow(begin, (lid, source, level))
+
+    def follow(self, spot, route):
+        """One route."""
+        lid, _, level = route
+        before, seen = None, set()
+        while spot not in seen:
+            seen.add(spot)
+            does, spot_after = self.fabric.hop(*spot, level, lid)
+            if spot_after is None:
+                return self.end(does, len(seen), spot[0], route)
+            if before is not None:
+                self.depends.setdefault((before, does), route)
+            before, spot = does, spot_after
+        does, _ = self.fabric.hop(*spot, level, lid)
+        self.depends.setdefault((before, does), route)
+        ring, at = [], spot
+        while not ring or at != spot:
+            ring.append(at[0])
+            at = self.fabric.hop(*at, level, lid)[1]
+        return self.end("loop", 0, min(ring), route)
+
+    def end(self, how, switches, at, route):
+        """A route ends: it arrives, or is lost at a switch."""
+        if how == "arrive":
+            self.arrived += 1
+            self.hops = max(self.hops, switches)
+        else:
+            self.lost[how] += 1
+            self.first.setdefault(how, (*route, at))
+
+    def cycle(self):
+        """The least cycle: from the least channel on any a shortest, of these the least as a list."""
+        after = collections.defaultdict(set)
+        before = collections.defaultdict(set)
+        for one, other in self.depends:
+            after[one].add(other)
+            before[other].add(one)
+        for first in sorted(after):
+            far, queue = {first: 0}, collections.deque([first])
+            while queue:
+                at = queue.popleft()
+                for one in before[at]:
+                    if one not in far:
+                        far[one] = far[at] + 1
+                        queue.append(one)
+            if any(other in far for other in after[first]):
+                return self.way(first, after, far)
+        return []
+
+    def way(self, first, after, far):
+        """The least of the shortest ways from a channel back to it."""
+        way = [first]
+        left = min(far[other] for other in after[first] if other in far)
+        at = min(other for other in after[first] if far.get(other) == left)
+        while at != first:
+            way.append(at)
+            left -= 1
+            at = min(other for other in after[at] if far.get(other) == left)
+        return way
+
+    def lines(self, word):
+        """The lines of the answer after `read`, without names."""
+        channels = self.fabric.count * sum(far.is_switch for far in self.fabric.far.values())
+        yield f"routes {self.routes} arrived {self.arrived} hops {self.hops}"
+        if self.silent:
+            yield f"silent {self.silent}"
+        yield f"channels {channels} dependencies {len(self.depends)}"
+        cycle = self.cycle()
+        yield f"cycle {len(cycle) or 'none'}"
+        for channel, following in zip(cycle, cycle[1:] + cycle[:1]):
+            (switch, port, lane), (lid, source, level) = channel, self.depends[channel, following]
+            yield f"channel 0x{switch:016x} {port} lane {lane} lid {lid} from 0x{source:016x} level {level}"
+        if cycle and word == "any":
+            yield "note the levels in use need not close it"
+        if self.lost:
+            causes = ("missing", "dead", "wrong", "discard", "loop")
+            yield f"lost {sum(self.lost.values())} " + " ".join(f"{cause} {self.lost[cause]}" for cause in causes)
+            for cause in causes:
+                if cause in self.first:
+                    lid, source, level, at = self.first[cause]
+                    yield f"{cause} lid {lid} from 0x{source:016x} level {level} at 0x{at:016x}"
+
+
+def lines_of(folder, word, traffic):
+    """The lines of the answer for a folder: `levels` takes those of path-sl.dump, else one level or `any`."""
+    fabric = Fabric(folder)
+    levels = {"levels": lambda: levels_in(folder / "path-sl.dump"),
+              "any": lambda: lambda source, lid: range(16)}.get(word, lambda: lambda source, lid: [int(word)])()
+    told = "file" if word == "levels" else word
+    return [f"judged traffic {traffic} lanes {fabric.count} levels {told}", *Answer(fabric, levels, traffic).lines(word)]
