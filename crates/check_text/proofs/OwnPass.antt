@@ -58,13 +58,14 @@ use Rattle.check_text.proofs.OwnApart.{own_numbers}
 use Rattle.check_text.proofs.OwnLines.{pair_says}
 use Rattle.dep_check.proofs.OneAnswer.{no_empty}
 use Rattle.table_build.proofs.MadeTables.{entry_passes, entry_low}
-use Rattle.table_build.proofs.MadeLists.{kept, in_flat}
+use Rattle.an_base.proofs.RangeLemmas.{Contains-kept}
+use Rattle.table_build.proofs.MadeLists.{in_flat}
 
 -- LISTS
 
 -- what passes a test stays among those that do
 Contains-filter : {X : Type 0} (p : X → Bool) (x : X) (xs : List X) → p x ≡ true → Contains xs x → Contains (filter p xs) x
-Contains-filter p x xs is has = kept p xs x has is
+Contains-filter p x xs is has = Contains-kept p xs x has is
 
 -- what one of the lists has they have together
 Contains-flat_map : {X A : Type 0} (f : X → List A) (a : A) (x : X) (xs : List X) → Contains xs x → Contains (f x) a → Contains (flat_map f xs) a

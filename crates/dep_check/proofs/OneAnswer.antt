@@ -1,11 +1,11 @@
 -- The answer is one: ranks are one, a refusal is one, and what passes is not refused.
 use Rattle.std.proofs.Common.{◌≡◌, ◌∙◌, sym, ap, subst, refl, ℕ, zero, suc, ◌<◌, ◌≤◌, List, [], ◌∷◌, Option, Some, true, arith, Equal, inl, inr, ◌⊎◌}
+use Rattle.an_base.proofs.OrderLaws.{nat_apart}
 use Rattle.std.specs.declared.cmp.Ordering.{Ordering}
 use Rattle.std.specs.Ordering.{nat_cmp, ordering_then, is_le}
 use Rattle.std.specs.Cmp.{IsTotalOrder, then_total, on_total, nat_cmp_total}
 use Rattle.std.specs.Cmp.Lexicographic.{slice_cmp}
 use Rattle.std.proofs.lemmas.Cmp.{lists_total}
-use Rattle.std.proofs.lemmas.Bool.Decides.{nat_tests}
 use Rattle.std.proofs.lemmas.Option.{same_Some}
 use Rattle.an_base.specs.Values.{EntryOf}
 use Rattle.an_base.specs.Rows.{RowOf}
@@ -60,10 +60,7 @@ four_same a b c d x y z w e =
     let one = then_equal (nat_cmp a x) (ordering_then (nat_cmp b y) (ordering_then (nat_cmp c z) (nat_cmp d w))) e in
     let two = then_equal (nat_cmp b y) (ordering_then (nat_cmp c z) (nat_cmp d w)) one.1 in
     let three = then_equal (nat_cmp c z) (nat_cmp d w) two.1 in
-    (number a x one.0, number b y two.0, number c z three.0, number d w three.1)
-  where
-    number : (m n : ℕ) → nat_cmp m n ≡ Equal → m ≡ n
-    number m n e = grind (arith, nat_tests)
+    (nat_apart a x one.0, nat_apart b y two.0, nat_apart c z three.0, nat_apart d w three.1)
 
 four_one : (a b c d x y z w : ℕ) → is_le (four_cmp (a, b, c, d) (x, y, z, w)) ≡ true → is_le (four_cmp (x, y, z, w) (a, b, c, d)) ≡ true → (a ≡ x) × (b ≡ y) × (c ≡ z) × (d ≡ w)
 four_one a b c d x y z w le ge = four_same a b c d x y z w (both_equal four_total (a, b, c, d) (x, y, z, w) le ge)

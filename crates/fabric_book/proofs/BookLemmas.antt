@@ -3,7 +3,8 @@
 use Rattle.std.specs.Prelude.{◌≡◌, ◌⊎◌, ◌+◌, ◌-◌, ◌^◌, ◌&&◌, not, ◌==◌, ◌<◌, ◌≤◌, ℕ, List, [], ◌∷◌, ◌++◌, map, length, nat_lt, slice_index_or, slice_set, cond, Option, Some, None, option_to_list, Bool, true, false, refl}
 use Rattle.std.specs.List.{range_with_len}
 use Rattle.std.proofs.Common.{sym, ◌∙◌, ap, subst, arith, true≢false, length-append, eq-eqb, ne_eqb, inl, inr}
-use Rattle.std.proofs.lemmas.Bool.{and_parts, cases_eq, ltb-true}
+use Rattle.fabric_state.proofs.FitsLemmas.{switch_below}
+use Rattle.std.proofs.lemmas.Bool.{and_parts, cases_eq}
 use Rattle.std.proofs.lemmas.List.{append-nil, get_or-set_other, get_or-set_same, length-set}
 use Rattle.std.proofs.lemmas.List.FromFn.{fill_by_all, get_or-map-range_with_len, length-map-range_with_len}
 use Rattle.an_base.specs.Ports.{NoteOf}
@@ -272,10 +273,6 @@ kept_as f g es more taken now room roomy kept fabrics events takes rooms =
     (subst (λ (xs : List Event). IsKept f xs now roomy) (sym events)
     (subst (λ (xs : List ℕ). IsKept f es xs roomy) (sym takes)
     (subst (λ (n : ℕ). IsKept f es taken n) (sym rooms) kept)))
-
--- the switch of an event is one of the script
-switch_below : (f : FabricOf) (s : ℕ) → is_switch f s ≡ true → s < count f
-switch_below f s is = ltb-true s (count f) is
 
 pub take_below : (f : FabricOf) (s p : ℕ) → is_lawful f (Take s p) ≡ true → s < count f
 take_below f s p lawful =

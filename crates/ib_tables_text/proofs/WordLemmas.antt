@@ -1,5 +1,6 @@
 -- What the printed lines say.
 use Rattle.std.proofs.Common.{◌≡◌, ◌∙◌, sym, refl, ℕ, ◌+◌, ◌-◌, ◌*◌, ◌/◌, ◌%◌, ◌^◌, ◌<◌, ◌≤◌, List, [], ◌∷◌, ◌++◌, arith, length, length-append, All, Some, None, Ok, Bool, true, false, ◌&&◌, eqb, ltb}
+use Rattle.std.proofs.Math.Bool.{and-false}
 use Rattle.std.specs.Prelude.{codes, if◌then◌else◌, is_some}
 use Rattle.std.specs.Fmt.{decimal}
 use Rattle.std.specs.List.{list_all, join_with_byte}
@@ -108,10 +109,6 @@ unfolding hex_text said_in after
 head_said g low = rw (head_guid_is g ∙ guid_said g low) refl
 
 -- what the last line of a table says
-and_false : (b : Bool) → (b && false) ≡ false
-and_false true = refl
-and_false false = refl
-
 digit_range : (c : ℕ) → is_ascii_digit c ≡ true → (48 ≤ c) × (c ≤ 57)
 digit_range c t = (grind (arith, nat_tests), grind (arith, nat_tests))
 
@@ -126,7 +123,7 @@ no_front c d rest low high below =
     let x : eqb d 120 ≡ false = grind (arith, nat_tests) in
     let u : eqb c 85 ≡ false = grind (arith, nat_tests) in
     let s : eqb c 42 ≡ false = grind (arith, nat_tests) in
-    (none_of (bytes_eq (c ∷ d ∷ []) (codes "0x")) rest (rw x (and_false (eqb c 48))), rw u refl, rw s refl)
+    (none_of (bytes_eq (c ∷ d ∷ []) (codes "0x")) rest (rw x (and-false (eqb c 48))), rw u refl, rw s refl)
 
 no_form : (w rest : List ℕ) → list_all is_ascii_digit w ≡ true → 0 < length w → (begins (codes "0x") (w ++ 32 ∷ rest) ≡ false) × (begins (codes "Unicast lids ") (w ++ 32 ∷ rest) ≡ false) × (begins (codes "*** WARNING ***") (w ++ 32 ∷ rest) ≡ false)
 no_form [] rest all some = absurd (omega arith)
@@ -140,7 +137,7 @@ no_form (c ∷ d ∷ w) rest all some =
     no_front c d (w ++ 32 ∷ rest) first.0 first.1 second.1
 
 end_by : (w : List ℕ) → list_all is_ascii_digit w ≡ true → said_by (w ∷ codes "lids" ∷ codes "dumped" ∷ []) ≡ Ok End
-end_by w all = rw (and_false (bytes_eq w (codes "Lid")), all) refl
+end_by w all = rw (and-false (bytes_eq w (codes "Lid")), all) refl
 
 pub end_said : (n : ℕ) → n < 2 ^ 64 → said_in (join_with_byte 32 (end_words n)) ≡ Ok End
 end_said n low =
