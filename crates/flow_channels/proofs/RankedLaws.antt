@@ -10,7 +10,7 @@ use Rattle.std.proofs.lemmas.List.FromFn.{get_or-map-range_with_len}
 use Rattle.an_base.proofs.PigeonLemmas.{pigeons}
 use Rattle.dep_check.specs.declared.channel.Channel.{Channel}
 use Rattle.dep_check.specs.Channels.{IsChannel, LeadsTo}
-use Rattle.dep_check.specs.Cycles.{HasNoCycle, Path, Walk}
+use Rattle.channel_graph.specs.Cycles.{HasNoCycle, Path, Walk}
 use Rattle.dep_check.specs.Tables.{IsSpot, place_of, rank_at}
 use Rattle.dep_check.proofs.SpotLemmas.{one_spot, option_cases, place_low, spot_cases, spot_true}
 use Rattle.flow_channels.specs.Layout.{HasRanks, IsWired, LayoutOf, has_exit, spot}
@@ -283,7 +283,7 @@ module _ (layout : LayoutOf) (wired : IsWired layout) (none : HasNoCycle (LeadsT
 
     are_ranks : HasRanks layout (ranks_from layout (suc n))
     are_ranks = record {
-      channels = λ c channel. (
+      nodes = λ c channel. (
         depth layout (suc n) (place_of c),
         channel_rank c channel,
         record {
