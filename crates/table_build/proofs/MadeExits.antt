@@ -12,8 +12,8 @@ use Rattle.topo_graph.specs.Topology.{far_of, IsGraph}
 use Rattle.topo_graph.proofs.FarLemmas.{one_far}
 use Rattle.updown.specs.Routes.{is_up_end, HasLegal, HasDown, IsLeast}
 use Rattle.updown.proofs.LeastLemmas.{least_iff}
-use Rattle.table_build.specs.Exits.{Begins, Behind, AreExits, passes}
-use Rattle.table_build.proofs.ExitLemmas.{HasWay, exit_is, none_behind, up_not_behind, down_behind, has_way, way_of}
+use Rattle.table_build.specs.Exits.{Begins, AreExits, passes}
+use Rattle.table_build.proofs.ExitLemmas.{HasWay, exit_is, none_behind, up_not_behind, down_behind, has_way, way_of, Behind}
 use Rattle.table_build.proofs.WayLaws.{way_far}
 use Rattle.table_build.proofs.LengthLaws.{way_short}
 use Rattle.table_build.specs.Made.{exit_ports, leads_in, shortest, left_behind, is_exit, exits_to}
