@@ -20,7 +20,7 @@ use Rattle.switch_core.specs.Bytes.{BytesOut}
 use Rattle.switch_core.specs.Steps.{loaded}
 use Rattle.switch_core.specs.Switch.{finish_of, note_of}
 use Rattle.switch_core.specs.declared.switch.TableFor.{TableFor}
-use Rattle.fabric_state.specs.Fabric.{FabricOf, clock_due_at, count, full_hands, has_frame, is_external, is_full_at, is_some_spent, is_switch, places, samples_of, station}
+use Rattle.fabric_state.specs.Fabric.{FabricOf, clock_due_at, count, full_hands, has_frame, is_external, is_full_at, is_some_spent, is_switch, places, samples_of, station, life_of}
 use Rattle.fabric_state.specs.Fabric.{room as room_of}
 use Rattle.fabric_state.specs.declared.hand.Hand.{Hand}
 use Rattle.fabric_state.specs.declared.hand.Hand.TheVariants as hand
@@ -31,7 +31,7 @@ use Rattle.fabric_state.specs.Choices.{event_of_work, frame_work, next_port, nex
 use Rattle.fabric_state.specs.Lawful.{is_lawful, is_command}
 use Rattle.fabric_state.specs.Effects.{after_clock, after_command, after_handle, after_load, after_move, after_restart, after_take, after_tick}
 use Rattle.fabric_state.specs.Effects.{ShowsOnly, all_put_out, emptied, shows}
-use Rattle.fabric_state.specs.Starts.{begun_fabric, life_of, next_life_at, next_note_at, started_note}
+use Rattle.fabric_state.specs.Starts.{begun_fabric, next_life_at, next_note_at, started_note}
 use Rattle.fabric_state.specs.Fits.{Fits, IsHandPort}
 use Rattle.fabric_world.specs.World.{WorldOf, effect, handled, loads_with, next_life, step, table_for, world_after}
 use Rattle.fabric_world.specs.Histories.{HistoryOf, IsLawful, fabric_of, last_port, last_taken, with_event, world_of}

@@ -9,9 +9,9 @@ use Rattle.dep_check.proofs.SpotLemmas.{spot_true}
 use Rattle.flow_channels.specs.declared.went.Went.{Went}
 use Rattle.flow_channels.specs.Layout.{LayoutOf, spot, IsWired}
 use Rattle.flow_channels.specs.Flows.{FlowOf, waiting_at, leaves, goes, all_starting}
-use Rattle.flow_channels.specs.Moves.{Move, CanArrive, CanGo, IsPossible, IsTurn, after}
+use Rattle.flow_channels.specs.Moves.{Move, CanArrive, CanGo, IsPossible, IsTurn, after, Turns}
 use Rattle.flow_channels.specs.Moves.Move.{Arrives, Goes}
-use Rattle.flow_channels.specs.Runs.{Turns, greatest, moves_left}
+use Rattle.flow_channels.specs.Runs.{greatest, moves_left}
 use Rattle.flow_channels.specs.Sound.{IsSound}
 use Rattle.flow_channels.proofs.SoundLaws.{near, turn_sound}
 use Rattle.flow_channels.proofs.WeightLaws.{weight, one_more, arrive_weight, go_weight}

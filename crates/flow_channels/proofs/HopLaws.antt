@@ -15,9 +15,9 @@ use Rattle.flow_channels.specs.declared.went.Went.{Went}
 use Rattle.flow_channels.specs.declared.went.Went.TheVariants.{Arrived, Out}
 use Rattle.flow_channels.specs.Layout.{LayoutOf, spot, IsWired}
 use Rattle.flow_channels.specs.Flows.{FlowOf, PacketOf, WaitOf, queue_at, waiting_at, with_queue, with_waiting, first_asks, leaves, leaves_by, comes_into, goes}
-use Rattle.flow_channels.specs.Moves.{Move, CanArrive, CanGo, IsPossible, after, went_by}
+use Rattle.flow_channels.specs.Moves.{Move, CanArrive, CanGo, IsPossible, after, went_by, Turns}
 use Rattle.flow_channels.specs.Moves.Move.{Arrives, Goes}
-use Rattle.flow_channels.specs.Runs.{Turns, greatest, hops_of}
+use Rattle.flow_channels.specs.Runs.{greatest, hops_of}
 use Rattle.flow_channels.specs.Sound.{IsSound, WaitsThere}
 use Rattle.flow_channels.proofs.ExitLemmas.{list_cases, exit_has}
 use Rattle.flow_channels.proofs.StateLemmas.{spot_cases, queue_each, waiting_each, all_remove}

@@ -25,8 +25,8 @@ use Rattle.dep_check.proofs.TableLaws.{tables_no_cycle, tables_joined}
 use Rattle.flow_channels.specs.declared.went.Went.{Went}
 use Rattle.flow_channels.specs.Flows.{FlowOf, empty_flow, enters}
 use Rattle.flow_channels.specs.Layout.{HasRanks, LayoutOf, layout_of}
-use Rattle.flow_channels.specs.Moves.{IsTurn}
-use Rattle.flow_channels.specs.Runs.{MayEnter, moves_left, Turns}
+use Rattle.flow_channels.specs.Moves.{IsTurn, Turns}
+use Rattle.flow_channels.specs.Runs.{MayEnter, moves_left}
 use Rattle.flow_channels.specs.View.{FlowView, IsFresh, IsOver, MayEnterNow}
 use Rattle.flow_channels.proofs.EndLaws.{turn_less}
 use Rattle.flow_channels.proofs.RankedLaws.{has_ranks, ranks_in}

@@ -7,7 +7,7 @@ ghost use Rattle.std.specs.Fmt.{decimal};
 ghost use Rattle.an_base.specs.declared.event.Event.{Event};
 ghost use Rattle.net_script.specs.Scripts.{ScriptOf};
 ghost use Rattle.row_text.specs.Names.{life_text};
-ghost use Rattle.fabric_world.specs.Accounts.{rows_behind};
+ghost use Rattle.fabric_world.specs.Lines.{rows_behind};
 ghost use Rattle.fabric_world.specs.Histories.{fabric_of};
 ghost use Rattle.fabric_book.specs.Nets.{history_of};
 ghost use Rattle.report.specs.Retellings.{Comes, HasCome};
