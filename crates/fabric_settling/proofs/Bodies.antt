@@ -21,10 +21,10 @@ use Rattle.net_graph.specs.Wires.{far_at}
 use Rattle.net_script.specs.Scripts.{ScriptOf, IsScript}
 use Rattle.ordered_link.specs.Sending.{Sending, highest}
 use Rattle.port_monitor.specs.Histories.{externals}
-use Rattle.port_settling.proofs.Basics.{same_end}
-use Rattle.session_settling.specs.Directions.{IsStill}
-use Rattle.session_settling.specs.Moves.{IsFilled}
-use Rattle.session_settling.proofs.Keeps.{none_unacked}
+use Rattle.link_settling.proofs.Basics.{same_end}
+use Rattle.link_settling.specs.Directions.{IsStill}
+use Rattle.link_settling.specs.Moves.{IsFilled}
+use Rattle.link_settling.proofs.Keeps.{none_unacked}
 use Rattle.topo_report.proofs.Members.{In}
 use Rattle.switch_core.specs.Switch.{SwitchOf, good_peer, is_unacked, port_of}
 use Rattle.switch_core.specs.Steps.{peer_among}
