@@ -46,7 +46,7 @@ extern "C" {
 /* No frame has more bytes. A link must carry as many. */
 #define AUTONET_MOST_FRAME 22591
 
-/* The most clocks and frames of one life, 2^60, and the most frames of it that carry a body, 2^28. */
+/* The most clocks and frames of one life, 2^60, and the most frames with a body of one epoch, 2^28. */
 #define AUTONET_MOST_WORKS UINT64_C(1152921504606846976)
 #define AUTONET_MOST_CARRIED 268435456
 
@@ -86,7 +86,7 @@ typedef struct {
     uint64_t epoch;       /* the epoch that it is in */
     uint64_t table_epoch; /* that of the table that it loaded last, 0 where number is 0 */
     uint64_t works;       /* how many clocks and frames it took in this life */
-    uint32_t carried;     /* how many of these frames carried a body */
+    uint32_t carried;     /* how many frames with a body it took in its epoch */
     uint32_t members;     /* how many members it has finished with in its epoch, 0: not finished */
     uint8_t number;       /* its number in the table that it loaded last, 0: none was loaded */
     uint8_t load_due;     /* 1: a table is to be loaded, else 0 */

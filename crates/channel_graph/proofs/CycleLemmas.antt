@@ -1,5 +1,6 @@
 -- The least way down the levels is the least cycle.
 use Rattle.std.proofs.Common.{◌≡◌, sym, subst, refl, ℕ, zero, suc, true, ◌-◌, ◌<◌, ◌≤◌, List, [], ◌∷◌, ◌++◌, arith, length, Less, Equal, Greater, inl, inr}
+use Rattle.an_base.proofs.OrderLaws.{nat_apart}
 use Rattle.std.specs.Prelude.{IsTrue}
 use Rattle.std.specs.declared.cmp.Ordering.{Ordering}
 use Rattle.std.specs.Ordering.{nat_cmp, ordering_then, is_le}
@@ -12,9 +13,6 @@ use Rattle.channel_graph.specs.Search.{Holds, HasPeer, IsNextBelow, Descends, Is
 
 cmp_le : (x y : ℕ) → x ≤ y → is_le (nat_cmp x y) ≡ true
 cmp_le x y h = grind (arith, nat_tests)
-
-pub cmp_same : (x y : ℕ) → nat_cmp x y ≡ Equal → x ≡ y
-cmp_same x y e = grind (arith, nat_tests)
 
 le_then : (o rest : Ordering) → IsTrue (is_le o) → (o ≡ Equal → IsTrue (is_le rest)) → IsTrue (is_le (ordering_then o rest))
 le_then Less rest le same = refl
@@ -77,7 +75,7 @@ module _ (graph : GraphOf) (levels : List ℕ) (start : ℕ) (holds : Holds grap
       let le = here.first d step (omega arith) (omega arith) in
       le_then (nat_cmp b d) (slice_cmp nat_cmp bs ds) (cmp_le b d le)
       (λ equal.
-      let one : b ≡ d = cmp_same b d equal in
+      let one : b ≡ d = nat_apart b d equal in
       descends_least b m bs z rest ds (subst (λ (x : ℕ). Path (LeadsTo graph) x ds start) (sym one) path) (omega arith))
 
   -- the descent is the least shortest cycle

@@ -46,7 +46,7 @@ use Rattle.expect_text.specs.Expect.{parent_words, component_form, member_form, 
 use Rattle.row_text.specs.Rows.{pair_word, row_form, member_rows, table_forms}
 use Rattle.row_text.specs.Names.{life_text}
 use Rattle.expect_text.specs.Expect.{Part, AreTables, table_at}
-use Rattle.expect_text.proofs.TextLemmas.{numbered}
+use Rattle.switch_numbering.proofs.Differing.{length-numbering}
 use Rattle.check_text.proofs.OwnNames.{life_named}
 use Rattle.row_text.proofs.ComponentTree.{component_tree}
 use Rattle.expect_text.proofs.PartLemmas.{component_numbering}
@@ -557,7 +557,7 @@ rows_good s es any x t told low table =
     All-map (IsGood s) (row_form s (life_at es x) t.rows) (filter (is_entry es x) (range_with_len 0 13))
     (All-filter (is_entry es x) (λ e. IsGood s (row_form s (life_at es x) t.rows e)) (range_with_len 0 13)
     (All-weaker (λ e. e ≤ 12) (λ e. IsGood s (row_form s (life_at es x) t.rows e))
-    (λ e most. row_good s (life_at es x) name.0 t.rows e name.1 most (spelled_at es (numbering es) any x t e told.graph told.numbers (numbered es) table))
+    (λ e most. row_good s (life_at es x) name.0 t.rows e name.1 most (spelled_at es (numbering es) any x t e told.graph told.numbers (length-numbering es) table))
     (range_with_len 0 13) entries_low))
 
 -- and those of the tables from one on

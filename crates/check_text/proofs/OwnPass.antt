@@ -40,7 +40,7 @@ use Rattle.table_build.specs.Exits.{is_entry}
 use Rattle.table_build.specs.Tables.{TableOf, IsRow}
 use Rattle.dep_check.specs.declared.refusal.CheckRefusal.{CheckRefusal}
 use Rattle.dep_check.specs.declared.refusal.CheckRefusal.TheVariants.{Cycle, NotJoined, IllegalExit, OutOfMemory}
-use Rattle.dep_check.specs.Channels.{far_at, LeadsTo}
+use Rattle.dep_check.specs.Channels.{channel_cmp, far_at, LeadsTo}
 use Rattle.dep_check.specs.Laws.{AreTables as AllTables}
 use Rattle.dep_check.proofs.TableLaws.{tables_no_cycle, tables_joined, tables_legal}
 use Rattle.check_text.specs.Check.{Ranked, number_of, numbers_of, is_member, members_of, is_row_of, renumbered, rows_of, IsJudged, IsRefusedFor}
@@ -56,15 +56,16 @@ use Rattle.expect_text.specs.Expect.{component_form, member_form, number_form, p
 use Rattle.row_text.specs.Rows.{pair_word, row_form, member_rows, table_forms}
 use Rattle.check_text.proofs.OwnApart.{own_numbers}
 use Rattle.check_text.proofs.OwnLines.{pair_says}
-use Rattle.dep_check.proofs.OneAnswer.{no_empty}
+use Rattle.channel_graph.proofs.OneAnswer.{no_both}
 use Rattle.table_build.proofs.MadeTables.{entry_passes, entry_low}
-use Rattle.table_build.proofs.MadeLists.{kept, in_flat}
+use Rattle.an_base.proofs.RangeLemmas.{Contains-kept}
+use Rattle.table_build.proofs.MadeLists.{in_flat}
 
 -- LISTS
 
 -- what passes a test stays among those that do
 Contains-filter : {X : Type 0} (p : X → Bool) (x : X) (xs : List X) → p x ≡ true → Contains xs x → Contains (filter p xs) x
-Contains-filter p x xs is has = kept p xs x has is
+Contains-filter p x xs is has = Contains-kept p xs x has is
 
 -- what one of the lists has they have together
 Contains-flat_map : {X A : Type 0} (f : X → List A) (a : A) (x : X) (xs : List X) → Contains xs x → Contains (f x) a → Contains (flat_map f xs) a
@@ -419,7 +420,7 @@ not_refused : (switches : List SwitchAt) (t : TablesOf) (es : List EntryOf) (any
 not_refused switches t es any graph tree named count tables (Cycle channels) is =
     let numbers = numbers_of switches t es in
     let rows = rows_of switches t es in
-    no_empty (LeadsTo (far_at es numbers) rows) channels is (tables_no_cycle es numbers any rows graph named count tables)
+    no_both channel_cmp (LeadsTo (far_at es numbers) rows) channels is (tables_no_cycle es numbers any rows graph named count tables)
 not_refused switches t es any graph tree named count tables (NotJoined from to at entry) is =
     tables_joined es (numbers_of switches t es) any (rows_of switches t es) graph named count tables tree from to at entry is.1.meets
 not_refused switches t es any graph tree named count tables (IllegalExit at entry to exit) is =

@@ -9,7 +9,7 @@ ghost use Rattle.net_script.specs.Texts.{IsText};
 ghost use Rattle.topo_graph.specs.Topology.{IsGraph, IsTree};
 ghost use Rattle.switch_numbering.specs.Numbering.{numbering};
 ghost use Rattle.dep_check.specs.Channels.{far_at, LeadsTo};
-ghost use Rattle.dep_check.specs.Cycles.{HasNoCycle, Walk};
+ghost use Rattle.channel_graph.specs.Cycles.{HasNoCycle, Walk};
 ghost use Rattle.dep_check.specs.Illegal.{AllAreLegal};
 ghost use Rattle.dep_check.specs.Laws.{GoesBetween};
 ghost use Rattle.dep_check.specs.Packets.{AllAreJoined, GoesOn};

@@ -5,8 +5,8 @@ use Rattle.std.proofs.lemmas.Option.{same_Some}
 use Rattle.an_base.specs.Rows.{RowOf}
 use Rattle.dep_check.specs.declared.channel.Channel.{Channel}
 use Rattle.dep_check.specs.declared.steps.Steps.{Steps}
-use Rattle.dep_check.specs.Channels.{IsChannel, LeadsTo}
-use Rattle.dep_check.specs.Cycles.{Path, HasNoCycle, IsLeastCycle, AreRanks}
+use Rattle.dep_check.specs.Channels.{IsChannel, LeadsTo, channel_cmp}
+use Rattle.channel_graph.specs.Cycles.{Path, HasNoCycle, IsLeastCycle, AreRanks}
 use Rattle.dep_check.specs.Tables.{IsSpot, wire_at, WiresAreWithin, AreWires, level_at, rank_at}
 use Rattle.dep_check.specs.Search.{Step, AreSteps, IsLinked, AreRanked}
 use Rattle.dep_check.proofs.SpotLemmas.{option_cases, spot_true, spot_cases}
@@ -24,7 +24,7 @@ module _ (R S : Channel → Channel → Type 0) (there : (a b : Channel) → R a
   pub no_cycle_map : HasNoCycle S → HasNoCycle R
   no_cycle_map none = λ c cs cycle. none c cs (path_map c cs c cycle)
 
-pub least_map : (R S : Channel → Channel → Type 0) → ((a b : Channel) → R a b → S a b) → ((a b : Channel) → S a b → R a b) → (cs : List Channel) → IsLeastCycle R cs → IsLeastCycle S cs
+pub least_map : (R S : Channel → Channel → Type 0) → ((a b : Channel) → R a b → S a b) → ((a b : Channel) → S a b → R a b) → (cs : List Channel) → IsLeastCycle channel_cmp R cs → IsLeastCycle channel_cmp S cs
 least_map R S there back [] least = absurd least
 least_map R S there back (c ∷ cs) least = record {
   from = record {
@@ -37,11 +37,11 @@ least_map R S there back (c ∷ cs) least = record {
 
 module _ (wires : List (Option Channel)) (rows : List RowOf) (steps : Steps) (levels : List (Option ℕ)) (within : WiresAreWithin wires) (are : AreSteps wires rows None steps) (ranked : AreRanked steps levels) where
   -- where some channel has no rank there is a cycle
-  pub some_cycle : (s : Channel) → IsSpot s → IsLinked steps s → level_at levels s ≡ None → (found : Option (List Channel)) → MatchOption found (HasNoCycle (Step steps)) (IsLeastCycle (Step steps)) → IsSome found
+  pub some_cycle : (s : Channel) → IsSpot s → IsLinked steps s → level_at levels s ≡ None → (found : Option (List Channel)) → MatchOption found (HasNoCycle (Step steps)) (IsLeastCycle channel_cmp (Step steps)) → IsSome found
   some_cycle s spot linked bare None none = absurd (let c = late_cycle steps levels are.to ranked s spot linked bare in none c.0 c.1 c.2)
   some_cycle s spot linked bare (Some cs) least = refl
 
-  pub least_leads : (cs : List Channel) → IsLeastCycle (Step steps) cs → IsLeastCycle (LeadsTo (wire_at wires) rows) cs
+  pub least_leads : (cs : List Channel) → IsLeastCycle channel_cmp (Step steps) cs → IsLeastCycle channel_cmp (LeadsTo (wire_at wires) rows) cs
   least_leads cs least = least_map (Step steps) (LeadsTo (wire_at wires) rows) (step_leads wires rows steps within are) (leads_step wires rows steps within are) cs least
 
   module _ (all : (s : Channel) → IsSpot s → IsLinked steps s → level_at levels s ≡ None → ⊥) where
@@ -70,7 +70,7 @@ module _ (wires : List (Option Channel)) (rows : List RowOf) (steps : Steps) (le
 
     pub are_ranks : AreRanks (IsChannel (wire_at wires)) (LeadsTo (wire_at wires) rows) (rank_at levels)
     are_ranks = record {
-      channels = λ c channel.
+      nodes = λ c channel.
           let spot = wire_spot wires c channel.0 channel.1 in
           let rank = rank_of c spot (linked_is c channel) in
           let is = ranked.ranked c rank.0 spot rank.1 in (
@@ -98,8 +98,8 @@ module _ (wires : List (Option Channel)) (rows : List RowOf) (steps : Steps) (le
 
 -- the same of the far sides that the wires are
 module _ (far : Channel → Option Channel) (wires : List (Option Channel)) (rows : List RowOf) (steps : Steps) (levels : List (Option ℕ)) (wired : AreWires far wires) (are : AreSteps wires rows None steps) (ranked : AreRanked steps levels) where
-  pub least_at : (cs : List Channel) → IsLeastCycle (Step steps) cs → IsLeastCycle (LeadsTo far rows) cs
-  least_at cs least = subst (λ (f : Channel → Option Channel). IsLeastCycle (LeadsTo f rows) cs) (fun_ext wired.each) (least_leads wires rows steps levels wired.links.within are ranked cs least)
+  pub least_at : (cs : List Channel) → IsLeastCycle channel_cmp (Step steps) cs → IsLeastCycle channel_cmp (LeadsTo far rows) cs
+  least_at cs least = subst (λ (f : Channel → Option Channel). IsLeastCycle channel_cmp (LeadsTo f rows) cs) (fun_ext wired.each) (least_leads wires rows steps levels wired.links.within are ranked cs least)
 
   pub no_cycle_at : ((s : Channel) → IsSpot s → IsLinked steps s → level_at levels s ≡ None → ⊥) → HasNoCycle (LeadsTo far rows)
   no_cycle_at all = subst (λ (f : Channel → Option Channel). HasNoCycle (LeadsTo f rows)) (fun_ext wired.each) (no_cycle wires rows steps levels wired.links.within are ranked all)

@@ -8,9 +8,10 @@ use Rattle.std.proofs.lemmas.Bool.Decides.{nat_tests}
 use Rattle.std.proofs.lemmas.Option.{same_Some}
 use Rattle.dep_check.specs.declared.channel.Channel.{Channel}
 use Rattle.dep_check.specs.declared.steps.Steps.{Steps}
-use Rattle.dep_check.specs.Cycles.{channel_cmp, Walk, Path, IsCycle, IsLeastFrom, IsLeastCycle, IsLeastCycleFrom}
+use Rattle.channel_graph.specs.Cycles.{Walk, Path, IsCycle, IsLeastFrom, IsLeastCycle}
+use Rattle.dep_check.specs.Channels.{channel_cmp}
 use Rattle.dep_check.specs.Tables.{IsSpot, place_of, level_at, wire_at}
-use Rattle.dep_check.specs.Search.{IsStepOf, IsStep, Step, IsLinked, AreRanked, AreNearest, IsNextAt, HasNextAt, IsLeastBehind, LeastBehind, Descends}
+use Rattle.dep_check.specs.Search.{IsStepOf, IsStep, Step, IsLinked, AreRanked, AreNearest, IsNextAt, HasNextAt, IsLeastBehind, LeastBehind, Descends, IsLeastCycleFrom}
 use Rattle.dep_check.proofs.SpotLemmas.{option_cases, spot_cases}
 use Rattle.dep_check.proofs.StepLemmas.{step_low}
 use Rattle.dep_check.proofs.LevelLemmas.{step_spot}
@@ -219,7 +220,7 @@ module _ (steps : Steps) (levels : List (Option ℕ)) (start : Channel) (nearest
       descends_least b m bs z rest (λ x k next there. let h = nearer_next b x n k b_spot here.level next there in omega arith) ds (subst (λ (x : Channel). Path (Step steps) x ds start) (sym one) path) (omega arith))
 
   -- the descent is the least shortest cycle
-  pub descent_least : (n : ℕ) (cs : List Channel) (z : Channel) → LeastBehind steps levels start 13 (Some n) → Descends steps levels start n cs z 0 → HasNextAt steps levels z 0 → IsLeastFrom (Step steps) start cs
+  pub descent_least : (n : ℕ) (cs : List Channel) (z : Channel) → LeastBehind steps levels start 13 (Some n) → Descends steps levels start n cs z 0 → HasNextAt steps levels z 0 → IsLeastFrom channel_cmp (Step steps) start cs
   descent_least n cs z behind descends last =
       let bound : (b : Channel) (m : ℕ) → Step steps start b → level_at levels b ≡ Some m → n ≤ m = (λ (b : Channel) (m : ℕ) (step : Step steps start b) (level : level_at levels b ≡ Some m). behind.least step.0 b m (step_low steps.wires.items steps.exits.items steps.to start step.0 b step.1) step.1 level) in
       record {
@@ -242,10 +243,10 @@ module _ (steps : Steps) (levels : List (Option ℕ)) (start : Channel) (nearest
       behind w.1.0 w.0 l.0 (step_low steps.wires.items steps.exits.items steps.to start w.1.0 w.0 w.1.1) w.1.1 l.1
 
 -- the first channel on a cycle is the least
-pub cycle_at : (steps : Steps) (start : Channel) (channels : List Channel) → steps.to ≡ None → IsSpot start → ((d : Channel) (ds : List Channel) → IsSpot d → place_of d < place_of start → IsCycle (Step steps) d ds → ⊥) → IsLeastCycleFrom (Step steps) start channels → IsLeastCycle (Step steps) channels
+pub cycle_at : (steps : Steps) (start : Channel) (channels : List Channel) → steps.to ≡ None → IsSpot start → ((d : Channel) (ds : List Channel) → IsSpot d → place_of d < place_of start → IsCycle (Step steps) d ds → ⊥) → IsLeastCycleFrom (Step steps) start channels → IsLeastCycle channel_cmp (Step steps) channels
 cycle_at steps start [] none spot before from = absurd from
 cycle_at steps start (c ∷ cs) none spot before (same, from) = record {
-  from = subst (λ (x : Channel). IsLeastFrom (Step steps) x cs) (sym same) from;
+  from = subst (λ (x : Channel). IsLeastFrom channel_cmp (Step steps) x cs) (sym same) from;
   first = λ d ds cycle.
       let d_spot = path_from_spot steps d ds d none cycle in
       subst (λ (x : Channel). IsTrue (is_le (channel_cmp x d))) (sym same) (elim (cases_lt (place_of d) (place_of start)) [

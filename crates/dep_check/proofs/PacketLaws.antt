@@ -5,7 +5,7 @@ use Rattle.std.proofs.lemmas.Option.{same_Some}
 use Rattle.an_base.specs.Rows.{RowOf}
 use Rattle.dep_check.specs.declared.channel.Channel.{Channel}
 use Rattle.dep_check.specs.Channels.{IsChannel, HasExit, LeadsTo}
-use Rattle.dep_check.specs.Cycles.{Walk, AreRanks}
+use Rattle.channel_graph.specs.Cycles.{Walk, AreRanks}
 use Rattle.dep_check.specs.Packets.{GoesOn, IsGap, AllAreJoined}
 use Rattle.dep_check.specs.Laws.{GoesBetween}
 use Rattle.dep_check.proofs.SpotLemmas.{option_cases}
@@ -61,13 +61,13 @@ exit_cases (r ∷ rows) at entry to = elim (exit_cases rows at entry to) [
 module _ (far : Channel → Option Channel) (rows : List RowOf) (rank : Channel → Option ℕ) (ranks : AreRanks (IsChannel far) (LeadsTo far rows) rank) where
   -- what goes on leaves by a channel with a rank
   leaves : (to : ℕ) (a b : Channel) → (goes : GoesOn far rows to a b) → (r : ℕ) × (rank (by a goes.exit) ≡ Some r)
-  leaves to a b goes = let r = ranks.channels (by a goes.exit) (b, goes.link) in (r.0, r.1)
+  leaves to a b goes = let r = ranks.nodes (by a goes.exit) (b, goes.link) in (r.0, r.1)
 
   -- from one channel to the next the ranks fall
   falls : (to : ℕ) (c a : Channel) (exit : ℕ) (r : ℕ) → far c ≡ Some a → HasExit rows a.at a.port to exit → IsChannel far (by a exit) → rank c ≡ Some r → (m : ℕ) × (rank (by a exit) ≡ Some m) × (m < r)
   falls to c a exit r arrives has link is =
       let leads : LeadsTo far rows c (by a exit) = record { entry = a.port; arrives = arrives; to = to; exit = has; link = link } in
-      let own = ranks.channels c (a, arrives) in
+      let own = ranks.nodes c (a, arrives) in
       let same : own.0 ≡ r = same_Some own.0 r (sym own.1 ∙ is) in
       let next = own.2.above (by a exit) leads in
       let less = next.2 in
@@ -150,5 +150,5 @@ module _ (far : Channel → Option Channel) (rows : List RowOf) (rank : Channel 
     ]
     comes_there (suc n) z walk =
         let c = last_channel n (record { at = from; port = 0 }) z walk in
-        let r = ranks.channels c.0 (z, c.1) in
+        let r = ranks.nodes c.0 (z, c.1) in
         comes_by r.0 (suc n) c.0 z r.0 walk c.1 r.1 (omega arith)

@@ -5,8 +5,8 @@ use Rattle.an_base.specs.Rows.{RowOf}
 use Rattle.dep_check.specs.declared.refusal.CheckRefusal.{CheckRefusal}
 use Rattle.dep_check.specs.declared.refusal.CheckRefusal.TheVariants.{Cycle, NotJoined, IllegalExit}
 use Rattle.dep_check.specs.declared.refusal.CheckRefusal.TheVariants.{OutOfMemory}
-use Rattle.dep_check.specs.Channels.{far_at, IsChannel, LeadsTo}
-use Rattle.dep_check.specs.Cycles.{HasNoCycle, IsLeastCycle, AreRanks}
+use Rattle.dep_check.specs.Channels.{far_at, IsChannel, LeadsTo, channel_cmp}
+use Rattle.channel_graph.specs.Cycles.{HasNoCycle, IsLeastCycle, AreRanks}
 use Rattle.dep_check.specs.Packets.{AllAreJoined, IsLeastGap}
 use Rattle.dep_check.specs.Illegal.{AllAreLegal, IsLeastIllegal}
 use Rattle.dep_check.specs.Tables.{rank_at}
@@ -15,7 +15,7 @@ use Rattle.dep_check.specs.Tables.{rank_at}
 -- illegal exit
 abbrev pub IsRefusal : List EntryOf → List ℕ → List RowOf → CheckRefusal → Type 0
 IsRefusal entries numbers rows (Cycle channels) =
-    IsLeastCycle (LeadsTo (far_at entries numbers) rows) channels
+    IsLeastCycle channel_cmp (LeadsTo (far_at entries numbers) rows) channels
 IsRefusal entries numbers rows (NotJoined from to at entry) =
     HasNoCycle (LeadsTo (far_at entries numbers) rows)
     × IsLeastGap (far_at entries numbers) numbers rows from to at entry

@@ -1,10 +1,16 @@
 -- Channels of a topology whose switches have numbers, and which of them rows lead to from which.
 use Rattle.std.specs.Prelude.{◌≡◌, ◌==◌, ℕ, List, Option, Some, Any, Contains, position, slice_index}
 use Rattle.std.specs.Option.{option_and_then, option_map}
+use Rattle.std.specs.Ordering.{nat_cmp, ordering_then}
+use Rattle.std.specs.declared.cmp.Ordering.{Ordering}
 use Rattle.an_base.specs.Values.{EntryOf}
 use Rattle.an_base.specs.Rows.{RowOf}
 use Rattle.topo_graph.specs.Topology.{far_of}
 use Rattle.dep_check.specs.declared.channel.Channel.{Channel}
+
+-- channels are ordered by number, then by port
+abbrev pub channel_cmp : Channel → Channel → Ordering
+channel_cmp one other = ordering_then (nat_cmp one.at other.at) (nat_cmp one.port other.port)
 
 -- the place of the switch that has a number
 abbrev pub place_in : List ℕ → ℕ → Option ℕ

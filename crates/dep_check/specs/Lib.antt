@@ -1,6 +1,5 @@
 -- what public contracts cite
 pub mod Channels
-pub mod Cycles
 pub mod Packets
 pub mod Illegal
 pub mod Answer

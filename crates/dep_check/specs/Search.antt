@@ -8,7 +8,8 @@ use Rattle.dep_check.specs.declared.channel.Channel.{Channel}
 use Rattle.dep_check.specs.declared.steps.Steps.{Steps}
 use Rattle.dep_check.specs.declared.level.Rule.{Rule}
 use Rattle.dep_check.specs.declared.level.Rule.TheVariants.{Nearest, Rank}
-use Rattle.dep_check.specs.Cycles.{Walk, channel_cmp}
+use Rattle.channel_graph.specs.Cycles.{IsLeastFrom, Walk}
+use Rattle.dep_check.specs.Channels.{channel_cmp}
 use Rattle.dep_check.specs.Tables.{IsSpot, place_of, wire_at, has_at, AreExitsBelow, level_at}
 
 -- by an exit of the far side of a channel to the channel of that exit
@@ -214,3 +215,8 @@ Descends steps levels start level [] end end_level = (start ≡ end) × (level �
 Descends steps levels start level (next ∷ rest) end end_level =
     (lower : ℕ) × (level ≡ suc lower) × IsNextAt steps levels start level next
     × Descends steps levels next lower rest end end_level
+
+-- a list of channels that begins with a channel is the least shortest cycle from it
+abbrev pub IsLeastCycleFrom : (Channel → Channel → Type 0) → Channel → List Channel → Type 0
+IsLeastCycleFrom Step start [] = ⊥
+IsLeastCycleFrom Step start (first ∷ rest) = (first ≡ start) × IsLeastFrom channel_cmp Step start rest

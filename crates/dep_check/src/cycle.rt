@@ -1,7 +1,8 @@
 ghost use Rattle.std.specs.Prelude.{◌≡◌, ◌<◌, ◌+◌, IfOk, MatchOption, IfSome, Some, None, ◌∷◌};
-ghost use Rattle.dep_check.specs.Cycles.{HasNoCycle, IsLeastCycle, IsLeastCycleFrom};
+ghost use Rattle.channel_graph.specs.Cycles.{HasNoCycle, IsLeastCycle};
+ghost use Rattle.dep_check.specs.Channels.{channel_cmp};
 ghost use Rattle.dep_check.specs.Tables.{IsSpot};
-ghost use Rattle.dep_check.specs.Search.{AreNearest, HasNextAt, IsNextAt, LeastBehind, Step};
+ghost use Rattle.dep_check.specs.Search.{AreNearest, HasNextAt, IsNextAt, LeastBehind, Step, IsLeastCycleFrom};
 
 use crate::channel::{Channel, Channels};
 use crate::level::{level_of, nearest_to};
@@ -97,7 +98,7 @@ fn cycle_from(
 pub fn least_cycle(alloc: Global, steps: &Steps) -> Result<Option<Channels>, OutOfMemory>
     requires { steps.now.to ≡ None }
     ensures { IfOk result (λ found. MatchOption found (HasNoCycle (Step steps.now))
-        (IsLeastCycle (Step steps.now))) }
+        (IsLeastCycle channel_cmp (Step steps.now))) }
 {
     let tiers = tiers_of(alloc, steps)?;
     'spots: for place in 0..SPOTS {

@@ -40,16 +40,6 @@ fn far_from(graph: &Graph, numbers: &Numbers, place: Option<u8>, spot: Channel) 
     Some(Channel { at, port })
 }
 
-/// The number and the port at the far side of a port of the switch that has a number, if a link is
-/// there.
-pub fn far_at(graph: &Graph, numbers: &Numbers, spot: Channel) -> Option<Channel>
-    requires { length numbers.now ≡ length graph.now }
-    ensures far { result ≡ far_at graph.now numbers.now spot }
-    ensures spot { IfSome result IsSpot }
-{
-    far_from(graph, numbers, place_in(numbers, spot.at), spot)
-}
-
 // Adds the far sides of the spots of a number.
 fn push_wires(
     wires: &mut Vec<Option<Channel>>,

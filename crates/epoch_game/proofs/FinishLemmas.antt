@@ -1,4 +1,5 @@
 use Rattle.std.proofs.Common.{◌≡◌, ◌⊎◌, inl, inr, ℕ, zero, suc, ◌+◌, ◌≤◌, List, [], ◌∷◌, length, Option, Some, None, Bool, true, false, true≢false, cond, refl, sym, ap, ◌∙◌, subst, ⊎_elim, arith, Contains}
+use Rattle.std.proofs.lemmas.Bool.{and_parts}
 use Rattle.std.specs.Prelude.{◌==◌, ◌&&◌}
 use Rattle.std.specs.List.{list_any}
 use Rattle.std.specs.Ordering.{is_eq}
@@ -24,7 +25,7 @@ use Rattle.epoch_game.proofs.Nodes.{after, decide_life, node_here, node_cases, h
 use Rattle.epoch_game.proofs.StreamLemmas.{nodes, shows_far, has_grown}
 use Rattle.epoch_game.proofs.Orders.{antisym, given, same_at_most}
 use Rattle.epoch_game.proofs.ImproveLemmas.{only_improves}
-use Rattle.epoch_game.proofs.StateLemmas.{node, node_is, Linked, joined, plain, both_true}
+use Rattle.epoch_game.proofs.StateLemmas.{node, node_is, Linked, joined, plain}
 use Rattle.epoch_game.proofs.ContentLemmas.{all_true}
 use Rattle.epoch_game.proofs.DetectLemmas.{Rooted, place, Member, linked_back, member, at_own, at_most_next, from_parent, walk_level, level_walk, tree_place, root_least, report_has, report_only, one_report}
 
@@ -214,7 +215,7 @@ as_root c l t e = by (is_stable c l && is_root c l) refl e
     by : (b : Bool) → (is_stable c l && is_root c l) ≡ b → cond b (Some (topology_of (report c l))) None ≡ Some t → AsRoot c l t
     by false e f = absurd (none_some f)
     by true e f =
-        let both = both_true (is_stable c l) (is_root c l) e in
+        let both = and_parts (is_stable c l) (is_root c l) e in
         record { stable = both.0; own = is_same-eq (position c l) (self_root c.me) both.1; topology = some_same t _ (sym f) }
 
 as_root_origin : (lives : List LifeId) (s : Slice) → length lives ≤ 126 → Run lives nobody s → (x : LifeId) (n : Node) (t : TopoOf) → s x ≡ Some n → AsRoot n.card n.log t → Origin s x t

@@ -1,7 +1,7 @@
 use Rattle.std.proofs.Common.{◌≡◌, ◌⊎◌, inl, inr, ℕ, ◌≤◌, ◌<◌, List, [], ◌∷◌, length, Option, Some, None, Bool, true, false, true≢false, cond, refl, sym, ap, ◌∙◌, subst, ⊎_elim, arith}
 use Rattle.std.specs.Prelude.{◌==◌, ◌&&◌, ◌||◌, not, is_some, nat_lt}
 use Rattle.std.specs.List.{list_all}
-use Rattle.std.proofs.lemmas.Bool.{cases_lt, lt-ltb, le-ltb, eqb-true}
+use Rattle.std.proofs.lemmas.Bool.{cases_lt, lt-ltb, le-ltb, eqb-true, and_parts}
 use Rattle.std.proofs.lemmas.Bool.Decides.{nat_tests}
 use Rattle.an_base.specs.Values.{LifeId, Place, PeerAt, EntryOf, PosOf}
 use Rattle.an_base.specs.declared.body.Body.{Body}
@@ -266,10 +266,6 @@ law_answered lives s run x p z q l h e one = by (view lives s run x p z q l h e)
     by (inr v) = from_answer v v.shows.answer
 
 -- Stable is settled on each link.
-pub both_true : (a b : Bool) → (a && b) ≡ true → (a ≡ true) × (b ≡ true)
-both_true true b e = (refl, e)
-both_true false b e = absurd (cc)
-
 pub record Settled (l : Log) (v p : ℕ) : Type 0 where
   pub answered : answered (on_port p l) ≡ Some v
   pub reported : is_claimed (on_port p l) ≡ true → is_some (fresh_report (on_port p l)) ≡ true
@@ -280,7 +276,7 @@ names_is (Some w) v e = ap Some (eqb-true w v e)
 
 settled_from : (v : ℕ) (l : Log) (k : PeerAt) → is_settled v l k ≡ true → Settled l v k.port
 settled_from v l k e =
-    let a = both_true (names (answered (on_port k.port l)) v) (not (is_claimed (on_port k.port l)) || is_some (fresh_report (on_port k.port l))) e in
+    let a = and_parts (names (answered (on_port k.port l)) v) (not (is_claimed (on_port k.port l)) || is_some (fresh_report (on_port k.port l))) e in
     record { answered = names_is (answered (on_port k.port l)) v a.0; reported = λ c. one_of (is_claimed (on_port k.port l)) (is_some (fresh_report (on_port k.port l))) a.1 c }
   where
     one_of : (c f : Bool) → (not c || f) ≡ true → c ≡ true → f ≡ true
@@ -301,8 +297,8 @@ settled_to v l k st =
 
 all_from : {A : Type 0} (f : A → Bool) (xs : List A) (x : A) → list_all f xs ≡ true → In x xs → f x ≡ true
 all_from f [] x e i = absurd i
-all_from f (y ∷ ys) x e (inl is) = ap f is ∙ (both_true (f y) (list_all f ys) e).0
-all_from f (y ∷ ys) x e (inr i) = all_from f ys x (both_true (f y) (list_all f ys) e).1 i
+all_from f (y ∷ ys) x e (inl is) = ap f is ∙ (and_parts (f y) (list_all f ys) e).0
+all_from f (y ∷ ys) x e (inr i) = all_from f ys x (and_parts (f y) (list_all f ys) e).1 i
 
 all_to : {A : Type 0} (f : A → Bool) (xs : List A) → ((x : A) → In x xs → f x ≡ true) → list_all f xs ≡ true
 all_to f [] h = refl

@@ -3,22 +3,17 @@ use Rattle.std.specs.List.{zip}
 use Rattle.std.proofs.lemmas.Bool.{cases_eq}
 use Rattle.std.proofs.lemmas.List.{take_more, map-append, get_or_push, get_or_append_left}
 use Rattle.std.proofs.lemmas.List.Elements.{All-push}
-use Rattle.std.proofs.lemmas.List.FromFn.{length-map-range_with_len}
 use Rattle.std.proofs.lemmas.Grind.{flat_map-append}
 use Rattle.an_base.specs.Values.{EntryOf}
 use Rattle.text_lines.specs.Lines.{line_text}
 use Rattle.text_lines.proofs.FormTexts.{text_push, go_on}
 use Rattle.net_script.specs.Scripts.{ScriptOf}
 use Rattle.row_text.specs.TableForms.{TableForm, EndLine, table_words}
-use Rattle.switch_numbering.specs.Numbering.{numbering, number_at, proposals}
+use Rattle.switch_numbering.specs.Numbering.{numbering}
 use Rattle.table_build.specs.Tables.{TableOf, IsTable}
 use Rattle.row_text.specs.Rows.{member_rows, table_forms}
 use Rattle.expect_text.specs.Expect.{AreTables, Part, component_form, member_form, number_form, part_forms, expect_forms, expect_text}
 use Rattle.row_text.specs.TableForms.{table_text}
-
--- there is a number for each entry
-pub numbered : (es : List EntryOf) → length (numbering es) ≡ length es
-numbered es = length-map-range_with_len (number_at (proposals es)) 0 (length es)
 
 -- one table more
 pub tables_more : (es : List EntryOf) (any : Bool) (x : ℕ) (ts : List TableOf) (t : TableOf) → AreTables es any x ts → IsTable es (numbering es) any x t → AreTables es any (x + 1) (ts ++ t ∷ [])

@@ -3,7 +3,8 @@
 use Rattle.std.specs.Prelude.{◌≡◌, ◌⊎◌, ◌+◌, ◌-◌, ◌^◌, ◌&&◌, not, ◌==◌, ◌<◌, ◌≤◌, ℕ, List, [], ◌∷◌, ◌++◌, map, length, nat_lt, slice_index_or, slice_set, cond, Option, Some, None, option_to_list, Bool, true, false, refl}
 use Rattle.std.specs.List.{range_with_len}
 use Rattle.std.proofs.Common.{sym, ◌∙◌, ap, subst, arith, true≢false, length-append, eq-eqb, ne_eqb, inl, inr}
-use Rattle.std.proofs.lemmas.Bool.{and_parts, cases_eq, ltb-true}
+use Rattle.fabric_state.proofs.FitsLemmas.{switch_below}
+use Rattle.std.proofs.lemmas.Bool.{and_parts, cases_eq}
 use Rattle.std.proofs.lemmas.List.{append-nil, get_or-set_other, get_or-set_same, length-set}
 use Rattle.std.proofs.lemmas.List.FromFn.{fill_by_all, get_or-map-range_with_len, length-map-range_with_len}
 use Rattle.an_base.specs.Ports.{NoteOf}
@@ -19,7 +20,7 @@ use Rattle.switch_core.specs.Bytes.{BytesOut}
 use Rattle.switch_core.specs.Steps.{loaded}
 use Rattle.switch_core.specs.Switch.{finish_of, note_of}
 use Rattle.switch_core.specs.declared.switch.TableFor.{TableFor}
-use Rattle.fabric_state.specs.Fabric.{FabricOf, clock_due_at, count, full_hands, has_frame, is_external, is_full_at, is_some_spent, is_switch, places, samples_of, station}
+use Rattle.fabric_state.specs.Fabric.{FabricOf, clock_due_at, count, full_hands, has_frame, is_external, is_full_at, is_some_spent, is_switch, places, samples_of, station, life_of}
 use Rattle.fabric_state.specs.Fabric.{room as room_of}
 use Rattle.fabric_state.specs.declared.hand.Hand.{Hand}
 use Rattle.fabric_state.specs.declared.hand.Hand.TheVariants as hand
@@ -30,7 +31,7 @@ use Rattle.fabric_state.specs.Choices.{event_of_work, frame_work, next_port, nex
 use Rattle.fabric_state.specs.Lawful.{is_lawful, is_command}
 use Rattle.fabric_state.specs.Effects.{after_clock, after_command, after_handle, after_load, after_move, after_restart, after_take, after_tick}
 use Rattle.fabric_state.specs.Effects.{ShowsOnly, all_put_out, emptied, shows}
-use Rattle.fabric_state.specs.Starts.{begun_fabric, life_of, next_life_at, next_note_at, started_note}
+use Rattle.fabric_state.specs.Starts.{begun_fabric, next_life_at, next_note_at, started_note}
 use Rattle.fabric_state.specs.Fits.{Fits, IsHandPort}
 use Rattle.fabric_world.specs.World.{WorldOf, effect, handled, loads_with, next_life, step, table_for, world_after}
 use Rattle.fabric_world.specs.Histories.{HistoryOf, IsLawful, fabric_of, last_port, last_taken, with_event, world_of}
@@ -272,10 +273,6 @@ kept_as f g es more taken now room roomy kept fabrics events takes rooms =
     (subst (λ (xs : List Event). IsKept f xs now roomy) (sym events)
     (subst (λ (xs : List ℕ). IsKept f es xs roomy) (sym takes)
     (subst (λ (n : ℕ). IsKept f es taken n) (sym rooms) kept)))
-
--- the switch of an event is one of the script
-switch_below : (f : FabricOf) (s : ℕ) → is_switch f s ≡ true → s < count f
-switch_below f s is = ltb-true s (count f) is
 
 pub take_below : (f : FabricOf) (s p : ℕ) → is_lawful f (Take s p) ≡ true → s < count f
 take_below f s p lawful =

@@ -236,10 +236,14 @@ number_made topo any life t made = ap (λ (u : TableOf). u.number) made
 pub number_is : (x : SwitchOf) (new : KeptOf) (table : TableOf) (is : Loads x (StandsFor new) table) → table.number ≡ number_in is.topo x.life
 number_is x new table is = number_made is.topo x.any x.life table (only_table is.topo x.any x.life table is.graph is.numbers (sym is.as_many) is.is_table)
 
+pub to_number : (w : WorldOf) (s : ℕ) (table : TableFor) (note : NoteOf) (is : IsToLoad w s table note) → table.table.number ≡ number_in is.topo (w.switches s).life
+to_number w s table note is =
+    let x = w.switches s in
+    number_made is.topo x.any x.life table.table (only_table is.topo x.any x.life table.table is.graph is.numbers is.as_many is.table)
+
 pub load_told : (w : WorldOf) (s : ℕ) (table : TableFor) (note : NoteOf) (told : Line) → IsToLoad w s table note → told ≡ line.Load s table.epoch table.table.number → told ∷ [] ≡ lines_of w (Load s)
 unfolding lines_of
 load_told w s table note told is told_is =
     let x = w.switches s in
-    let number : table.table.number ≡ number_in is.topo x.life = number_made is.topo x.any x.life table.table (only_table is.topo x.any x.life table.table is.graph is.numbers is.as_many is.table) in
-    ap (λ (y : Line). y ∷ []) told_is ∙ ap (λ (n : ℕ). line.Load s n table.table.number ∷ []) is.epoch ∙ ap (λ (n : ℕ). line.Load s x.epoch n ∷ []) number
+    ap (λ (y : Line). y ∷ []) told_is ∙ ap (λ (n : ℕ). line.Load s n table.table.number ∷ []) is.epoch ∙ ap (λ (n : ℕ). line.Load s x.epoch n ∷ []) (to_number w s table note is)
     ∙ ap (λ (o : Option TopoOf). load_lines o s x) (sym is.finished)

@@ -15,9 +15,9 @@ use Rattle.switch_core.specs.Kept.{KeptOf, StandsFor}
 use Rattle.fabric_state.specs.declared.hand.Hand.{Hand}
 use Rattle.fabric_state.specs.declared.hand.Hand.TheVariants as hand
 use Rattle.fabric_state.specs.Effects.{restarted, showing}
-use Rattle.fabric_state.specs.Fabric.{StationOf, is_full_at, samples_of, station, held_bytes, vacant}
+use Rattle.fabric_state.specs.Fabric.{StationOf, is_full_at, samples_of, station, held_bytes, vacant, life_of}
 use Rattle.fabric_state.specs.Lawful.{is_lawful}
-use Rattle.fabric_state.specs.Starts.{life_of, next_life_at}
+use Rattle.fabric_state.specs.Starts.{next_life_at}
 use Rattle.fabric_state.proofs.ReadyLemmas.{empty_at}
 use Rattle.fabric_world.specs.World.{WorldOf, effect, handled, loads_with, next_life, start_of, table_for, world_after}
 use Rattle.fabric_book.specs.Nets.{HasFrame, IsStarted, IsSwitchKept, power_of, start_with}

@@ -2,6 +2,7 @@
 
 use Rattle.std.specs.Prelude.{◌≡◌, ◌⊎◌, ◌+◌, ◌/◌, ◌==◌, ◌<◌, ◌≤◌, ℕ, not, List, [], ◌∷◌, ◌++◌, All, Contains, length, cond, slice_index, Option, Some, None, Result, Ok, Err, is_some, Bool, true, false, refl}
 use Rattle.std.proofs.Common.{true≢false, sym, ◌∙◌, ap, subst, inl, inr, arith}
+use Rattle.fabric_state.proofs.HopLemmas.{to_number}
 use Rattle.std.proofs.lemmas.Bool.{eqb-true, eqb-false, eq-eqb}
 use Rattle.std.proofs.lemmas.List.{append-nil}
 use Rattle.an_base.specs.Values.{LifeId, EntryOf, TopoOf}
@@ -193,17 +194,13 @@ other_without k n (x ∷ xs) other = by (x.packet == n) refl (other_without k n 
   by true is rest = by_k (x.packet == k) is refl rest
   by false is rest = ap (λ (o : Option PacketOf). cond (x.packet == k) (Some x) o) rest
 
-moved_number : (far : Option (ℕ × ℕ)) (x : PacketOf) → (moved_to far x).packet ≡ x.packet
-moved_number None x = refl
-moved_number (Some far) x = refl
-
 packet_moved : (k : ℕ) (far : Option (ℕ × ℕ)) (xs : List PacketOf) (x : PacketOf) → packet_of k xs ≡ Some x → packet_of k (moved k far xs) ≡ Some (moved_to far x)
 packet_moved k far [] x is = absurd (none_some is)
 packet_moved k far (y ∷ ys) x is = by (y.packet == k) refl is (packet_moved k far ys x) where
   by : (b : Bool) → (y.packet == k) ≡ b → cond b (Some y) (packet_of k ys) ≡ Some x → (packet_of k ys ≡ Some x → packet_of k (moved k far ys) ≡ Some (moved_to far x))
       → cond ((cond b (moved_to far y) y).packet == k) (Some (cond b (moved_to far y) y)) (packet_of k (moved k far ys)) ≡ Some (moved_to far x)
   by true same found rest =
-      let passes : ((moved_to far y).packet == k) ≡ true = eq-eqb (moved_to far y).packet k (moved_number far y ∙ eqb-true y.packet k same) in
+      let passes : ((moved_to far y).packet == k) ≡ true = eq-eqb (moved_to far y).packet k (to_number far y ∙ eqb-true y.packet k same) in
       ap (λ (c : Bool). cond c (Some (moved_to far y)) (packet_of k (moved k far ys))) passes ∙ ap (λ (z : PacketOf). Some (moved_to far z)) (some_same y x found)
   by false differs found rest = ap (λ (c : Bool). cond c (Some y) (packet_of k (moved k far ys))) differs ∙ rest found
 
@@ -212,7 +209,7 @@ other_moved k n far [] other = refl
 other_moved k n far (y ∷ ys) other = by (y.packet == n) refl (other_moved k n far ys other) where
   by_k : (b : Bool) → (y.packet == n) ≡ true → (y.packet == k) ≡ b → packet_of k (moved n far ys) ≡ packet_of k ys → cond ((moved_to far y).packet == k) (Some (moved_to far y)) (packet_of k (moved n far ys)) ≡ cond b (Some y) (packet_of k ys)
   by_k true is same rest = absurd (other (sym (eqb-true y.packet n is) ∙ eqb-true y.packet k same))
-  by_k false is differs rest = ap (λ (c : Bool). cond c (Some (moved_to far y)) (packet_of k (moved n far ys))) (ap (λ m. m == k) (moved_number far y) ∙ differs) ∙ rest
+  by_k false is differs rest = ap (λ (c : Bool). cond c (Some (moved_to far y)) (packet_of k (moved n far ys))) (ap (λ m. m == k) (to_number far y) ∙ differs) ∙ rest
 
   by : (b : Bool) → (y.packet == n) ≡ b → packet_of k (moved n far ys) ≡ packet_of k ys → cond ((cond b (moved_to far y) y).packet == k) (Some (cond b (moved_to far y) y)) (packet_of k (moved n far ys)) ≡ cond (y.packet == k) (Some y) (packet_of k ys)
   by false is rest = ap (λ (o : Option PacketOf). cond (y.packet == k) (Some y) o) rest

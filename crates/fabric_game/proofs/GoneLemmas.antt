@@ -26,9 +26,8 @@ use Rattle.fabric_state.specs.declared.hand.Hand.TheVariants as hand
 use Rattle.table_build.specs.Made.{number_in}
 use Rattle.fabric_world.specs.Acts.{Act, Starts, Clocks, Hears, HearsNothing, Loads, hears}
 use Rattle.fabric_world.specs.Heard.{acts_of, at_place, handles_as, loads_as}
-use Rattle.fabric_state.specs.Fabric.{station, held_bytes}
+use Rattle.fabric_state.specs.Fabric.{station, held_bytes, life_of}
 use Rattle.fabric_state.specs.Lawful.{is_lawful}
-use Rattle.fabric_state.specs.Starts.{life_of}
 use Rattle.fabric_world.specs.World.{WorldOf, effect, handled, loads_with, next_life, world_after}
 use Rattle.fabric_world.proofs.WorldLemmas.{world_after-event, step-lawful, step-unlawful}
 use Rattle.fabric_world.proofs.LawLemmas.{world_is_sound}

@@ -22,7 +22,7 @@ use Rattle.switch_core.specs.Switch.{SwitchOf, started, at_port}
 use Rattle.switch_core.specs.Steps.{Step, clocked, framed, loaded, still}
 use Rattle.switch_game.specs.Network.{Happens, Network, clock_moves, clocks, dark, frame_moves, frames_of, hands, loads, none, stepped, with_switch}
 use Rattle.switch_game.proofs.Laws.{life_of as life_kept}
-use Rattle.fabric_state.specs.Starts.{life_of}
+use Rattle.fabric_state.specs.Fabric.{life_of}
 use Rattle.fabric_world.specs.World.{started_at}
 use Rattle.fabric_game.specs.Lives.{had_by, powered}
 use Rattle.fabric_game.proofs.Firm.{places}

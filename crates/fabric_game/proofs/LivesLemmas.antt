@@ -13,7 +13,7 @@ use Rattle.net_script.specs.declared.command.Command.{Command}
 use Rattle.net_script.specs.Commands.{is_restart}
 use Rattle.net_script.specs.Scripts.{ScriptOf, IsScript, restarts_of}
 use Rattle.fabric_world.specs.Sound.{is_restart_at, restarts_at}
-use Rattle.fabric_state.specs.Starts.{life_of}
+use Rattle.fabric_state.specs.Fabric.{life_of}
 use Rattle.fabric_world.specs.World.{world_after}
 use Rattle.fabric_world.proofs.LawLemmas.{world_is_sound}
 use Rattle.fabric_world.proofs.BootLemmas.{boot_most}

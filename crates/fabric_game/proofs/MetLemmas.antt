@@ -16,7 +16,7 @@ use Rattle.frame_codec.specs.Reading.{frame_of}
 use Rattle.wire_set.specs.WireState.{place}
 use Rattle.epoch_game.proofs.Basics.{none_some}
 use Rattle.fabric_state.specs.Lawful.{is_lawful}
-use Rattle.fabric_state.specs.Starts.{life_of}
+use Rattle.fabric_state.specs.Fabric.{life_of}
 use Rattle.fabric_world.specs.Histories.{switch_after}
 use Rattle.fabric_world.specs.World.{WorldOf, step, world_after}
 use Rattle.fabric_world.proofs.WorldLemmas.{world_after-event, step-lawful, step-unlawful}

@@ -6,7 +6,7 @@ use Rattle.an_base.specs.declared.event.Event.{Event}
 use Rattle.an_base.specs.declared.frame.Frame.{Frame}
 use Rattle.net_script.specs.Scripts.{ScriptOf}
 use Rattle.switch_game.specs.Network.{Network, Happens, dark}
-use Rattle.fabric_state.specs.Starts.{life_of}
+use Rattle.fabric_state.specs.Fabric.{life_of}
 use Rattle.fabric_world.specs.World.{world_after, started_at}
 use Rattle.fabric_world.specs.Heard.{WasSent}
 use Rattle.fabric_game.specs.Lives.{powered}

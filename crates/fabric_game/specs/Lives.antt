@@ -6,7 +6,7 @@ use Rattle.net_graph.specs.declared.wiring.SwitchAt.{SwitchAt}
 use Rattle.net_script.specs.Scripts.{ScriptOf}
 use Rattle.switch_game.specs.Network.{PowerOn}
 use Rattle.fabric_world.specs.Sound.{restarts_at}
-use Rattle.fabric_state.specs.Starts.{life_of}
+use Rattle.fabric_state.specs.Fabric.{life_of}
 
 -- the lives of the switch at a place, up to a boot
 abbrev pub lives_at : ScriptOf → ℕ → ℕ → List LifeId

@@ -8,7 +8,7 @@ ghost use Rattle.net_script.specs.Scripts.{IsScript, ScriptOf};
 ghost use Rattle.epoch_game.specs.Game.{Play};
 ghost use Rattle.switch_core.specs.Switch.{good_peer};
 ghost use Rattle.switch_game.specs.Playing.{Agrees};
-ghost use Rattle.fabric_state.specs.Starts.{life_of};
+ghost use Rattle.fabric_state.specs.Fabric.{life_of};
 ghost use Rattle.fabric_world.specs.World.{world_after};
 ghost use Rattle.fabric_world.specs.Clauses.{AreAllJoined, AreOnePicture, AreOwnTables, AreTopologies, HoldsAtEachMoment, HoldsThroughout, IfSettled, NoneIsOlder};
 ghost use Rattle.fabric_world.specs.Traces.{AreDelivered, AreHopsByTables, AreLegalRoutes};

@@ -18,7 +18,7 @@ use Rattle.port_monitor.specs.Ports.{probe_of, reply_to}
 use Rattle.port_monitor.specs.Histories.{Replied, externals, with_happening}
 use Rattle.epoch_core.specs.Log.{OnPort}
 use Rattle.epoch_core.specs.Epoch.{adds}
-use Rattle.session_settling.proofs.Steps.{joins_works}
+use Rattle.link_settling.proofs.Steps.{joins_works}
 use Rattle.switch_core.specs.Switch.{SwitchOf, counts, end_at, port_of}
 use Rattle.switch_core.specs.Steps.{Sent, Step, ack_to, acknowledges, acks, after, all_added, all_again, all_pushed, all_resent, answer_out, answers_body, begun, carried_to, clocked, fills, framed, goes_on, is_change_due, is_spent_by, joins, on_ack, on_carry, peer_among, probe_out, probes, probes_at, pushed, pushed_to, receives, resends_on, sampled_by, sends_again, sends_next, still}
 use Rattle.topo_report.proofs.Members.{In, in_append}

@@ -12,9 +12,9 @@ use Rattle.net_script.specs.Scripts.{ScriptOf, IsScript}
 use Rattle.port_monitor.specs.declared.port.Port.{Port}
 use Rattle.port_monitor.specs.Ports.{state_of}
 use Rattle.port_monitor.specs.Histories.{History, Sampled, port_after}
-use Rattle.port_settling.specs.Measures.{clocks_left}
-use Rattle.port_settling.proofs.Links.{down_is_dead}
-use Rattle.port_settling.proofs.Ports.{clock_most, clock_nearer, replied_as}
+use Rattle.link_settling.specs.Measures.{clocks_left}
+use Rattle.link_settling.proofs.Links.{down_is_dead}
+use Rattle.link_settling.proofs.Ports.{clock_most, clock_nearer, replied_as}
 use Rattle.wire_set.specs.WireState.{place}
 use Rattle.switch_core.specs.Switch.{end_at, port_of}
 use Rattle.fabric_state.specs.Fabric.{is_some_spent, sample_of, side_of_port}

@@ -1,37 +1,31 @@
 -- Where what is sent on each link is a run since its two lives began, bodies are through three ticks after the ports
 -- are final.
 
-use Rattle.std.specs.Prelude.{◌≡◌, ◌⊎◌, ◌+◌, ◌==◌, ◌<◌, ◌≤◌, ◌||◌, ℕ, suc, List, [], ◌∷◌, map, length, slice_index_or, cond, Option, Some, None, is_some, Bool, true, false, refl}
+use Rattle.std.specs.Prelude.{◌≡◌, ◌⊎◌, ◌+◌, ◌==◌, ◌<◌, ◌≤◌, ◌||◌, ℕ, suc, List, [], ◌∷◌, length, slice_index_or, cond, Option, Some, None, is_some, Bool, true, false, refl}
 use Rattle.std.specs.List.{list_any}
 use Rattle.std.proofs.Common.{true≢false, sym, ◌∙◌, ap, subst, inl, inr, arith}
 use Rattle.std.proofs.lemmas.Bool.{false≢true, cases_lt}
-use Rattle.an_base.specs.Values.{EndId, PeerAt, Place}
+use Rattle.an_base.specs.Values.{EndId}
 use Rattle.an_base.specs.Ports.{NoteOf}
-use Rattle.an_base.specs.declared.body.Body.{Body}
 use Rattle.an_base.specs.declared.event.Event.{Event}
 use Rattle.an_base.specs.declared.port.PortState.TheVariants as state
 use Rattle.connectivity.specs.Connections.{is_end}
-use Rattle.epoch_core.specs.Log.{CardOf, Log, on_port}
-use Rattle.epoch_core.specs.Epoch.{pos_at, position, version}
 use Rattle.epoch_game.proofs.Basics.{none_some, some_same}
-use Rattle.epoch_game.proofs.Lists.{earlier_nil}
 use Rattle.net_graph.specs.declared.wiring.Far.{Far}
 use Rattle.net_graph.specs.declared.wiring.Far.TheVariants as far
 use Rattle.net_graph.specs.Wires.{far_at}
 use Rattle.net_script.specs.Scripts.{ScriptOf, IsScript}
 use Rattle.ordered_link.specs.Sending.{Sending, highest}
 use Rattle.port_monitor.specs.Histories.{externals}
-use Rattle.port_settling.proofs.Basics.{same_end}
-use Rattle.session_settling.specs.Directions.{IsStill}
-use Rattle.session_settling.specs.Moves.{IsFilled}
-use Rattle.session_settling.proofs.Keeps.{none_unacked}
+use Rattle.link_settling.proofs.Basics.{same_end}
+use Rattle.link_settling.specs.Directions.{IsStill}
+use Rattle.link_settling.specs.Moves.{IsFilled}
+use Rattle.link_settling.proofs.Keeps.{none_unacked}
 use Rattle.topo_report.proofs.Members.{In}
 use Rattle.switch_core.specs.Switch.{SwitchOf, good_peer, is_unacked, port_of}
 use Rattle.switch_core.specs.Steps.{peer_among}
-use Rattle.switch_game.proofs.Laws.{own_of, peers_of}
+use Rattle.switch_game.proofs.Laws.{own_of, peers_of, something}
 use Rattle.switch_game.proofs.Own.{IsOwn}
-use Rattle.switch_game.proofs.Received.{front_length}
-use Rattle.switch_game.proofs.Streams.{stream, stream_first, stream_grows}
 use Rattle.fabric_state.specs.Fabric.{FabricOf, StationOf, station, vacant, is_some_spent, is_up}
 use Rattle.fabric_world.specs.World.{world_after}
 use Rattle.fabric_world.proofs.LawLemmas.{world_is_sound}
@@ -56,23 +50,6 @@ use Rattle.fabric_settling.proofs.Works.{all_joined}
 -- each link is a run from its base on
 abbrev pub AreRuns : ScriptOf → Type 0
 AreRuns script = (h : List Event) → is_some_spent (world_after script h).fabric ≡ false → (l : LinkOf) → IsLinkOf script l → (l.place ≡ l.far_place → ⊥) → IsRun (last script h + 259) (world_after script h) l
-
--- on a link something was pushed, since joining tells the position
-position_told : (v : ℕ) (place : Place) (ls : List PeerAt) (q : ℕ) → is_some (peer_among ls q) ≡ true → 1 ≤ length (on_port q (map (pos_at v place) ls))
-position_told v place [] q linked = absurd (false≢true linked)
-position_told v place (l ∷ ls) q linked = by (l.port == q) (pos_at v place l).body (position_told v place ls q) linked
-  where
-    by : (b : Bool) (body : Body) → (is_some (peer_among ls q) ≡ true → 1 ≤ length (on_port q (map (pos_at v place) ls))) → is_some (cond b (Some l.peer) (peer_among ls q)) ≡ true
-        → 1 ≤ length (cond b (body ∷ on_port q (map (pos_at v place) ls)) (on_port q (map (pos_at v place) ls)))
-    by true body rest is = omega arith
-    by false body rest is = rest is
-
-something : (c : CardOf) (q : ℕ) (log : Log) → is_some (peer_among c.links q) ≡ true → 1 ≤ length (stream c q log)
-something c q log linked =
-    let first = position_told (version c []) (position c []) c.links q linked in
-    let same = ap length (stream_first c q) in
-    let more = front_length (stream c q []) (stream c q log) (stream_grows c q [] log (earlier_nil log)) in
-    omega (arith, first, same, more)
 
 -- What is known of a switch so late
 present_own : (script : ScriptOf) (h : List Event) (s : ℕ) → IsScript script → s < places script → IsOwn ((world_after script h).switches s).life ((world_after script h).switches s)

@@ -11,8 +11,8 @@ use Rattle.an_base.specs.declared.event.Event.TheVariants.{Tick}
 use Rattle.an_base.specs.declared.frame.Frame.{Frame}
 use Rattle.net_script.specs.Scripts.{ScriptOf, IsScript}
 use Rattle.port_monitor.specs.Histories.{History}
-use Rattle.port_settling.specs.Links.{Ticks, begins}
-use Rattle.port_settling.specs.Moments.{EndView, TickEnds, Run, rest, tick_begins}
+use Rattle.link_settling.specs.Links.{Ticks, begins}
+use Rattle.link_settling.specs.Moments.{EndView, TickEnds, Run, rest, tick_begins}
 use Rattle.wire_set.specs.WireState.{place, hand_of}
 use Rattle.fabric_state.specs.Fabric.{FabricOf, station, vacant, is_up, is_some_spent, is_clock_due, clock_due_at}
 use Rattle.fabric_state.specs.Lawful.{is_lawful}

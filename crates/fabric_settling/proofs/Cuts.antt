@@ -4,13 +4,13 @@ use Rattle.std.specs.Prelude.{true, cond}
 use Rattle.std.proofs.Common.{◌≡◌, sym, ap, subst, refl, ℕ, suc, ◌+◌, ◌≤◌, arith}
 use Rattle.ordered_link.specs.Sending.{Sending, highest, unused}
 use Rattle.switch_core.specs.Switch.{port_of}
-use Rattle.port_settling.specs.Measures.{Knows}
-use Rattle.port_settling.specs.Links.{Ticks, one_more}
-use Rattle.port_settling.specs.Moments.{TickEnds}
-use Rattle.port_settling.proofs.Runs.{knows_within}
-use Rattle.port_settling.proofs.Ticks.{run_is_tick}
-use Rattle.session_settling.specs.Directions.{IsStill}
-use Rattle.session_settling.proofs.Directions.{all_acknowledged}
+use Rattle.link_settling.specs.Measures.{Knows}
+use Rattle.link_settling.specs.Links.{Ticks, one_more}
+use Rattle.link_settling.specs.Moments.{TickEnds}
+use Rattle.link_settling.proofs.Runs.{knows_within}
+use Rattle.link_settling.proofs.Ticks.{run_is_tick}
+use Rattle.link_settling.specs.Directions.{IsStill}
+use Rattle.link_settling.proofs.Directions.{all_acknowledged}
 use Rattle.fabric_world.specs.World.{WorldOf}
 use Rattle.fabric_settling.specs.Views.{LinkOf, turned, here, there, end_here, end_there, is_session, view, way, IsCut, IsRun}
 

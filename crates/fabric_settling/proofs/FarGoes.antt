@@ -17,11 +17,11 @@ use Rattle.net_script.specs.Scripts.{ScriptOf}
 use Rattle.frame_codec.specs.Reading.{frame_of}
 use Rattle.frame_codec.specs.Spelling.{spelling}
 use Rattle.frame_codec.proofs.Decoding.{frame_again}
-use Rattle.port_settling.proofs.Basics.{same_end}
+use Rattle.link_settling.proofs.Basics.{same_end}
 use Rattle.ordered_link.specs.Sending.{unused}
 use Rattle.ordered_link.specs.Receiving.{Receiving, untouched, is_acknowledged, received, verdict}
 use Rattle.ordered_link.specs.Receiving as receiving
-use Rattle.session_settling.specs.Directions.{Direction, Stay, passes, drops, ignores, far_joins, receives}
+use Rattle.link_settling.specs.Directions.{Direction, Stay, passes, drops, ignores, far_joins, receives}
 use Rattle.topo_report.proofs.Members.{In}
 use Rattle.epoch_game.proofs.Basics.{none_some, some_same}
 use Rattle.switch_core.specs.Switch.{SwitchOf, counts, end_at}

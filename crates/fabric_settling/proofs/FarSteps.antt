@@ -10,7 +10,7 @@ use Rattle.connectivity.specs.Connections.{is_same_end}
 use Rattle.ordered_link.specs.Receiving.{untouched, is_acknowledged, last, received, verdict, accepted_by}
 use Rattle.epoch_core.specs.Epoch.{adds}
 use Rattle.port_monitor.specs.Histories.{Replied, with_happening}
-use Rattle.session_settling.proofs.Steps.{carry_greater, carry_same, clock_joins, clock_same, joins_works}
+use Rattle.link_settling.proofs.Steps.{carry_greater, carry_same, clock_joins, clock_same, joins_works}
 use Rattle.switch_core.specs.Switch.{SwitchOf, at_port, counts, end_at, good_peer}
 use Rattle.switch_core.specs.Steps.{Step, ack_to, acks, all_added, all_pushed, answers_body, begun, clocked, framed, is_change_due, is_spent_by, joins, last_epoch, on_ack, peer_among, receives, sampled_by, still}
 use Rattle.switch_core.proofs.LinkLemmas.{good_link}

@@ -34,13 +34,13 @@ use Rattle.port_monitor.specs.declared.port.Phase.TheVariants.{Dead, Checking, H
 use Rattle.port_monitor.specs.declared.port.Port.{Port}
 use Rattle.port_monitor.specs.Ports.{state_of, state_by, peer_by, good_peer_by, link_to, links_from}
 use Rattle.port_monitor.specs.Histories.{Sampled, port_after}
-use Rattle.port_settling.specs.Measures.{Knows, clocks_left, known_state}
-use Rattle.port_settling.specs.Moments.{EndView, clocks, then_step, tick_begins}
-use Rattle.port_settling.proofs.Basics.{same_end}
-use Rattle.port_settling.proofs.Clocks.{known_far, stays_host}
-use Rattle.port_settling.proofs.Links.{down_is_dead}
-use Rattle.port_settling.proofs.Ports.{port_sound, is_no_switch}
-use Rattle.port_settling.proofs.Runs.{knows_within}
+use Rattle.link_settling.specs.Measures.{Knows, clocks_left, known_state}
+use Rattle.link_settling.specs.Moments.{EndView, clocks, then_step, tick_begins}
+use Rattle.link_settling.proofs.Basics.{same_end}
+use Rattle.link_settling.proofs.Clocks.{known_far, stays_host}
+use Rattle.link_settling.proofs.Links.{down_is_dead}
+use Rattle.link_settling.proofs.Ports.{port_sound, is_no_switch}
+use Rattle.link_settling.proofs.Runs.{knows_within}
 use Rattle.topo_report.proofs.Members.{In, contains_from}
 use Rattle.wire_set.specs.WireState.{place, side_at}
 use Rattle.switch_core.specs.Switch.{SwitchOf, end_at, good_links, note_of, port_of, ports_of, view_of}

@@ -6,7 +6,7 @@ use Rattle.std.proofs.Common.{true≢false, sym, ◌∙◌, ap, subst, inl, inr,
 use Rattle.std.proofs.lemmas.Bool.{false≢true, cases_eq, cases_lt, or_parts}
 use Rattle.std.proofs.lemmas.List.{get_or-set_other, get_or-set_same, get_or_past, length-set}
 use Rattle.std.proofs.lemmas.List.Folds.{list_any-append}
-use Rattle.frame_region.specs.Regions.{blocks_of}
+use Rattle.frame_region.specs.Sizes.{blocks_of}
 use Rattle.wire_set.specs.declared.side.Loss.TheVariants.{Down, Told, NoRoom}
 use Rattle.wire_set.specs.declared.side.Put.{Put}
 use Rattle.wire_set.specs.declared.side.Put.TheVariants.{Kept, Lost}

@@ -14,7 +14,7 @@ use Rattle.net_graph.proofs.CollectLemmas.{uid_one}
 use Rattle.net_graph.specs.Wires.{far_at}
 use Rattle.net_script.specs.Scripts.{ScriptOf, IsScript}
 use Rattle.frame_codec.specs.Reading.{frame_of}
-use Rattle.port_settling.proofs.Basics.{same_end}
+use Rattle.link_settling.proofs.Basics.{same_end}
 use Rattle.wire_set.specs.WireState.{place}
 use Rattle.epoch_game.proofs.Basics.{none_some}
 use Rattle.switch_core.specs.Switch.{SwitchOf, counts, good_peer, port_of}

@@ -13,11 +13,11 @@ use Rattle.connectivity.proofs.EndLemmas.{is_end_is}
 use Rattle.net_graph.specs.declared.wiring.Far.{Far}
 use Rattle.net_graph.specs.declared.wiring.Far.TheVariants as far
 use Rattle.net_script.specs.Scripts.{ScriptOf, IsScript}
-use Rattle.port_settling.proofs.Basics.{same_end}
+use Rattle.link_settling.proofs.Basics.{same_end}
 use Rattle.ordered_link.specs.Sending.{unused}
 use Rattle.ordered_link.specs.Receiving.{untouched}
-use Rattle.session_settling.specs.Directions.{Run, Starts, rest}
-use Rattle.session_settling.proofs.Later.{later_run}
+use Rattle.link_settling.specs.Directions.{Run, Starts, rest}
+use Rattle.link_settling.proofs.Later.{later_run}
 use Rattle.epoch_game.specs.Slice.{link_at}
 use Rattle.epoch_game.proofs.Basics.{none_some, some_same}
 use Rattle.switch_core.specs.Switch.{SwitchOf, note_of}

@@ -18,7 +18,7 @@ use Rattle.net_graph.specs.Wires.{far_at}
 use Rattle.net_script.specs.Scripts.{ScriptOf, IsScript}
 use Rattle.frame_codec.specs.Reading.{frame_of}
 use Rattle.port_monitor.specs.Histories.{Happening, History, Sampled, Replied, externals, with_happening}
-use Rattle.port_settling.specs.Measures.{HasNo}
+use Rattle.link_settling.specs.Measures.{HasNo}
 use Rattle.wire_set.specs.declared.side.Side.{Side}
 use Rattle.wire_set.specs.WireState.{WiresOf, place, side_at, with_side, is_second, less_to_swap, less_again, held_from, is_copied, before_copy, copied_from, take_from, taken_frame, put_into, far_place}
 use Rattle.wire_set.specs.Frames.{move_first, move_second}

@@ -13,9 +13,9 @@ use Rattle.frame_codec.specs.Spelling.{spelling}
 use Rattle.frame_codec.proofs.Decoding.{frame_again}
 use Rattle.ordered_link.specs.Sending.{Sending, unused}
 use Rattle.ordered_link.specs.Receiving.{Receiving, untouched}
-use Rattle.session_settling.specs.Directions.{Direction, Joins, Run, SendsAll, Stay, IsOneOf, clocked, joins, then_step}
-use Rattle.session_settling.specs.Moves.{Moves, carried_by, resting}
-use Rattle.session_settling.proofs.MovesRun.{run_of_moves}
+use Rattle.link_settling.specs.Directions.{Direction, Joins, Run, SendsAll, Stay, IsOneOf, clocked, joins, then_step}
+use Rattle.link_settling.specs.Moves.{Moves, carried_by, resting}
+use Rattle.link_settling.proofs.MovesRun.{run_of_moves}
 use Rattle.topo_report.proofs.Members.{In}
 use Rattle.wire_set.specs.WireState.{wire_at, place, hand_of}
 use Rattle.epoch_game.proofs.Basics.{some_same}

@@ -16,15 +16,15 @@ use Rattle.connectivity.specs.Connections.{is_end, is_same_end}
 use Rattle.connectivity.proofs.EndLemmas.{is_end_is}
 use Rattle.net_script.specs.Scripts.{ScriptOf, IsScript}
 use Rattle.frame_codec.specs.Reading.{frame_of}
-use Rattle.port_settling.proofs.Basics.{same_end}
+use Rattle.link_settling.proofs.Basics.{same_end}
 use Rattle.ordered_link.specs.Sending.{Sending, unused, is_outstanding, send_next, forget, acknowledge, sent_by_ack, next_to_send}
 use Rattle.ordered_link.specs.Session.{numbered, put_out}
-use Rattle.session_settling.specs.Directions.{Direction, Gains, Acked, Drops, Run, SendsAll, Stay, IsOneOf, acks, drops, then_step}
-use Rattle.session_settling.specs.Directions as direction
-use Rattle.session_settling.specs.Moves.{IsFilled, IsFilledBut, IsFresh, Moves, carried_by, shown}
-use Rattle.session_settling.proofs.Moves.{IsPushed, carried_both, fills_here, filled_forgotten, filled_next, next_pushed}
-use Rattle.session_settling.proofs.MovesRun.{run_of_moves}
-use Rattle.session_settling.proofs.Steps.{acked_step, ack_nothing, clock_fresh}
+use Rattle.link_settling.specs.Directions.{Direction, Gains, Acked, Drops, Run, SendsAll, Stay, IsOneOf, acks, drops, then_step}
+use Rattle.link_settling.specs.Directions as direction
+use Rattle.link_settling.specs.Moves.{IsFilled, IsFilledBut, IsFresh, Moves, carried_by, shown}
+use Rattle.link_settling.proofs.Moves.{IsPushed, carried_both, fills_here, filled_forgotten, filled_next, next_pushed}
+use Rattle.link_settling.proofs.MovesRun.{run_of_moves}
+use Rattle.link_settling.proofs.Steps.{acked_step, ack_nothing, clock_fresh}
 use Rattle.topo_report.proofs.Members.{In}
 use Rattle.wire_set.specs.WireState.{hand_of}
 use Rattle.epoch_game.proofs.Basics.{none_some, some_same}
@@ -513,7 +513,7 @@ ack_by script h l epoch n from to k is read st_is = by (is_ack u.epoch (end_ther
     by false other =
         let fits = hand_fits script h l k (hand.Frame l.port) is in
         framed_same script h l l.port k is (ack_same script h l l.port epoch n from to st_is)
-        (λ session. subst (λ (x : Step). Moves w.fabric.tick (u.sendings l.port) (carried_by l.port x.frames) (x.switch.sendings l.port)) (sym (st_is ∙ ack_still script h l epoch n from to k fits.3 session other)) (Rattle.session_settling.specs.Moves.resting (u.sendings l.port)))
+        (λ session. subst (λ (x : Step). Moves w.fabric.tick (u.sendings l.port) (carried_by l.port x.frames) (x.switch.sendings l.port)) (sym (st_is ∙ ack_still script h l epoch n from to k fits.3 session other)) (Rattle.link_settling.specs.Moves.resting (u.sendings l.port)))
         (λ m at found.
         let test = such_is (is_ack u.epoch (end_there w l) (end_here w l) m) (held_bytes w.fabric l.place) (Ack epoch from to n) read found in
         let same = ack_number u.epoch epoch m n (end_there w l) (end_here w l) from to test in

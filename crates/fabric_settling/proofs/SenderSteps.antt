@@ -15,9 +15,9 @@ use Rattle.ordered_link.specs.Receiving.{accepted_by}
 use Rattle.epoch_core.specs.Epoch.{adds}
 use Rattle.port_monitor.specs.Ports.{reply_to, speaks}
 use Rattle.port_monitor.specs.Histories.{Replied, with_happening}
-use Rattle.session_settling.specs.Moves.{IsFilled, Moves, carried_by, number_of, resting}
-use Rattle.session_settling.specs.Directions.{IsOneOf}
-use Rattle.session_settling.proofs.Steps.{ack_others, carry_greater, carry_same, clock_joins, clock_same, joined_clock, same_clock}
+use Rattle.link_settling.specs.Moves.{IsFilled, Moves, carried_by, number_of, resting}
+use Rattle.link_settling.specs.Directions.{IsOneOf}
+use Rattle.link_settling.proofs.Steps.{ack_others, carry_greater, carry_same, clock_joins, clock_same, joined_clock, same_clock}
 use Rattle.switch_core.specs.Switch.{SwitchOf, counts, end_at, port_of}
 use Rattle.switch_core.specs.Steps.{Sent, Step, after, all_added, all_resent, answer_out, answers_body, begun, clocked, framed, is_change_due, is_spent_by, joins, last_epoch, on_ack, on_carry, receives, sampled_by, still}
 use Rattle.switch_core.proofs.WindowLemmas.{OnlySends, all_pushed_few, all_resent_few, on_ack_few}

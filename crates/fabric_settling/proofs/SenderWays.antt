@@ -14,9 +14,9 @@ use Rattle.connectivity.specs.Connections.{is_end, is_same_end}
 use Rattle.connectivity.proofs.EndLemmas.{is_end_is, same_end_is}
 use Rattle.net_script.specs.Scripts.{ScriptOf, IsScript}
 use Rattle.frame_codec.specs.Reading.{frame_of}
-use Rattle.port_settling.proofs.Basics.{same_end}
-use Rattle.session_settling.specs.Directions.{IsOneOf}
-use Rattle.session_settling.specs.Moves.{carried_by}
+use Rattle.link_settling.proofs.Basics.{same_end}
+use Rattle.link_settling.specs.Directions.{IsOneOf}
+use Rattle.link_settling.specs.Moves.{carried_by}
 use Rattle.switch_core.specs.Going.{IsCarriedBy, IsFrameOf, IsSentBy}
 use Rattle.switch_core.specs.Switch.{SwitchOf}
 use Rattle.switch_core.specs.Steps.{Sent, peer_among}

@@ -25,7 +25,7 @@ use Rattle.epoch_game.proofs.Basics.{none_some, some_same}
 use Rattle.switch_core.specs.Switch.{finish_of}
 use Rattle.switch_core.specs.Steps.{Sent}
 use Rattle.switch_core.specs.Bytes.{spelled_out, all_spelled}
-use Rattle.session_settling.specs.Moves.{IsFrom, from_of}
+use Rattle.link_settling.specs.Moves.{IsFrom, from_of}
 use Rattle.fabric_state.specs.declared.hand.Hand.{Hand}
 use Rattle.fabric_state.specs.declared.hand.Hand.TheVariants as hand
 use Rattle.fabric_state.specs.Fabric.{FabricOf, StationOf, station, vacant, count, is_full_at, has_frame, has_frame_for, are_wires_empty, full_hands}

@@ -17,8 +17,8 @@ use Rattle.switch_core.specs.Switch.{SwitchOf, end_at}
 use Rattle.switch_core.specs.Steps.{clocked, framed}
 use Rattle.switch_game.proofs.Laws.{own_of}
 use Rattle.switch_game.proofs.Own.{IsOwn}
-use Rattle.session_settling.specs.Moves.{IsFrom}
-use Rattle.session_settling.proofs.Keeps.{keeps_clock, keeps_carry, keeps_ack, keeps_probe, keeps_reply, keeps_other_reply}
+use Rattle.link_settling.specs.Moves.{IsFrom}
+use Rattle.link_settling.proofs.Keeps.{keeps_clock, keeps_carry, keeps_ack, keeps_probe, keeps_reply, keeps_other_reply}
 use Rattle.fabric_state.specs.declared.hand.Hand.{Hand}
 use Rattle.fabric_state.specs.declared.hand.Hand.TheVariants as hand
 use Rattle.fabric_state.specs.Fabric.{station, held_bytes, is_full_at}

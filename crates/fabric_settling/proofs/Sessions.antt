@@ -10,9 +10,9 @@ use Rattle.frame_codec.specs.Reading.{frame_of}
 use Rattle.switch_core.specs.Switch.{SwitchOf, StartOf, finish_of}
 use Rattle.switch_core.specs.Steps.{loaded}
 use Rattle.table_build.specs.Made.{number_in}
-use Rattle.session_settling.specs.Moves.{AreFilled, AreUnused}
-use Rattle.session_settling.proofs.Keeps.{filled_clock, filled_frame, filled_load, filled_start}
-use Rattle.session_settling.proofs.Unused.{unused_clock, unused_frame, unused_load, unused_start}
+use Rattle.link_settling.specs.Moves.{AreFilled, AreUnused}
+use Rattle.link_settling.proofs.Keeps.{filled_clock, filled_frame, filled_load, filled_start}
+use Rattle.link_settling.proofs.Unused.{unused_clock, unused_frame, unused_load, unused_start}
 use Rattle.fabric_state.specs.declared.hand.Hand.{Hand}
 use Rattle.fabric_state.specs.declared.hand.Hand.TheVariants as hand
 use Rattle.fabric_state.specs.Fabric.{station, held_bytes}

@@ -21,11 +21,11 @@ use Rattle.frame_codec.proofs.Decoding.{frame_again}
 use Rattle.port_monitor.specs.declared.port.Phase.TheVariants.{Switch}
 use Rattle.port_monitor.specs.declared.port.Port.{Port}
 use Rattle.port_monitor.specs.Histories.{History, Sampled, Replied, port_after, with_happening}
-use Rattle.port_settling.specs.Links.{Speaks, nonce_after}
-use Rattle.port_settling.specs.Moments.{EndView, Step, clocks, far_clocks, hears, far_hears, answers, passes, Run, then_step}
-use Rattle.port_settling.proofs.Basics.{same_end}
-use Rattle.port_settling.proofs.Ports.{replied_as}
-use Rattle.session_settling.proofs.Asks.{clock_asks, probe_answered, probe_by}
+use Rattle.link_settling.specs.Links.{Speaks, nonce_after}
+use Rattle.link_settling.specs.Moments.{EndView, Step, clocks, far_clocks, hears, far_hears, answers, passes, Run, then_step}
+use Rattle.link_settling.proofs.Basics.{same_end}
+use Rattle.link_settling.proofs.Ports.{replied_as}
+use Rattle.link_settling.proofs.Asks.{clock_asks, probe_answered, probe_by}
 use Rattle.topo_report.proofs.Members.{In, in_from}
 use Rattle.wire_set.specs.WireState.{place, hand_of}
 use Rattle.epoch_game.proofs.Basics.{none_some, number_itself}
@@ -628,7 +628,7 @@ probe_goes script h s p l from nonce m is read = by (cases_eq s l.far_place) (ca
 reply_step : (s p : ℕ) (w : WorldOf) (from to : EndId) (nonce : ℕ) → (station w.fabric s).hand ≡ hand.Frame p → frame_of (held_bytes w.fabric s) ≡ Some (Reply from to nonce) → is_same_end to (end_at (w.switches s) p) ≡ true → (handled s w).switch.ports ≡ with_happening p (Replied from nonce) (w.switches s).ports
 reply_step s p w from to nonce is read meant =
     ap (λ (st : Rattle.switch_core.specs.Steps.Step). st.switch.ports) (handled_frame s p w is ∙ ap (λ o. handles_bytes p o (w.switches s)) read)
-    ∙ (Rattle.session_settling.proofs.Keeps.keeps_reply p nonce from to (w.switches s) meant).ports_are
+    ∙ (Rattle.link_settling.proofs.Keeps.keeps_reply p nonce from to (w.switches s) meant).ports_are
 
 heard_at : (s p : ℕ) (w : WorldOf) (from : EndId) (nonce : ℕ) → (handled s w).switch.ports ≡ with_happening p (Replied from nonce) (w.switches s).ports → ((effect (Handle s) w).switches s).ports p ≡ Replied from nonce ∷ (w.switches s).ports p
 heard_at s p w from nonce ports =
@@ -741,7 +741,7 @@ reply_goes script h s p l from to nonce m is read = by_meant (is_same_end to (en
     by_meant : (b : Bool) → is_same_end to (end_at u p) ≡ b → GoesBy script h (Handle s) l
     by_meant true meant = meant_for meant (both s p l.place l.port) (both s p l.far_place l.far_port)
     by_meant false no_end =
-        let kept : (handled s w).switch.ports ≡ u.ports = ap (λ (st : Rattle.switch_core.specs.Steps.Step). st.switch.ports) (handled_frame s p w is ∙ ap (λ o. handles_bytes p o u) read) ∙ (Rattle.session_settling.proofs.Keeps.keeps_other_reply p nonce from to u no_end).ports_are in
+        let kept : (handled s w).switch.ports ≡ u.ports = ap (λ (st : Rattle.switch_core.specs.Steps.Step). st.switch.ports) (handled_frame s p w is ∙ ap (λ o. handles_bytes p o u) read) ∙ (Rattle.link_settling.proofs.Keeps.keeps_other_reply p nonce from to u no_end).ports_are in
         frame_passes script h s p l m is (ports_kept s w kept l.place l.port) (ports_kept s w kept l.far_place l.far_port) no_probe (not_meant no_end)
 
 -- a frame of a session, and what is no frame
@@ -768,8 +768,8 @@ frame_goes script h s p l m is = by (frame_of (held_bytes w.fabric s)) refl
 
     by : (o : Option Frame) → frame_of (held_bytes w.fabric s) ≡ o → GoesBy script h (Handle s) l
     by None read = other_goes script h s p l m is (ports_by None read) (λ e n. such_by (is_probe e n) None read) (λ e f n. such_by (is_reply e f n) None read)
-    by (Some (Carry f)) read = other_goes script h s p l m is (ports_by (Some (Carry f)) read ∙ (Rattle.session_settling.proofs.Keeps.keeps_carry p f u).ports_are) (λ e n. such_by (is_probe e n) (Some (Carry f)) read) (λ e g n. such_by (is_reply e g n) (Some (Carry f)) read)
-    by (Some (Ack epoch from to n)) read = other_goes script h s p l m is (ports_by (Some (Ack epoch from to n)) read ∙ (Rattle.session_settling.proofs.Keeps.keeps_ack p epoch n from to u).ports_are) (λ e k. such_by (is_probe e k) (Some (Ack epoch from to n)) read) (λ e f k. such_by (is_reply e f k) (Some (Ack epoch from to n)) read)
+    by (Some (Carry f)) read = other_goes script h s p l m is (ports_by (Some (Carry f)) read ∙ (Rattle.link_settling.proofs.Keeps.keeps_carry p f u).ports_are) (λ e n. such_by (is_probe e n) (Some (Carry f)) read) (λ e g n. such_by (is_reply e g n) (Some (Carry f)) read)
+    by (Some (Ack epoch from to n)) read = other_goes script h s p l m is (ports_by (Some (Ack epoch from to n)) read ∙ (Rattle.link_settling.proofs.Keeps.keeps_ack p epoch n from to u).ports_are) (λ e k. such_by (is_probe e k) (Some (Ack epoch from to n)) read) (λ e f k. such_by (is_reply e f k) (Some (Ack epoch from to n)) read)
     by (Some (Probe from nonce)) read = probe_goes script h s p l from nonce m is read
     by (Some (Reply from to nonce)) read = reply_goes script h s p l from to nonce m is read
 

@@ -13,7 +13,7 @@ use Rattle.frame_codec.specs.Reading.{frame_of}
 use Rattle.frame_codec.proofs.Decoding.{frame_again}
 use Rattle.ordered_link.specs.Sending.{Sending, unused}
 use Rattle.ordered_link.specs.Receiving.{Receiving, untouched}
-use Rattle.session_settling.specs.Directions.{Direction, Run, Step, ticks, passes, drops, then_step}
+use Rattle.link_settling.specs.Directions.{Direction, Run, Step, ticks, passes, drops, then_step}
 use Rattle.topo_report.proofs.Members.{In}
 use Rattle.epoch_game.proofs.Basics.{none_some, some_same}
 use Rattle.switch_core.specs.Switch.{SwitchOf, finish_of}

@@ -14,11 +14,11 @@ use Rattle.frame_codec.specs.Reading.{frame_of}
 use Rattle.wire_set.specs.WireState.{place, wire_at, hand_of}
 use Rattle.switch_core.specs.Switch.{SwitchOf, end_at, port_of}
 use Rattle.switch_core.specs.Steps.{peer_among}
-use Rattle.port_settling.specs.Links.{Ticks}
-use Rattle.port_settling.specs.Moments.{EndView, tick_begins}
-use Rattle.port_settling.specs.Moments as moment
-use Rattle.session_settling.specs.Directions.{Direction, Starts}
-use Rattle.session_settling.specs.Directions as direction
+use Rattle.link_settling.specs.Links.{Ticks}
+use Rattle.link_settling.specs.Moments.{EndView, tick_begins}
+use Rattle.link_settling.specs.Moments as moment
+use Rattle.link_settling.specs.Directions.{Direction, Starts}
+use Rattle.link_settling.specs.Directions as direction
 use Rattle.fabric_state.specs.declared.hand.Hand.{Hand}
 use Rattle.fabric_state.specs.declared.hand.Hand.TheVariants as hand
 use Rattle.fabric_state.specs.Fabric.{FabricOf, station, clock_due_at}

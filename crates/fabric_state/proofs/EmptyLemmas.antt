@@ -10,7 +10,7 @@ use Rattle.std.proofs.lemmas.List.Folds.{list_any_at, list_any_none}
 use Rattle.std.proofs.lemmas.List.FromFn.{get_or-range_with_len, length-range_with_len}
 use Rattle.std.proofs.lemmas.List.Sums.{get_or-le-sum_by, sum_by-cons}
 use Rattle.port_monitor.specs.Histories.{externals}
-use Rattle.frame_region.specs.Regions.{blocks_of}
+use Rattle.frame_region.specs.Sizes.{blocks_of}
 use Rattle.wire_set.specs.Frames.{FramesOf, frames_at, blocks_in, occupied}
 use Rattle.wire_set.specs.WireState.{is_link, place, side_at, wire_at, hand_of}
 use Rattle.switch_core.proofs.SampleLemmas.{port_at}

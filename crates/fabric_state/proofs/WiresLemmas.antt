@@ -16,7 +16,7 @@ use Rattle.net_graph.specs.declared.wiring.Far.TheVariants.{Switch, HostAt}
 use Rattle.net_graph.specs.Wires.{far_at, IsWithin}
 use Rattle.net_graph.proofs.TableLemmas.{far_within}
 use Rattle.net_script.specs.Scripts.{ScriptOf, IsScript}
-use Rattle.frame_region.specs.Regions.{blocks_of}
+use Rattle.frame_region.specs.Sizes.{blocks_of}
 use Rattle.frame_codec.specs.Spelling.{spelling}
 use Rattle.wire_set.specs.declared.side.Side.{Side}
 use Rattle.wire_set.specs.Frames.{FramesOf, frames_at, frame, with_frames, append_to, put_frame, clear, move_first, move_second, occupied, blocks_in}

@@ -6,11 +6,9 @@ use Rattle.an_base.specs.Ports.{NoteOf}
 use Rattle.an_base.specs.declared.event.Event.{Event}
 use Rattle.an_base.specs.declared.event.Event.TheVariants.{Fail, Repair, Lose, Again, Swap, Noise, Send}
 use Rattle.net_graph.specs.declared.wiring.HostOn.{HostOn}
-use Rattle.wire_set.specs.declared.side.Put.{Put}
 use Rattle.wire_set.specs.WireState.{WiresOf, place as port_place, side_at, is_link, wire_out}
 use Rattle.wire_set.specs.WireState.{put_into, take_from, release_from, fail_at, repair_at}
-use Rattle.wire_set.specs.WireState.{lose_on, again_on, swap_on, held_from, taken_frame}
-use Rattle.wire_set.specs.WireState.{what_copy_becomes}
+use Rattle.wire_set.specs.WireState.{lose_on, again_on, swap_on}
 use Rattle.switch_core.specs.Bytes.{BytesOut}
 use Rattle.switch_core.specs.declared.switch.TableFor.{TableFor}
 use Rattle.table_build.specs.Tables.{TableOf}
@@ -112,12 +110,6 @@ shows place note spent fabric =
 -- the wires on which the frames of a switch go out: what it has in hand is given up
 abbrev pub wires_at_hand : FabricOf → ℕ → WiresOf
 wires_at_hand fabric place = released (station fabric place).hand place fabric.wires
-
--- what becomes of a copy of the frame that a switch takes
-abbrev pub copy_becomes : FabricOf → ℕ → ℕ → Option Put
-copy_becomes fabric place port =
-    let wire : ℕ = port_place place port in
-    what_copy_becomes wire (taken_frame wire fabric.wires) (held_from wire (port_place place 0) fabric.wires)
 
 -- a switch begins its next life: its clock is due, and it uses no table
 abbrev pub restarted : ℕ → NoteOf → StationOf → StationOf

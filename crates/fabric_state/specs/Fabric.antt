@@ -23,6 +23,7 @@ use Rattle.fabric_state.specs.declared.hand.Hand.{Hand}
 use Rattle.fabric_state.specs.declared.hand.Hand.TheVariants as hand
 use Rattle.host_traffic.specs.Packets.{PacketOf}
 use Rattle.fabric_state.specs.PortStates.{is_host}
+use Rattle.net_graph.specs.Wires.{uid_of}
 
 -- What all may see at the place of a switch: what it has in hand, the tick at which its next clock is due,
 -- the table in use with the epoch of its topology, what the switch shows of itself, and whether it has no
@@ -216,3 +217,7 @@ switch_behind (Some (HostAt host)) = None
 abbrev pub next_at : FabricOf → ℕ → ℕ → Option (ℕ × ℕ)
 next_at fabric place port =
     if is_up fabric place port then switch_behind (side_of_port fabric place port).far else None
+
+-- the life of the switch at a place, by its boot from 1
+abbrev pub life_of : ScriptOf → ℕ → ℕ → LifeId
+life_of script place boot = record { uid = uid_of script.wires.switches place; boot = boot }

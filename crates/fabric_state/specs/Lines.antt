@@ -6,7 +6,8 @@ use Rattle.an_base.specs.declared.event.Event.{Event}
 use Rattle.an_base.specs.declared.event.Event.TheVariants.{Fail, Repair, Noise, Send}
 use Rattle.wire_set.specs.declared.side.Put.{Put}
 use Rattle.wire_set.specs.declared.side.Put.TheVariants as put
-use Rattle.wire_set.specs.WireState.{WiresOf, place as port_place, side_at, is_link, wire_out, what_becomes, dropped_at}
+use Rattle.wire_set.specs.WireState.{WiresOf, place as port_place, side_at, is_link, wire_out, what_becomes}
+use Rattle.wire_set.specs.WireState.{dropped_at, held_from, taken_frame, what_copy_becomes}
 use Rattle.switch_core.specs.Bytes.{BytesOut}
 use Rattle.host_traffic.specs.declared.hop.Hop.{Hop}
 use Rattle.host_traffic.specs.declared.hop.Hop.TheVariants as hop
@@ -15,7 +16,7 @@ use Rattle.host_traffic.specs.Packets.{PacketOf}
 use Rattle.fabric_state.specs.declared.line.Line.{Line}
 use Rattle.fabric_state.specs.declared.line.Line.TheVariants as line
 use Rattle.fabric_state.specs.Fabric.{FabricOf, station, host_on, side_of_port, switch_behind}
-use Rattle.fabric_state.specs.Effects.{address_for, copy_becomes, hop_of, noise, put_out}
+use Rattle.fabric_state.specs.Effects.{address_for, hop_of, noise, put_out}
 
 -- a frame was put on the wire out of a port, and lost
 abbrev pub loss_line : ℕ → ℕ → Put → List Line
@@ -43,7 +44,9 @@ copy_line (Some far) (Some what) = loss_line far.0 far.1 what
 
 abbrev pub take_lines : ℕ → ℕ → FabricOf → List Line
 take_lines place port fabric =
-    copy_line (switch_behind (side_of_port fabric place port).far) (copy_becomes fabric place port)
+    let wire : ℕ = port_place place port in
+    copy_line (switch_behind (side_of_port fabric place port).far)
+    (what_copy_becomes wire (taken_frame wire fabric.wires) (held_from wire (port_place place 0) fabric.wires))
 
 -- a host sent a packet of this number to another one: it has this address, or none for this reason
 abbrev pub sent_line : (packet from to : ℕ) → Result ℕ DropCause → Line
@@ -64,13 +67,10 @@ hop_line packet place epoch entry (hop.Dropped why) = line.Fell packet place why
 abbrev pub epoch_in_use : FabricOf → ℕ → ℕ
 epoch_in_use fabric place = option_map_or (λ table. table.epoch) (station fabric place).table 0
 
-abbrev pub move_line : FabricOf → PacketOf → Line
-move_line fabric packet =
-    hop_line packet.packet packet.at (epoch_in_use fabric packet.at) packet.entry (hop_of fabric packet)
-
 abbrev pub move_lines : Option PacketOf → FabricOf → List Line
 move_lines None fabric = []
-move_lines (Some packet) fabric = move_line fabric packet ∷ []
+move_lines (Some packet) fabric =
+    hop_line packet.packet packet.at (epoch_in_use fabric packet.at) packet.entry (hop_of fabric packet) ∷ []
 
 -- what is told of a command that is no restart
 abbrev pub command_lines : Event → FabricOf → List Line

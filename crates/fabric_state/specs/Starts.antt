@@ -1,19 +1,15 @@
--- Lives of switches, and the fabric that a network is begun with.
+-- What switches start with, and the fabric that a network is begun with.
 
 use Rattle.std.specs.Prelude.{◌+◌, ℕ, [], map, length, replicate, None, false}
 use Rattle.std.specs.List.{range_with_len}
 use Rattle.an_base.specs.Values.{LifeId}
 use Rattle.an_base.specs.Ports.{NoteOf}
 use Rattle.an_base.specs.declared.limits.TheConstants.{PORTS}
-use Rattle.net_graph.specs.Wires.{Wires, network, uid_of}
+use Rattle.net_graph.specs.Wires.{Wires, network}
 use Rattle.net_script.specs.Scripts.{ScriptOf}
 use Rattle.wire_set.specs.WireState as wire_state
 use Rattle.fabric_state.specs.declared.hand.Hand.TheVariants as hand
-use Rattle.fabric_state.specs.Fabric.{FabricOf, StationOf, station, no_view}
-
--- the life of the switch at a place, by its boot from 1
-abbrev pub life_of : ScriptOf → ℕ → ℕ → LifeId
-life_of script place boot = record { uid = uid_of script.wires.switches place; boot = boot }
+use Rattle.fabric_state.specs.Fabric.{FabricOf, StationOf, life_of, no_view, station}
 
 -- what a switch shows of itself as it starts: twelve dead ports, and nothing to load or to be acknowledged
 abbrev pub started_note : LifeId → ℕ → NoteOf

@@ -15,11 +15,10 @@ use Rattle.an_base.specs.declared.port.Sample.{Sample}
 use Rattle.switch_core.specs.Steps.{loaded}
 use Rattle.fabric_state.specs.declared.hand.Hand.{Hand}
 use Rattle.fabric_state.specs.declared.hand.Hand.TheVariants as hand
-use Rattle.fabric_state.specs.Fabric.{StationOf, station, vacant, held_bytes, is_switch, samples_of}
+use Rattle.fabric_state.specs.Fabric.{StationOf, station, vacant, held_bytes, is_switch, samples_of, life_of}
 use Rattle.fabric_state.specs.Effects.{kept_table}
 use Rattle.fabric_state.specs.Lawful.{is_lawful}
 use Rattle.table_build.specs.Made.{number_in}
-use Rattle.fabric_state.specs.Starts.{life_of}
 use Rattle.fabric_world.specs.World.{WorldOf, begun, first_station, effect, world_after, loads_with, handled, started_at, next_life, table_for}
 use Rattle.fabric_world.specs.Sound.{HandFits, IsPlaceSound, IsSoundAt, ArePlacesSound}
 use Rattle.fabric_world.proofs.InductionLemmas.{always, world_script}

@@ -1,16 +1,14 @@
 -- What is told of the events of each caller, with their places in the history.
 
 use Rattle.std.specs.Prelude.{◌==◌, ℕ, List, [], ◌∷◌, ◌++◌, map, if◌then◌else◌}
-use Rattle.std.specs.Option.{option_map_or}
 use Rattle.an_base.specs.Rows.{RowOf}
 use Rattle.an_base.specs.declared.event.Event.{Event}
 use Rattle.an_base.specs.declared.event.Event.TheVariants.{Load}
 use Rattle.net_script.specs.Scripts.{ScriptOf}
-use Rattle.fabric_state.specs.Fabric.{FabricOf, table_at}
 use Rattle.fabric_state.specs.declared.line.Line.{Line}
 use Rattle.fabric_state.specs.declared.line.PlacedLine.{PlacedLine}
 use Rattle.fabric_world.specs.Histories.{owner_of}
-use Rattle.fabric_world.specs.Lines.{lines_of}
+use Rattle.fabric_world.specs.Lines.{lines_of, rows_behind}
 use Rattle.fabric_world.specs.World.{WorldOf, begun, step}
 
 -- what the events of a caller give, among lawful events in turn, where each gives this in the world before it
@@ -27,11 +25,6 @@ placed place lines = map (λ line. record { event = place; line = line }) lines
 -- what is told of a lawful event, in the world before it, with its place
 abbrev pub placed_lines : WorldOf → Event → List PlacedLine
 placed_lines world event = placed (step world event).fabric.events (lines_of world event)
-
--- the rows of the table that is in use behind a load, and of no other event
-abbrev pub rows_behind : FabricOf → Event → List RowOf
-rows_behind fabric (Load place) = option_map_or (λ table. table.rows) (table_at fabric place) []
-rows_behind fabric event = []
 
 abbrev pub loaded_rows : WorldOf → Event → List (List RowOf)
 loaded_rows world (Load place) = rows_behind (step world (Load place)).fabric (Load place) ∷ []

@@ -19,10 +19,12 @@ use Rattle.fabric_state.specs.declared.line.Line.TheVariants as line
 use Rattle.table_build.specs.Made.{number_in}
 use Rattle.host_traffic.specs.Packets.{packet_of}
 use Rattle.fabric_state.specs.PortStates.{state_code}
-use Rattle.fabric_state.specs.Fabric.{station, no_view, held_bytes}
+use Rattle.fabric_state.specs.Fabric.{station, no_view, held_bytes, FabricOf, table_at}
 use Rattle.fabric_state.specs.Effects.{released}
 use Rattle.fabric_state.specs.Lines.{command_lines, lost_lines, move_lines, take_lines}
 use Rattle.fabric_world.specs.World.{WorldOf, handled, step}
+use Rattle.std.specs.Option.{option_map_or}
+use Rattle.an_base.specs.Rows.{RowOf}
 
 -- the ports whose state changed, rising
 abbrev pub shown_in : NoteOf → ℕ → PortViewOf
@@ -94,3 +96,8 @@ lines_of world command = command_lines command world.fabric
 abbrev pub all_lines : WorldOf → List Event → List Line
 all_lines world [] = []
 all_lines world (event ∷ events) = lines_of world event ++ all_lines (step world event) events
+
+-- the rows of the table that is in use behind a load, and of no other event
+abbrev pub rows_behind : FabricOf → Event → List RowOf
+rows_behind fabric (Load place) = option_map_or (λ table. table.rows) (table_at fabric place) []
+rows_behind fabric event = []

@@ -11,10 +11,9 @@ use Rattle.switch_core.specs.Switch.{SwitchOf, finish_of, note_of}
 use Rattle.switch_core.specs.declared.switch.TableFor.{TableFor}
 use Rattle.fabric_state.specs.declared.hand.Hand.{Hand}
 use Rattle.fabric_state.specs.declared.hand.Hand.TheVariants as hand
-use Rattle.fabric_state.specs.Fabric.{FabricOf, StationOf, station}
+use Rattle.fabric_state.specs.Fabric.{FabricOf, StationOf, station, life_of}
 use Rattle.fabric_state.specs.Fits.{Fits}
 use Rattle.fabric_state.specs.Lawful.{is_lawful}
-use Rattle.fabric_state.specs.Starts.{life_of}
 use Rattle.fabric_world.specs.World.{WorldOf, table_for}
 
 -- What a switch has in hand is of this tick: a clock, or a frame that came in by an external port of a

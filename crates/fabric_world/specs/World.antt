@@ -18,9 +18,8 @@ use Rattle.switch_core.specs.declared.switch.TableFor.{TableFor}
 use Rattle.fabric_state.specs.declared.hand.Hand.{Hand}
 use Rattle.fabric_state.specs.declared.hand.Hand.TheVariants as hand
 use Rattle.table_build.specs.Made.{table_of, number_in}
-use Rattle.fabric_state.specs.Starts.{life_of}
 use Rattle.fabric_world.specs.Acts.{Clocks, acted, hears}
-use Rattle.fabric_state.specs.Fabric.{FabricOf, StationOf, station, held_bytes}
+use Rattle.fabric_state.specs.Fabric.{FabricOf, StationOf, station, held_bytes, life_of}
 use Rattle.fabric_state.specs.Lawful.{is_lawful}
 use Rattle.fabric_state.specs.Effects.{after_tick, after_clock, after_take, after_handle, after_load, after_restart}
 use Rattle.fabric_state.specs.Effects.{on_wires, noise_out, after_send, after_move}

@@ -3,15 +3,15 @@ use Rattle.std.proofs.Common.{◌≡◌, ◌∙◌, ap, subst, sym, ℕ, zero, s
 use Rattle.std.specs.Prelude.{unwrap_or, slice_get}
 use Rattle.dep_check.specs.declared.channel.Channel.{Channel}
 use Rattle.dep_check.specs.Channels.{IsChannel, LeadsTo}
-use Rattle.dep_check.specs.Cycles.{AreRanks}
+use Rattle.channel_graph.specs.Cycles.{AreRanks}
 use Rattle.dep_check.specs.Tables.{IsSpot, place_of, rank_at}
 use Rattle.dep_check.proofs.SpotLemmas.{spot_true}
 use Rattle.flow_channels.specs.declared.went.Went.{Went}
 use Rattle.flow_channels.specs.Layout.{LayoutOf, spot, IsWired}
 use Rattle.flow_channels.specs.Flows.{FlowOf, waiting_at, leaves, goes, all_starting}
-use Rattle.flow_channels.specs.Moves.{Move, CanArrive, CanGo, IsPossible, IsTurn, after}
+use Rattle.flow_channels.specs.Moves.{Move, CanArrive, CanGo, IsPossible, IsTurn, after, Turns}
 use Rattle.flow_channels.specs.Moves.Move.{Arrives, Goes}
-use Rattle.flow_channels.specs.Runs.{Turns, greatest, moves_left}
+use Rattle.flow_channels.specs.Runs.{greatest, moves_left}
 use Rattle.flow_channels.specs.Sound.{IsSound}
 use Rattle.flow_channels.proofs.SoundLaws.{near, turn_sound}
 use Rattle.flow_channels.proofs.WeightLaws.{weight, one_more, arrive_weight, go_weight}
@@ -48,11 +48,11 @@ module _ (layout : LayoutOf) (ranks : List (Option ℕ)) (wired : IsWired layout
       ap (λ (o : Option ℕ). suc (unwrap_or o 0)) here
 
   pub rank_of : (c end : Channel) → layout.far c ≡ Some end → Ranked c
-  rank_of c end far = let r = ranked.channels c (end, far) in ranked_at c r.0 (near layout wired known c end far) r.1
+  rank_of c end far = let r = ranked.nodes c (end, far) in ranked_at c r.0 (near layout wired known c end far) r.1
 
   pub leads_less : (c d end far : Channel) → layout.far c ≡ Some end → LeadsTo layout.far layout.rows c d → layout.far d ≡ Some far → weight ranks (place_of d) + 1 ≤ weight ranks (place_of c)
   leads_less c d end far e leads e' =
-      let own = ranked.channels c (end, e) in
+      let own = ranked.nodes c (end, e) in
       let above = own.2.above d leads in
       let x = weight_is c own.0 (near layout wired known c end e) own.1 in
       let y = weight_is d above.0 (near layout wired known d far e') above.1 in

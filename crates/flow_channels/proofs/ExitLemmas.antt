@@ -1,8 +1,8 @@
 -- The exits of a layout are those of its rows, and what is on its way has one with a link.
-use Rattle.std.proofs.Common.{◌≡◌, ◌≢◌, ◌∙◌, ap, subst, refl, ℕ, zero, ◌<◌, List, [], ◌∷◌, Some, Bool, true, false, arith, length, inl, inr, ◌==◌}
+use Rattle.std.proofs.Common.{◌≡◌, ◌≢◌, ◌∙◌, ap, subst, refl, ℕ, zero, ◌<◌, List, [], ◌∷◌, Some, true, arith, length, inl, inr, ◌==◌}
 use Rattle.std.specs.Prelude.{Contains, slice_get, ◌&&◌, ◌⊎◌}
 use Rattle.std.specs.List.{list_any, range_with_len}
-use Rattle.std.proofs.lemmas.Bool.{eq-eqb, eqb-true}
+use Rattle.std.proofs.lemmas.Bool.{eq-eqb, eqb-true, and_parts}
 use Rattle.std.proofs.lemmas.List.{get_or_default}
 use Rattle.std.proofs.lemmas.Option.{same_Some}
 use Rattle.std.proofs.lemmas.List.Folds.{Any-from_list_any, list_any-from_Any}
@@ -24,16 +24,12 @@ pub first_in : {A : Type 0} (xs : List A) (x : A) → slice_get xs 0 ≡ Some x 
 first_in [] x e = absurd (cc)
 first_in {A} (y ∷ xs) x e = (xs, ap (λ (z : A). z ∷ xs) (same_Some y x e))
 
-pub both : (a b : Bool) → (a && b) ≡ true → (a ≡ true) × (b ≡ true)
-both true b e = (refl, e)
-both false b e = absurd (cc)
-
 -- the test of a row says that it has the exit
 pub row_has : (came : Channel) (to exit : ℕ) (row : RowOf) → has_exit came to exit row ≡ true → (row.at ≡ came.at) × (row.entry ≡ came.port) × (row.to ≡ to) × Contains row.exits exit
 row_has came to exit row e =
-    let a = both (row.at == came.at) ((row.entry == came.port) && ((row.to == to) && list_any (λ port. port == exit) row.exits)) e in
-    let b = both (row.entry == came.port) ((row.to == to) && list_any (λ port. port == exit) row.exits) a.1 in
-    let c = both (row.to == to) (list_any (λ port. port == exit) row.exits) b.1 in
+    let a = and_parts (row.at == came.at) ((row.entry == came.port) && ((row.to == to) && list_any (λ port. port == exit) row.exits)) e in
+    let b = and_parts (row.entry == came.port) ((row.to == to) && list_any (λ port. port == exit) row.exits) a.1 in
+    let c = and_parts (row.to == to) (list_any (λ port. port == exit) row.exits) b.1 in
     let some = Any-from_list_any (λ port. port == exit) row.exits c.1 in
     let is : some.1 ≡ exit = eqb-true some.1 exit some.4 in (
       eqb-true row.at came.at a.0,

@@ -8,16 +8,16 @@ use Rattle.std.proofs.lemmas.Option.{same_Some}
 use Rattle.std.proofs.lemmas.List.Elements.{All-push, All-drop, All-cons, All-nil, All-head}
 use Rattle.dep_check.specs.declared.channel.Channel.{Channel}
 use Rattle.dep_check.specs.Channels.{IsChannel, LeadsTo}
-use Rattle.dep_check.specs.Cycles.{AreRanks}
+use Rattle.channel_graph.specs.Cycles.{AreRanks}
 use Rattle.dep_check.specs.Tables.{IsSpot, place_of, rank_at}
 use Rattle.dep_check.proofs.SpotLemmas.{option_cases}
 use Rattle.flow_channels.specs.declared.went.Went.{Went}
 use Rattle.flow_channels.specs.declared.went.Went.TheVariants.{Arrived, Out}
 use Rattle.flow_channels.specs.Layout.{LayoutOf, spot, IsWired}
 use Rattle.flow_channels.specs.Flows.{FlowOf, PacketOf, WaitOf, queue_at, waiting_at, with_queue, with_waiting, first_asks, leaves, leaves_by, comes_into, goes}
-use Rattle.flow_channels.specs.Moves.{Move, CanArrive, CanGo, IsPossible, after, went_by}
+use Rattle.flow_channels.specs.Moves.{Move, CanArrive, CanGo, IsPossible, after, went_by, Turns}
 use Rattle.flow_channels.specs.Moves.Move.{Arrives, Goes}
-use Rattle.flow_channels.specs.Runs.{Turns, greatest, hops_of}
+use Rattle.flow_channels.specs.Runs.{greatest, hops_of}
 use Rattle.flow_channels.specs.Sound.{IsSound, WaitsThere}
 use Rattle.flow_channels.proofs.ExitLemmas.{list_cases, exit_has}
 use Rattle.flow_channels.proofs.StateLemmas.{spot_cases, queue_each, waiting_each, all_remove}
@@ -124,7 +124,7 @@ module _ (layout : LayoutOf) (ranks : List (Option ℕ)) (wired : IsWired layout
       let e = can.room.0 in
       let far = can.room.1 in
       let waits : WaitsThere layout flow at w = subst (λ (v : WaitOf). WaitsThere layout flow at v) g.1 (sound.waits at i w g.0) in
-      let own = ranked.channels d (e, far) in
+      let own = ranked.nodes d (e, far) in
       let is_d = near layout wired known d e far in
       let own_weight = weight_is layout ranks wired ranked known d own.0 is_d own.1 in
       let total : Step n (hop_of w.packet.packet) (comes_into layout d w.packet two) = elim (cases_eq w.packet.packet k) [
@@ -154,7 +154,7 @@ module _ (layout : LayoutOf) (ranks : List (Option ℕ)) (wired : IsWired layout
               | inr (c, by) ↦ (
                   let back = wired.back (spot at w.entry) c by in
                   let is_c = near layout wired known c (spot at w.entry) back in
-                  let before = ranked.channels c (spot at w.entry, back) in
+                  let before = ranked.nodes c (spot at w.entry, back) in
                   let weight_c = weight_is layout ranks wired ranked known c before.0 is_c before.1 in
                   let leads : LeadsTo layout.far layout.rows c d = record { entry = w.entry; arrives = back; to = w.packet.to; exit = exit_has layout (spot at w.entry) w.packet.to port can.named; link = (e, far) } in
                   let less = leads_less layout ranks wired ranked known c d (spot at w.entry) e back leads far in

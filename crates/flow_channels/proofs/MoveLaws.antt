@@ -5,7 +5,7 @@ use Rattle.std.proofs.lemmas.Bool.{cases_eq}
 use Rattle.std.proofs.lemmas.Option.{same_Some}
 use Rattle.dep_check.specs.declared.channel.Channel.{Channel}
 use Rattle.dep_check.specs.Channels.{IsChannel, LeadsTo}
-use Rattle.dep_check.specs.Cycles.{AreRanks}
+use Rattle.channel_graph.specs.Cycles.{AreRanks}
 use Rattle.dep_check.specs.Packets.{AllAreJoined}
 use Rattle.dep_check.specs.Tables.{IsSpot, place_of, rank_at}
 use Rattle.dep_check.proofs.SpotLemmas.{option_cases}
@@ -79,7 +79,7 @@ module _ (layout : LayoutOf) (ranks : List (Option ℕ)) (known : List ℕ) (flo
                   way = inr (record { exit = exit.exit; named = exit.named; room = (exit.far, exit.link, no_packets next none) });
                 })
                 | inr (other, others, full) ↦ (
-                    let own = ranked.channels channel (by.0, by.1) in
+                    let own = ranked.nodes channel (by.0, by.1) in
                     let same : own.0 ≡ rank = same_Some own.0 rank (sym own.1 ∙ has) in
                     let leads : LeadsTo layout.far layout.rows channel next = record {
                       entry = by.0.port;
@@ -151,7 +151,7 @@ module _ (layout : LayoutOf) (ranks : List (Option ℕ)) (known : List ℕ) (flo
         | inl none ↦ absurd (full none)
         | inr (packet, rest, is) ↦ (
             let by = comes channel packet rest (at_place_spot queue.0 low) is in
-            let own = ranked.channels channel (by.0, by.1) in
+            let own = ranked.nodes channel (by.0, by.1) in
             let first = descend (suc own.0) channel own.0 (omega arith) full own.1 in
             first_move first.0 first.1)
       ]

@@ -1,19 +1,20 @@
 -- Where no channels lead round, each has a rank: how many steps the longest walk from it has.
 use Rattle.std.proofs.Common.{◌≡◌, ◌∙◌, sym, ap, subst, refl, ℕ, zero, suc, ◌+◌, ◌/◌, ◌%◌, ◌<◌, ◌≤◌, List, [], ◌∷◌, Option, Some, None, Bool, true, false, arith, inl, inr, ◌⊎◌, ◌==◌, ◌&&◌, if◌then◌else◌, map}
+use Rattle.std.proofs.Math.Bool.{and-false}
 use Rattle.std.specs.Prelude.{is_some, max}
 use Rattle.std.specs.Option.{option_map_or}
 use Rattle.std.specs.List.{list_any, range_with_len}
-use Rattle.std.proofs.lemmas.Bool.{cases_lt, eq-eqb, eqb-true}
+use Rattle.std.proofs.lemmas.Bool.{cases_lt, eq-eqb, eqb-true, and_parts}
 use Rattle.std.proofs.lemmas.List.Folds.{Any-from_list_any, list_any-from_Any}
 use Rattle.std.proofs.lemmas.List.FromFn.{get_or-map-range_with_len}
 use Rattle.an_base.proofs.PigeonLemmas.{pigeons}
 use Rattle.dep_check.specs.declared.channel.Channel.{Channel}
 use Rattle.dep_check.specs.Channels.{IsChannel, LeadsTo}
-use Rattle.dep_check.specs.Cycles.{HasNoCycle, Path, Walk}
+use Rattle.channel_graph.specs.Cycles.{HasNoCycle, Path, Walk}
 use Rattle.dep_check.specs.Tables.{IsSpot, place_of, rank_at}
 use Rattle.dep_check.proofs.SpotLemmas.{one_spot, option_cases, place_low, spot_cases, spot_true}
 use Rattle.flow_channels.specs.Layout.{HasRanks, IsWired, LayoutOf, has_exit, spot}
-use Rattle.flow_channels.proofs.ExitLemmas.{both, row_has, row_test}
+use Rattle.flow_channels.proofs.ExitLemmas.{row_has, row_test}
 
 -- WALKS ARE SHORT
 
@@ -141,10 +142,10 @@ leads_true layout a b l =
 leads_from : (layout : LayoutOf) (a b : Channel) → leads layout a b ≡ true → LeadsTo layout.far layout.rows a b
 unfolding leads
 leads_from layout a b passes = elim (option_cases (layout.far a)) [
-  | inl none ↦ absurd (let gone : leads layout a b ≡ false = rw none (and_false (is_some (layout.far b))) in cc)
+  | inl none ↦ absurd (let gone : leads layout a b ≡ false = rw none (and-false (is_some (layout.far b))) in cc)
   | inr (end, arrives) ↦ (
-      let tests = both (is_some (layout.far b)) ((end.at == b.at) && list_any (λ row. has_exit end row.to b.port row) layout.rows) (rw arrives at passes) in
-      let inner = both (end.at == b.at) (list_any (λ row. has_exit end row.to b.port row) layout.rows) tests.1 in
+      let tests = and_parts (is_some (layout.far b)) ((end.at == b.at) && list_any (λ row. has_exit end row.to b.port row) layout.rows) (rw arrives at passes) in
+      let inner = and_parts (end.at == b.at) (list_any (λ row. has_exit end row.to b.port row) layout.rows) tests.1 in
       let at : end.at ≡ b.at = eqb-true end.at b.at inner.0 in
       let (k, row, low, is, test) = Any-from_list_any (λ r. has_exit end r.to b.port r) layout.rows inner.1 in
       let has = row_has end row.to b.port row test in
@@ -157,10 +158,6 @@ leads_from layout a b passes = elim (option_cases (layout.far a)) [
       })
 ]
   where
-    and_false : (t : Bool) → (t && false) ≡ false
-    and_false true = refl
-    and_false false = refl
-
     linked : (o : Option Channel) → is_some o ≡ true → (end : Channel) × (o ≡ Some end)
     linked None e = absurd (cc)
     linked (Some end) e = (end, refl)
@@ -286,7 +283,7 @@ module _ (layout : LayoutOf) (wired : IsWired layout) (none : HasNoCycle (LeadsT
 
     are_ranks : HasRanks layout (ranks_from layout (suc n))
     are_ranks = record {
-      channels = λ c channel. (
+      nodes = λ c channel. (
         depth layout (suc n) (place_of c),
         channel_rank c channel,
         record {

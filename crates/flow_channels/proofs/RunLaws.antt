@@ -11,9 +11,8 @@ use Rattle.dep_check.proofs.SpotLemmas.{option_cases}
 use Rattle.flow_channels.specs.declared.went.Went.{Went}
 use Rattle.flow_channels.specs.Layout.{LayoutOf, spot, IsWired}
 use Rattle.flow_channels.specs.Flows.{FlowOf, PacketOf, WaitOf, first_of, queue_at, waiting_at, in_queues, starting, all_starting, left_of}
-use Rattle.flow_channels.specs.Moves.{Move, IsPossible, IsTurn, move_cmp, went_by, after}
+use Rattle.flow_channels.specs.Moves.{Move, IsPossible, IsTurn, move_cmp, went_by, after, Turns}
 use Rattle.flow_channels.specs.Moves.Move.{Arrives, Goes}
-use Rattle.flow_channels.specs.Runs.{Turns}
 use Rattle.flow_channels.specs.Sound.{IsSound, WaitsThere}
 use Rattle.flow_channels.proofs.CountLemmas.{no_queue}
 use Rattle.flow_channels.proofs.SoundLaws.{got, brought, starts_there, turn_sound}

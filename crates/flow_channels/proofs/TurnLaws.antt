@@ -7,7 +7,7 @@ use Rattle.std.proofs.lemmas.Bool.{cases_lt, cases_order}
 use Rattle.std.proofs.lemmas.Bool.Decides.{nat_tests}
 use Rattle.std.proofs.lemmas.List.{length-map}
 use Rattle.dep_check.specs.declared.channel.Channel.{Channel}
-use Rattle.dep_check.specs.Cycles.{channel_cmp}
+use Rattle.dep_check.specs.Channels.{channel_cmp}
 use Rattle.dep_check.specs.Tables.{IsSpot, place_of}
 use Rattle.flow_channels.specs.declared.board.Arrival.{Arrival}
 use Rattle.flow_channels.specs.declared.board.Board.{Board}

@@ -35,12 +35,6 @@ Comes layout limit (Enter packet from to ∷ acts) flow =
 Comes layout limit (Turn went ∷ acts) flow =
     (old : FlowOf) × Comes layout limit acts old × IsTurn layout old went flow
 
--- turns one after another, the first one first
-abbrev pub Turns : LayoutOf → FlowOf → List Went → FlowOf → Type 0
-Turns layout old [] new = old ≡ new
-Turns layout old (went ∷ rest) new =
-    (next : FlowOf) × IsTurn layout old went next × Turns layout next rest new
-
 -- the greatest rank of all
 abbrev pub greatest : List (Option ℕ) → ℕ
 greatest [] = 0

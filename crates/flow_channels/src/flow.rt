@@ -2,7 +2,7 @@ ghost use Rattle.std.specs.Prelude.{◌≡◌, ◌+◌, ◌≤◌, ◌↔◌, Li
 ghost use Rattle.std.specs.Prelude.{MatchOption};
 ghost use Rattle.an_base.specs.Rows.{RowOf};
 ghost use Rattle.dep_check.specs.Channels.{far_at, LeadsTo};
-ghost use Rattle.dep_check.specs.Cycles.{HasNoCycle};
+ghost use Rattle.channel_graph.specs.Cycles.{HasNoCycle};
 ghost use Rattle.dep_check.specs.Packets.{AllAreJoined};
 ghost use Rattle.flow_channels.specs.Board.{flow_of};
 ghost use Rattle.flow_channels.specs.Exits.{AreExitsOf};

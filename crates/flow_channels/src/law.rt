@@ -9,9 +9,8 @@ ghost use Rattle.dep_check.specs.Tables.{IsSpot, rank_at};
 ghost use Rattle.flow_channels.specs.declared.went.Went.{Went};
 ghost use Rattle.flow_channels.specs.Layout.{HasRanks, IsWired, JoinsAll, layout_of, LayoutOf};
 ghost use Rattle.flow_channels.specs.Flows.{FlowOf, left_of, queue_at, waiting_at};
-ghost use Rattle.flow_channels.specs.Moves.{FirstCanMove, IsPossible, IsTurn, Move};
+ghost use Rattle.flow_channels.specs.Moves.{FirstCanMove, IsPossible, IsTurn, Move, Turns};
 ghost use Rattle.flow_channels.specs.Runs.{Act, Comes, entered, greatest, hops_in, hops_of, moves_left};
-ghost use Rattle.flow_channels.specs.Runs.{Turns};
 ghost use Rattle.flow_channels.specs.Sound.{IsSound};
 
 /// Over rows that pass, whatever comes about is sound: each packet is on a way that the rows lead, the

@@ -22,8 +22,7 @@ use Rattle.flow_channels.specs.declared.went.Went.{Went}
 use Rattle.flow_channels.specs.declared.went.Went.TheVariants.{Arrived, Out}
 use Rattle.flow_channels.specs.Flows.{FlowOf, PacketOf, WaitOf, all_starting, empty_flow, in_queues, left_of}
 use Rattle.flow_channels.specs.Layout.{IsWired as IsWiredLayout, LayoutOf}
-use Rattle.flow_channels.specs.Moves.{Arrives, Goes, IsPossible, IsTurn, Move, after, went_by, went_first, went_out}
-use Rattle.flow_channels.specs.Runs.{Turns}
+use Rattle.flow_channels.specs.Moves.{Arrives, Goes, IsPossible, IsTurn, Move, after, went_by, went_first, went_out, Turns}
 use Rattle.flow_channels.specs.Sound.{IsSound}
 use Rattle.flow_channels.proofs.LeftLaws.{arrive_left, go_left}
 use Rattle.flow_channels.proofs.SoundLaws.{turn_sound}

@@ -16,7 +16,7 @@ use Rattle.dep_check.specs.Tables.{IsSpot}
 use Rattle.flow_channels.specs.declared.went.Went.{Went}
 use Rattle.flow_channels.specs.Flows.{FlowOf, empty_flow, queue_at}
 use Rattle.flow_channels.specs.Layout.{LayoutOf, IsWired}
-use Rattle.flow_channels.specs.Runs.{Turns}
+use Rattle.flow_channels.specs.Moves.{Turns}
 use Rattle.flow_channels.specs.Sound.{IsSound}
 use Rattle.flow_channels.proofs.RunLaws.{one_run}
 use Rattle.flow_channels.proofs.SoundLaws.{enter_sound, start_sound, turn_sound}

@@ -19,8 +19,7 @@ use Rattle.flow_channels.specs.declared.went.Went.{Went}
 use Rattle.flow_text.specs.declared.sent.Sent.{Sent}
 use Rattle.flow_channels.specs.Flows.{FlowOf, left_of}
 use Rattle.flow_channels.specs.Layout.{LayoutOf}
-use Rattle.flow_channels.specs.Moves.{IsTurn}
-use Rattle.flow_channels.specs.Runs.{Turns}
+use Rattle.flow_channels.specs.Moves.{IsTurn, Turns}
 use Rattle.flow_text.specs.Flows.{FlowLine, Ends, Local, Unjoined, end_line, entered_flow, entries_of, fate_lines, flow_text, flow_told, flow_words, FlowPart, IsFlowOf, IsFlowPart, is_out, layout_in, part_lines, start_of, went_line}
 use Rattle.flow_text.specs.FlowRuns.{IsToldPart, IsToldRun}
 use Rattle.flow_text.specs.Sends.{entering, homes_of, is_joined, is_local, numbers_in, sends_of}

@@ -18,15 +18,15 @@ use Rattle.table_build.specs.Made.{table_of}
 use Rattle.table_build.specs.Tables.{IsTable, TableOf}
 use Rattle.table_build.proofs.MadeTables.{made_table}
 use Rattle.dep_check.specs.Channels.{far_at, LeadsTo}
-use Rattle.dep_check.specs.Cycles.{HasNoCycle}
+use Rattle.channel_graph.specs.Cycles.{HasNoCycle}
 use Rattle.dep_check.specs.Laws.{AreTables as AllTables}
 use Rattle.dep_check.specs.Packets.{AllAreJoined}
 use Rattle.dep_check.proofs.TableLaws.{tables_no_cycle, tables_joined}
 use Rattle.flow_channels.specs.declared.went.Went.{Went}
 use Rattle.flow_channels.specs.Flows.{FlowOf, empty_flow, enters}
 use Rattle.flow_channels.specs.Layout.{HasRanks, LayoutOf, layout_of}
-use Rattle.flow_channels.specs.Moves.{IsTurn}
-use Rattle.flow_channels.specs.Runs.{MayEnter, moves_left, Turns}
+use Rattle.flow_channels.specs.Moves.{IsTurn, Turns}
+use Rattle.flow_channels.specs.Runs.{MayEnter, moves_left}
 use Rattle.flow_channels.specs.View.{FlowView, IsFresh, IsOver, MayEnterNow}
 use Rattle.flow_channels.proofs.EndLaws.{turn_less}
 use Rattle.flow_channels.proofs.RankedLaws.{has_ranks, ranks_in}

@@ -10,7 +10,7 @@ use Rattle.flow_channels.specs.declared.went.Went.{Went}
 use Rattle.flow_channels.specs.Exits.{AreExitsOf}
 use Rattle.flow_channels.specs.Flows.{FlowOf, empty_flow, left_of}
 use Rattle.flow_channels.specs.Layout.{HasRanks, LayoutOf, layout_of}
-use Rattle.flow_channels.specs.Runs.{Turns}
+use Rattle.flow_channels.specs.Moves.{Turns}
 use Rattle.flow_channels.specs.View.{FlowView, IsOver}
 use Rattle.flow_text.specs.declared.sent.Sent.{Sent}
 use Rattle.row_text.specs.Names.{name_of}

@@ -3,7 +3,7 @@ use Rattle.std.specs.Fmt.{decimal}
 use Rattle.std.specs.List.{flat_map}
 use Rattle.an_base.specs.Values.{EntryOf}
 use Rattle.net_graph.specs.Forest.{IsForest}
-use Rattle.text_lines.specs.Grammar.{forms_text_by}
+use Rattle.text_lines.specs.Lines.{forms_text_by}
 use Rattle.net_script.specs.Scripts.{ScriptOf}
 use Rattle.switch_numbering.specs.Numbering.{numbering}
 use Rattle.dep_check.specs.Tables.{IsSpot}
@@ -12,7 +12,7 @@ use Rattle.flow_channels.specs.declared.went.Went.{Went}
 use Rattle.flow_channels.specs.declared.went.Went.TheVariants.{Arrived, Out}
 use Rattle.flow_channels.specs.Layout.{LayoutOf, layout_of}
 use Rattle.flow_channels.specs.Flows.{FlowOf, empty_flow, enters, left_of, queue_at}
-use Rattle.flow_channels.specs.Runs.{Turns}
+use Rattle.flow_channels.specs.Moves.{Turns}
 use Rattle.flow_text.specs.declared.sent.Sent.{Sent}
 use Rattle.row_text.specs.Names.{name_of}
 use Rattle.expect_text.specs.Expect.{AreTables, Part, all_rows}

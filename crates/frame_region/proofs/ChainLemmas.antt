@@ -1,7 +1,8 @@
 use Rattle.std.proofs.Common.{◌≡◌, ◌≢◌, ◌∙◌, sym, ap, subst, refl, ℕ, zero, suc, ◌+◌, ◌-◌, ◌*◌, ◌/◌, ◌%◌, min, ◌<◌, ◌≤◌, List, length, arith, slice_index_or, slice_set, ◌⊎◌, inl, inr}
 use Rattle.std.proofs.lemmas.Bool.{cases_eq}
 use Rattle.std.proofs.lemmas.List.{get_or-set_other}
-use Rattle.frame_region.specs.Blocks.{after, block, place, needed}
+use Rattle.frame_region.specs.Blocks.{after, block, place}
+use Rattle.frame_region.specs.Sizes.{needed}
 
 -- the chain goes on from each of its blocks
 pub block_add : (next : List ℕ) (first n k : ℕ) → block next (block next first n) k ≡ block next first (n + k)

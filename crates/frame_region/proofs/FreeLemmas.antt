@@ -3,8 +3,9 @@ use Rattle.std.specs.List.{range_with_len}
 use Rattle.std.proofs.lemmas.Bool.{cases_lt}
 use Rattle.std.proofs.lemmas.List.{get_or-set_other, get_or-set_same, length-set}
 use Rattle.std.proofs.lemmas.List.Sums.{sum_by-set}
-use Rattle.frame_region.specs.Blocks.{needed, after, block}
-use Rattle.frame_region.specs.Regions.{RegionOf, held_at, bytes_at, blocks_of, content, len_at, count_at, shown, without, IsKept}
+use Rattle.frame_region.specs.Blocks.{after, block}
+use Rattle.frame_region.specs.Sizes.{needed, blocks_of}
+use Rattle.frame_region.specs.Regions.{RegionOf, held_at, bytes_at, content, len_at, count_at, shown, without, IsKept}
 use Rattle.frame_region.proofs.ChainLemmas.{block_add, block_next, block_kept, block_same}
 use Rattle.frame_region.proofs.ShownLemmas.{set_made, content_same, IsUnder, under, same_kept, same_shown, names_same}
 use Rattle.frame_region.proofs.PutLemmas.{set_len}

@@ -4,8 +4,9 @@ use Rattle.std.proofs.lemmas.Bool.{cases_lt}
 use Rattle.std.proofs.lemmas.List.{ext_get_or, get_or-take, get_or-drop, get_or_append_left, get_or-append_right, length-take, length-drop, length-append, drop-drop, take_all}
 use Rattle.std.proofs.lemmas.List.FromFn.{length-map-range_with_len, get_or-map-range_with_len, fill_by_all}
 use Rattle.std.proofs.Math.Seq.{take-add}
-use Rattle.frame_region.specs.Blocks.{needed, block, place, chain_bytes}
-use Rattle.frame_region.specs.Regions.{blocks_of, piece_of}
+use Rattle.frame_region.specs.Blocks.{block, place, chain_bytes}
+use Rattle.frame_region.specs.Sizes.{needed, blocks_of}
+use Rattle.frame_region.specs.Regions.{piece_of}
 
 -- byte number j of a chain lies in block k, where that is the one
 place_in : (bytes next : List ℕ) (first j k : ℕ) → 64 * k ≤ j → j < 64 * k + 64 → slice_index_or bytes (64 * block next first k + (j - 64 * k)) 0 ≡ slice_index_or bytes (place next first j) 0

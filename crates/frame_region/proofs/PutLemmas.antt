@@ -4,7 +4,8 @@ use Rattle.std.proofs.lemmas.Bool.{cases_eq, cases_lt}
 use Rattle.std.proofs.lemmas.List.{get_or-set_other, get_or-set_same, length-set, length-append, length-replicate}
 use Rattle.std.proofs.lemmas.List.Sums.{sum_by-set}
 use Rattle.std.proofs.lemmas.List.FromFn.{fill_by_all, length-map-range_with_len}
-use Rattle.frame_region.specs.Blocks.{needed, block, place, chain_bytes}
+use Rattle.frame_region.specs.Blocks.{block, place, chain_bytes}
+use Rattle.frame_region.specs.Sizes.{needed}
 use Rattle.frame_region.specs.Inside.{IsWritten}
 use Rattle.frame_region.specs.Regions.{RegionOf, held_at, content, len_at, count_at, shown, with_put, IsKept}
 use Rattle.frame_region.proofs.ChainLemmas.{block_add}

@@ -5,7 +5,8 @@ use Rattle.std.proofs.lemmas.List.{get_or-set_other, get_or-set_same, get_or_pas
 use Rattle.std.proofs.lemmas.List.Folds.{sum_by-replicate}
 use Rattle.std.proofs.lemmas.List.Sums.{sum_by-append}
 use Rattle.std.proofs.lemmas.List.FromFn.{length-map-range_with_len, get_or-map-range_with_len, fill_by_all}
-use Rattle.frame_region.specs.Blocks.{needed, after, block, place, chain_bytes}
+use Rattle.frame_region.specs.Blocks.{after, block, place, chain_bytes}
+use Rattle.frame_region.specs.Sizes.{needed}
 use Rattle.frame_region.specs.Regions.{RegionOf, held_at, bytes_at, content, len_at, count_at, shown, IsKept}
 use Rattle.frame_region.proofs.ChainLemmas.{block_same}
 

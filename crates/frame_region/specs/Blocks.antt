@@ -2,10 +2,6 @@
 use Rattle.std.specs.Prelude.{ℕ, zero, suc, ◌+◌, ◌*◌, ◌/◌, ◌%◌, List, map, slice_index_or}
 use Rattle.std.specs.List.{range_with_len}
 
--- how many blocks of 64 bytes so many bytes need
-abbrev pub needed : ℕ → ℕ
-needed len = (len + 63) / 64
-
 -- the block that follows one: the one that it names, or that of the next number as long as it names none
 abbrev pub after : List ℕ → ℕ → ℕ
 after next before = slice_index_or next before (before + 1)

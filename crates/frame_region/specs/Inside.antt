@@ -1,6 +1,7 @@
 -- What only functions inside this crate cite.
 use Rattle.std.specs.Prelude.{◌≡◌, ℕ, ◌+◌, ◌*◌, ◌<◌, ◌≤◌, List, length, slice_index_or}
-use Rattle.frame_region.specs.Blocks.{needed, block, place}
+use Rattle.frame_region.specs.Blocks.{block, place}
+use Rattle.frame_region.specs.Sizes.{needed}
 
 -- the bytes of a frame were written into the blocks of a chain, and no other block changed; a byte that
 -- is not there yet is as good as 0

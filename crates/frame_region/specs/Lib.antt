@@ -1,3 +1,4 @@
+pub mod Sizes
 pub mod Blocks
 pub mod Regions
 pub mod Inside

@@ -4,7 +4,8 @@ use Rattle.std.specs.Prelude.{slice_index_or, slice_set, Option, Some, None, unw
 use Rattle.std.specs.List.{range_with_len, sum_by}
 use Rattle.frame_region.specs.declared.buffer.TheConstants.{MOST_FRAME}
 use Rattle.frame_region.specs.declared.region.TheConstants.{MOST_BLOCKS}
-use Rattle.frame_region.specs.Blocks.{needed, block, chain_bytes}
+use Rattle.frame_region.specs.Blocks.{block, chain_bytes}
+use Rattle.frame_region.specs.Sizes.{blocks_of, needed}
 
 -- A region: the bytes under each slip, where there are any, and how many blocks are free. Slips are numbers
 -- below that of the blocks.
@@ -19,10 +20,6 @@ held_at region slip = slice_index_or region.held slip None
 -- the bytes under a slip that the region has
 abbrev pub bytes_at : RegionOf → ℕ → List ℕ
 bytes_at region slip = unwrap_or (held_at region slip) []
-
--- how many blocks bytes need
-abbrev pub blocks_of : List ℕ → ℕ
-blocks_of bytes = needed (length bytes)
 
 -- bytes are put under a slip
 abbrev pub with_put : ℕ → List ℕ → RegionOf → RegionOf

@@ -2,9 +2,10 @@ ghost use Rattle.std.specs.Prelude.{◌≡◌, ◌≢◌, min, ◌+◌, ◌-◌,
 ghost use Rattle.std.specs.Prelude.{None, IfOk, IfErr, OnOk, OnErr, IsSome, slice_index_or, vec_capacity};
 ghost use Rattle.frame_region.specs.declared.buffer.TheConstants.{MOST_FRAME};
 ghost use Rattle.frame_region.specs.declared.region.TheConstants.{MOST_BLOCKS};
-ghost use Rattle.frame_region.specs.Blocks.{needed, after, block, chain_bytes};
+ghost use Rattle.frame_region.specs.Blocks.{after, block, chain_bytes};
+ghost use Rattle.frame_region.specs.Sizes.{needed, blocks_of};
 ghost use Rattle.frame_region.specs.Inside.{IsWritten};
-ghost use Rattle.frame_region.specs.Regions.{blocks_of, bytes_at, held_at, piece_of, with_put, without};
+ghost use Rattle.frame_region.specs.Regions.{bytes_at, held_at, piece_of, with_put, without};
 
 use crate::buffer::FrameBuf;
 use an_base::memory::OutOfMemory;

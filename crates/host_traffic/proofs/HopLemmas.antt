@@ -6,7 +6,8 @@ use Rattle.table_build.specs.Tables.{TableOf, exits_of}
 use Rattle.host_traffic.specs.declared.hop.Hop.{Hop}
 use Rattle.host_traffic.specs.declared.hop.Hop.TheVariants as hop
 use Rattle.host_traffic.specs.declared.hop.DropCause.TheVariants as cause
-use Rattle.host_traffic.specs.Packets.{PacketOf, after_hop, delivered_to, goes_by, hop_by, hop_in, hopped_in, moved, packet_of, place_after, row_entry, without}
+use Rattle.host_traffic.specs.Packets.{PacketOf, after_hop, delivered_to, goes_by, hop_by, hop_in, hopped_in, moved, packet_of, row_entry, without}
+use Rattle.host_traffic.specs.Filed.{place_after}
 
 -- a packet goes on only by an exit whose link is up
 abbrev IsOnward : (ℕ → Option (ℕ × ℕ)) → Hop → Type 0

@@ -1,10 +1,12 @@
--- How a `Traffic` stores its packets. No public clause cites this module.
+-- How a `Traffic` stores its packets, and where one is after a hop. No public clause cites this module.
 
-use Rattle.std.specs.Prelude.{◌≡◌, ◌<◌, ◌≤◌, ℕ, List, map, length, Option, Some, All, AllPairs, MatchOption}
+use Rattle.std.specs.Prelude.{◌≡◌, ◌<◌, ◌≤◌, ℕ, List, map, length, Option, Some, All, AllPairs, MatchOption, None}
 use Rattle.std.specs.Prelude.{slice_get, true, unwrap_or, take, drop, insert}
 use Rattle.slab.specs.Slab.{Slab, get, slab_len}
 use Rattle.host_traffic.specs.declared.traffic.Filed.{Filed}
 use Rattle.host_traffic.specs.Packets.{PacketOf}
+use Rattle.host_traffic.specs.declared.hop.Hop.{Hop}
+use Rattle.host_traffic.specs.declared.hop.Hop.TheVariants as hop
 
 -- a packet that is none
 abbrev pub nowhere : PacketOf
@@ -49,3 +51,9 @@ pub record IsFiledIn (filed : Filed) (old new : List Filed) : Type 0 where
   pub place : ℕ
   pub is_place : IsPlaceFor filed.packet old place
   pub order : new ≡ insert old place filed
+
+-- the switch and port where a packet is after a hop, if it is under way still
+abbrev pub place_after : Hop → (ℕ → Option (ℕ × ℕ)) → Option (ℕ × ℕ)
+place_after (hop.Went exit) next = next exit
+place_after (hop.Delivered exit host) next = None
+place_after (hop.Dropped why) next = None

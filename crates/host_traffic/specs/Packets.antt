@@ -52,14 +52,9 @@ abbrev pub hop_in :
     (ℕ → Option TableOf) → (ℕ → ℕ → Option (ℕ × ℕ)) → (ℕ → ℕ → Option (ℕ × ℕ)) → PacketOf → Hop
 hop_in table host next packet = hop_by (table packet.at) (host packet.at) (next packet.at) packet
 
--- the switch and port where it is now, and where it is after a hop, if it is under way still
+-- the switch and port where it is now
 abbrev pub place_now : PacketOf → ℕ × ℕ
 place_now packet = (packet.at, packet.entry)
-
-abbrev pub place_after : Hop → (ℕ → Option (ℕ × ℕ)) → Option (ℕ × ℕ)
-place_after (hop.Went exit) next = next exit
-place_after (hop.Delivered exit host) next = None
-place_after (hop.Dropped why) next = None
 
 -- the number of the first packet
 abbrev pub first_packet : List PacketOf → Option ℕ

@@ -4,8 +4,8 @@ ghost use Rattle.std.specs.Prelude.{◌≡◌, ◌==◌, ◌<◌, ◌≤◌, ◌
 ghost use Rattle.std.specs.Option.{option_map};
 ghost use Rattle.std.specs.VecDeque.{deque_len, deque_capacity};
 ghost use Rattle.host_traffic.specs.Packets.{delivered_to, first_packet, goes_by};
-ghost use Rattle.host_traffic.specs.Packets.{hop_in, hopped_in, packet_of, place_after, place_now, with_new};
-ghost use Rattle.host_traffic.specs.Filed.{IsFiledIn, IsFoundAt, IsPlaceFor};
+ghost use Rattle.host_traffic.specs.Packets.{hop_in, hopped_in, packet_of, place_now, with_new};
+ghost use Rattle.host_traffic.specs.Filed.{IsFiledIn, IsFoundAt, IsPlaceFor, place_after};
 
 use crate::hop::{DropCause, Hop};
 use crate::packet::Packet;

@@ -1,18 +1,14 @@
 -- The row of a rank, read again.
-use Rattle.std.proofs.Common.{◌≡◌, ◌∙◌, sym, ap, refl, ℕ, zero, suc, ◌+◌, ◌-◌, ◌*◌, ◌/◌, ◌%◌, ◌^◌, ◌<◌, ◌≤◌, ◌&&◌, Bool, true, cond, leb, List, [], ◌∷◌, ◌++◌, length, length-append, take, drop, All, Option, Some, None, Ok, arith, pow-suc}
+use Rattle.std.proofs.Common.{◌≡◌, ◌∙◌, sym, ap, refl, ℕ, ◌+◌, ◌-◌, ◌^◌, ◌<◌, ◌≤◌, ◌&&◌, Bool, true, cond, leb, List, [], ◌∷◌, ◌++◌, length, length-append, take, drop, All, Option, Some, None, Ok, arith}
 use Rattle.std.specs.Prelude.{codes, option_and_then}
-use Rattle.std.specs.Char.{digit_value, is_digit}
 use Rattle.std.specs.Fmt.{decimal}
-use Rattle.std.specs.List.{join_with_byte, list_all}
+use Rattle.std.specs.List.{join_with_byte}
 use Rattle.std.specs.Str.{bytes_eq}
 use Rattle.std.specs.Str.Parse.{digits_value}
-use Rattle.std.proofs.lemmas.Bool.Decides.{nat_tests}
-use Rattle.std.proofs.lemmas.Int.Digits.{digits_value_push}
 use Rattle.std.proofs.lemmas.List.{drop_at, take_at}
-use Rattle.std.proofs.lemmas.List.Elements.{All-append, All-nil, All-push}
-use Rattle.std.proofs.lemmas.List.Folds.{list_all-append}
-use Rattle.text_lines.specs.Words.{hex_glyph, hex_text, is_number, is_number_in, number_value}
-use Rattle.text_lines.proofs.SpellLemmas.{IsPrinted, IsWord, decimal_number, decimal_value, decimal_word, fixed_word, ge_test, le_test, length-hex_text, line_short, line_words, words_cons, words_nil}
+use Rattle.std.proofs.lemmas.List.Elements.{All-append}
+use Rattle.text_lines.specs.Words.{hex_text, is_number, is_number_in, number_value}
+use Rattle.text_lines.proofs.SpellLemmas.{IsPrinted, IsWord, decimal_number, decimal_value, decimal_word, fixed_word, ge_test, hex_digits, hex_printed, hex_says, le_test, length-hex_text, line_short, line_words, words_cons, words_nil}
 use Rattle.ib_words.specs.Cuts.{after}
 use Rattle.ib_words.specs.Digits.{hex, is_hex}
 use Rattle.ib_words.proofs.DigitLemmas.{hex_of_digits}
@@ -23,37 +19,6 @@ use Rattle.ib_ranks.proofs.RankLemmas.{said_words}
 use Rattle.ib_lines.specs.declared.ranks.Rank.{Rank}
 use Rattle.ib_lines.specs.Answers.{Row, guid_word}
 use Rattle.ib_lines.specs.Ranks.{rank_row}
-
--- hexadecimal digits are digits, are printed, and say their number
-glyph_digit : (d : ℕ) → d < 16 → is_digit (hex_glyph d) 16 ≡ true
-glyph_digit d low = grind (arith, nat_tests)
-
-glyph_value : (d : ℕ) → d < 16 → digit_value (hex_glyph d) ≡ d
-glyph_value d low = grind (arith, nat_tests)
-
-glyph_printed : (d : ℕ) → d < 16 → IsPrinted (hex_glyph d)
-glyph_printed d low = (grind (arith, nat_tests), grind (arith, nat_tests))
-
-hex_digits : (k n : ℕ) → list_all (λ c. is_digit c 16) (hex_text k n) ≡ true
-unfolding hex_text
-hex_digits zero n = refl
-hex_digits (suc k) n = list_all-append (λ c. is_digit c 16) (hex_text k (n / 16)) (hex_glyph (n % 16) ∷ []) ∙ rw (hex_digits k (n / 16), glyph_digit (n % 16) (omega arith)) refl
-
-hex_printed : (k n : ℕ) → All IsPrinted (hex_text k n)
-unfolding hex_text
-hex_printed zero n = All-nil IsPrinted
-hex_printed (suc k) n = All-push IsPrinted (hex_text k (n / 16)) (hex_glyph (n % 16)) (hex_printed k (n / 16)) (glyph_printed (n % 16) (omega arith))
-
-hex_says : (k n : ℕ) → n < 16 ^ k → digits_value 16 (hex_text k n) ≡ n
-unfolding hex_text
-hex_says zero n low = let none : n ≡ 0 = omega arith in sym none
-hex_says (suc k) n low =
-    let p : 16 ^ suc k ≡ 16 ^ k * 16 = rw pow-suc refl in
-    let front : n / 16 < 16 ^ k = omega arith in
-    digits_value_push 16 (hex_text k (n / 16)) (hex_glyph (n % 16))
-    ∙ ap (λ (x : ℕ). x * 16 + digit_value (hex_glyph (n % 16))) (hex_says k (n / 16) front)
-    ∙ ap (λ (x : ℕ). n / 16 * 16 + x) (glyph_value (n % 16) (omega arith))
-    ∙ (let split : n / 16 * 16 + n % 16 ≡ n = omega arith in split)
 
 pick : {X : Type 0} (b : Bool) (o : Option X) → b ≡ true → cond b o None ≡ o
 pick b o is = rw is refl

@@ -3,8 +3,7 @@ use Rattle.std.proofs.Common.{◌≡◌, ◌∙◌, sym, ap, ℕ, ◌+◌, ◌<�
 use Rattle.std.specs.List.{flat_map}
 use Rattle.std.proofs.lemmas.List.{take_more, map_push}
 use Rattle.std.proofs.lemmas.Grind.{flat_map-append}
-use Rattle.text_lines.specs.Lines.{line_text}
-use Rattle.text_lines.specs.Grammar.{forms_text_by}
+use Rattle.text_lines.specs.Lines.{line_text, forms_text_by}
 use Rattle.text_lines.proofs.FormTexts.{line_pieces, text_push}
 use Rattle.ib_lines.specs.declared.row.RowWord.{RowWord}
 use Rattle.ib_lines.specs.RowWords.{word_text}

@@ -1,8 +1,7 @@
 //! Rows of words, as they are printed.
 
-ghost use Rattle.std.specs.Prelude.{◌≡◌, ◌<◌, ◌++◌, ◌∷◌, List, ℕ, map, OnOk};
+ghost use Rattle.std.specs.Prelude.{◌≡◌, ◌++◌, ◌∷◌, List, ℕ, map, OnOk};
 ghost use Rattle.text_lines.specs.Lines.{line_text, lines_text};
-ghost use Rattle.text_lines.specs.Words.{hex_text, hex_glyph};
 ghost use Rattle.ib_lines.specs.Answers.{guid_word};
 ghost use Rattle.ib_lines.specs.Pictures.{closed_word, label_word, switch_word};
 ghost use Rattle.ib_lines.specs.RowWords.{word_text};
@@ -11,6 +10,7 @@ use crate::label::push_label;
 use an_base::memory::OutOfMemory;
 use an_base::text::push_decimal;
 use std::alloc::{AllocError, Global};
+use text_lines::spelling::push_hex;
 
 /// A word of a row.
 #[derive(Clone, Copy)]
@@ -105,26 +105,4 @@ fn push_closed(text: &mut Vec<u8>, guid: u64) -> Result<(), AllocError>
     push_guid(text, guid)?;
     text.push(b'"')?;
     Ok(())
-}
-
-// Appends the last so many hexadecimal digits of a number.
-fn push_hex(text: &mut Vec<u8>, digits: u8, number: u64) -> Result<(), AllocError>
-    ensures { OnOk result (text.new.items ≡ text.old.items ++ hex_text digits number) }
-{
-    if digits > 0 {
-        push_hex(text, digits - 1, number / 16)?;
-        text.push(hex_glyph((number % 16) as u8))?;
-    }
-    Ok(())
-}
-
-fn hex_glyph(digit: u8) -> u8
-    requires { digit < 16 }
-    ensures { result ≡ hex_glyph digit }
-{
-    if digit < 10 {
-        b'0' + digit
-    } else {
-        b'a' + (digit - 10)
-    }
 }

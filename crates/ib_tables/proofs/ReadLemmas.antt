@@ -21,12 +21,12 @@ use Rattle.ib_tables.specs.declared.line.TableLine.{TableLine}
 use Rattle.ib_tables.specs.declared.reading.Reading.{Reading}
 use Rattle.ib_tables.specs.declared.reader.TablesRefusal.{TablesRefusal}
 use Rattle.ib_tables.specs.declared.reader.TablesRefusal.TheVariants as refusal
-use Rattle.ib_tables.specs.Answers.{LedToOrWant}
+use Rattle.ib_tables.specs.Answers.{LedToOrWant, refused}
 use Rattle.ib_tables.specs.Readings.{told_of}
 use Rattle.ib_tables.specs.Tables.{Step, told_after, told_with}
 use Rattle.ib_tables.specs.Pieces.{IsReadTo, BeginsWith, ReadsOn, IsFirstRead, IsLineRead, IsReadOn, IsLastRead, IsStoppedLast, IsStoppedOn}
 use Rattle.ib_tables.specs.Pieces.{IsFaultOfAll, is_feed}
-use Rattle.ib_tables.specs.Reads.{refused, GaveFault, GaveTold, GavePiece, IsRefusedBy, IsFinished, IsUnfinished}
+use Rattle.ib_tables.specs.Reads.{GaveFault, GaveTold, GavePiece, IsRefusedBy, IsFinished, IsUnfinished}
 use Rattle.ib_tables.proofs.SaidLemmas.{told_by}
 use Rattle.ib_tables.proofs.PieceLemmas.{read_next, read_more, fault_next, last_read, last_faulty}
 

@@ -1,9 +1,11 @@
 -- How lines and their steps are answered.
 
-use Rattle.std.specs.Prelude.{◌≡◌, Result, Ok, Err, ⊤}
+use Rattle.std.specs.Prelude.{◌≡◌, Result, Ok, Err, ⊤, ℕ}
 use Rattle.text_lines.specs.declared.stop.Stop.{Stop}
 use Rattle.text_lines.specs.declared.stop.Stop.TheVariants.{Fault, OutOfMemory}
 use Rattle.ib_tables.specs.declared.cause.TablesCause.{TablesCause}
+use Rattle.ib_tables.specs.declared.reader.TablesRefusal.{TablesRefusal}
+use Rattle.ib_tables.specs.declared.reader.TablesRefusal.TheVariants as refusal
 
 -- what was to be found was found, or the cause why it is not there, or no memory was found
 abbrev pub IsSaid : {A : Type 0} → Result A (Stop TablesCause) → Result A TablesCause → Type 0
@@ -22,3 +24,8 @@ abbrev pub LedToOrWant :
 LedToOrWant (Ok done) after step = step ≡ Ok after
 LedToOrWant (Err (Fault cause)) after step = step ≡ Err cause
 LedToOrWant (Err OutOfMemory) after step = ⊤
+
+-- the refusal of a text that was stopped at a line
+abbrev pub refused : ℕ → Stop TablesCause → TablesRefusal
+refused line (Fault cause) = refusal.Fault line cause
+refused line OutOfMemory = refusal.OutOfMemory

@@ -4,8 +4,6 @@ use Rattle.std.specs.Prelude.{◌≡◌, ◌⊎◌, ◌+◌, ◌*◌, ◌<◌, �
 use Rattle.outside.specs.Told.{Seen, Gave, IsAtEnd, Failed}
 use Rattle.text_lines.specs.Chains.{LeadsBy}
 use Rattle.text_lines.specs.Lines.{lines_of}
-use Rattle.text_lines.specs.declared.stop.Stop.{Stop}
-use Rattle.text_lines.specs.declared.stop.Stop.TheVariants.{Fault, OutOfMemory}
 use Rattle.ib_net.specs.Fabric.{FabricOf, switch_count}
 use Rattle.ib_cells.specs.Cells.{tables_of}
 use Rattle.ib_tables.specs.declared.cause.TablesCause.{TablesCause}
@@ -45,11 +43,6 @@ abbrev pub IsRefusedBy : FabricOf → (old new : Seen) → TablesRefusal → Typ
 IsRefusedBy fabric old new (refusal.Fault line cause) = GaveFault fabric old new line cause
 IsRefusedBy fabric old new refusal.ReadFault = Failed old new
 IsRefusedBy fabric old new refusal.OutOfMemory = ⊤
-
--- the refusal of a text that was stopped at a line
-abbrev pub refused : ℕ → Stop TablesCause → TablesRefusal
-refused line (Fault cause) = refusal.Fault line cause
-refused line OutOfMemory = refusal.OutOfMemory
 
 -- a source was read to its end, and what it gave says this
 pub record GaveTold (fabric : FabricOf) (old new : Seen) (told : Told) : Type 0 where

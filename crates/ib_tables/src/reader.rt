@@ -8,7 +8,8 @@ ghost use Rattle.ib_tables.specs.declared.reader.TablesRefusal.TheVariants as re
 ghost use Rattle.ib_tables.specs.Readings.{IsFit, IsReady, told_of};
 ghost use Rattle.ib_tables.specs.Tables.{none_told};
 ghost use Rattle.ib_tables.specs.Pieces.{is_feed, IsLineRead, IsReadOn, IsStoppedOn, IsLastRead, IsStoppedLast};
-ghost use Rattle.ib_tables.specs.Reads.{refused, GavePiece, GaveTables, GaveTold, HasCells, IsRefusedBy, IsFinished, IsUnfinished};
+ghost use Rattle.ib_tables.specs.Reads.{GavePiece, GaveTables, GaveTold, HasCells, IsRefusedBy, IsFinished, IsUnfinished};
+ghost use Rattle.ib_tables.specs.Answers.{refused};
 
 use crate::cause::TablesCause;
 use crate::first::{first_feed, first_row};

@@ -1,20 +1,18 @@
 -- What the printed lines say.
-use Rattle.std.proofs.Common.{◌≡◌, ◌∙◌, sym, ap, refl, ℕ, zero, suc, ◌+◌, ◌-◌, ◌*◌, ◌/◌, ◌%◌, ◌^◌, ◌<◌, ◌≤◌, List, [], ◌∷◌, ◌++◌, arith, length, length-append, All, Some, None, Ok, Bool, true, false, ◌&&◌, eqb, ltb, pow-suc}
+use Rattle.std.proofs.Common.{◌≡◌, ◌∙◌, sym, refl, ℕ, ◌+◌, ◌-◌, ◌*◌, ◌/◌, ◌%◌, ◌^◌, ◌<◌, ◌≤◌, List, [], ◌∷◌, ◌++◌, arith, length, length-append, All, Some, None, Ok, Bool, true, false, ◌&&◌, eqb, ltb}
+use Rattle.std.proofs.Math.Bool.{and-false}
 use Rattle.std.specs.Prelude.{codes, if◌then◌else◌, is_some}
 use Rattle.std.specs.Fmt.{decimal}
 use Rattle.std.specs.List.{list_all, join_with_byte}
-use Rattle.std.specs.Char.{is_digit, is_ascii_digit, digit_value}
+use Rattle.std.specs.Char.{is_ascii_digit, digit_value}
 use Rattle.std.specs.Str.{bytes_eq}
-use Rattle.std.specs.Str.Parse.{digits_value}
 use Rattle.std.proofs.lemmas.Bool.{and_parts}
 use Rattle.std.proofs.lemmas.Bool.Decides.{nat_tests}
 use Rattle.std.proofs.lemmas.Fmt.{digits_decimal, decimal_nonempty}
-use Rattle.std.proofs.lemmas.Int.Digits.{digits_value_push}
-use Rattle.std.proofs.lemmas.List.Elements.{All-nil, All-cons, All-append, All-push}
-use Rattle.std.proofs.lemmas.List.Folds.{list_all-append}
+use Rattle.std.proofs.lemmas.List.Elements.{All-nil, All-cons, All-append}
 use Rattle.text_lines.specs.Lines.{line_text}
 use Rattle.text_lines.specs.Words.{hex_glyph, hex_text}
-use Rattle.text_lines.proofs.SpellLemmas.{IsPrinted, IsWord, decimal_word, fixed_word, length-hex_text, line_short, line_words, words_cons, words_nil}
+use Rattle.text_lines.proofs.SpellLemmas.{IsPrinted, IsWord, decimal_word, fixed_word, glyph_digit, glyph_value, hex_digits, hex_printed, hex_says, length-hex_text, line_short, line_words, words_cons, words_nil}
 use Rattle.text_lines.proofs.WordLemmas.{own}
 use Rattle.ib_words.specs.Cuts.{after, cut_first}
 use Rattle.ib_words.specs.Digits.{guid, hex}
@@ -25,37 +23,6 @@ use Rattle.ib_tables.specs.TableLines.{begins, head_guid, said_by, said_in}
 use Rattle.ib_tables.proofs.SaidLemmas.{said_by_words}
 use Rattle.ib_tables_text.specs.Printed.{end_words, head_words, lid_word, port_word, row_words}
 use Rattle.ib_tables_text.specs.Texts.{guid_word}
-
--- hexadecimal digits
-glyph_digit : (d : ℕ) → d < 16 → is_digit (hex_glyph d) 16 ≡ true
-glyph_digit d low = grind (arith, nat_tests)
-
-glyph_value : (d : ℕ) → d < 16 → digit_value (hex_glyph d) ≡ d
-glyph_value d low = grind (arith, nat_tests)
-
-glyph_printed : (d : ℕ) → d < 16 → IsPrinted (hex_glyph d)
-glyph_printed d low = (grind (arith, nat_tests), grind (arith, nat_tests))
-
-hex_digits : (k n : ℕ) → list_all (λ c. is_digit c 16) (hex_text k n) ≡ true
-unfolding hex_text
-hex_digits zero n = refl
-hex_digits (suc k) n = list_all-append (λ c. is_digit c 16) (hex_text k (n / 16)) (hex_glyph (n % 16) ∷ []) ∙ rw (hex_digits k (n / 16), glyph_digit (n % 16) (omega arith)) refl
-
-hex_printed : (k n : ℕ) → All IsPrinted (hex_text k n)
-unfolding hex_text
-hex_printed zero n = All-nil IsPrinted
-hex_printed (suc k) n = All-push IsPrinted (hex_text k (n / 16)) (hex_glyph (n % 16)) (hex_printed k (n / 16)) (glyph_printed (n % 16) (omega arith))
-
-hex_says : (k n : ℕ) → n < 16 ^ k → digits_value 16 (hex_text k n) ≡ n
-unfolding hex_text
-hex_says zero n low = let none : n ≡ 0 = omega arith in sym none
-hex_says (suc k) n low =
-    let p : 16 ^ suc k ≡ 16 ^ k * 16 = rw pow-suc refl in
-    let front : n / 16 < 16 ^ k = omega arith in
-    digits_value_push 16 (hex_text k (n / 16)) (hex_glyph (n % 16))
-    ∙ ap (λ (x : ℕ). x * 16 + digit_value (hex_glyph (n % 16))) (hex_says k (n / 16) front)
-    ∙ ap (λ (x : ℕ). n / 16 * 16 + x) (glyph_value (n % 16) (omega arith))
-    ∙ (let split : n / 16 * 16 + n % 16 ≡ n = omega arith in split)
 
 -- the words of each line
 zero_x : IsWord (codes "0x")
@@ -142,10 +109,6 @@ unfolding hex_text said_in after
 head_said g low = rw (head_guid_is g ∙ guid_said g low) refl
 
 -- what the last line of a table says
-and_false : (b : Bool) → (b && false) ≡ false
-and_false true = refl
-and_false false = refl
-
 digit_range : (c : ℕ) → is_ascii_digit c ≡ true → (48 ≤ c) × (c ≤ 57)
 digit_range c t = (grind (arith, nat_tests), grind (arith, nat_tests))
 
@@ -160,7 +123,7 @@ no_front c d rest low high below =
     let x : eqb d 120 ≡ false = grind (arith, nat_tests) in
     let u : eqb c 85 ≡ false = grind (arith, nat_tests) in
     let s : eqb c 42 ≡ false = grind (arith, nat_tests) in
-    (none_of (bytes_eq (c ∷ d ∷ []) (codes "0x")) rest (rw x (and_false (eqb c 48))), rw u refl, rw s refl)
+    (none_of (bytes_eq (c ∷ d ∷ []) (codes "0x")) rest (rw x (and-false (eqb c 48))), rw u refl, rw s refl)
 
 no_form : (w rest : List ℕ) → list_all is_ascii_digit w ≡ true → 0 < length w → (begins (codes "0x") (w ++ 32 ∷ rest) ≡ false) × (begins (codes "Unicast lids ") (w ++ 32 ∷ rest) ≡ false) × (begins (codes "*** WARNING ***") (w ++ 32 ∷ rest) ≡ false)
 no_form [] rest all some = absurd (omega arith)
@@ -174,7 +137,7 @@ no_form (c ∷ d ∷ w) rest all some =
     no_front c d (w ++ 32 ∷ rest) first.0 first.1 second.1
 
 end_by : (w : List ℕ) → list_all is_ascii_digit w ≡ true → said_by (w ∷ codes "lids" ∷ codes "dumped" ∷ []) ≡ Ok End
-end_by w all = rw (and_false (bytes_eq w (codes "Lid")), all) refl
+end_by w all = rw (and-false (bytes_eq w (codes "Lid")), all) refl
 
 pub end_said : (n : ℕ) → n < 2 ^ 64 → said_in (join_with_byte 32 (end_words n)) ≡ Ok End
 end_said n low =

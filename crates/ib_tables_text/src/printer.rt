@@ -2,7 +2,6 @@
 
 ghost use Rattle.std.specs.Prelude.{◌≡◌, ◌<◌, ◌≤◌, ◌+◌, ◌*◌, ◌++◌, length, OnOk, IfOk};
 ghost use Rattle.text_lines.specs.Lines.{line_text};
-ghost use Rattle.text_lines.specs.Words.{hex_glyph, hex_text};
 ghost use Rattle.ib_net.specs.Fabric.{IsFabric, switch_count};
 ghost use Rattle.ib_cells.specs.Cells.{tables_of};
 ghost use Rattle.ib_tables.specs.declared.reading.Part.TheVariants.{Dumped};
@@ -14,7 +13,7 @@ use ib_cells::cells::Cells;
 use ib_net::fabric::Fabric;
 use ib_net::node::EndPort;
 use std::alloc::Global;
-use text_lines::spelling::{decimal, push_line};
+use text_lines::spelling::{decimal, hex_glyph, push_hex, push_line};
 
 /// The text of tables of a fabric: for each switch a head, a row for each LID for which it has a port, and a last line.
 /// The error is want of memory alone.
@@ -152,26 +151,4 @@ pub fn guid_word(alloc: Global, guid: u64) -> Result<Vec<u8>, OutOfMemory>
     let mut word = Vec::from_slice(alloc, b"0x")?;
     push_hex(&mut word, 16, guid)?;
     Ok(word)
-}
-
-// Appends the last so many hexadecimal digits of a number.
-fn push_hex(text: &mut Vec<u8>, digits: u8, number: u64) -> Result<(), OutOfMemory>
-    ensures { OnOk result (text.new.items ≡ text.old.items ++ hex_text digits number) }
-{
-    if digits > 0 {
-        push_hex(text, digits - 1, number / 16)?;
-        text.push(hex_glyph((number % 16) as u8))?;
-    }
-    Ok(())
-}
-
-fn hex_glyph(digit: u8) -> u8
-    requires { digit < 16 }
-    ensures { result ≡ hex_glyph digit }
-{
-    if digit < 10 {
-        b'0' + digit
-    } else {
-        b'a' + (digit - 10)
-    }
 }

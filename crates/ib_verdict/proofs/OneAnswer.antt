@@ -1,8 +1,8 @@
 -- The verdict is one.
 use Rattle.std.proofs.Common.{◌≡◌, ◌∙◌, sym, ap, subst, refl, ℕ, ◌⊎◌, List, [], ◌∷◌, Equal, map, inl, inr, arith}
+use Rattle.an_base.proofs.OrderLaws.{nat_apart}
 use Rattle.std.specs.Ordering.{nat_cmp}
 use Rattle.std.specs.Cmp.{IsTotalOrder, then_total, on_total, nat_cmp_total}
-use Rattle.std.proofs.lemmas.Bool.Decides.{nat_tests}
 use Rattle.an_base.proofs.OrderingLemmas.{then_equal}
 use Rattle.channel_graph.proofs.OneAnswer.{no_both, one_cycle, one_rank}
 use Rattle.ib_cells.specs.Cells.{TablesOf}
@@ -19,16 +19,13 @@ use Rattle.ib_verdict.specs.Verdict.{HasRanks, IsLeastLoop, channel_cmp, rank_in
 channel_total : IsTotalOrder channel_cmp
 channel_total = then_total (on_total (λ c. c.switch) nat_cmp_total) (on_total (λ c. c.port) nat_cmp_total)
 
-number_same : (m n : ℕ) → nat_cmp m n ≡ Equal → m ≡ n
-number_same m n e = grind (arith, nat_tests)
-
 pub same_parts : (one other : Channel) → one.switch ≡ other.switch → one.port ≡ other.port → one ≡ other
 same_parts one other switch port = ap (λ (s : ℕ). let c : Channel = record { switch = s; port = one.port } in c) switch ∙ ap (λ (p : ℕ). let c : Channel = record { switch = other.switch; port = p } in c) port
 
 channel_same : (one other : Channel) → channel_cmp one other ≡ Equal → one ≡ other
 channel_same one other e =
     let parts = then_equal (nat_cmp one.switch other.switch) (nat_cmp one.port other.port) e in
-    same_parts one other (number_same one.switch other.switch parts.0) (number_same one.port other.port parts.1)
+    same_parts one other (nat_apart one.switch other.switch parts.0) (nat_apart one.port other.port parts.1)
 
 -- a port leads to a switch or does not
 to_switch : (side : Side) → ((to entry : ℕ) × (side ≡ To to entry)) ⊎ ((to entry : ℕ) → side ≡ To to entry → ⊥)

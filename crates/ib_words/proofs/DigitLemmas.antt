@@ -1,4 +1,5 @@
-use Rattle.std.proofs.Common.{◌≡◌, ◌∙◌, ap, refl, ℕ, ◌-◌, ◌^◌, ◌<◌, ◌≤◌, List, arith, length, get_or, map, lit<, Option, Some, None, Bool, true, false, eqb, ◌&&◌, nat_lt, nat_le}
+use Rattle.std.proofs.Common.{◌≡◌, ◌∙◌, ap, refl, ℕ, ◌-◌, ◌^◌, ◌<◌, ◌≤◌, List, arith, length, get_or, map, lit<, Option, Some, None, Bool, true, false, eqb, nat_lt, nat_le}
+use Rattle.std.proofs.Math.Bool.{and-false}
 use Rattle.std.specs.Prelude.{MatchOption, if◌then◌else◌}
 use Rattle.std.specs.List.{list_all, range_with_len}
 use Rattle.std.specs.Char.{is_digit, digit_value}
@@ -11,19 +12,15 @@ use Rattle.std.proofs.Math.Nat.{pow-le-pow_right}
 use Rattle.text_lines.specs.Words.{is_number_in, number_value}
 use Rattle.ib_words.specs.Digits.{digit_or_more, is_hex, hex, guid, decimal}
 
-and_false : (b : Bool) → (b && false) ≡ false
-and_false true = refl
-and_false false = refl
-
 -- words that are no number in hexadecimal digits
 pub hex_of_none : (word : List ℕ) → length word ≡ 0 → is_hex word ≡ false
-hex_of_none word none = let t : nat_lt 0 (length word) ≡ false = grind (arith, nat_tests) in rw t (and_false (list_all (λ byte. is_digit byte 16) word))
+hex_of_none word none = let t : nat_lt 0 (length word) ≡ false = grind (arith, nat_tests) in rw t (and-false (list_all (λ byte. is_digit byte 16) word))
 
 pub hex_of_many : (word : List ℕ) → 16 < length word → is_hex word ≡ false
 hex_of_many word many =
     let s : nat_lt 0 (length word) ≡ true = grind (arith, nat_tests) in
     let t : nat_le (length word) 16 ≡ false = grind (arith, nat_tests) in
-    rw (s, t) (and_false (list_all (λ byte. is_digit byte 16) word))
+    rw (s, t) (and-false (list_all (λ byte. is_digit byte 16) word))
 
 pub hex_of_other : (word : List ℕ) (i : ℕ) → i < length word → is_digit (get_or word i 0) 16 ≡ false → is_hex word ≡ false
 hex_of_other word i low other = let t : list_all (λ byte. is_digit byte 16) word ≡ false = list_all_at (λ byte. is_digit byte 16) word i 0 low other in rw t refl

@@ -1,7 +1,7 @@
 use Rattle.std.proofs.Common.{◌≡◌, ap, refl, lit<, ℕ, ◌+◌, ◌-◌, ◌*◌, ◌<◌, ◌≤◌, List, arith, length, Option, Some, None, Bool, true, false, eqb, ◌&&◌, ◌||◌, nat_le, get_or}
 use Rattle.std.specs.Prelude.{if◌then◌else◌}
 use Rattle.std.specs.Char.{is_digit, is_ascii_digit, digit_value}
-use Rattle.std.proofs.lemmas.Bool.{false≢true, false_from_ne_true}
+use Rattle.std.proofs.lemmas.Bool.{false_from_ne_true, and_parts}
 use Rattle.std.proofs.lemmas.Bool.Decides.{nat_tests}
 use Rattle.std.proofs.lemmas.Option.{none-some}
 use borrow.Author.Count.{below_none, below_more}
@@ -9,11 +9,6 @@ use Rattle.ib_words.specs.Cuts.{◌>>=◌}
 use Rattle.ib_words.specs.Digits.{digit_or_more}
 use Rattle.ib_words.specs.Rows.{four_hex, three_decimal, is_row, row}
 use Rattle.ib_words.proofs.DigitLemmas.{digit_below, digit_small}
-
--- two tests that hold
-both : (a b : Bool) → (a && b) ≡ true → (a ≡ true) × (b ≡ true)
-both true b holds = (refl, holds)
-both false b holds = absurd (false≢true holds)
 
 -- digits
 pub no_four : (a b c d : ℕ) → ((is_digit a 16 && is_digit b 16) && (is_digit c 16 && is_digit d 16)) ≡ false → None ≡ four_hex a b c d
@@ -35,9 +30,9 @@ four_within a b c d w x y z is_w is_x is_y is_z within =
 pub four_beyond : (a b c d w x y z : ℕ) → w ≡ digit_or_more a → x ≡ digit_or_more b → y ≡ digit_or_more c → z ≡ digit_or_more d → 65535 < w * 4096 + x * 256 + y * 16 + z → None ≡ four_hex a b c d
 four_beyond a b c d w x y z is_w is_x is_y is_z beyond =
     no_four a b c d (false_from_ne_true ((is_digit a 16 && is_digit b 16) && (is_digit c 16 && is_digit d 16)) (λ all.
-    let front = both (is_digit a 16 && is_digit b 16) (is_digit c 16 && is_digit d 16) all in
-    let p = both (is_digit a 16) (is_digit b 16) front.0 in
-    let q = both (is_digit c 16) (is_digit d 16) front.1 in
+    let front = and_parts (is_digit a 16 && is_digit b 16) (is_digit c 16 && is_digit d 16) all in
+    let p = and_parts (is_digit a 16) (is_digit b 16) front.0 in
+    let q = and_parts (is_digit c 16) (is_digit d 16) front.1 in
     omega (arith, beyond, digit_small a w is_w p.0, digit_small b x is_x p.1, digit_small c y is_y q.0, digit_small d z is_z q.1)))
 
 pub no_three : (a b c : ℕ) → (is_ascii_digit a && (is_ascii_digit b && is_ascii_digit c)) ≡ false → None ≡ three_decimal a b c
@@ -87,24 +82,24 @@ row_parts line found is = parts_of (is_row line) (four_hex (get_or line 2 0) (ge
 four_digits : (a b c d n : ℕ) → four_hex a b c d ≡ Some n → ((is_digit a 16 ≡ true) × (is_digit b 16 ≡ true)) × ((is_digit c 16 ≡ true) × (is_digit d 16 ≡ true))
 unfolding four_hex
 four_digits a b c d n is =
-    let all = both (is_digit a 16 && is_digit b 16) (is_digit c 16 && is_digit d 16) (if_passed ((is_digit a 16 && is_digit b 16) && (is_digit c 16 && is_digit d 16)) (digit_value a * 4096 + digit_value b * 256 + digit_value c * 16 + digit_value d) n is) in
-    (both (is_digit a 16) (is_digit b 16) all.0, both (is_digit c 16) (is_digit d 16) all.1)
+    let all = and_parts (is_digit a 16 && is_digit b 16) (is_digit c 16 && is_digit d 16) (if_passed ((is_digit a 16 && is_digit b 16) && (is_digit c 16 && is_digit d 16)) (digit_value a * 4096 + digit_value b * 256 + digit_value c * 16 + digit_value d) n is) in
+    (and_parts (is_digit a 16) (is_digit b 16) all.0, and_parts (is_digit c 16) (is_digit d 16) all.1)
 
 three_digits : (a b c n : ℕ) → three_decimal a b c ≡ Some n → (is_ascii_digit a ≡ true) × ((is_ascii_digit b ≡ true) × (is_ascii_digit c ≡ true))
 unfolding three_decimal
 three_digits a b c n is =
     let number = (a - 48) * 100 + (b - 48) * 10 + (c - 48) in
     let digits = is_ascii_digit a && (is_ascii_digit b && is_ascii_digit c) in
-    let all = both (is_ascii_digit a) (is_ascii_digit b && is_ascii_digit c) ((both digits (nat_le number 255) (if_passed (digits && nat_le number 255) number n is)).0) in
-    (all.0, both (is_ascii_digit b) (is_ascii_digit c) all.1)
+    let all = and_parts (is_ascii_digit a) (is_ascii_digit b && is_ascii_digit c) ((and_parts digits (nat_le number 255) (if_passed (digits && nat_le number 255) number n is)).0) in
+    (all.0, and_parts (is_ascii_digit b) (is_ascii_digit c) all.1)
 
 pub row_front : (line : List ℕ) → is_row line ≡ true → (nat_le 10 (length line) ≡ true) × (eqb (get_or line 0 0) 48 ≡ true) × (eqb (get_or line 1 0) 120 ≡ true) × (eqb (get_or line 6 0) 32 ≡ true) × ((eqb (length line) 10 || eqb (get_or line 10 0) 32) ≡ true)
 row_front line is =
     let last = eqb (length line) 10 || eqb (get_or line 10 0) 32 in
-    let long = both (nat_le 10 (length line)) (eqb (get_or line 0 0) 48 && (eqb (get_or line 1 0) 120 && (eqb (get_or line 6 0) 32 && last))) is in
-    let zero = both (eqb (get_or line 0 0) 48) (eqb (get_or line 1 0) 120 && (eqb (get_or line 6 0) 32 && last)) long.1 in
-    let x = both (eqb (get_or line 1 0) 120) (eqb (get_or line 6 0) 32 && last) zero.1 in
-    let spaces = both (eqb (get_or line 6 0) 32) last x.1 in
+    let long = and_parts (nat_le 10 (length line)) (eqb (get_or line 0 0) 48 && (eqb (get_or line 1 0) 120 && (eqb (get_or line 6 0) 32 && last))) is in
+    let zero = and_parts (eqb (get_or line 0 0) 48) (eqb (get_or line 1 0) 120 && (eqb (get_or line 6 0) 32 && last)) long.1 in
+    let x = and_parts (eqb (get_or line 1 0) 120) (eqb (get_or line 6 0) 32 && last) zero.1 in
+    let spaces = and_parts (eqb (get_or line 6 0) 32) last x.1 in
     (long.0, zero.0, x.0, spaces.0, spaces.1)
 
 -- no byte of a row is a line feed

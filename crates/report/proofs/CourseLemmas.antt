@@ -9,9 +9,8 @@ use Rattle.an_base.specs.declared.event.Event.{Event}
 use Rattle.an_base.specs.declared.event.Event.TheVariants.{Tick, Clock, Take, Handle, Load, Restart}
 use Rattle.net_graph.specs.Wires.{network}
 use Rattle.net_script.specs.Scripts.{IsScript, ScriptOf}
-use Rattle.fabric_state.specs.Fabric.{FabricOf, StationOf, no_life, station, vacant, held_bytes}
+use Rattle.fabric_state.specs.Fabric.{FabricOf, StationOf, no_life, station, vacant, held_bytes, life_of}
 use Rattle.fabric_state.specs.Lawful.{is_lawful}
-use Rattle.fabric_state.specs.Starts.{life_of}
 use Rattle.fabric_state.proofs.LawfulLemmas.{command_fits, command_is, lawful_is}
 use Rattle.fabric_state.proofs.ReadyLemmas.{handle_ready, load_ready, restart_ready}
 use Rattle.fabric_state.proofs.StepLemmas.{events_most}

@@ -1,4 +1,5 @@
 pub mod ToldTexts
+pub mod FirstWordLemmas
 pub mod ReporterLemmas
 pub mod ReadingLemmas
 pub mod MomentLemmas

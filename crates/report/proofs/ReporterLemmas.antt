@@ -9,7 +9,7 @@ use Rattle.outside.specs.Told.{Gains, GainsFront, Seen, with_back}
 use Rattle.outside.proofs.ToldLemmas.{with_back_none}
 use Rattle.fabric_state.specs.declared.ending.Ending.{Ending}
 use Rattle.fabric_state.specs.Fabric.{FabricOf}
-use Rattle.fabric_world.specs.Accounts.{rows_behind}
+use Rattle.fabric_world.specs.Lines.{rows_behind}
 use Rattle.fabric_world.specs.Histories.{IsLegal, fabric_of}
 use Rattle.fabric_world.specs.World.{WorldOf, after_all, begun, step, world_after}
 use Rattle.fabric_state.specs.declared.line.Line.{Line}

@@ -13,9 +13,9 @@ use Rattle.fabric_state.proofs.LawfulLemmas.{lawful_is}
 use Rattle.fabric_state.proofs.ReadyLemmas.{clock_ready, handle_ready, load_ready, take_ready}
 use Rattle.fabric_state.specs.declared.line.Line.{Line}
 use Rattle.fabric_state.specs.declared.line.PlacedLine.{PlacedLine}
-use Rattle.fabric_world.specs.Accounts.{AccountOf, account_of, gathered, loaded_rows, placed, placed_lines, rows_behind}
+use Rattle.fabric_world.specs.Accounts.{AccountOf, account_of, gathered, loaded_rows, placed, placed_lines}
 use Rattle.fabric_world.specs.Histories.{AreLawful, IsLegal, owner_of}
-use Rattle.fabric_world.specs.Lines.{lines_of}
+use Rattle.fabric_world.specs.Lines.{lines_of, rows_behind}
 use Rattle.fabric_world.specs.World.{WorldOf, step, world_after}
 use Rattle.fabric_world.proofs.CountLemmas.{world_counts}
 use Rattle.fabric_world.proofs.InductionLemmas.{world_first}

@@ -20,8 +20,7 @@ use Rattle.fabric_state.specs.Fabric.{FabricOf}
 use Rattle.fabric_state.specs.declared.line.Line.{Line}
 use Rattle.fabric_state.specs.declared.line.Line.TheVariants as line
 use Rattle.fabric_world.specs.World.{WorldOf, begun, step, world_after}
-use Rattle.fabric_world.specs.Accounts.{rows_behind}
-use Rattle.fabric_world.specs.Lines.{lines_of}
+use Rattle.fabric_world.specs.Lines.{lines_of, rows_behind}
 use Rattle.fabric_world.specs.Histories.{IsLegal, end_of}
 use Rattle.fabric_settling.specs.Claims.{HoldsAndSettles}
 use Rattle.journal.specs.Texts.{IsJournal}

@@ -1,13 +1,13 @@
 //! The lines of an event.
 
-ghost use Rattle.std.specs.Prelude.{◌≡◌, ◌==◌, ◌++◌, ◌∷◌, [], List, codes, slice_get, IfOk, OnOk, Some};
+ghost use Rattle.std.specs.Prelude.{◌≡◌, ◌==◌, ◌++◌, ◌∷◌, [], List, codes, slice_get, IfOk, IfSome, OnOk, Some};
 ghost use Rattle.std.specs.Option.{option_map_or};
 ghost use Rattle.std.specs.List.{list_any};
 ghost use Rattle.std.specs.Fmt.{decimal};
 ghost use Rattle.an_base.specs.declared.event.Event.{Event};
 ghost use Rattle.net_script.specs.Scripts.{ScriptOf};
 ghost use Rattle.row_text.specs.Names.{life_text};
-ghost use Rattle.fabric_world.specs.Accounts.{rows_behind};
+ghost use Rattle.fabric_world.specs.Lines.{rows_behind};
 ghost use Rattle.fabric_world.specs.Histories.{fabric_of};
 ghost use Rattle.fabric_book.specs.Nets.{history_of};
 ghost use Rattle.report.specs.Retellings.{Comes, HasCome};
@@ -191,6 +191,28 @@ impl<'a> Telling<'a> {
         Ok(())
     }
 
+    // The word for a life, if it is the first one of the switch at a place: the name there, which is found at once.
+    fn first_word(&self, s: u8, life: Life) -> Option<&'a [u8]>
+        ensures { IfSome result (λ word. word.now ≡ life_text self.now.script.now life) }
+    {
+        let wiring = self.script.wiring();
+        if s >= wiring.count() || wiring.life(s) != life {
+            return None;
+        }
+        Some(self.script.switch_names().get(usize::from(s)))
+    }
+
+    // Appends the life of the switch at a place behind a space.
+    fn push_life_at(&self, text: &mut Vec<u8>, s: u8, life: Life) -> Result<(), OutOfMemory>
+        ensures { OnOk result (text.new.items
+            ≡ text.old.items ++ spaced (life_text self.now.script.now life ∷ [])) }
+    {
+        match self.first_word(s, life) {
+            None => self.push_life(text, life),
+            Some(word) => push_word(text, word),
+        }
+    }
+
     // Appends a switch behind a space.
     fn push_switch(&self, text: &mut Vec<u8>, s: u8) -> Result<(), OutOfMemory>
         ensures { OnOk result (text.new.items
@@ -198,7 +220,7 @@ impl<'a> Telling<'a> {
     {
         match self.course.life(s) {
             None => push_word(text, b""),
-            Some(life) => self.push_life(text, life),
+            Some(life) => self.push_life_at(text, s, life),
         }
     }
 

@@ -8,7 +8,8 @@ use Rattle.an_base.specs.declared.port.Sample.TheVariants as sample
 use Rattle.port_monitor.specs.Histories.{externals}
 use Rattle.switch_core.specs.Bytes.{BytesOut, OutOf}
 use Rattle.switch_core.specs.Switch.{SwitchOf, started, started_as}
-use Rattle.switch_core.specs.Kept.{Counts, Handles, KeptOf, Loads as LoadsTable, StandsFor, Ticks, carried, is_spent, load_due}
+use Rattle.switch_core.specs.Kept.{Counts, Handles, KeptOf, Loads as LoadsTable, StandsFor, Ticks, carried, epoch_of, is_spent, load_due}
+use Rattle.switch_core.specs.Sound.{counted}
 use Rattle.switch_core.specs.declared.switch.TableFor.{TableFor}
 use Rattle.switch_c.specs.declared.shown.FrameShown.{FrameShown}
 use Rattle.switch_c.specs.declared.status.Status.{Status}
@@ -35,7 +36,7 @@ pub record IsStarted (life : LifeId) (epoch had : ℕ) (any : Bool) (instance : 
   pub loaded : instance.loaded ≡ None
   pub lost : instance.lost ≡ false
 
--- it took 2^60 clocks and frames, or 2^28 frames with a body
+-- it took 2^60 clocks and frames, or 2^28 frames with a body in its epoch
 abbrev pub is_full : KeptOf → Bool
 is_full switch = not (nat_lt switch.works 1152921504606846976) || not (nat_lt (carried switch) 268435456)
 
@@ -46,14 +47,14 @@ is_over instance = instance.lost || (is_full instance.switch || is_spent instanc
 
 -- a clock or a frame was taken, and comes to this, with so many bodies more; none of the frames that go out was
 -- handed out
-pub record IsTaken (Comes : SwitchOf → (SwitchOf → Type 0) → OutOf → Type 0) (Counts : ℕ → ℕ → Type 0)
+pub record IsTaken (Comes : SwitchOf → (SwitchOf → Type 0) → OutOf → Type 0) (Counts : KeptOf → KeptOf → Type 0)
     (old new : Instance) : Type 0 where
   pub comes : (switch : SwitchOf) → StandsFor old.switch switch
       → Comes switch (StandsFor new.switch) new.out
   pub given : new.given ≡ 0
   pub start : new.switch.start ≡ old.switch.start
   pub works : new.switch.works ≡ old.switch.works + 1
-  pub counts : Counts (carried old.switch) (carried new.switch)
+  pub counts : Counts old.switch new.switch
   pub loaded : new.loaded ≡ old.loaded
   pub lost : new.lost ≡ false
 
@@ -77,9 +78,12 @@ sample_of up hosts port =
 abbrev pub samples_of : ℕ → ℕ → List Sample
 samples_of up hosts = map (sample_of up hosts) externals
 
--- a clock, which brings no body
-abbrev pub brings_none : ℕ → ℕ → Type 0
-brings_none before after = after ≡ before
+-- a clock, which brings no body, and may begin an epoch
+abbrev pub brings_none : KeptOf → KeptOf → Type 0
+brings_none old new = carried new ≡ counted (epoch_of old) (epoch_of new) (carried old) 0
+
+abbrev pub keeps_count : KeptOf → KeptOf → Type 0
+keeps_count old new = carried new ≡ carried old
 
 pub record Clocks (now up hosts : ℕ) (old new : Instance) (status : Status) : Type 0 where
   pub over : is_over old ≡ true → Refuses Over old new status
@@ -87,18 +91,21 @@ pub record Clocks (now up hosts : ℕ) (old new : Instance) (status : Status) : 
   pub done : status ≡ Done
       → IsTaken (λ switch Is out. Ticks now (samples_of up hosts) switch Is out false) brings_none old new
   pub spent : status ≡ Spent
-      → IsTaken (λ switch Is out. Ticks now (samples_of up hosts) switch Is out true) brings_none old new
+      → IsTaken (λ switch Is out. Ticks now (samples_of up hosts) switch Is out true) keeps_count old new
   pub lost : status ≡ OutOfMemory → IsLost old new
 
 abbrev pub is_port : ℕ → Bool
 is_port port = nat_lt 0 port && nat_lt port 13
 
 -- bytes come by a port
+abbrev pub comes_with : List ℕ → KeptOf → KeptOf → Type 0
+comes_with bytes old new = Counts bytes (epoch_of old) (epoch_of new) (carried old) (carried new)
+
 pub record TakesFrame (port : ℕ) (bytes : List ℕ) (old new : Instance) (status : Status) : Type 0 where
   pub argument : is_port port ≡ false → Refuses Argument old new status
   pub over : is_port port ≡ true → is_over old ≡ true → Refuses Over old new status
   pub taken : is_port port ≡ true → is_over old ≡ false → (status ≡ Done) ⊎ (status ≡ OutOfMemory)
-  pub done : status ≡ Done → IsTaken (λ switch Is out. Handles port bytes switch Is out) (Counts bytes) old new
+  pub done : status ≡ Done → IsTaken (λ switch Is out. Handles port bytes switch Is out) (comes_with bytes) old new
   pub lost : status ≡ OutOfMemory → IsLost old new
 
 -- a frame is told: its port, its length, and its bytes at the front of those that C passed

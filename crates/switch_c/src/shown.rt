@@ -21,7 +21,7 @@ pub struct Shown {
     pub table_epoch: u64,
     /// How many clocks and frames came in this life, at most 2^60.
     pub works: u64,
-    /// How many of the frames carried a body, at most 2^28.
+    /// How many frames with a body came in its epoch, at most 2^28.
     pub carried: u32,
     /// How many members it has finished with in its epoch, 0 where it has not finished.
     pub members: u32,

@@ -1,5 +1,5 @@
 use Rattle.std.proofs.Common.{◌≡◌, ◌∙◌, sym, ap, refl, subst, ℕ, suc, ◌+◌, ◌*◌, ◌^◌, ◌<◌, ◌≤◌, ◌==◌, arith, List, [], ◌∷◌, length, Any, Some, None, is_some, Bool, true, false, cond, not, ◌&&◌, nat_lt, inl, inr}
-use Rattle.std.proofs.lemmas.Bool.{cond_both, false≢true, true≢false, or_parts, not-false}
+use Rattle.std.proofs.lemmas.Bool.{cond_both, eq-eqb, false≢true, true≢false, or_parts, not-false}
 use Rattle.an_base.specs.Values.{LifeId, EndId, TopoOf}
 use Rattle.an_base.specs.declared.body.Body.{Body}
 use Rattle.an_base.specs.declared.frame.Frame.{Frame}
@@ -12,7 +12,7 @@ use Rattle.epoch_core.specs.Epoch.{adds, finish, finished_as_root, given_by, or_
 use Rattle.switch_core.specs.Switch.{SwitchOf, counts, end_at, finish_of, good_links, good_peer, port_of, ports_of, started}
 use Rattle.ordered_link.specs.Receiving.{accepted_by}
 use Rattle.switch_core.specs.Steps.{after, are_same_links, all_added, all_pushed, all_resent, answers_body, begun, clocked, framed, goes_on, is_change_due, is_spent_by, joins, loaded, on_ack, on_carry, probes, receives, sample_at, sampled_by, still}
-use Rattle.switch_core.specs.Sound.{IsSound, IsSoundBy, all_held, carries}
+use Rattle.switch_core.specs.Sound.{IsSound, IsSoundBy, all_held, carries, counted}
 use Rattle.switch_core.proofs.CountLemmas.{added_few, joining_few, log_length, one_from}
 use Rattle.switch_core.proofs.FarLemmas.{hears, hears_nonce, hears_peer, sampled_nonce}
 use Rattle.switch_core.proofs.FinishLemmas.{first_or_else, given_names, root_names}
@@ -30,6 +30,25 @@ more_by works carried later most s more more_carried h =
 
 pub sound_more : (n m : ℕ) (s : SwitchOf) → n ≤ m → IsSound n s → IsSound m s
 sound_more n m s more h = more_by n n m m s more more h
+
+-- the bodies that came in its epoch are those of now and, if that is the epoch of before, those of before
+pub in_same : (old new before now : ℕ) → new ≡ old → counted old new before now ≡ before + now
+in_same old new before now same = ap (λ b. cond b (before + now) now) (eq-eqb new old same)
+
+least_counted : (old new before now : ℕ) → now ≤ counted old new before now
+least_counted old new before now = cond_both (new == old) (before + now) now (λ n. now ≤ n) (λ _. omega arith) (λ _. omega arith)
+
+pub most_counted : (old new before now : ℕ) → counted old new before now ≤ before + now
+most_counted old new before now = cond_both (new == old) (before + now) now (λ n. n ≤ before + now) (λ _. omega arith) (λ _. omega arith)
+
+-- so it is enough that it is sound by those of before and now where its epoch is that of before, and by those of now anywhere
+same_epoch : (works carried more count old : ℕ) (s : SwitchOf) → s.epoch ≡ old → count ≤ carried + more → IsSoundBy works count s → IsSoundBy works (counted old s.epoch carried more) s
+same_epoch works carried more count old s same few h =
+    let all = in_same old s.epoch carried more same in
+    more_by works count works (counted old s.epoch carried more) s (omega arith) (omega (arith, few, all)) h
+
+new_epoch : (works carried more old : ℕ) (s : SwitchOf) → IsSoundBy works more s → IsSoundBy works (counted old s.epoch carried more) s
+new_epoch works carried more old s h = more_by works more works (counted old s.epoch carried more) s (omega arith) (least_counted old s.epoch carried more) h
 
 -- at power-on
 pub sound_started : (life : LifeId) (epoch had : ℕ) (any : Bool) → 1 ≤ had → had ≤ 126 → IsSoundBy 0 0 (started life epoch had any)
@@ -125,15 +144,19 @@ numbers_of_body works carried port k body s h joined few least most q =
     let more = came_more port k body s.receivings (h.near port) least most in
     omega (arith, added, more, few, h.came joined, h.pushed q)
 
--- a body of a session, or of a greater epoch
-sound_carried : (works carried port : ℕ) (f : CarryOf) (s : SwitchOf) → 1 ≤ port → port ≤ 12 → s.joined ≡ true → IsSoundBy works carried s → IsSoundBy works (suc carried) (on_carry port f s).switch
+-- a body of a session, or of a greater epoch, of which it is the first one
+sound_carried : (works carried port : ℕ) (f : CarryOf) (s : SwitchOf) → 1 ≤ port → port ≤ 12 → s.joined ≡ true → IsSoundBy works carried s
+    → IsSoundBy works (counted s.epoch (on_carry port f s).switch.epoch carried 1) (on_carry port f s).switch
 sound_carried works carried port f s least most joined h =
     let one = joins f.epoch s in
+    let later = answers_body port f.from f.number f.body one.switch in
     let here = answers_body port f.from f.number f.body s in
-    let later = cond_both (f.epoch == s.epoch) here (still s) (λ step. IsSoundBy works (suc carried) step.switch) (λ _. sound_body works carried port f.number f.from f.body s least most joined h) (λ _. more_by works carried works (suc carried) s (omega arith) (omega arith) h) in
-    cond_both (nat_lt s.epoch f.epoch) (after one (answers_body port f.from f.number f.body one.switch)) (cond (f.epoch == s.epoch) here (still s)) (λ step. IsSoundBy works (suc carried) step.switch)
-    (λ _. sound_body works carried port f.number f.from f.body one.switch least most (joins_joined f.epoch s) (sound_joins works carried f.epoch s h))
-    (λ _. later)
+    let epoch : here.switch.epoch ≡ s.epoch = ap (λ (u : SwitchOf). u.epoch) (all_pushed_few (all_added s.card port (accepted_by f.number f.body (s.receivings port)) s.log) (receives port f.number f.body s)).only in
+    cond_both (nat_lt s.epoch f.epoch) (after one later) (cond (f.epoch == s.epoch) here (still s)) (λ step. IsSoundBy works (counted s.epoch step.switch.epoch carried 1) step.switch)
+    (λ _. new_epoch works carried 1 s.epoch later.switch (sound_body works 0 port f.number f.from f.body one.switch least most (joins_joined f.epoch s) (joining_sound works 0 f.epoch s h.least h.most h.probes)))
+    (λ _. cond_both (f.epoch == s.epoch) here (still s) (λ step. IsSoundBy works (counted s.epoch step.switch.epoch carried 1) step.switch)
+    (λ _. same_epoch works carried 1 (suc carried) s.epoch here.switch epoch (omega arith) (sound_body works carried port f.number f.from f.body s least most joined h))
+    (λ _. same_epoch works carried 1 carried s.epoch s refl (omega arith) h))
 
 -- a reply comes in
 sound_hears : (works carried port nonce : ℕ) (from : EndId) (s : SwitchOf) → IsSoundBy works carried s → IsSoundBy works carried (hears port from nonce s)
@@ -145,26 +168,29 @@ sound_hears works carried port nonce from s h =
     assumption (links, unjoined, probes, h)
 
 -- a frame comes in
-taken : (works carried port : ℕ) (frame : Frame) (s : SwitchOf) → 1 ≤ port → port ≤ 12 → s.spent ≡ false → IsSoundBy works carried s → IsSoundBy works (carried + carries frame) (framed port frame s).switch
+taken : (works carried port : ℕ) (frame : Frame) (s : SwitchOf) → 1 ≤ port → port ≤ 12 → s.spent ≡ false → IsSoundBy works carried s
+    → IsSoundBy works (counted s.epoch (framed port frame s).switch.epoch carried (carries frame)) (framed port frame s).switch
 taken works carried port (Carry f) s least most working h =
-    let step = framed port (Carry f) s in
-    more_by works (suc carried) works (carried + carries (Carry f)) step.switch (omega arith) (omega arith)
-    (cond_both (counts s port f.from f.to) (on_carry port f s) (still s) (λ step. IsSoundBy works (suc carried) step.switch)
-    (λ counted. sound_carried works carried port f s least most (counted_joined works carried port f.from f.to s h working counted) h)
-    (λ _. more_by works carried works (suc carried) s (omega arith) (omega arith) h))
+    cond_both (counts s port f.from f.to) (on_carry port f s) (still s) (λ step. IsSoundBy works (counted s.epoch step.switch.epoch carried 1) step.switch)
+    (λ test. sound_carried works carried port f s least most (counted_joined works carried port f.from f.to s h working test) h)
+    (λ _. same_epoch works carried 1 carried s.epoch s refl (omega arith) h)
 taken works carried port (Ack epoch from to n) s least most working h =
-    let stays = more_by works carried works (carried + carries (Ack epoch from to n)) s (omega arith) (omega arith) h in
-    cond_both (counts s port from to) (on_ack port from epoch n s) (still s) (λ step. IsSoundBy works (carried + carries (Ack epoch from to n)) step.switch)
-    (λ _. sound_sends_none works (carried + carries (Ack epoch from to n)) s (on_ack port from epoch n s).switch (on_ack_few port epoch n from s) stays) (λ _. stays)
-taken works carried port (Probe from nonce) s least most working h = more_by works carried works (carried + carries (Probe from nonce)) s (omega arith) (omega arith) h
+    let few = on_ack_few port epoch n from s in
+    cond_both (counts s port from to) (on_ack port from epoch n s) (still s) (λ step. IsSoundBy works (counted s.epoch step.switch.epoch carried 0) step.switch)
+    (λ _. same_epoch works carried 0 carried s.epoch (on_ack port from epoch n s).switch (ap (λ (u : SwitchOf). u.epoch) few.only) (omega arith) (sound_sends_none works carried s (on_ack port from epoch n s).switch few h))
+    (λ _. same_epoch works carried 0 carried s.epoch s refl (omega arith) h)
+taken works carried port (Probe from nonce) s least most working h = same_epoch works carried 0 carried s.epoch s refl (omega arith) h
 taken works carried port (Reply from to nonce) s least most working h =
-    let stays = more_by works carried works (carried + carries (Reply from to nonce)) s (omega arith) (omega arith) h in
-    cond_both (is_same_end to (end_at s port)) (still (hears port from nonce s)) (still s) (λ step. IsSoundBy works (carried + carries (Reply from to nonce)) step.switch)
-    (λ _. sound_hears works (carried + carries (Reply from to nonce)) port nonce from s stays) (λ _. stays)
+    cond_both (is_same_end to (end_at s port)) (still (hears port from nonce s)) (still s) (λ step. IsSoundBy works (counted s.epoch step.switch.epoch carried 0) step.switch)
+    (λ _. same_epoch works carried 0 carried s.epoch (hears port from nonce s) refl (omega arith) (sound_hears works carried port nonce from s h))
+    (λ _. same_epoch works carried 0 carried s.epoch s refl (omega arith) h)
 
-pub framed_by : (works carried port : ℕ) (frame : Frame) (s : SwitchOf) → 1 ≤ port → port ≤ 12 → s.spent ≡ false → IsSoundBy works carried s → IsSoundBy (works + 1) (carried + carries frame) (framed port frame s).switch
+pub framed_by : (works carried port : ℕ) (frame : Frame) (s : SwitchOf) → 1 ≤ port → port ≤ 12 → s.spent ≡ false → IsSoundBy works carried s
+    → IsSoundBy (works + 1) (counted s.epoch (framed port frame s).switch.epoch carried (carries frame)) (framed port frame s).switch
 framed_by works carried port frame s least most working h =
-    more_by works (carried + carries frame) (works + 1) (carried + carries frame) (framed port frame s).switch (omega arith) (omega arith) (taken works carried port frame s least most working h)
+    let t = (framed port frame s).switch in
+    let count = counted s.epoch t.epoch carried (carries frame) in
+    more_by works count (works + 1) count t (omega arith) (omega arith) (taken works carried port frame s least most working h)
 
 -- which carries one body at most
 one_at_most : (frame : Frame) → carries frame ≤ 1
@@ -175,8 +201,10 @@ one_at_most (Reply from to nonce) = omega arith
 
 pub sound_framed : (works port : ℕ) (frame : Frame) (s : SwitchOf) → 1 ≤ port → port ≤ 12 → s.spent ≡ false → IsSound works s → IsSound (suc works) (framed port frame s).switch
 sound_framed works port frame s least most working h =
+    let t = (framed port frame s).switch in
     let one = one_at_most frame in
-    more_by works (works + carries frame) (suc works) (suc works) (framed port frame s).switch (omega arith) (omega (arith, one)) (taken works works port frame s least most working h)
+    let few = most_counted s.epoch t.epoch works (carries frame) in
+    more_by works (counted s.epoch t.epoch works (carries frame)) (suc works) (suc works) t (omega arith) (omega (arith, one, few)) (taken works works port frame s least most working h)
 
 -- At a clock each port was sampled. All is so but `links` and `unjoined`, which ask nothing of a switch that is spent
 sampled : (works carried now : ℕ) (samples : List Sample) (s : SwitchOf) → IsSoundBy works carried s → IsSoundBy (suc works) carried (record (sampled_by now samples s) { spent = true })
@@ -212,27 +240,37 @@ unchanged_sound works carried now samples s unchanged h =
     sound_joined (suc works) carried u (unchanged_joined s u unchanged) (λ working. h.links working ∙ unchanged_links s u unchanged) (sampled works carried now samples s h)
 
 -- behind the probes the next epoch is joined, or what is due is sent again
-goes_sound : (works carried now : ℕ) (samples : List Sample) (s : SwitchOf) → IsSoundBy works carried s → IsSoundBy (suc works) carried (goes_on s (sampled_by now samples s)).switch
+goes_sound : (works carried now : ℕ) (samples : List Sample) (s : SwitchOf) → IsSoundBy works carried s
+    → IsSoundBy (suc works) (counted s.epoch (goes_on s (sampled_by now samples s)).switch.epoch carried 0) (goes_on s (sampled_by now samples s)).switch
 goes_sound works carried now samples s h =
     let u = sampled_by now samples s in
     let again = all_resent u.card.links u in
+    let few = all_resent_few u.card.links u in
     let there = sampled works carried now samples s h in
-    cond_both (is_change_due s u) (joins (suc u.epoch) u) again (λ step. IsSoundBy (suc works) carried step.switch)
-    (λ _. joining_sound (suc works) carried (suc u.epoch) u there.least there.most there.probes)
-    (λ unchanged. sound_sends_none (suc works) carried u again.switch (all_resent_few u.card.links u) (unchanged_sound works carried now samples s unchanged h))
+    cond_both (is_change_due s u) (joins (suc u.epoch) u) again (λ step. IsSoundBy (suc works) (counted s.epoch step.switch.epoch carried 0) step.switch)
+    (λ _. new_epoch (suc works) carried 0 s.epoch (joins (suc u.epoch) u).switch (joining_sound (suc works) 0 (suc u.epoch) u there.least there.most there.probes))
+    (λ unchanged. same_epoch (suc works) carried 0 carried s.epoch again.switch (ap (λ (v : SwitchOf). v.epoch) few.only) (omega arith) (sound_sends_none (suc works) carried u again.switch few (unchanged_sound works carried now samples s unchanged h)))
 
 -- a clock comes
-comes : (works carried now : ℕ) (samples : List Sample) (s : SwitchOf) → IsSoundBy works carried s → IsSoundBy (suc works) carried (clocked now samples s).switch
+comes : (works carried now : ℕ) (samples : List Sample) (s : SwitchOf) → IsSoundBy works carried s
+    → IsSoundBy (suc works) (counted s.epoch (clocked now samples s).switch.epoch carried 0) (clocked now samples s).switch
 comes works carried now samples s h =
     let u = sampled_by now samples s in
-    cond_both (is_spent_by s u) (still (record u { spent = true })) (after (record { switch = u; frames = probes u }) (goes_on s u)) (λ step. IsSoundBy (suc works) carried step.switch)
-    (λ _. sampled works carried now samples s h) (λ _. goes_sound works carried now samples s h)
+    cond_both (is_spent_by s u) (still (record u { spent = true })) (after (record { switch = u; frames = probes u }) (goes_on s u)) (λ step. IsSoundBy (suc works) (counted s.epoch step.switch.epoch carried 0) step.switch)
+    (λ _. same_epoch (suc works) carried 0 carried s.epoch (record u { spent = true }) refl (omega arith) (sampled works carried now samples s h)) (λ _. goes_sound works carried now samples s h)
 
-pub clocked_by : (works carried now : ℕ) (samples : List Sample) (s : SwitchOf) → IsSoundBy works carried s → IsSoundBy (works + 1) carried (clocked now samples s).switch
-clocked_by works carried now samples s h = more_by (suc works) carried (works + 1) carried (clocked now samples s).switch (omega arith) (omega arith) (comes works carried now samples s h)
+pub clocked_by : (works carried now : ℕ) (samples : List Sample) (s : SwitchOf) → IsSoundBy works carried s
+    → IsSoundBy (works + 1) (counted s.epoch (clocked now samples s).switch.epoch carried 0) (clocked now samples s).switch
+clocked_by works carried now samples s h =
+    let t = (clocked now samples s).switch in
+    let count = counted s.epoch t.epoch carried 0 in
+    more_by (suc works) count (works + 1) count t (omega arith) (omega arith) (comes works carried now samples s h)
 
 pub sound_clocked : (works now : ℕ) (samples : List Sample) (s : SwitchOf) → IsSound works s → IsSound (suc works) (clocked now samples s).switch
-sound_clocked works now samples s h = more_by (suc works) works (suc works) (suc works) (clocked now samples s).switch (omega arith) (omega arith) (comes works works now samples s h)
+sound_clocked works now samples s h =
+    let t = (clocked now samples s).switch in
+    let few = most_counted s.epoch t.epoch works 0 in
+    more_by (suc works) (counted s.epoch t.epoch works 0) (suc works) (suc works) t (omega arith) (omega (arith, few)) (comes works works now samples s h)
 
 -- a table is loaded
 pub loaded_by : (works carried number : ℕ) (s : SwitchOf) → 1 ≤ number → number ≤ 126 → IsSoundBy works carried s → IsSoundBy works carried (loaded number s)

@@ -1,7 +1,7 @@
 -- What callers see of a switch: for which switch of the definition it stands, and what comes of a clock, a
 -- frame or a load.
 
-use Rattle.std.specs.Prelude.{◌≡◌, ℕ, ◌+◌, ◌-◌, ◌≤◌, List, [], length, Some, Bool, true, false}
+use Rattle.std.specs.Prelude.{◌≡◌, ℕ, ◌-◌, ◌≤◌, List, [], length, Some, Bool, true, false}
 use Rattle.an_base.specs.Numbers.{AreNumbers}
 use Rattle.an_base.specs.Values.{TopoOf}
 use Rattle.an_base.specs.declared.frame.Frame.{Frame}
@@ -17,20 +17,24 @@ use Rattle.switch_core.specs.declared.control.Arrival.TheVariants.{NoFrame, Bodi
 use Rattle.switch_core.specs.Bytes.{OutOf, all_spelled}
 use Rattle.switch_core.specs.Switch.{StartOf, SwitchOf, finish_of}
 use Rattle.switch_core.specs.Steps.{clocked, framed, is_spent_by, loaded, sampled_by}
-use Rattle.switch_core.specs.Sound.{carries}
+use Rattle.switch_core.specs.Sound.{carries, counted}
 use Rattle.switch_core.specs.Stands.{Stands}
 
 -- what it was started with, what is kept of what happened to it, how many clocks and frames came, and how
--- many of these carried no body
+-- many of these were no frames with a body in its epoch
 pub record KeptOf : Type 0 where
   pub start : StartOf
   pub control : Control
   pub works : ℕ
-  pub bodiless : ℕ
+  pub others : ℕ
 
--- how many frames with a body came
+-- how many frames with a body came in its epoch
 abbrev pub carried : KeptOf → ℕ
-carried kept = kept.works - kept.bodiless
+carried kept = kept.works - kept.others
+
+-- the epoch that it is in
+abbrev pub epoch_of : KeptOf → ℕ
+epoch_of kept = kept.control.epoch
 
 -- what is kept is that of all that happened to this switch
 abbrev pub StandsFor : KeptOf → SwitchOf → Type 0
@@ -71,8 +75,9 @@ bodies Bodiless = 0
 bodies Body = 1
 
 -- bytes came, and the bodies of the frame that they are were counted
-pub record Counts (bytes : List ℕ) (before after : ℕ) : Type 0 where
-  pub frame : (frame : Frame) → IsFrame frame → bytes ≡ spelling frame → after ≡ before + carries frame
+pub record Counts (bytes : List ℕ) (old_epoch new_epoch before after : ℕ) : Type 0 where
+  pub frame : (frame : Frame) → IsFrame frame → bytes ≡ spelling frame
+      → after ≡ counted old_epoch new_epoch before (carries frame)
   pub no_frame : IsNoFrame bytes → after ≡ before
 
 -- a clock came, and it is answered whether no epoch is left for a change that is due

@@ -33,7 +33,12 @@ carries (Ack epoch from to number) = 0
 carries (Probe from nonce) = 0
 carries (Reply from to nonce) = 0
 
--- What is always so of a switch after so many clocks and frames, of which so many carried a body:
+-- how many bodies came in an epoch, if so many came before and so many now: those of an epoch before are not
+-- counted
+abbrev pub counted : ℕ → ℕ → ℕ → ℕ → ℕ
+counted old_epoch new_epoch before now = if new_epoch == old_epoch then before + now else now
+
+-- What is always so of a switch after so many clocks and frames, and so many frames with a body in its epoch:
 pub record IsSoundBy (works carried : ℕ) (switch : SwitchOf) : Type 0 where
   -- its card is of its life, and its number is one of 1 to 126
   pub me : switch.card.me ≡ switch.life

@@ -128,7 +128,7 @@ abbrev pub probed : ℕ → List Sample → SwitchOf → Step
 probed now samples switch =
     record { switch = sampled_by now samples switch; frames = probes (sampled_by now samples switch) }
 
--- so many clocks and frames, of which so many carried a body, lead to what is kept
+-- so many clocks and frames, and so many frames with a body in the epoch, lead to what is kept
 pub record HasState (works carried : ℕ) (control : Control) : Type 0 where
   pub switch : SwitchOf
   pub stands : Stands control switch

@@ -10,7 +10,7 @@ ghost use Rattle.switch_core.specs.Bytes.{BytesOut};
 ghost use Rattle.switch_core.specs.Sessions.{IsOutAt};
 ghost use Rattle.switch_core.specs.Stands.{answered, Accepts, AcceptsInTurn, Clocks, Does, HasAccepting, HasNumbers, HasRoom, HasState, HasWindows, IsSame, MayJoin, Carries, probed, Receives, Stands};
 ghost use Rattle.switch_core.specs.Kept.{Counts, Handles, Loads, bodies, is_noframe};
-ghost use Rattle.switch_core.specs.Sound.{carries};
+ghost use Rattle.switch_core.specs.Sound.{carries, counted};
 
 use crate::out::Frames;
 use crate::session::Sessions;
@@ -96,6 +96,27 @@ impl Arrival {
         match frame {
             Frame::Carry(_) => Arrival::Body,
             Frame::Ack { .. } | Frame::Probe { .. } | Frame::Reply { .. } => Arrival::Bodiless,
+        }
+    }
+
+    /// Whether they are no frame.
+    pub fn is_noframe(self) -> bool
+        ensures { result ≡ is_noframe self }
+    {
+        match self {
+            Arrival::NoFrame => true,
+            Arrival::Bodiless | Arrival::Body => false,
+        }
+    }
+
+    /// How many bodies they carry, one at most.
+    pub fn bodies(self) -> u32
+        ensures bodies { result ≡ bodies self }
+        ensures few { result ≤ 1 }
+    {
+        match self {
+            Arrival::NoFrame | Arrival::Bodiless => 0,
+            Arrival::Body => 1,
         }
     }
 }
@@ -463,9 +484,9 @@ impl Control {
         requires none { out.old ≡ [] }
         ensures handled { (s : SwitchOf) → Stands self.old s
             → IfOk result (λ arrival. Handles port bytes.now s (Stands self.new) (record { frames = out.new; noframe = is_noframe arrival })) }
-        ensures counts { (before : ℕ) → IfOk result (λ arrival. Counts bytes.now before (before + bodies arrival)) }
+        ensures counts { (before : ℕ) → IfOk result (λ arrival. Counts bytes.now self.old.epoch self.new.epoch before (counted self.old.epoch self.new.epoch before (bodies arrival))) }
         ensures state { (works carried : ℕ) → HasState works carried self.old
-            → IfOk result (λ arrival. HasState (works + 1) (carried + bodies arrival) self.new) }
+            → IfOk result (λ arrival. HasState (works + 1) (counted self.old.epoch self.new.epoch carried (bodies arrival)) self.new) }
         ensures working { OnOk result (self.new.spent ≡ false) }
     {
         match decode(self.alloc, bytes) {

@@ -10,7 +10,7 @@ ghost use Rattle.ordered_link.specs.Receiving.{untouched};
 ghost use Rattle.epoch_core.specs.Log.{on_port};
 ghost use Rattle.epoch_core.specs.Epoch.{adds};
 ghost use Rattle.switch_core.specs.Switch.{CameBy, StartOf, SwitchOf, card_of, end_at, good_links, good_peer, started_as};
-ghost use Rattle.switch_core.specs.Sound.{IsSound, IsSoundBy, carries};
+ghost use Rattle.switch_core.specs.Sound.{IsSound, IsSoundBy, carries, counted};
 ghost use Rattle.switch_core.specs.Going.{IsSentBy};
 ghost use Rattle.switch_core.specs.Steps.{clocked, framed, joins, loaded, peer_among, still};
 
@@ -80,18 +80,19 @@ pub fn an_uncounted_frame_changes_nothing()
         → framed port (Ack epoch from to n) s ≡ still s }
 {}
 
-/// A switch is sound, which bounds its numbers by how many clocks and frames came and how many of these
-/// carried a body, from its start on: each clock, each frame and each load of a number of 1 to 126 keeps it
-/// so.
+/// A switch is sound, which bounds its numbers by how many clocks and frames came and how many frames with a
+/// body came in its epoch, from its start on: each clock, each frame and each load of a number of 1 to 126
+/// keeps it so.
 pub fn a_switch_stays_sound()
     ensures start { (x : StartOf) → 1 ≤ x.had → x.had ≤ MOST_NUMBER → IsSoundBy 0 0 (started_as x) }
     ensures more { (works carried later most : ℕ) (s : SwitchOf) → works ≤ later → carried ≤ most
         → IsSoundBy works carried s → IsSoundBy later most s }
     ensures frame { (works carried port : ℕ) (frame : Frame) (s : SwitchOf) → 1 ≤ port → port ≤ LAST_PORT
         → s.spent ≡ false → IsSoundBy works carried s
-        → IsSoundBy (works + 1) (carried + carries frame) (framed port frame s).switch }
+        → IsSoundBy (works + 1) (counted s.epoch (framed port frame s).switch.epoch carried (carries frame)) (framed port frame s).switch }
     ensures clock { (works carried now : ℕ) (samples : List Sample) (s : SwitchOf)
-        → IsSoundBy works carried s → IsSoundBy (works + 1) carried (clocked now samples s).switch }
+        → IsSoundBy works carried s
+        → IsSoundBy (works + 1) (counted s.epoch (clocked now samples s).switch.epoch carried 0) (clocked now samples s).switch }
     ensures load { (works carried number : ℕ) (s : SwitchOf) → 1 ≤ number → number ≤ MOST_NUMBER
         → IsSoundBy works carried s → IsSoundBy works carried (loaded number s) }
 {}

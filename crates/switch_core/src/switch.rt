@@ -4,10 +4,11 @@ ghost use Rattle.std.specs.Prelude.{◌≡◌, ◌+◌, ◌<◌, ◌≤◌, ◌^
 ghost use Rattle.an_base.specs.declared.limits.TheConstants.{LAST_PORT, MOST_NUMBER};
 ghost use Rattle.switch_core.specs.Switch.{CameBy, finish_of, note_of, started, started_as, SwitchOf};
 ghost use Rattle.switch_core.specs.Stands.{Stands};
-ghost use Rattle.switch_core.specs.Kept.{Counts, Handles, IsLoadDue, IsWorking, Loads, StandsFor, Ticks, carried, is_spent, load_due};
+ghost use Rattle.switch_core.specs.Kept.{Counts, Handles, IsLoadDue, IsWorking, Loads, StandsFor, Ticks, carried, epoch_of, is_spent, load_due};
+ghost use Rattle.switch_core.specs.Sound.{counted};
 ghost use Rattle.switch_core.specs.declared.switch.ClockRefusal.TheVariants as refusal;
 
-use crate::control::{Arrival, Control, PowerOn};
+use crate::control::{Control, PowerOn};
 use crate::out::Out;
 use an_base::body::TopoBody;
 use an_base::life::Life;
@@ -20,11 +21,11 @@ use table_build::table::Table;
 /// The most clocks and frames that a switch takes in one life, 2^60.
 pub const MOST_WORKS: u64 = 1_152_921_504_606_846_976;
 
-/// The most frames with a body that it takes in one life, 2^28.
+/// The most frames with a body that it takes in one epoch, 2^28.
 pub const MOST_CARRIED: u32 = 268_435_456;
 
 /// One life of a switch: what it keeps of what happened to it, how many clocks and frames came, and how
-/// many of the frames carried a body.
+/// many frames with a body came in its epoch.
 #[derive(Drop)]
 pub struct Switch {
     start: PowerOn,
@@ -41,7 +42,7 @@ impl Model for Switch {
 
     ghost Value = { KeptOf };
 
-    ghost view = { λ v. record { start = record { life = v.start.life; epoch = v.start.epoch; had = v.start.had; any = v.start.any }; control = v.control; works = v.works; bodiless = v.works - v.carried } };
+    ghost view = { λ v. record { start = record { life = v.start.life; epoch = v.start.epoch; had = v.start.had; any = v.start.any }; control = v.control; works = v.works; others = v.works - v.carried } };
 
     ghost invariant = { λ v. (1 ≤ v.start.had) × (v.start.had ≤ MOST_NUMBER) × (v.carried ≤ v.works) × HasState v.works v.carried v.control };
 }
@@ -62,6 +63,19 @@ pub enum ClockRefusal {
     EpochsSpent,
     /// No memory was found.
     OutOfMemory,
+}
+
+// How many bodies came in an epoch, if so many came before and so many now.
+fn counted(old_epoch: u64, new_epoch: u64, before: u32, now: u32) -> u32
+    requires before { before < 2 ^ 28 }
+    requires now { now ≤ 1 }
+    ensures { result ≡ counted old_epoch new_epoch before now }
+{
+    if new_epoch == old_epoch {
+        before + now
+    } else {
+        now
+    }
 }
 
 impl Switch {
@@ -96,8 +110,8 @@ impl Switch {
     }
 
     /// Bytes come by a port, 1 to 12. Where they are a frame, this is what happens; where they are none,
-    /// nothing does, and that is told. A frame that carries a body is counted. After want of memory the switch
-    /// is as it was started, no frame goes out, and no body is counted.
+    /// nothing does, and that is told. A frame that carries a body is counted in its epoch. After want of
+    /// memory the switch is as it was started, no frame goes out, and no body is counted.
     pub fn handle(&mut self, frame: &[u8], port: u8, out: &mut Out) -> Result<(), OutOfMemory>
         requires least { 1 ≤ port }
         requires most { port ≤ LAST_PORT }
@@ -106,28 +120,26 @@ impl Switch {
         requires working { IsWorking self.old }
         ensures start { self.new.start ≡ self.old.start }
         ensures works { self.new.works ≡ self.old.works + 1 }
-        ensures carried { OnOk result (Counts frame.now (carried self.old) (carried self.new)) }
+        ensures carried { OnOk result (Counts frame.now (epoch_of self.old) (epoch_of self.new) (carried self.old) (carried self.new)) }
         ensures handled { (s : SwitchOf) → StandsFor self.old s
             → OnOk result (Handles port frame.now s (StandsFor self.new) out.new) }
         ensures working { OnOk result (IsWorking self.new) }
         ensures lost { OnErr result (StandsFor self.new (started_as self.old.start)) }
-        ensures uncounted { OnErr result (carried self.new ≡ carried self.old) }
+        ensures uncounted { OnErr result (carried self.new ≡ 0) }
         ensures nothing { OnErr result (out.new ≡ record { frames = []; noframe = false }) }
     {
         out.clear();
         self.works += 1;
+        let epoch = self.control.epoch;
         match self.control.handle(frame, port, &mut out.frames) {
-            Ok(Arrival::NoFrame) => {
-                out.noframe = true;
-                Ok(())
-            }
-            Ok(Arrival::Bodiless) => Ok(()),
-            Ok(Arrival::Body) => {
-                self.carried += 1;
+            Ok(arrival) => {
+                out.noframe = arrival.is_noframe();
+                self.carried = counted(epoch, self.control.epoch, self.carried, arrival.bodies());
                 Ok(())
             }
             Err(OutOfMemory) => {
                 out.clear();
+                self.carried = 0;
                 self.control.restart(&self.start);
                 Err(OutOfMemory)
             }
@@ -150,25 +162,32 @@ impl Switch {
         requires working { IsWorking self.old }
         ensures start { self.new.start ≡ self.old.start }
         ensures works { self.new.works ≡ self.old.works + 1 }
-        ensures carried { carried self.new ≡ carried self.old }
+        ensures carried { OnOk result (carried self.new ≡ counted (epoch_of self.old) (epoch_of self.new) (carried self.old) 0) }
         ensures ok { (s : SwitchOf) → StandsFor self.old s
             → OnOk result (Ticks now samples.now s (StandsFor self.new) out.new false) }
         ensures working { OnOk result (IsWorking self.new) }
         ensures spent { (s : SwitchOf) → StandsFor self.old s → result ≡ Err refusal.EpochsSpent
             → Ticks now samples.now s (StandsFor self.new) out.new true }
+        ensures none_more { result ≡ Err refusal.EpochsSpent → carried self.new ≡ carried self.old }
         ensures lost { result ≡ Err refusal.OutOfMemory → StandsFor self.new (started_as self.old.start) }
+        ensures uncounted { result ≡ Err refusal.OutOfMemory → carried self.new ≡ 0 }
         ensures nothing { result ≡ Err refusal.OutOfMemory → out.new ≡ record { frames = []; noframe = false } }
     {
         out.clear();
         self.works += 1;
+        let epoch = self.control.epoch;
         match self.control.clock(now, samples, &mut out.frames) {
-            Ok(false) => Ok(()),
+            Ok(false) => {
+                self.carried = counted(epoch, self.control.epoch, self.carried, 0);
+                Ok(())
+            }
             Ok(true) => {
                 out.clear();
                 Err(ClockRefusal::EpochsSpent)
             }
             Err(OutOfMemory) => {
                 out.clear();
+                self.carried = 0;
                 self.control.restart(&self.start);
                 Err(ClockRefusal::OutOfMemory)
             }
@@ -224,7 +243,7 @@ impl Switch {
         self.works
     }
 
-    /// How many frames with a body came.
+    /// How many frames with a body came in the epoch that it is in.
     pub fn carried(&self) -> u32
         ensures { result ≡ carried self.now }
     {

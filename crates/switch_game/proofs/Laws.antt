@@ -130,7 +130,7 @@ position_told v place (l ∷ ls) q linked = by (l.port == q) (pos_at v place l).
     by true body rest is = omega arith
     by false body rest is = rest is
 
-something : (c : CardOf) (q : ℕ) (log : Log) → is_some (peer_among c.links q) ≡ true → 1 ≤ length (stream c q log)
+pub something : (c : CardOf) (q : ℕ) (log : Log) → is_some (peer_among c.links q) ≡ true → 1 ≤ length (stream c q log)
 something c q log linked =
     let first = position_told (version c []) (position c []) c.links q linked in
     let same = ap length (stream_first c q) in

@@ -12,7 +12,7 @@ use Rattle.an_base.specs.declared.event.Event.TheVariants.{Clock, Handle, Load, 
 use Rattle.an_base.specs.declared.port.Sample.{Sample}
 use Rattle.net_script.specs.Scripts.{IsScript, ScriptOf}
 use Rattle.table_build.proofs.MadeTables.{only_table}
-use Rattle.table_build.specs.Made.{number_in, table_of}
+use Rattle.table_build.specs.Made.{number_in}
 use Rattle.table_build.specs.Tables.{TableOf}
 use Rattle.switch_core.specs.Kept.{KeptOf, StandsFor}
 use Rattle.switch_core.specs.Steps.{loaded}
@@ -40,6 +40,7 @@ use Rattle.fabric_world.proofs.StaysLemmas.{handles_stay}
 use Rattle.fabric_book.specs.Nets.{HasFrame, IsStarted, IsSwitchKept, PowerOf, start_with}
 use Rattle.fabric_world.specs.declared.ask.Sheet.{Sheet}
 use Rattle.fabric_book.proofs.BookLemmas.{world_more}
+use Rattle.fabric_book.proofs.HandLemmas.{to_number}
 use Rattle.fabric_book.proofs.OwnLemmas.{at_same, clock_own, restart_own, set_here, take_own}
 use Rattle.switch_threads.specs.declared.desk.Pending.TheVariants as pending
 use Rattle.switch_threads.specs.Workers.{HasInHand, IsPowerAt, KeepsUp}
@@ -75,17 +76,7 @@ handled_here script h s lawful =
     let w = world_after script h in
     ap (λ (v : WorldOf). v.switches s) (world_more script h (Handle s) lawful) ∙ at_same s (handled s w).switch w.switches
 
--- A table was loaded
-number_made : (topo : TopoOf) (any : Bool) (life : LifeId) (t : TableOf) → t ≡ table_of topo any life → t.number ≡ number_in topo life
-unfolding table_of
-number_made topo any life t made = ap (λ (u : TableOf). u.number) made
-
-pub to_number : (w : WorldOf) (s : ℕ) (table : TableFor) (note : NoteOf) (is : IsToLoad w s table note) → table.table.number ≡ number_in is.topo (w.switches s).life
-to_number w s table note is =
-    let y = w.switches s in
-    number_made is.topo y.any y.life table.table (only_table is.topo y.any y.life table.table is.graph is.numbers is.as_many is.table)
-
--- with what was finished
+-- A table was loaded, with what was finished
 record IsLoaded (script : ScriptOf) (w : WorldOf) (s : ℕ) (power : PowerOf) (switch : KeptOf) (topo : Option TopoOf) : Type 0 where
   now : KeepsUp script (loads_with topo s w) s power switch pending.Work
 

@@ -1,4 +1,4 @@
-use Rattle.std.proofs.Common.{◌≡◌, ◌≢◌, ◌∙◌, sym, subst, refl, ℕ, suc, ◌+◌, ◌<◌, ◌≤◌, List, [], ◌∷◌, Option, Some, None, Bool, true, false, arith, length, IsTrue, inl, inr, ◌↔◌}
+use Rattle.std.proofs.Common.{◌≡◌, ◌⊎◌, ◌≢◌, ◌∙◌, sym, subst, refl, ℕ, suc, ◌+◌, ◌<◌, ◌≤◌, List, [], ◌∷◌, Option, Some, None, Bool, true, false, arith, length, IsTrue, inl, inr, ◌↔◌}
 use Rattle.std.proofs.lemmas.Bool.{eqb-true, eq-eqb}
 use Rattle.std.proofs.lemmas.List.Elements.{All-nil, All-weaker}
 use Rattle.an_base.specs.Values.{EntryOf}
@@ -12,8 +12,19 @@ use Rattle.updown.proofs.RouteLemmas.{legal_first, legal_up, legal_down, down_fi
 use Rattle.updown.proofs.LeastLemmas.{least_iff}
 use Rattle.table_build.specs.declared.best.Best.{Best}
 use Rattle.table_build.specs.Bests.{Goes, HasPort, AreBest, IsBest}
-use Rattle.table_build.specs.Exits.{LeadsTo, Begins, Behind, AreExits, ArePortsBelow, IsExitOf, passes}
+use Rattle.table_build.specs.Exits.{LeadsTo, Begins, AreExits, ArePortsBelow, IsExitOf, passes}
 use Rattle.table_build.proofs.GoLemmas.{goes_leads, leads_goes}
+
+-- what may follow a port on the way: behind a link upward any legal route, behind one downward links downward
+-- alone; and where the way may not go up, nothing behind a link upward
+abbrev pub Behind : List EntryOf → Bool → ℕ → ℕ → ℕ → ℕ → Type 0
+Behind entries true place target port left =
+    (next came : ℕ) × (far_of entries place port ≡ Some (next, came))
+    × (((is_up_end entries next place ≡ true) × HasLegal entries next target left)
+    ⊎ ((is_up_end entries next place ≡ false) × HasDown entries next target left))
+Behind entries false place target port left =
+    (next came : ℕ) × (far_of entries place port ≡ Some (next, came)) × (is_up_end entries next place ≡ false)
+    × HasDown entries next target left
 
 -- there is a way of n links
 abbrev pub HasWay : List EntryOf → Bool → ℕ → ℕ → ℕ → Type 0

@@ -1,4 +1,5 @@
 use Rattle.std.proofs.Common.{◌≡◌, ◌≢◌, sym, subst, refl, ℕ, ◌+◌, ◌*◌, ◌<◌, ◌≤◌, List, Option, Some, None, Bool, true, false, not, arith, length, Contains, inl, inr, ◌==◌, ◌↔◌}
+use Rattle.an_base.proofs.RangeLemmas.{Contains-kept}
 use Rattle.std.specs.Prelude.{if◌then◌else◌, filter}
 use Rattle.std.specs.Option.{option_map_or}
 use Rattle.std.proofs.lemmas.Bool.{cases_Bool, and_parts, and_from}
@@ -11,12 +12,12 @@ use Rattle.topo_graph.specs.Topology.{far_of, IsGraph}
 use Rattle.topo_graph.proofs.FarLemmas.{one_far}
 use Rattle.updown.specs.Routes.{is_up_end, HasLegal, HasDown, IsLeast}
 use Rattle.updown.proofs.LeastLemmas.{least_iff}
-use Rattle.table_build.specs.Exits.{Begins, Behind, AreExits, passes}
-use Rattle.table_build.proofs.ExitLemmas.{HasWay, exit_is, none_behind, up_not_behind, down_behind, has_way, way_of}
+use Rattle.table_build.specs.Exits.{Begins, AreExits, passes}
+use Rattle.table_build.proofs.ExitLemmas.{HasWay, exit_is, none_behind, up_not_behind, down_behind, has_way, way_of, Behind}
 use Rattle.table_build.proofs.WayLaws.{way_far}
 use Rattle.table_build.proofs.LengthLaws.{way_short}
 use Rattle.table_build.specs.Made.{exit_ports, leads_in, shortest, left_behind, is_exit, exits_to}
-use Rattle.table_build.proofs.MadeLists.{kept, range_rising, find_least}
+use Rattle.table_build.proofs.MadeLists.{range_rising, find_least}
 use Rattle.table_build.proofs.ShortestLaws.{found, finds, external}
 use Rattle.an_base.proofs.MemberLemmas.{one_rising}
 
@@ -94,7 +95,7 @@ exits_among es any up x y ports graph low rising each = record {
   whole = λ p begins.
       let far = way_far es up x y p begins.rest begins.way in
       let within = graph.within x p (far.0, far.1) far.2 in
-      kept (is_exit es any up x y) ports p (each p within.port_least within.port_most) ((exit_test es any up x y p graph low).1 begins);
+      Contains-kept (is_exit es any up x y) ports p (each p within.port_least within.port_most) ((exit_test es any up x y p graph low).1 begins);
 }
 
 -- what is made are the exits

@@ -1,5 +1,5 @@
 use Rattle.std.proofs.Common.{◌≡◌, sym, subst, ℕ, zero, suc, ◌+◌, ◌-◌, ◌<◌, ◌≤◌, List, [], ◌∷◌, Bool, true, arith, get_or, Contains, All, AllPairs, inl, inr}
-use Rattle.std.specs.Prelude.{find, filter}
+use Rattle.std.specs.Prelude.{find}
 use Rattle.std.specs.List.{flat_map, range_with_len}
 use Rattle.std.proofs.lemmas.Bool.{cases_Bool, cases_eq}
 use Rattle.std.proofs.lemmas.List.Elements.{All-weaker, Contains-append_left, Contains-append_right}
@@ -9,18 +9,6 @@ use Rattle.updown.proofs.LeastLemmas.{least_iff}
 use Rattle.an_base.proofs.ListLemmas.{AllPairs-head, AllPairs-tail}
 use Rattle.an_base.proofs.PairLemmas.{AllPairs-append}
 use Rattle.an_base.proofs.FlatMapLemmas.{All-flat_map}
-use Rattle.an_base.proofs.MemberLemmas.{Contains-later}
-
--- what passes is kept
-pub kept : {X : Type 0} (p : X → Bool) (xs : List X) (x : X) → Contains xs x → p x ≡ true → Contains (filter p xs) x
-kept p [] x (k, low, e) test = absurd (omega arith)
-kept p (y ∷ ys) x (zero, low, e) test = let t : p y ≡ true = subst (λ z. p z ≡ true) (sym e) test in rw t (0, omega arith, e)
-kept p (y ∷ ys) x (suc k, low, e) test =
-    let r = kept p ys x (k, omega arith, e) test in
-    elim (cases_Bool (p y)) [
-      | inl t ↦ rw t (Contains-later y x (filter p ys) r)
-      | inr f ↦ rw f r
-    ]
 
 -- the lists of the elements of a list
 pub in_flat : {X A : Type 0} (f : X → List A) (xs : List X) (x : X) (a : A) → Contains xs x → Contains (f x) a → Contains (flat_map f xs) a

@@ -1,5 +1,6 @@
 -- The table that is computed is the table of its member.
 use Rattle.std.proofs.Common.{◌≡◌, ◌≢◌, ◌∙◌, sym, ap, subst, refl, ℕ, ◌<◌, ◌≤◌, List, [], ◌∷◌, Option, Some, None, Bool, true, false, arith, length, Contains, All, AllPairs, inl, inr, ◌==◌, ◌||◌}
+use Rattle.an_base.proofs.RangeLemmas.{Contains-kept}
 use Rattle.std.specs.Prelude.{filter, position, slice_index, Any, is_some}
 use Rattle.std.specs.List.{flat_map, range_with_len}
 use Rattle.std.specs.Option.{option_map_or}
@@ -19,7 +20,7 @@ use Rattle.table_build.specs.Exits.{AreExits, IsEntry, is_entry, may_go_up}
 use Rattle.table_build.specs.Tables.{TableOf, IsRow, IsBefore, IsTable, IsTableOf}
 use Rattle.table_build.proofs.TableLemmas.{one_number}
 use Rattle.table_build.specs.Made.{exits_to, row_to, rows_for, rows_of, table_of}
-use Rattle.table_build.proofs.MadeLists.{kept, in_flat, flat_rising, in_range, range_rising}
+use Rattle.table_build.proofs.MadeLists.{in_flat, flat_rising, in_range, range_rising}
 use Rattle.table_build.proofs.MadeExits.{made_exits, one_exits}
 use Rattle.an_base.proofs.FlatMapLemmas.{All-flat_map}
 use Rattle.an_base.proofs.MemberLemmas.{one_rising}
@@ -161,7 +162,7 @@ table_over t any x ns all graph are count low rising rising' has has' = record {
   whole = λ entry y is within other.
       let m = are.within y 0 (omega arith) in
       whole_all t any x ns (filter (is_entry t.entries x) all) entry y are (omega arith) (λ same. other (sym same)) (has (slice_index t.numbers y) m.0 m.1)
-      (kept (is_entry t.entries x) all entry (has' entry (entry_low t.entries x entry graph is)) (entry_passes t.entries x entry is));
+      (Contains-kept (is_entry t.entries x) all entry (has' entry (entry_low t.entries x entry graph is)) (entry_passes t.entries x entry is));
   rising = rising_all t any x ns (filter (is_entry t.entries x) all) rising (AllPairs-filter (λ a b. a < b) (is_entry t.entries x) all rising');
 }
 

@@ -10,8 +10,8 @@ use Rattle.an_base.specs.Numbers.{AreNumbers}
 use Rattle.topo_graph.specs.Topology.{IsGraph}
 use Rattle.table_build.specs.declared.way.Way.{Way}
 use Rattle.table_build.specs.Exits.{AreExits, IsEntry, may_go_up}
-use Rattle.table_build.specs.Routing.{place_at, ArePlaces}
-use Rattle.table_build.specs.Tables.{IsRow, IsBefore, IsTable, IsWay, AreWays, row_of, AreRowsBelow}
+use Rattle.table_build.specs.Routing.{place_at, ArePlaces, row_of}
+use Rattle.table_build.specs.Tables.{IsRow, IsBefore, IsTable, IsWay, AreWays, AreRowsBelow}
 use Rattle.an_base.proofs.PairLemmas.{AllPairs-map, AllPairs-append}
 use Rattle.an_base.proofs.ListLemmas.{Any-front, Any-back, Any-map}
 

@@ -5,7 +5,7 @@ use Rattle.std.specs.Option.{option_map_or}
 use Rattle.an_base.specs.Values.{EntryOf}
 use Rattle.an_base.specs.Rows.{ExitsRise}
 use Rattle.topo_graph.specs.Topology.{far_of}
-use Rattle.updown.specs.Routes.{is_up_end, LegalRoute, DownRoute, HasLegal, HasDown}
+use Rattle.updown.specs.Routes.{is_up_end, LegalRoute, DownRoute}
 use Rattle.table_build.specs.declared.best.Best.{Best}
 use Rattle.table_build.specs.Bests.{HasPort}
 
@@ -56,17 +56,6 @@ is_entry entries place entry = (entry == 0) || is_some (far_of entries place ent
 abbrev pub may_go_up : List EntryOf → ℕ → ℕ → Bool
 may_go_up entries place entry =
     (entry == 0) || option_map_or (λ far. is_up_end entries place far.0) (far_of entries place entry) false
-
--- what may follow a port on the way: behind a link upward any legal route, behind one downward links downward
--- alone; and where the way may not go up, nothing behind a link upward
-abbrev pub Behind : List EntryOf → Bool → ℕ → ℕ → ℕ → ℕ → Type 0
-Behind entries true place target port left =
-    (next came : ℕ) × (far_of entries place port ≡ Some (next, came))
-    × (((is_up_end entries next place ≡ true) × HasLegal entries next target left)
-    ⊎ ((is_up_end entries next place ≡ false) × HasDown entries next target left))
-Behind entries false place target port left =
-    (next came : ℕ) × (far_of entries place port ≡ Some (next, came)) × (is_up_end entries next place ≡ false)
-    × HasDown entries next target left
 
 -- whether a port is an exit, from what is left behind it and from the least of the whole way
 abbrev pub is_next : Option ℕ → ℕ → Bool

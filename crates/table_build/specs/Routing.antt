@@ -1,10 +1,12 @@
--- What the tables of all members share.
-use Rattle.std.specs.Prelude.{◌≡◌, ℕ, ◌<◌, List, length, Option, Some, None, slice_index, slice_index_or}
+-- What the tables of all members share, and the row of a way.
+use Rattle.std.specs.Prelude.{◌≡◌, ℕ, ◌<◌, List, length, Option, Some, None, slice_index, slice_index_or, Bool, if◌then◌else◌}
 use Rattle.an_base.specs.Values.{EntryOf}
 use Rattle.updown.specs.declared.order.Height.{Height}
 use Rattle.updown.specs.Order.{IsDescent}
 use Rattle.table_build.specs.declared.link.Links.{Links}
 use Rattle.table_build.specs.Links.{AreLinks}
+use Rattle.an_base.specs.Rows.{RowOf}
+use Rattle.table_build.specs.declared.way.Way.{Way}
 
 -- the place that has a number
 abbrev pub place_at : List (Option ℕ) → ℕ → Option ℕ
@@ -29,3 +31,8 @@ pub record IsRouting (entries : List EntryOf) (numbers : List ℕ) (routing : Ro
   pub places : ArePlaces numbers (length entries) routing.places
   pub order : IsDescent entries routing.order
   pub links : AreLinks entries (length entries) routing.links
+
+-- the row of a way
+abbrev pub row_of : ℕ → ℕ → Bool → Way → RowOf
+row_of at entry up way =
+    record { at = at; entry = entry; to = way.number; exits = if up then way.up else way.down }

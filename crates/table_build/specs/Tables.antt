@@ -1,6 +1,6 @@
 -- Routing tables: rows, and the table of a member.
 use Rattle.std.specs.Prelude.{◌≡◌, ◌≢◌, ◌==◌, ◌&&◌, ◌⊎◌, ℕ, ◌<◌, List, [], length, Bool, true, false, Some}
-use Rattle.std.specs.Prelude.{All, AllPairs, Any, find, slice_index, if◌then◌else◌}
+use Rattle.std.specs.Prelude.{All, AllPairs, Any, find, slice_index}
 use Rattle.std.specs.Option.{option_map_or}
 use Rattle.an_base.specs.Values.{LifeId, EntryOf}
 use Rattle.an_base.specs.Rows.{RowOf}
@@ -68,11 +68,6 @@ pub record AreWays (entries : List EntryOf) (numbers : List ℕ) (any : Bool) (p
       (target : ℕ) → target < length entries → target ≢ place → slice_index numbers target < end
       → Any (λ way. way.place ≡ target) ways
   pub rising : AllPairs (λ one other. one.number < other.number) ways
-
--- the row of a way
-abbrev pub row_of : ℕ → ℕ → Bool → Way → RowOf
-row_of at entry up way =
-    record { at = at; entry = entry; to = way.number; exits = if up then way.up else way.down }
 
 -- the rows of the entries below end
 pub record AreRowsBelow (entries : List EntryOf) (numbers : List ℕ) (any : Bool) (place end : ℕ)

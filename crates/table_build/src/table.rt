@@ -1,7 +1,7 @@
 ghost use Rattle.std.specs.Prelude.{◌≡◌, ◌<◌, ◌≤◌, ◌++◌, [], Any, length, map, IfOk, OnOk};
 ghost use Rattle.an_base.specs.declared.limits.TheConstants.{MOST_NUMBER};
-ghost use Rattle.table_build.specs.Routing.{IsRouting};
-ghost use Rattle.table_build.specs.Tables.{AreRowsBelow, AreWays, exits_of, IsTable, IsTableOf, row_of};
+ghost use Rattle.table_build.specs.Routing.{IsRouting, row_of};
+ghost use Rattle.table_build.specs.Tables.{AreRowsBelow, AreWays, exits_of, IsTable, IsTableOf};
 
 use crate::exit::{is_entry, may_go_up};
 use crate::routing::Routing;

@@ -2,8 +2,7 @@ use Rattle.std.proofs.Common.{◌≡◌, ◌∙◌, sym, ap, refl, ℕ, ◌+◌,
 use Rattle.std.specs.List.{zip, flat_map, join_with_byte}
 use Rattle.std.proofs.lemmas.List.{take_more, map_push, map-append}
 use Rattle.std.proofs.lemmas.Grind.{flat_map-append}
-use Rattle.text_lines.specs.Lines.{line_text}
-use Rattle.text_lines.specs.Grammar.{forms_text_by}
+use Rattle.text_lines.specs.Lines.{line_text, forms_text_by}
 use Rattle.an_base.proofs.ListLemmas.{zip_push}
 
 -- The text of lines of forms.

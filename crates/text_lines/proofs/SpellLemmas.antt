@@ -109,26 +109,26 @@ unfolding hex_text
 length-hex_text zero n = refl
 length-hex_text (suc k) n = omega (arith, length-append (hex_text k (n / 16)) (hex_glyph (n % 16) ∷ []), length-hex_text k (n / 16))
 
-glyph_digit : (d : ℕ) → d < 16 → is_digit (hex_glyph d) 16 ≡ true
+pub glyph_digit : (d : ℕ) → d < 16 → is_digit (hex_glyph d) 16 ≡ true
 glyph_digit d low = grind (arith, nat_tests)
 
-glyph_value : (d : ℕ) → d < 16 → digit_value (hex_glyph d) ≡ d
+pub glyph_value : (d : ℕ) → d < 16 → digit_value (hex_glyph d) ≡ d
 glyph_value d low = grind (arith, nat_tests)
 
 glyph_printed : (d : ℕ) → d < 16 → IsPrinted (hex_glyph d)
 glyph_printed d low = (grind (arith, nat_tests), grind (arith, nat_tests))
 
-hex_digits : (k n : ℕ) → list_all (λ c. is_digit c 16) (hex_text k n) ≡ true
+pub hex_digits : (k n : ℕ) → list_all (λ c. is_digit c 16) (hex_text k n) ≡ true
 unfolding hex_text
 hex_digits zero n = refl
 hex_digits (suc k) n = list_all-append (λ c. is_digit c 16) (hex_text k (n / 16)) (hex_glyph (n % 16) ∷ []) ∙ rw (hex_digits k (n / 16), glyph_digit (n % 16) (omega arith)) refl
 
-hex_printed : (k n : ℕ) → All IsPrinted (hex_text k n)
+pub hex_printed : (k n : ℕ) → All IsPrinted (hex_text k n)
 unfolding hex_text
 hex_printed zero n = All-nil IsPrinted
 hex_printed (suc k) n = All-push IsPrinted (hex_text k (n / 16)) (hex_glyph (n % 16)) (hex_printed k (n / 16)) (glyph_printed (n % 16) (omega arith))
 
-hex_says : (k n : ℕ) → n < 16 ^ k → digits_value 16 (hex_text k n) ≡ n
+pub hex_says : (k n : ℕ) → n < 16 ^ k → digits_value 16 (hex_text k n) ≡ n
 unfolding hex_text
 hex_says zero n low = let none : n ≡ 0 = omega arith in sym none
 hex_says (suc k) n low =

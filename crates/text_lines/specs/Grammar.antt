@@ -1,14 +1,10 @@
-use Rattle.std.specs.Prelude.{◌≡◌, ◌≢◌, ◌⊎◌, ℕ, List, [], ◌∷◌, length, map, Option, Some, None, nat_le}
+use Rattle.std.specs.Prelude.{◌≡◌, ◌≢◌, ◌⊎◌, ℕ, List, [], ◌∷◌, length, Option, Some, None, nat_le}
 use Rattle.std.specs.List.{list_all}
-use Rattle.text_lines.specs.Lines.{words_of, lines_text, is_line_byte}
+use Rattle.text_lines.specs.Lines.{words_of, is_line_byte}
 use Rattle.text_lines.specs.Faults.{unless, first_of}
 
 -- A grammar of lines. Form is the type of the forms that the words of a line can have, with the words in
 -- their fields; State is what the lines so far say; Cause is what can be wrong with a line.
-
--- the text of lines of forms, one after another
-abbrev pub forms_text_by : {Form : Type 0} → (Form → List (List ℕ)) → List Form → List ℕ
-forms_text_by words_of_form forms = lines_text (map words_of_form forms)
 
 -- the words have no form
 abbrev pub HasNoFormBy : {Form : Type 0} → (Form → List (List ℕ)) → List (List ℕ) → Type 0

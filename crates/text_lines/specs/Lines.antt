@@ -41,3 +41,7 @@ line_text words = join_with_byte 32 words ++ 10 ∷ []
 -- lines of words, one after another
 abbrev pub lines_text : List (List (List ℕ)) → List ℕ
 lines_text = flat_map line_text
+
+-- the text of lines of forms, one after another
+abbrev pub forms_text_by : {Form : Type 0} → (Form → List (List ℕ)) → List Form → List ℕ
+forms_text_by words_of_form forms = lines_text (map words_of_form forms)

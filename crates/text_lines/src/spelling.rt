@@ -7,7 +7,7 @@ ghost use Rattle.text_lines.specs.Lines.{line_text};
 
 use an_base::memory::OutOfMemory;
 use an_base::text::push_decimal;
-use std::alloc::Global;
+use std::alloc::{AllocError, Global};
 
 /// Appends a line of words: they are joined by one space each, and a line feed follows. Where no memory
 /// is found nothing is said of the text.
@@ -51,8 +51,8 @@ pub fn identifier(alloc: Global, uid: u64) -> Result<Vec<u8>, OutOfMemory>
     Ok(text)
 }
 
-// Appends the last so many hexadecimal digits of a number.
-fn push_hex(text: &mut Vec<u8>, digits: u8, number: u64) -> Result<(), OutOfMemory>
+/// Appends the last so many hexadecimal digits of a number. Where no memory is found nothing is said of the text.
+pub fn push_hex(text: &mut Vec<u8>, digits: u8, number: u64) -> Result<(), AllocError>
     ensures { OnOk result (text.new.items ≡ text.old.items ++ hex_text digits number) }
 {
     if digits > 0 {
@@ -62,7 +62,8 @@ fn push_hex(text: &mut Vec<u8>, digits: u8, number: u64) -> Result<(), OutOfMemo
     Ok(())
 }
 
-fn hex_glyph(digit: u8) -> u8
+/// The hexadecimal digit of a number below 16.
+pub fn hex_glyph(digit: u8) -> u8
     requires { digit < 16 }
     ensures { result ≡ hex_glyph digit }
 {

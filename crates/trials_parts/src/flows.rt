@@ -4,7 +4,7 @@ ghost use Rattle.std.specs.Prelude.{◌≡◌, ◌<◌, ◌∷◌, [], IfOk, Lis
 ghost use Rattle.an_base.specs.Rows.{RowOf};
 ghost use Rattle.dep_check.specs.Answer.{Passes};
 ghost use Rattle.dep_check.specs.Channels.{LeadsTo, far_at};
-ghost use Rattle.dep_check.specs.Cycles.{HasNoCycle};
+ghost use Rattle.channel_graph.specs.Cycles.{HasNoCycle};
 ghost use Rattle.dep_check.specs.Packets.{AllAreJoined};
 ghost use Rattle.flow_channels.specs.Exits.{AreExitsOf};
 

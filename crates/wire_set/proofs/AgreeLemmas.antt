@@ -6,7 +6,7 @@ use Rattle.net_graph.specs.declared.wiring.Far.{Far}
 use Rattle.net_graph.specs.declared.wiring.Far.TheVariants.{Switch, HostAt}
 use Rattle.net_graph.specs.Wires.{Wires, IsWired, far_at, far_of, far_or_host, host_of}
 use Rattle.net_graph.proofs.FarLemmas.{far_back, to_switch, far_is}
-use Rattle.frame_region.specs.Regions.{blocks_of}
+use Rattle.frame_region.specs.Sizes.{blocks_of}
 use Rattle.wire_set.specs.declared.side.Side.{Side}
 use Rattle.wire_set.specs.Frames.{FramesOf, put_frame, clear, move_first, move_second}
 use Rattle.wire_set.specs.WireState.{WiresOf, AreOne, LinksAgree, place, side_at, unused, is_link, far_place, with_side, side_of, start, put_into, less_to_lose, is_second, less_to_swap, held_from, is_copied, before_copy, copied_from, take_from, taken_frame, with_up, link_set, wires_cleared, fail_at, repair_at, less_again}

@@ -6,7 +6,7 @@ use Rattle.std.proofs.lemmas.List.{get_or_past, length-set, set_past}
 use Rattle.std.proofs.lemmas.List.Sums.{sum_by-set}
 use Rattle.net_graph.specs.declared.wiring.Far.{Far}
 use Rattle.net_graph.specs.declared.wiring.Far.TheVariants.{Switch, HostAt}
-use Rattle.frame_region.specs.Regions.{blocks_of}
+use Rattle.frame_region.specs.Sizes.{blocks_of}
 use Rattle.wire_set.specs.Frames.{FramesOf, frames_at, frame, blocks_in, occupied, with_frames, append_to, put_frame, clear, move_first, move_second, BlocksAddUp}
 use Rattle.wire_set.specs.WireState.{WiresOf, place, side_at, wire_at, with_side, far_place, put_into, less_to_lose, is_second, less_to_swap, held_from, taken_frame, is_copied, before_copy, take_from, link_set, wires_cleared, fail_at, repair_at}
 use Rattle.wire_set.proofs.FrameLemmas.{occupied_append, occupied_first, occupied_second}

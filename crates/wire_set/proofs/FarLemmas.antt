@@ -3,7 +3,7 @@ use Rattle.std.proofs.Common.{◌∙◌, refl, ℕ, List, Option, Some, None, Bo
 use Rattle.std.proofs.lemmas.Bool.{cond_both}
 use Rattle.net_graph.specs.declared.wiring.Far.{Far}
 use Rattle.net_graph.specs.declared.wiring.Far.TheVariants.{Switch, HostAt}
-use Rattle.frame_region.specs.Regions.{blocks_of}
+use Rattle.frame_region.specs.Sizes.{blocks_of}
 use Rattle.wire_set.specs.Frames.{put_frame, move_first, move_second}
 use Rattle.wire_set.specs.WireState.{WiresOf, place, side_at, with_side, far_place, put_into, less_to_lose, is_second, less_to_swap, held_from, taken_frame, is_copied, before_copy, less_again, copied_from, take_from, with_up, link_set, wires_cleared, fail_at, HaveSameFarEnds}
 use Rattle.wire_set.proofs.AgreeLemmas.{side_same, up_far}

@@ -4,7 +4,8 @@ use Rattle.std.proofs.lemmas.List.{ext_get_or, get_or-set_other, get_or-set_same
 use Rattle.std.proofs.lemmas.List as lists
 use Rattle.std.proofs.Math.ListN.{get_or-map}
 use Rattle.std.proofs.lemmas.List.Sums.{sum_by-set, sum_by-append, sum_by-drop_more, sum_by-take-drop}
-use Rattle.frame_region.specs.Regions.{RegionOf, bytes_at, blocks_of}
+use Rattle.frame_region.specs.Regions.{RegionOf, bytes_at}
+use Rattle.frame_region.specs.Sizes.{blocks_of}
 use Rattle.wire_set.specs.Queues.{QueuesOf, queue_at, slot, IsApart, IsNew, with_queue}
 use Rattle.wire_set.specs.Frames.{FramesOf, frames_at, frame, blocks_in, occupied, with_frames, append_to, stored}
 use Rattle.wire_set.proofs.QueueLemmas.{drop_at, second_at, second_length, shift_second, shift_second_less, shift_second_gone}

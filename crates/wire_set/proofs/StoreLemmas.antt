@@ -4,7 +4,8 @@ use Rattle.std.proofs.lemmas.List.{ext_get_or, get_or-set_same, get_or_past, get
 use Rattle.std.proofs.Math.ListN.{get_or-map}
 use Rattle.std.proofs.lemmas.List.Sums.{sum_by-append, get_or-le-sum_by, sum_by_more}
 use Rattle.std.proofs.lemmas.List.Folds.{sum_by-replicate}
-use Rattle.frame_region.specs.Regions.{RegionOf, held_at, bytes_at, blocks_of, with_put, without}
+use Rattle.frame_region.specs.Regions.{RegionOf, held_at, bytes_at, with_put, without}
+use Rattle.frame_region.specs.Sizes.{blocks_of}
 use Rattle.frame_region.proofs.SlipLemmas.{put_held, put_others, free_others, new_is_other}
 use Rattle.wire_set.specs.Queues.{QueuesOf, queue_at, slot, IsApart, IsNew, with_queue}
 use Rattle.wire_set.specs.Frames.{FramesOf, frames_at, blocks_in, occupied, with_frames, append_to, put_frame, drop_first, clear, move_first, move_second, stored, IsStored}

@@ -2,7 +2,8 @@
 use Rattle.std.specs.Prelude.{◌≡◌, ℕ, ◌+◌, ◌-◌, ◌<◌, ◌≤◌, List, [], ◌∷◌, ◌++◌, length, map, take, drop}
 use Rattle.std.specs.Prelude.{slice_index_or, slice_set, IsSome}
 use Rattle.std.specs.List.{sum_by}
-use Rattle.frame_region.specs.Regions.{RegionOf, held_at, bytes_at, blocks_of}
+use Rattle.frame_region.specs.Regions.{RegionOf, held_at, bytes_at}
+use Rattle.frame_region.specs.Sizes.{blocks_of}
 use Rattle.wire_set.specs.Queues.{QueuesOf, queue_at, slot}
 
 -- queues of frames, each a byte string; how many blocks are free, of how many in all

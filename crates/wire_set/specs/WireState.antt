@@ -7,7 +7,7 @@ use Rattle.std.specs.List.{range_with_len}
 use Rattle.net_graph.specs.declared.wiring.Far.{Far}
 use Rattle.net_graph.specs.declared.wiring.Far.TheVariants.{Switch, HostAt}
 use Rattle.net_graph.specs.Wires.{Wires, far_at}
-use Rattle.frame_region.specs.Regions.{blocks_of}
+use Rattle.frame_region.specs.Sizes.{blocks_of}
 use Rattle.wire_set.specs.declared.side.Side.{Side}
 use Rattle.wire_set.specs.declared.side.Loss.TheVariants.{Down, Told, NoRoom}
 use Rattle.wire_set.specs.declared.side.Put.{Put}

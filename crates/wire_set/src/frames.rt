@@ -1,5 +1,5 @@
 ghost use Rattle.std.specs.Prelude.{◌≡◌, ◌+◌, ◌<◌, ◌≤◌, [], length, replicate, IfOk, IfErr, OnOk, OnErr};
-ghost use Rattle.frame_region.specs.Regions.{blocks_of};
+ghost use Rattle.frame_region.specs.Sizes.{blocks_of};
 ghost use Rattle.frame_region.specs.declared.buffer.TheConstants.{MOST_FRAME};
 ghost use Rattle.frame_region.specs.declared.region.TheConstants.{MOST_BLOCKS};
 ghost use Rattle.wire_set.specs.Frames.{FramesOf, clear, drop_first, frame, frames_at, move_first};

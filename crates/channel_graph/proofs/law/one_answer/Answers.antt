@@ -1,7 +1,7 @@
 use Rattle.std.specs.Cmp.{nat_cmp_total}
 use Rattle.std.specs.Ordering.{nat_cmp}
+use Rattle.an_base.proofs.OrderLaws.{nat_apart}
 use Rattle.channel_graph.specs.Graph.{LeadsTo}
-use Rattle.channel_graph.proofs.CycleLemmas.{cmp_same}
 use Rattle.channel_graph.proofs.OneAnswer.{no_both, one_cycle, one_list}
 use Rattle.channel_graph.proofs.law.one_answer.Goals as goal
 
@@ -9,7 +9,7 @@ pub returns-clause-ranks : goal.returns-clause-ranks
 returns-clause-ranks c graph one other passes too = one_list graph one other passes.ranked too.ranked
 
 pub returns-clause-cycle : goal.returns-clause-cycle
-returns-clause-cycle c graph one other least too = one_cycle nat_cmp nat_cmp_total cmp_same (LeadsTo graph) one other least too
+returns-clause-cycle c graph one other least too = one_cycle nat_cmp nat_cmp_total nat_apart (LeadsTo graph) one other least too
 
 pub returns-clause-either : goal.returns-clause-either
 returns-clause-either c graph ranks nodes passes least = no_both nat_cmp (LeadsTo graph) nodes least passes.no_cycle

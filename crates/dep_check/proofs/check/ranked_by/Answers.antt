@@ -1,7 +1,7 @@
 use Rattle.std.proofs.Common.{◌≡◌, Option, None}
 use Rattle.dep_check.specs.declared.channel.Channel.{Channel}
-use Rattle.dep_check.specs.Channels.{far_at}
-use Rattle.dep_check.specs.Cycles.{IsLeastCycle}
+use Rattle.dep_check.specs.Channels.{far_at, channel_cmp}
+use Rattle.channel_graph.specs.Cycles.{IsLeastCycle}
 use Rattle.dep_check.specs.Tables.{IsSpot, level_at}
 use Rattle.dep_check.specs.Search.{AreSteps, IsLinked, Step}
 use Rattle.dep_check.proofs.CheckLemmas.{some_cycle, least_at, no_cycle_at, ranks_at}
@@ -19,7 +19,7 @@ unwrap-channels-requires c =
 pub returns-then-not-are_all_ranked-clause-refused : goal.returns-then-not-are_all_ranked-clause-refused
 returns-then-not-are_all_ranked-clause-refused c =
     let channels = c.unwrap-channels.result in
-    let least : IsLeastCycle (Step c.in_ok-steps.steps) channels = rw c.unwrap-channels.ensures at c.in_ok-least_cycle.ensures in
+    let least : IsLeastCycle channel_cmp (Step c.in_ok-steps.steps) channels = rw c.unwrap-channels.ensures at c.in_ok-least_cycle.ensures in
     least_at (far_at c.args.graph.now c.args.numbers.now) c.in_ok-wires.wires.items c.args.rows.now c.in_ok-steps.steps c.in_ok-levels.levels.items c.in_ok-wires.ensures (rw c.deref.ensures.value at c.in_ok-steps.ensures) c.in_ok-levels.ensures channels least
 
 pub returns-clause-ranked : goal.returns-clause-ranked

@@ -1,6 +1,6 @@
-use Rattle.std.proofs.Common.{◌≡◌, ◌≢◌, ◌∙◌, ◌⊎◌, ◌<◌, ◌^◌, ◌&&◌, ltb, ℕ, Bool, true, false, Option, Some, refl, sym, subst, arith, inl, inr}
+use Rattle.std.proofs.Common.{◌≡◌, ◌≢◌, ◌∙◌, ◌⊎◌, ◌<◌, ◌^◌, ltb, ℕ, true, Option, Some, refl, sym, subst, arith, inl, inr}
 use Rattle.std.specs.Int.{bit_at, trailing_zeros, w16}
-use Rattle.std.proofs.lemmas.Bool.{cases_eq}
+use Rattle.std.proofs.lemmas.Bool.{cases_eq, and_parts}
 use Rattle.an_base.proofs.PortSetLemmas.{lowest_is, no_bit}
 use Rattle.dep_check.specs.declared.channel.Channel.{Channel}
 use Rattle.dep_check.specs.declared.steps.Steps.{Steps}
@@ -17,10 +17,6 @@ split steps spot b k old new without (e, gone, step) = elim (cases_eq e k) [
   | inl last ↦ inr (subst (λ (n : ℕ). IsStep steps spot n b) last step)
   | inr other ↦ inl (e, (λ is. gone ((without e).1 (is, other))), step)
 ]
-
-and_parts : (a b : Bool) → (a && b) ≡ true → (a ≡ true) × (b ≡ true)
-and_parts true b t = (refl, t)
-and_parts false b t = absurd (cc)
 
 -- where a step leads on by each exit, and there is some, no packets get stuck
 not_stuck : (steps : Steps) (s : Channel) (exits : ℕ) → exits ≢ 0 → exits < 2 ^ 16 → ((to e : ℕ) → steps.to ≡ Some to → s.at ≢ to → e < 13 → has_at steps.exits.items s e ≡ true → bit_at exits e ≡ 1) → ((e : ℕ) → bit_at exits e ≡ 1 → (b : Channel) × IsStep steps s e b) → IsStuck steps s → ⊥

@@ -1,4 +1,5 @@
 use Rattle.std.proofs.Common.{◌∙◌, ◌++◌, ap, map, List, ℕ}
+use Rattle.switch_numbering.proofs.Differing.{length-numbering}
 use Rattle.std.specs.List.{zip}
 use Rattle.std.proofs.lemmas.Result.{on_ok_weaker}
 use Rattle.an_base.specs.Values.{EntryOf}
@@ -6,11 +7,11 @@ use Rattle.text_lines.specs.Lines.{line_text}
 use Rattle.row_text.specs.TableForms.{table_words}
 use Rattle.expect_text.specs.Expect.{component_form, member_form, number_form}
 use Rattle.row_text.specs.TableForms.{table_text}
-use Rattle.expect_text.proofs.TextLemmas.{numbered, component_text}
+use Rattle.expect_text.proofs.TextLemmas.{component_text}
 use Rattle.expect_text.proofs.expect.push_component.Goals as goal
 
 pub push_numbers-requires : goal.push_numbers-requires
-push_numbers-requires c = rw (c.as_slice.ensures.all, c.in_ok-numbers.ensures, c.as_slice-entries.ensures.all) (numbered c.args.component.now)
+push_numbers-requires c = rw (c.as_slice.ensures.all, c.in_ok-numbers.ensures, c.as_slice-entries.ensures.all) (length-numbering c.args.component.now)
 
 pub returns : goal.returns
 returns c =

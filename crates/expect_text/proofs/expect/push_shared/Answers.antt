@@ -1,12 +1,13 @@
 use Rattle.std.proofs.Common.{◌∙◌, ◌++◌, ◌∷◌, [], ap, List}
+use Rattle.switch_numbering.proofs.Differing.{length-numbering}
 use Rattle.an_base.specs.Rows.{RowOf}
 use Rattle.row_text.specs.Rows.{member_rows}
 use Rattle.row_text.specs.TableForms.{table_text}
-use Rattle.expect_text.proofs.TextLemmas.{numbered, tables_more, tables_text}
+use Rattle.expect_text.proofs.TextLemmas.{tables_more, tables_text}
 use Rattle.expect_text.proofs.expect.push_shared.Goals as goal
 
 pub of-requires-clause-count : goal.of-requires-clause-count
-of-requires-clause-count c = rw c.requires.numbers (numbered c.args.graph.now)
+of-requires-clause-count c = rw c.requires.numbers (length-numbering c.args.graph.now)
 
 pub members-preserved : goal.members-preserved
 members-preserved c =

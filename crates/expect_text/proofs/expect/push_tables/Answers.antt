@@ -1,4 +1,5 @@
 use Rattle.std.proofs.Common.{◌≡◌, ◌∙◌, ◌++◌, ap, length, sym, subst, List}
+use Rattle.switch_numbering.proofs.Differing.{length-numbering}
 use Rattle.std.specs.Prelude.{OnOk}
 use Rattle.an_base.specs.Values.{EntryOf}
 use Rattle.switch_numbering.specs.Numbering.{numbering}
@@ -6,11 +7,10 @@ use Rattle.table_build.specs.Tables.{TableOf}
 use Rattle.row_text.specs.Rows.{table_forms}
 use Rattle.expect_text.specs.Expect.{AreTables}
 use Rattle.row_text.specs.TableForms.{table_text}
-use Rattle.expect_text.proofs.TextLemmas.{numbered}
 use Rattle.expect_text.proofs.expect.push_tables.Goals as goal
 
 pub of-requires-2 : goal.of-requires-2
-of-requires-2 c = rw (c.requires, c.in_ok-graph.ensures) (numbered c.args.component.now)
+of-requires-2 c = rw (c.requires, c.in_ok-graph.ensures) (length-numbering c.args.component.now)
 
 pub push_shared-requires-clause-numbers : goal.push_shared-requires-clause-numbers
 push_shared-requires-clause-numbers c = c.requires ∙ ap numbering (sym c.in_ok-graph.ensures)

@@ -1,5 +1,5 @@
 use Rattle.std.proofs.Common.{◌≡◌, ◌++◌, take}
-use Rattle.text_lines.specs.Grammar.{forms_text_by}
+use Rattle.text_lines.specs.Lines.{forms_text_by}
 use Rattle.ib_lines.specs.Pictures.{switch_row}
 use Rattle.ib_lines.proofs.picture.push_switches.Given as goal
 

@@ -11,7 +11,7 @@ pub returns-clause-frame : goal.returns-clause-frame
 returns-clause-frame c = framed_by
 
 pub returns-clause-clock : goal.returns-clause-clock
-returns-clause-clock c works carried now samples s h = clocked_by works carried now samples s h
+returns-clause-clock c = clocked_by
 
 pub returns-clause-load : goal.returns-clause-load
 returns-clause-load c = loaded_by

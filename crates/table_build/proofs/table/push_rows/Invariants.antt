@@ -1,5 +1,5 @@
 use Rattle.std.proofs.Common.{◌≡◌, ◌++◌, map, take}
-use Rattle.table_build.specs.Tables.{row_of}
+use Rattle.table_build.specs.Routing.{row_of}
 use Rattle.table_build.proofs.table.push_rows.Given as goal
 
 -- the rows of the ways so far

@@ -1,6 +1,7 @@
 use Rattle.std.proofs.Common.{◌≡◌, ℕ, ◌∙◌, ◌-◌, ◌<◌, List, sym, ap, subst, arith}
 use Rattle.std.proofs.lemmas.Grind.{get_or_default_zero}
-use Rattle.frame_region.specs.Blocks.{needed, block}
+use Rattle.frame_region.specs.Blocks.{block}
+use Rattle.frame_region.specs.Sizes.{needed}
 use Rattle.frame_region.specs.Regions.{count_at}
 use Rattle.frame_region.proofs.ShownLemmas.{under}
 use Rattle.frame_region.proofs.FreeLemmas.{free_kept_by, free_shown_by}

@@ -1,5 +1,6 @@
 use Rattle.std.proofs.Common.{◌≡◌, ℕ, ◌∙◌, ◌<◌, ◌*◌, ◌+◌, List, length, slice_index_or, sym, ap, subst, arith}
-use Rattle.frame_region.specs.Blocks.{needed, block}
+use Rattle.frame_region.specs.Blocks.{block}
+use Rattle.frame_region.specs.Sizes.{needed}
 use Rattle.frame_region.proofs.ShownLemmas.{under}
 use Rattle.frame_region.proofs.PieceLemmas.{piece_made}
 use Rattle.frame_region.proofs.region.Region.piece.Goals as goal

@@ -1,5 +1,6 @@
 use Rattle.std.proofs.Common.{ℕ, ◌+◌, ◌*◌, ◌<◌, ◌≤◌, ◌∙◌, List, length, sym, ap, subst, arith}
-use Rattle.frame_region.specs.Blocks.{needed, block, chain_bytes}
+use Rattle.frame_region.specs.Blocks.{block, chain_bytes}
+use Rattle.frame_region.specs.Sizes.{needed}
 use Rattle.frame_region.proofs.ShownLemmas.{under}
 use Rattle.frame_region.proofs.region.Region.read.Goals as goal
 

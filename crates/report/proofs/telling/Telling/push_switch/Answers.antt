@@ -13,4 +13,4 @@ returns-in-None c =
 pub returns-in-Some : goal.returns-in-Some
 returns-in-Some c =
     let script = c.args.self.now.script.now in
-    subst (λ (life : Option LifeId). OnOk c.push_life.result (c.push_life.new.text.items ≡ c.args.text.now.items ++ spaced (option_map_or (life_text script) life [] ∷ []))) c.in-Some.ensures c.push_life.ensures
+    subst (λ (life : Option LifeId). OnOk c.push_life_at.result (c.push_life_at.new.text.items ≡ c.args.text.now.items ++ spaced (option_map_or (life_text script) life [] ∷ []))) c.in-Some.ensures c.push_life_at.ensures

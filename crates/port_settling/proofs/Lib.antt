@@ -1,8 +1,0 @@
-pub mod PortSound
-pub mod Basics
-pub mod Clocks
-pub mod Answers
-pub mod Ports
-pub mod Links
-pub mod Ticks
-pub mod Runs

@@ -1,3 +1,0 @@
-pub mod Measures
-pub mod Links
-pub mod Moments
