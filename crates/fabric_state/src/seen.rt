@@ -1,6 +1,8 @@
 use crate::plan::Plan;
 use crate::ports::{is_host, switch_behind};
 use crate::stations::Stations;
+use an_base::place::Place;
+use an_base::port::Port;
 use host_traffic::view::HopView;
 use net_graph::wiring::Far;
 use table_build::table::Table;
@@ -28,12 +30,12 @@ impl HopView for Seen<'_> {
     ghost next_at = { λ seen. next_at (fabric_of_parts seen.plan.now seen.wires.now seen.stations.now) };
 
     fn table(&self, s: u8) -> Option<&Table> {
-        self.stations.table(s)
+        self.stations.table(Place(s))
     }
 
     fn host(&self, s: u8, port: u8) -> Option<(u16, u64)> {
         let side = self.wires.side(s, port);
-        if !side.is_up || !is_host(self.stations.port(s, port).state) {
+        if !side.is_up || !is_host(self.stations.port(Place(s), Port(port)).state) {
             return None;
         }
         match side.far {
@@ -44,10 +46,10 @@ impl HopView for Seen<'_> {
 
     fn next(&self, s: u8, port: u8) -> Option<(u8, u8)> {
         let side = self.wires.side(s, port);
-        if side.is_up {
-            switch_behind(side.far)
-        } else {
-            None
+        if !side.is_up {
+            return None;
         }
+        let (s, port) = switch_behind(side.far)?;
+        Some((s.as_u8(), port.as_u8()))
     }
 }

@@ -65,7 +65,7 @@ fn far_place(far: Option<Far>) -> usize
     ensures { result ≡ far_place far }
 {
     match far {
-        Some(Far::Switch { s, port }) => place_of(s, port),
+        Some(Far::Switch { s, port }) => place_of(s.as_u8(), port.as_u8()),
         _ => 0,
     }
 }
@@ -159,7 +159,10 @@ impl WireSet {
         let far = self.sides[here].far;
         self.set_link(here, false);
         match far {
-            Some(Far::Switch { s, port }) => self.drop_frames(here, place_of(s, port)),
+            Some(Far::Switch { s, port }) => self.drop_frames(
+                here,
+                place_of(s.as_u8(), port.as_u8()),
+            ),
             _ => 0,
         }
     }
@@ -322,7 +325,7 @@ impl WireSet {
     {
         self.sides[here].is_up = is_up;
         if let Some(Far::Switch { s, port }) = self.sides[here].far {
-            self.sides[place_of(s, port)].is_up = is_up;
+            self.sides[place_of(s.as_u8(), port.as_u8())].is_up = is_up;
         }
     }
 
