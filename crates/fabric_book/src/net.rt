@@ -174,18 +174,18 @@ impl Net {
     }
 
     /// The present life of a switch.
-    pub fn life(&self, s: u8) -> Life
+    pub fn life(&self, s: Place) -> Life
         requires { s < length self.now.script.wires.switches }
         ensures { result ≡ (station (fabric_of (history_of self.now)) s).note.life }
     {
-        self.fabric().station(Place(s)).note().life
+        self.fabric().station(s).note().life
     }
 
     /// The table in use at a switch. It answers for all values.
-    pub fn table(&self, s: u8) -> Option<&Table>
+    pub fn table(&self, s: Place) -> Option<&Table>
         ensures { option_copied result ≡ table_at (fabric_of (history_of self.now)) s }
     {
-        self.fabric().table(Place(s))
+        self.fabric().table(s)
     }
 
     /// The history, as a journal.

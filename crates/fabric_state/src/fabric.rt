@@ -93,7 +93,7 @@ fn give_up(wires: &mut WireSet, s: Place, hand: Hand)
     ensures { wires.new ≡ released hand s wires.old }
 {
     if let Hand::Frame { port: _ } = hand {
-        wires.release(s.as_u8());
+        wires.release(s);
     }
 }
 
@@ -113,7 +113,7 @@ fn admit(
     } }
 {
     if let Ok(address) = address {
-        traffic.send(packet, from.s.as_u8(), from.port.as_u8(), address, to.uid);
+        traffic.send(packet, from.s, from.port, address, to.uid);
     }
 }
 
@@ -179,7 +179,7 @@ impl Fabric {
     pub fn host(&self, s: Place, port: Port) -> Option<(u16, u64)>
         ensures { result ≡ host_at self.now s port }
     {
-        self.seen().host(s.as_u8(), port.as_u8())
+        self.seen().host(s, port)
     }
 
     /// Whether the clock of a switch is due.
@@ -218,7 +218,7 @@ impl Fabric {
     }
 
     // The switch at which a packet is, and the port by which it came in; none exactly where it is not under way.
-    fn packet_place(&self, packet: u32) -> Option<(u8, u8)>
+    fn packet_place(&self, packet: u32) -> Option<(Place, Port)>
         ensures { result ≡ option_map place_now (packet_of packet self.now.packets) }
     {
         self.traffic.place(packet)
@@ -228,7 +228,7 @@ impl Fabric {
     fn far_switch(&self, s: Place, port: Port) -> Option<(Place, Port)>
         ensures { result ≡ switch_behind (side_of_port self.now s port).far }
     {
-        switch_behind(self.wires.side(s.as_u8(), port.as_u8()).far)
+        switch_behind(self.wires.side(s, port).far)
     }
 
     // What a hop reads.
@@ -248,7 +248,7 @@ impl Fabric {
     fn is_up(&self, s: Place, port: Port) -> bool
         ensures { result ≡ is_up self.now s port }
     {
-        self.wires.side(s.as_u8(), port.as_u8()).is_up
+        self.wires.side(s, port).is_up
     }
 
     // What a switch shows of a port.
@@ -478,7 +478,7 @@ impl Fabric {
         self.is_free(s)
             && is_external(port)
             && !self.is_clock_due(s)
-            && self.wires.has_frame(s.as_u8(), port.as_u8())
+            && self.wires.has_frame(s, port)
     }
 
     // What the event needs besides is there.
@@ -622,7 +622,7 @@ impl Fabric {
         ensures told { option_to_list result ≡ take_lines s port self.old }
     {
         let far = self.far_switch(s, port);
-        let taken = self.wires.take(s.as_u8(), port.as_u8(), out);
+        let taken = self.wires.take(s, port, out);
         self.stations.take_frame(s, port);
         self.past.event();
         copy_line(far, taken.copied)
@@ -649,14 +649,10 @@ impl Fabric {
         ensures told { option_to_list result ≡ lost_line s frame.now self.old.wires }
     {
         let port = Port(frame.port());
-        if !is_link(self.wires.side(s.as_u8(), port.as_u8()).far) {
+        if !is_link(self.wires.side(s, port).far) {
             return None;
         }
-        loss_line(
-            s,
-            port,
-            self.wires.put(s.as_u8(), port.as_u8(), frame.bytes()),
-        )
+        loss_line(s, port, self.wires.put(s, port, frame.bytes()))
     }
 
     /// The last of the three parts of handling: a switch shows this now, and the event has come. Where it has
@@ -751,7 +747,7 @@ impl Fabric {
         ensures failed { self.new ≡ on_wires (fail_at (place s port)) self.old }
         ensures dropped { result ≡ dropped_at (place s port) self.old.wires }
     {
-        let dropped = self.wires.fail(s.as_u8(), port.as_u8());
+        let dropped = self.wires.fail(s, port);
         self.past.command();
         dropped
     }
@@ -761,7 +757,7 @@ impl Fabric {
         requires { is_lawful self.old (events.Repair s port) ≡ true }
         ensures { self.new ≡ on_wires (repair_at (place s port)) self.old }
     {
-        self.wires.repair(s.as_u8(), port.as_u8());
+        self.wires.repair(s, port);
         self.past.command();
     }
 
@@ -770,7 +766,7 @@ impl Fabric {
         requires { is_lawful self.old (events.Lose s port n) ≡ true }
         ensures { self.new ≡ on_wires (lose_on (wire_out self.old.wires s port) n) self.old }
     {
-        self.wires.lose(s.as_u8(), port.as_u8(), n);
+        self.wires.lose(s, port, n);
         self.past.command();
     }
 
@@ -779,7 +775,7 @@ impl Fabric {
         requires { is_lawful self.old (events.Again s port n) ≡ true }
         ensures { self.new ≡ on_wires (again_on (wire_out self.old.wires s port) n) self.old }
     {
-        self.wires.again(s.as_u8(), port.as_u8(), n);
+        self.wires.again(s, port, n);
         self.past.command();
     }
 
@@ -788,7 +784,7 @@ impl Fabric {
         requires { is_lawful self.old (events.Swap s port n) ≡ true }
         ensures { self.new ≡ on_wires (swap_on (wire_out self.old.wires s port) n) self.old }
     {
-        self.wires.swap(s.as_u8(), port.as_u8(), n);
+        self.wires.swap(s, port, n);
         self.past.command();
     }
 
@@ -799,9 +795,7 @@ impl Fabric {
         ensures what { result
             ≡ what_becomes (place s port) (wire_out self.old.wires s port) (noise bytes) self.old.wires }
     {
-        let put = self
-            .wires
-            .put(s.as_u8(), port.as_u8(), &NOISE[..bytes as usize]);
+        let put = self.wires.put(s, port, &NOISE[..bytes as usize]);
         self.past.command();
         put
     }
@@ -856,9 +850,8 @@ impl Fabric {
         ensures told { result ∷ [] ≡ move_lines (packet_of packet self.old.packets) self.old }
     {
         let (s, entry) = self.packet_place(packet).unwrap();
-        let s = Place(s);
         let epoch = self.stations.epoch_in_use(s);
         let hop = self.make_hop(packet);
-        hop_line(packet, s, epoch, Port(entry), hop)
+        hop_line(packet, s, epoch, entry, hop)
     }
 }

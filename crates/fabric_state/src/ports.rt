@@ -75,7 +75,7 @@ pub fn samples(wires: &WireSet, s: Place) -> [Sample; 12]
 {
     let mut samples = [Sample::Down; 12];
     'ports: for port in 1..13u8 {
-        samples[usize::from(port - 1)] = sample_of(wires.side(s.as_u8(), port));
+        samples[usize::from(port - 1)] = sample_of(wires.side(s, Port(port)));
     }
     samples
 }
@@ -84,7 +84,7 @@ pub fn samples(wires: &WireSet, s: Place) -> [Sample; 12]
 fn is_next(wires: &WireSet, s: Place, last: Port, port: Port) -> bool
     ensures { result ≡ (nat_lt last port && has_frame_on wires.now (place s port)) }
 {
-    last < port && wires.has_frame(s.as_u8(), port.as_u8())
+    last < port && wires.has_frame(s, port)
 }
 
 /// The lowest port above this one that has a frame.

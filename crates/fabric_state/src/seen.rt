@@ -29,13 +29,13 @@ impl HopView for Seen<'_> {
 
     ghost next_at = { λ seen. next_at (fabric_of_parts seen.plan.now seen.wires.now seen.stations.now) };
 
-    fn table(&self, s: u8) -> Option<&Table> {
-        self.stations.table(Place(s))
+    fn table(&self, s: Place) -> Option<&Table> {
+        self.stations.table(s)
     }
 
-    fn host(&self, s: u8, port: u8) -> Option<(u16, u64)> {
+    fn host(&self, s: Place, port: Port) -> Option<(u16, u64)> {
         let side = self.wires.side(s, port);
-        if !side.is_up || !is_host(self.stations.port(Place(s), Port(port)).state) {
+        if !side.is_up || !is_host(self.stations.port(s, port).state) {
             return None;
         }
         match side.far {
@@ -44,12 +44,12 @@ impl HopView for Seen<'_> {
         }
     }
 
-    fn next(&self, s: u8, port: u8) -> Option<(u8, u8)> {
+    fn next(&self, s: Place, port: Port) -> Option<(Place, Port)> {
         let side = self.wires.side(s, port);
-        if !side.is_up {
-            return None;
+        if side.is_up {
+            switch_behind(side.far)
+        } else {
+            None
         }
-        let (s, port) = switch_behind(side.far)?;
-        Some((s.as_u8(), port.as_u8()))
     }
 }

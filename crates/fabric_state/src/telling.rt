@@ -52,8 +52,8 @@ pub fn hop_line(packet: u32, s: Place, epoch: u64, entry: Port, hop: Hop) -> Lin
     ensures { result ≡ hop_line packet s epoch entry hop }
 {
     let (exit, host) = match hop {
-        Hop::Went { exit } => (Port(exit), None),
-        Hop::Delivered { exit, host } => (Port(exit), Some(host)),
+        Hop::Went { exit } => (exit, None),
+        Hop::Delivered { exit, host } => (exit, Some(host)),
         Hop::Dropped { cause } => return Line::Fell { packet, s, cause },
     };
     Line::Moved {

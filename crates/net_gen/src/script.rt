@@ -68,7 +68,7 @@ fn is_free(script: &Script, place: Place, port: Port) -> bool
     requires none { script.now.wires.hosts ≡ [] }
     ensures { result ≡ is_free script.now.wires.links place port }
 {
-    script.wiring().far(place.as_u8(), port.as_u8()).is_none()
+    script.wiring().far(place, port).is_none()
 }
 
 // The lowest of the first ports of a switch that no link uses.

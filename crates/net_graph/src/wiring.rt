@@ -212,12 +212,12 @@ impl Wiring {
     pub fn is_used(&self, s: Place, port: Port) -> bool
         ensures { IsTrue result ↔ Contains (used_ports self.now) (s, port) }
     {
-        self.far(s.as_u8(), port.as_u8()).is_some()
+        self.far(s, port).is_some()
     }
 
     /// What is at the far side of this port of this switch, if a link or a host is on it. It
     /// answers for all values.
-    pub fn far(&self, s: u8, port: u8) -> Option<Far>
+    pub fn far(&self, s: Place, port: Port) -> Option<Far>
         ensures far { result ≡ far_at self.now s port }
         ensures meaning { MatchOption result
             (¬ Contains (used_ports self.now) (s, port))
@@ -225,7 +225,7 @@ impl Wiring {
         ensures range { IfSome result (IsWithin self.now s port) }
         ensures wired { IsWired self.now }
     {
-        cell(&self.rows, Place(s), Port(port))
+        cell(&self.rows, s, port)
     }
 
     // The other end of the link at this port, if there is one.
@@ -233,7 +233,7 @@ impl Wiring {
         ensures far { result ≡ far_of self.now.links s port }
         ensures range { IfSome result (IsFar (length self.now.switches) s port) }
     {
-        match self.far(s.as_u8(), port.as_u8()) {
+        match self.far(s, port) {
             Some(Far::Switch { s, port }) => Some((s, port)),
             _ => None,
         }

@@ -176,7 +176,7 @@ fn is_used(wiring: &Wiring, s: Place, port: Port) -> bool
     ensures used { result ≡ is_used wiring.now s port }
     ensures ports { result ≡ false → ¬ Contains (used_ports wiring.now) (s, port) }
 {
-    wiring.far(s.as_u8(), port.as_u8()).is_some()
+    wiring.far(s, port).is_some()
 }
 
 /// Refuses a link of which a port is used, or whose ports are one.
@@ -226,7 +226,7 @@ pub fn linked_port(wiring: &Wiring, s: Place, port: Port) -> Result<(), ScriptCa
     ensures test { IsTest result (unless (is_linked wiring.now s port) NoLink) }
     ensures linked { OnOk result (is_linked wiring.now s port ≡ true) }
 {
-    match wiring.far(s.as_u8(), port.as_u8()) {
+    match wiring.far(s, port) {
         Some(Far::Switch { .. }) => Ok(()),
         _ => Err(ScriptCause::NoLink),
     }

@@ -691,7 +691,7 @@ fn rows_behind<'a>(net: &'a Net, event: &Event) -> &'a [Row]
     let Event::Load { s } = *event else {
         return &[];
     };
-    match net.table(s.as_u8()) {
+    match net.table(s) {
         Some(table) => table.as_slice(),
         None => &[],
     }

@@ -5,6 +5,7 @@
 //! finds nothing again, and all are roused again in each round, after the driver's steps.
 
 use an_base::place::Place;
+use an_base::port::Port;
 use net_graph::wiring::Far;
 use net_script::script::Script;
 use std::mem::replace;
@@ -122,7 +123,7 @@ impl Neighbours {
     pub fn of(script: &Script, s: Place) -> Neighbours {
         let mut switches = [None; PORTS];
         'ports: for port in 0..PORTS as u8 {
-            if let Some(Far::Switch { s, port: _ }) = script.wiring().far(s.as_u8(), port) {
+            if let Some(Far::Switch { s, port: _ }) = script.wiring().far(s, Port(port)) {
                 switches[usize::from(port)] = Some(s);
             }
         }
