@@ -1,7 +1,9 @@
 use crate::items::Items;
+use crate::place::Place;
+use crate::port::Port;
 
-/// One event of a network. A switch `s` and a host are named by their places in the script, from 0;
-/// a port is one of a switch, 1 to 12.
+/// One event of a network. A host is named by its place in the script, from 0; a port is one of a
+/// switch, 1 to 12.
 #[derive(Clone, Copy, PartialEq, Eq)]
 pub enum Event {
     /// The clock of the network goes on by one.
@@ -9,72 +11,72 @@ pub enum Event {
     /// A switch takes its clock in hand, with the samples of its ports.
     Clock {
         /// The switch.
-        s: u8,
+        s: Place,
     },
     /// A switch takes a frame in hand from the wire that comes in at a port.
     Take {
         /// The switch.
-        s: u8,
+        s: Place,
         /// Its port.
-        port: u8,
+        port: Port,
     },
     /// A switch handles what it has in hand.
     Handle {
         /// The switch.
-        s: u8,
+        s: Place,
     },
     /// A switch loads the table of the topology with which it finished.
     Load {
         /// The switch.
-        s: u8,
+        s: Place,
     },
     /// The link at a port goes down.
     Fail {
         /// The switch.
-        s: u8,
+        s: Place,
         /// Its port.
-        port: u8,
+        port: Port,
     },
     /// The link at a port comes up.
     Repair {
         /// The switch.
-        s: u8,
+        s: Place,
         /// Its port.
-        port: u8,
+        port: Port,
     },
     /// The next frames put on the wire out of a port are to be lost.
     Lose {
         /// The switch.
-        s: u8,
+        s: Place,
         /// Its port.
-        port: u8,
+        port: Port,
         /// How many frames.
         n: u32,
     },
     /// The next takes from the wire out of a port are to leave a copy at its end.
     Again {
         /// The switch.
-        s: u8,
+        s: Place,
         /// Its port.
-        port: u8,
+        port: Port,
         /// How many takes.
         n: u32,
     },
     /// The next takes from the wire out of a port that find two frames are to take the second.
     Swap {
         /// The switch.
-        s: u8,
+        s: Place,
         /// Its port.
-        port: u8,
+        port: Port,
         /// How many takes.
         n: u32,
     },
     /// Bytes that are no frame are put on the wire out of a port.
     Noise {
         /// The switch.
-        s: u8,
+        s: Place,
         /// Its port.
-        port: u8,
+        port: Port,
         /// How many bytes.
         n: u32,
     },
@@ -93,7 +95,7 @@ pub enum Event {
     /// A switch is switched off and on, and begins its next life.
     Restart {
         /// The switch.
-        s: u8,
+        s: Place,
     },
 }
 

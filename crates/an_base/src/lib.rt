@@ -17,6 +17,7 @@ pub mod limits;
 pub mod links;
 pub mod memory;
 pub mod numbers;
+pub mod place;
 pub mod port;
 pub mod port_set;
 pub mod position;

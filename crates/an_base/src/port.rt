@@ -7,6 +7,61 @@ use crate::life::{End, Life};
 use crate::limits::PORTS;
 use std::marker::Model;
 
+/// A port of a switch: 1 to 12, or 0 for the switch itself. Contracts see it as the number.
+#[derive(Clone, Copy, PartialEq, Eq, PartialOrd, Ord)]
+pub struct Port(pub u8);
+
+impl Model for Port {
+    ghost use Rattle.std.specs.Prelude.{ℕ};
+
+    ghost Value = { ℕ };
+
+    ghost view = { λ p. p.0 };
+
+    ghost inverse = { λ n. record { 0 = n } };
+}
+
+impl Port {
+    /// Its number.
+    pub fn as_u8(self) -> u8
+        ensures { result ≡ self }
+    {
+        self.0
+    }
+}
+
+impl From<Port> for usize {
+    ghost from_gives = { λ p n. n ≡ p };
+
+    fn from(port: Port) -> usize {
+        usize::from(port.0)
+    }
+}
+
+impl From<Port> for u16 {
+    ghost from_gives = { λ p n. n ≡ p };
+
+    fn from(port: Port) -> u16 {
+        u16::from(port.0)
+    }
+}
+
+impl From<Port> for u32 {
+    ghost from_gives = { λ p n. n ≡ p };
+
+    fn from(port: Port) -> u32 {
+        u32::from(port.0)
+    }
+}
+
+impl From<Port> for u64 {
+    ghost from_gives = { λ p n. n ≡ p };
+
+    fn from(port: Port) -> u64 {
+        u64::from(port.0)
+    }
+}
+
 /// What a switch takes the other end of a port to be.
 #[derive(Clone, Copy, PartialEq, Eq)]
 pub enum PortState {

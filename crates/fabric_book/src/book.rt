@@ -29,7 +29,8 @@ ghost use Rattle.fabric_book.specs.Kept.{HasSamples, IsDrivers, with_events};
 use an_base::event::{Event, Journal};
 use an_base::life::Life;
 use an_base::memory::OutOfMemory;
-use an_base::port::{Note, Sample};
+use an_base::place::Place;
+use an_base::port::{Note, Port, Sample};
 use fabric_state::fabric::Fabric;
 use fabric_state::hand::Hand;
 use fabric_state::line::{Line, PlacedLine};
@@ -49,7 +50,7 @@ use switch_core::switch::TableFor;
 pub struct Book {
     fabric: Fabric,
     entries: Vec<Event>,
-    taken: Vec<u8>,
+    taken: Vec<Port>,
 }
 
 impl Model for Book {
@@ -66,7 +67,7 @@ impl Model for Book {
 }
 
 // The frames of a switch go out in turn. What is told of each is noted.
-fn put_all(fabric: &mut Fabric, s: u8, frames: &[FrameOut], puts: &mut [Option<Line>])
+fn put_all(fabric: &mut Fabric, s: Place, frames: &[FrameOut], puts: &mut [Option<Line>])
     requires within { s < count fabric.old }
     requires spelled { All IsFrameOut frames.now }
     requires room { length puts.old ≡ length frames.now }
@@ -81,7 +82,7 @@ fn put_all(fabric: &mut Fabric, s: u8, frames: &[FrameOut], puts: &mut [Option<L
 
 // A switch shows this after it has handled what it had in hand. After a frame the port alone by which it came can
 // be shown as another than before.
-fn show(fabric: &mut Fabric, s: u8, hand: Hand, note: &Note, spent: bool)
+fn show(fabric: &mut Fabric, s: Place, hand: Hand, note: &Note, spent: bool)
     requires within { s < count fabric.old }
     requires room { fabric.old.events + full_hands fabric.old < fabric.old.script.limits.events }
     requires port { IsHandPort hand }
@@ -89,7 +90,7 @@ fn show(fabric: &mut Fabric, s: u8, hand: Hand, note: &Note, spent: bool)
     ensures { fabric.new ≡ shows s note.now spent fabric.old }
 {
     match hand {
-        Hand::Frame { port } => fabric.show_port(s, port, note, spent),
+        Hand::Frame { port } => fabric.show_port(s, Port(port), note, spent),
         Hand::Empty | Hand::Clock { now: _, samples: _ } => fabric.show(s, note, spent),
     }
 }
@@ -100,7 +101,7 @@ impl Book {
         ensures { IfOk result (λ book. book ≡ record { script = script.now; events = [] }) }
     {
         let entries = Vec::with_capacity(alloc, script.limits().events as usize)?;
-        let taken = vec![in alloc; 0u8; usize::from(script.wiring().count())]?;
+        let taken = vec![in alloc; Port(0); usize::from(script.wiring().count())]?;
         Ok(Book {
             fabric: Fabric::begin(alloc, script)?,
             entries,
@@ -161,7 +162,7 @@ impl Book {
 
     /// The next work of a switch that has nothing in hand: to begin its next life, a clock, a frame, whose
     /// bytes are in the buffer then, or nothing. Behind it what is told of it.
-    pub fn take(&mut self, s: u8, out: &mut FrameBuf) -> (Work, Option<PlacedLine>)
+    pub fn take(&mut self, s: Place, out: &mut FrameBuf) -> (Work, Option<PlacedLine>)
         requires within { s < length self.old.script.wires.switches }
         requires empty { is_full_at (fabric_of self.old) s ≡ false }
         ensures script { self.new.script ≡ self.old.script }
@@ -173,7 +174,7 @@ impl Book {
     }
 
     // A switch begins its next work, whose event may come. Answers what is told of it.
-    fn begin_work(&mut self, s: u8, work: &Work, out: &mut FrameBuf) -> Option<Line>
+    fn begin_work(&mut self, s: Place, work: &Work, out: &mut FrameBuf) -> Option<Line>
         requires next { AllMayCome (fabric_of self.old) (event_of_work s work.now) }
         requires samples { HasSamples work.now (fabric_of self.old) s }
         ensures event { self.new ≡ with_events (event_of_work s work.now) self.old }
@@ -196,7 +197,7 @@ impl Book {
 
     /// What came of what a switch had in hand: its frames go out, and it shows what it does then. What is told of
     /// each frame is noted. Answers the place of the event in the history, from 1.
-    pub fn put(&mut self, s: u8, done: &Done, puts: &mut [Option<Line>]) -> u32
+    pub fn put(&mut self, s: Place, done: &Done, puts: &mut [Option<Line>]) -> u32
         requires within { s < length self.old.script.wires.switches }
         requires done { IsDone (world_of self.old) s done.now }
         requires room { length puts.old ≡ length done.now.frames }
@@ -210,7 +211,7 @@ impl Book {
 
     /// A switch is to use the table of this sheet, and shows what stands there then. The sheet is handed back exactly
     /// where a switch is spent or there is too little room.
-    pub fn load(&mut self, s: u8, sheet: Box<Sheet>) -> Reply
+    pub fn load(&mut self, s: Place, sheet: Box<Sheet>) -> Reply
         requires within { s < length self.old.script.wires.switches }
         requires load { IsToLoad (world_of self.old) s sheet.value.table sheet.value.note }
         ensures script { self.new.script ≡ self.old.script }
@@ -236,10 +237,10 @@ impl Book {
         ensures in_time { result.0 ≡ drive.Ended ending.Unsettled → ¬ HasTime self.new.script self.new.events }
     {
         let drive = self.fabric.drive();
-        let Drive::Did(event) = drive else {
+        let Drive::Did(event) = &drive else {
             return (drive, None);
         };
-        let line = self.drive_by(event);
+        let line = self.drive_by(*event);
         (drive, self.placed(line))
     }
 
@@ -272,7 +273,7 @@ impl Book {
     }
 
     // A switch takes its clock in hand, with what the hardware says of its ports at this moment.
-    pub(crate) fn clock(&mut self, s: u8, samples: [Sample; 12])
+    pub(crate) fn clock(&mut self, s: Place, samples: [Sample; 12])
         requires lawful { is_lawful (fabric_of self.old) (events.Clock s) ≡ true }
         requires samples { samples ≡ samples_of (fabric_of self.old) s }
         ensures { self.new ≡ with_event (events.Clock s) self.old }
@@ -282,7 +283,7 @@ impl Book {
     }
 
     // A switch takes a frame in hand from the wire into a port. Answers what is told of it.
-    pub(crate) fn take_at(&mut self, s: u8, port: u8, out: &mut FrameBuf) -> Option<Line>
+    pub(crate) fn take_at(&mut self, s: Place, port: Port, out: &mut FrameBuf) -> Option<Line>
         requires { is_lawful (fabric_of self.old) (events.Take s port) ≡ true }
         ensures taken { self.new ≡ with_event (events.Take s port) self.old }
         ensures bytes { out.new ≡ held_bytes (fabric_of self.new) s }
@@ -298,7 +299,7 @@ impl Book {
     // noted.
     pub(crate) fn handle(
         &mut self,
-        s: u8,
+        s: Place,
         frames: &[FrameOut],
         note: &Note,
         spent: bool,
@@ -320,7 +321,7 @@ impl Book {
     }
 
     // A switch uses this table, and shows this then. Answers what is told of it.
-    pub(crate) fn load_now(&mut self, s: u8, table: TableFor, note: &Note) -> Line
+    pub(crate) fn load_now(&mut self, s: Place, table: TableFor, note: &Note) -> Line
         requires lawful { is_lawful (fabric_of self.old) (events.Load s) ≡ true }
         requires load { IsToLoad (world_of self.old) s table note.now }
         ensures loaded { self.new ≡ with_event (events.Load s) self.old }
@@ -332,7 +333,7 @@ impl Book {
     }
 
     // A switch begins its next life. Answers this life, and what is told of it.
-    pub(crate) fn restart(&mut self, s: u8) -> (Life, Line)
+    pub(crate) fn restart(&mut self, s: Place) -> (Life, Line)
         requires { is_lawful (fabric_of self.old) (events.Restart s) ≡ true }
         ensures restarted { self.new ≡ with_event (events.Restart s) self.old }
         ensures life { result.0 ≡ next_life_at (fabric_of self.old) s }

@@ -20,7 +20,8 @@ use crate::book::Book;
 use crate::lines::Lines;
 use crate::telling::{tell_finish, tell_noise, tell_port, tell_ports};
 use an_base::memory::OutOfMemory;
-use an_base::port::Note;
+use an_base::place::Place;
+use an_base::port::{Note, Port};
 use fabric_state::hand::Hand;
 use fabric_state::line::Line;
 use fabric_state::station::write_note;
@@ -54,7 +55,7 @@ fn work(switch: &mut Switch, hand: Hand, bytes: &[u8], out: &mut Out) -> Result<
 
 // The lines of an epoch that a switch joined, of one that it finished, and where no epoch is left for it.
 fn tell_epochs(
-    s: u8,
+    s: Place,
     before: u64,
     had_finished: bool,
     epoch: u64,
@@ -78,7 +79,7 @@ fn tell_epochs(
 // each port whose state changed is added. After a frame this can only be the port by which it came.
 fn show(
     switch: &Switch,
-    s: u8,
+    s: Place,
     hand: Hand,
     note: &mut Note,
     room: &mut Note,
@@ -95,7 +96,7 @@ fn show(
         Hand::Frame { port } => {
             let old = note.ports.get(port);
             switch.show_port(port, note);
-            tell_port(s, port, old, note.ports.get(port), lines)
+            tell_port(s, Port(port), old, note.ports.get(port), lines)
         }
         Hand::Empty | Hand::Clock { now: _, samples: _ } => {
             switch.show(room);
@@ -110,7 +111,7 @@ fn show(
 /// of frames. Notes what it shows now; `room` is room for a note.
 pub fn handle(
     switch: &mut Switch,
-    s: u8,
+    s: Place,
     hand: Hand,
     bytes: &[u8],
     out: &mut Out,
@@ -145,7 +146,7 @@ pub(crate) fn handle_at(
     book: &mut Book,
     switch: &mut Switch,
     bytes: &[u8],
-    s: u8,
+    s: Place,
     out: &mut Out,
     note: &mut Note,
     room: &mut Note,
@@ -174,7 +175,7 @@ pub(crate) fn handle_at(
 pub(crate) fn load_at(
     book: &mut Book,
     switch: &mut Switch,
-    s: u8,
+    s: Place,
     lines: &mut Lines,
 ) -> Result<(), OutOfMemory>
     requires script { IsScript book.old.script }

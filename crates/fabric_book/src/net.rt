@@ -22,7 +22,8 @@ use crate::power::PowerOn;
 use an_base::event::{Event, Journal};
 use an_base::life::Life;
 use an_base::memory::OutOfMemory;
-use an_base::port::Note;
+use an_base::place::Place;
+use an_base::port::{Note, Port};
 use fabric_state::ending::Ending;
 use fabric_state::fabric::Fabric;
 use fabric_state::line::Line;
@@ -79,7 +80,7 @@ fn powers(alloc: Global, script: &Script) -> Result<Vec<PowerOn>, OutOfMemory>
     let count = script.wiring().count();
     let mut powers = Vec::with_capacity(alloc, usize::from(count))?;
     'switches: for s in 0..count {
-        powers.push(PowerOn::of(script, s))?;
+        powers.push(PowerOn::of(script, Place(s)))?;
     }
     Ok(powers)
 }
@@ -93,7 +94,7 @@ fn start_all(alloc: Global, wiring: &Wiring, powers: &[PowerOn]) -> Result<Vec<S
     let mut switches = Vec::with_capacity(alloc, usize::from(count))?;
     'switches: for s in 0..count {
         let power = powers[usize::from(s)];
-        switches.push(power.start(alloc, wiring.life(s))?)?;
+        switches.push(power.start(alloc, wiring.life(Place(s)))?)?;
     }
     Ok(switches)
 }
@@ -173,7 +174,7 @@ impl Net {
     }
 
     /// The present life of a switch.
-    pub fn life(&self, s: u8) -> Life
+    pub fn life(&self, s: Place) -> Life
         requires { s < length self.now.script.wires.switches }
         ensures { result ≡ (station (fabric_of (history_of self.now)) s).note.life }
     {
@@ -181,7 +182,7 @@ impl Net {
     }
 
     /// The table in use at a switch. It answers for all values.
-    pub fn table(&self, s: u8) -> Option<&Table>
+    pub fn table(&self, s: Place) -> Option<&Table>
         ensures { option_copied result ≡ table_at (fabric_of (history_of self.now)) s }
     {
         self.fabric().table(s)
@@ -247,7 +248,7 @@ impl Net {
     }
 
     // A switch takes its clock in hand.
-    fn clock(&mut self, s: u8)
+    fn clock(&mut self, s: Place)
         requires here { self.old.lost ≡ false }
         requires lawful { is_lawful (fabric_of (history_of self.old)) (events.Clock s) ≡ true }
         ensures { self.new ≡ with_step (events.Clock s) self.old }
@@ -257,7 +258,7 @@ impl Net {
     }
 
     // A switch takes a frame; a line where a copy was lost, which names the end that sent it.
-    fn take(&mut self, s: u8, port: u8, lines: &mut Lines) -> Result<(), OutOfMemory>
+    fn take(&mut self, s: Place, port: Port, lines: &mut Lines) -> Result<(), OutOfMemory>
         requires here { self.old.lost ≡ false }
         requires lawful { is_lawful (fabric_of (history_of self.old)) (events.Take s port) ≡ true }
         ensures stepped { OnOk result (self.new ≡ with_step (events.Take s port) self.old) }
@@ -267,7 +268,7 @@ impl Net {
     }
 
     // A switch handles what it has in hand.
-    fn handle(&mut self, s: u8, lines: &mut Lines) -> Result<(), OutOfMemory>
+    fn handle(&mut self, s: Place, lines: &mut Lines) -> Result<(), OutOfMemory>
         requires here { self.old.lost ≡ false }
         requires lawful { is_lawful (fabric_of (history_of self.old)) (events.Handle s) ≡ true }
         ensures stepped { OnOk result (self.new ≡ with_step (events.Handle s) self.old) }
@@ -291,7 +292,7 @@ impl Net {
     }
 
     // A switch loads the table that is due.
-    fn load(&mut self, s: u8, lines: &mut Lines) -> Result<(), OutOfMemory>
+    fn load(&mut self, s: Place, lines: &mut Lines) -> Result<(), OutOfMemory>
         requires here { self.old.lost ≡ false }
         requires lawful { is_lawful (fabric_of (history_of self.old)) (events.Load s) ≡ true }
         ensures stepped { OnOk result (self.new ≡ with_step (events.Load s) self.old) }
@@ -317,7 +318,7 @@ impl Net {
     // call, though a restart is rare.
     #[cold]
     #[inline(never)]
-    fn restart(&mut self, s: u8, lines: &mut Lines) -> Result<(), OutOfMemory>
+    fn restart(&mut self, s: Place, lines: &mut Lines) -> Result<(), OutOfMemory>
         requires here { self.old.lost ≡ false }
         requires lawful { is_lawful (fabric_of (history_of self.old)) (events.Restart s) ≡ true }
         ensures stepped { OnOk result (self.new ≡ with_step (events.Restart s) self.old) }
@@ -345,7 +346,7 @@ impl Net {
     }
 
     // A switch whose hand is empty takes its next work, as the book chooses it; false where it has none.
-    fn take_work(&mut self, s: u8) -> Result<bool, OutOfMemory>
+    fn take_work(&mut self, s: Place) -> Result<bool, OutOfMemory>
         requires here { self.old.lost ≡ false }
         requires within { s < length self.old.script.wires.switches }
         requires empty { is_full_at (fabric_of (history_of self.old)) s ≡ false }
@@ -371,7 +372,7 @@ impl Net {
     }
 
     // Whether a switch has a table to load.
-    fn load_due(&self, s: u8) -> bool
+    fn load_due(&self, s: Place) -> bool
         requires { s < length self.now.script.wires.switches }
         ensures { result ≡ load_due_at (fabric_of (history_of self.now)) s }
     {
@@ -379,7 +380,7 @@ impl Net {
     }
 
     // A worker does its next thing; false where it has none.
-    pub(crate) fn turn(&mut self, s: u8, lines: &mut Lines) -> Result<bool, OutOfMemory>
+    pub(crate) fn turn(&mut self, s: Place, lines: &mut Lines) -> Result<bool, OutOfMemory>
         requires here { self.old.lost ≡ false }
         requires within { s < length self.old.script.wires.switches }
         ensures turned { OnOk result (self.new ≡ with_events
@@ -413,10 +414,10 @@ impl Net {
             ≡ lines.old ++ drive_lines (world_of (history_of self.old)) did) }
     {
         let drive = self.book.fabric().drive();
-        let Drive::Did(event) = drive else {
+        let Drive::Did(event) = &drive else {
             return Ok(drive);
         };
-        self.make(event, lines)?;
+        self.make(*event, lines)?;
         Ok(drive)
     }
 }

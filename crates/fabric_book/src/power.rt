@@ -5,6 +5,7 @@ ghost use Rattle.fabric_book.specs.Nets.{IsStarted, power_of, start_with};
 
 use an_base::life::Life;
 use an_base::memory::OutOfMemory;
+use an_base::place::Place;
 use net_script::script::Script;
 use std::alloc::Global;
 use std::marker::Model;
@@ -35,7 +36,7 @@ impl Model for PowerOn {
 
 impl PowerOn {
     /// With what the switch at a place of the script is started.
-    pub fn of(script: &Script, s: u8) -> PowerOn
+    pub fn of(script: &Script, s: Place) -> PowerOn
         requires { s < length script.now.wires.switches }
         ensures { result ≡ power_of script.now s }
     {

@@ -12,6 +12,7 @@ use crate::lines::Lines;
 use crate::net::Net;
 use an_base::event::Journal;
 use an_base::memory::OutOfMemory;
+use an_base::place::Place;
 use fabric_state::ending::Ending;
 use fabric_state::work::Drive;
 use net_script::script::Script;
@@ -38,7 +39,7 @@ pub struct ToldRun {
 }
 
 // A switch does all that it has to do.
-fn work_out(net: &mut Net, s: u8, lines: &mut Lines) -> Result<(), OutOfMemory>
+fn work_out(net: &mut Net, s: Place, lines: &mut Lines) -> Result<(), OutOfMemory>
     requires turn { IsTurnOf s net.old }
     requires within { s < length net.old.script.wires.switches }
     ensures turn { OnOk result (IsTurnOf (s + 1) net.new) }
@@ -62,7 +63,7 @@ fn work_all(net: &mut Net, lines: &mut Lines) -> Result<(), OutOfMemory>
 {
     let count = net.fabric().count();
     'switches: for s in 0..count {
-        work_out(net, s, lines)?;
+        work_out(net, Place(s), lines)?;
     }
     Ok(())
 }

@@ -13,7 +13,8 @@ ghost use Rattle.fabric_book.specs.Told.{line_if, noise_lines};
 use crate::lines::Lines;
 use an_base::limits::LAST_PORT;
 use an_base::memory::OutOfMemory;
-use an_base::port::{Note, PortState, PortView};
+use an_base::place::Place;
+use an_base::port::{Note, Port, PortState, PortView};
 use fabric_state::hand::Hand;
 use fabric_state::line::Line;
 use switch_core::switch::Switch;
@@ -27,8 +28,8 @@ fn is_same_state(one: PortState, other: PortState) -> bool
 
 /// A line where the state of a port changed.
 pub(crate) fn tell_port(
-    s: u8,
-    port: u8,
+    s: Place,
+    port: Port,
     old: PortView,
     new: PortView,
     lines: &mut Lines,
@@ -49,7 +50,7 @@ pub(crate) fn tell_port(
 
 /// A line for each port whose state changed, by rising port.
 pub(crate) fn tell_ports(
-    s: u8,
+    s: Place,
     before: &Note,
     after: &Note,
     lines: &mut Lines,
@@ -59,14 +60,14 @@ pub(crate) fn tell_ports(
     'ports: for port in 1..=LAST_PORT {
         let old = before.ports.get(port);
         let new = after.ports.get(port);
-        tell_port(s, port, old, new, lines)?;
+        tell_port(s, Port(port), old, new, lines)?;
     }
     Ok(())
 }
 
 /// A line where what came in is no frame.
 pub(crate) fn tell_noise(
-    s: u8,
+    s: Place,
     hand: Hand,
     noframe: bool,
     lines: &mut Lines,
@@ -74,14 +75,20 @@ pub(crate) fn tell_noise(
     ensures { OnOk result (lines.new ≡ lines.old ++ noise_lines s hand noframe) }
 {
     match hand {
-        Hand::Frame { port } => lines.push_if(noframe, Line::NoFrame { s, port }),
+        Hand::Frame { port } => lines.push_if(
+            noframe,
+            Line::NoFrame {
+                s,
+                port: Port(port),
+            },
+        ),
         Hand::Empty | Hand::Clock { now: _, samples: _ } => Ok(()),
     }
 }
 
 /// A line where a switch has finished its epoch.
 pub(crate) fn tell_finish(
-    s: u8,
+    s: Place,
     epoch: u64,
     switch: &Switch,
     lines: &mut Lines,

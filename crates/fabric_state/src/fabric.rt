@@ -43,7 +43,8 @@ use crate::work::{Drive, Why, Work};
 use an_base::event::Event;
 use an_base::life::{End, Life};
 use an_base::memory::OutOfMemory;
-use an_base::port::{Note, PortView, Sample};
+use an_base::place::Place;
+use an_base::port::{Note, Port, PortView, Sample};
 use frame_region::buffer::FrameBuf;
 use host_traffic::hop::{DropCause, Hop};
 use host_traffic::traffic::Traffic;
@@ -87,7 +88,7 @@ impl Model for Fabric {
 }
 
 // What a switch has in hand is given up on the wires.
-fn give_up(wires: &mut WireSet, s: u8, hand: Hand)
+fn give_up(wires: &mut WireSet, s: Place, hand: Hand)
     requires { HoldsFor hand (hand_of wires.old s) }
     ensures { wires.new ≡ released hand s wires.old }
 {
@@ -159,7 +160,7 @@ impl Fabric {
     }
 
     /// What stands at the place of a switch.
-    pub fn station(&self, s: u8) -> &Station
+    pub fn station(&self, s: Place) -> &Station
         requires { s < count self.now }
         ensures { result.now ≡ station self.now s }
     {
@@ -167,7 +168,7 @@ impl Fabric {
     }
 
     /// The table in use at a switch. It answers for all values.
-    pub fn table(&self, s: u8) -> Option<&Table>
+    pub fn table(&self, s: Place) -> Option<&Table>
         ensures { option_copied result ≡ table_at self.now s }
     {
         self.stations.table(s)
@@ -175,14 +176,14 @@ impl Fabric {
 
     /// The host at a port, by its place and identifier: none where the port does not show a host or its link
     /// is down.
-    pub fn host(&self, s: u8, port: u8) -> Option<(u16, u64)>
+    pub fn host(&self, s: Place, port: Port) -> Option<(u16, u64)>
         ensures { result ≡ host_at self.now s port }
     {
         self.seen().host(s, port)
     }
 
     /// Whether the clock of a switch is due.
-    pub fn is_clock_due(&self, s: u8) -> bool
+    pub fn is_clock_due(&self, s: Place) -> bool
         requires { s < count self.now }
         ensures { result ≡ clock_due_at self.now s }
     {
@@ -217,14 +218,14 @@ impl Fabric {
     }
 
     // The switch at which a packet is, and the port by which it came in; none exactly where it is not under way.
-    fn packet_place(&self, packet: u32) -> Option<(u8, u8)>
+    fn packet_place(&self, packet: u32) -> Option<(Place, Port)>
         ensures { result ≡ option_map place_now (packet_of packet self.now.packets) }
     {
         self.traffic.place(packet)
     }
 
     // The switch and port behind a link of two switch ports, up or down. It answers for all values.
-    fn far_switch(&self, s: u8, port: u8) -> Option<(u8, u8)>
+    fn far_switch(&self, s: Place, port: Port) -> Option<(Place, Port)>
         ensures { result ≡ switch_behind (side_of_port self.now s port).far }
     {
         switch_behind(self.wires.side(s, port).far)
@@ -244,14 +245,14 @@ impl Fabric {
     }
 
     // Whether the link of a port is up, if there is one.
-    fn is_up(&self, s: u8, port: u8) -> bool
+    fn is_up(&self, s: Place, port: Port) -> bool
         ensures { result ≡ is_up self.now s port }
     {
         self.wires.side(s, port).is_up
     }
 
     // What a switch shows of a port.
-    fn port(&self, s: u8, port: u8) -> PortView
+    fn port(&self, s: Place, port: Port) -> PortView
         ensures { result ≡ port_shown self.now s port }
     {
         self.stations.port(s, port)
@@ -260,7 +261,7 @@ impl Fabric {
     // ---- Ends -------------------------------------------------------------------------------------------
 
     // What a switch shows of a port is that it is good, and this the other end.
-    fn is_good_to(&self, peer: End, s: u8, port: u8) -> bool
+    fn is_good_to(&self, peer: End, s: Place, port: Port) -> bool
         ensures { result ≡ is_good_to peer (port_shown self.now s port) }
     {
         let view = self.port(s, port);
@@ -268,13 +269,13 @@ impl Fabric {
     }
 
     // The end of the link at a port of a switch.
-    fn end_at(&self, s: u8, port: u8) -> End
+    fn end_at(&self, s: Place, port: Port) -> End
         requires within { s < count self.now }
         requires least { 1 ≤ port }
         requires most { port ≤ 12 }
         ensures { result ≡ end_shown self.now s port }
     {
-        End::new(self.station(s).note().life, port)
+        End::new(self.station(s).note().life, port.as_u8())
     }
 
     // Each end of a link is good, and names the present life and port of the other.
@@ -464,14 +465,14 @@ impl Fabric {
     }
 
     // This is the place of a switch whose hand is empty.
-    fn is_free(&self, s: u8) -> bool
+    fn is_free(&self, s: Place) -> bool
         ensures { result ≡ (is_switch self.now s && not (is_full_at self.now s)) }
     {
-        s < self.count() && !self.station(s).is_full()
+        s.as_u8() < self.count() && !self.station(s).is_full()
     }
 
     // A frame that has come may be taken.
-    fn may_take(&self, s: u8, port: u8) -> bool
+    fn may_take(&self, s: Place, port: Port) -> bool
         ensures { result ≡ is_ready self.now (events.Take s port) }
     {
         self.is_free(s)
@@ -488,7 +489,7 @@ impl Fabric {
             Event::Tick => self.is_tick_due(),
             Event::Clock { s } => self.is_free(s) && self.is_clock_due(s),
             Event::Take { s, port } => self.may_take(s, port),
-            Event::Handle { s } => s < self.count() && self.station(s).is_full(),
+            Event::Handle { s } => s.as_u8() < self.count() && self.station(s).is_full(),
             Event::Load { s } => self.is_free(s) && self.station(s).note().load_due,
             Event::Move { packet } => self.traffic.place(packet).is_some(),
             Event::Restart { s } => self.is_command(event) && self.is_free(s),
@@ -508,7 +509,7 @@ impl Fabric {
     // ---- What comes next ---------------------------------------------------------------------------------
 
     // The life after the present one of a switch.
-    fn next_life(&self, s: u8) -> Life
+    fn next_life(&self, s: Place) -> Life
         requires within { s < count self.now }
         requires boot { (station self.now s).note.life.boot < 2 ^ 32 - 1 }
         ensures { result ≡ next_life_at self.now s }
@@ -517,18 +518,18 @@ impl Fabric {
     }
 
     // The port from which a switch takes next, after this one.
-    fn next_port(&self, s: u8, last: u8) -> Option<u8>
+    fn next_port(&self, s: Place, last: Port) -> Option<Port>
         requires { s < count self.now }
         ensures { result ≡ next_port self.now s last }
     {
         match port_above(&self.wires, s, last) {
             Some(port) => Some(port),
-            None => port_above(&self.wires, s, 0),
+            None => port_above(&self.wires, s, Port(0)),
         }
     }
 
     /// What a switch is to do next that has nothing in hand, and took its last frame at this port, or 0.
-    pub fn work(&self, s: u8, last: u8) -> Work
+    pub fn work(&self, s: Place, last: Port) -> Work
         requires within { s < count self.now }
         requires boot { (station self.now s).note.life.boot < 2 ^ 32 - 1 }
         ensures { result ≡ next_work self.now s last }
@@ -595,7 +596,7 @@ impl Fabric {
     }
 
     /// What the hardware says of the ports of a switch at this moment, by rising port. It answers for all values.
-    pub fn samples(&self, s: u8) -> [Sample; 12]
+    pub fn samples(&self, s: Place) -> [Sample; 12]
         ensures { result ≡ samples_of self.now s }
     {
         samples(&self.wires, s)
@@ -603,7 +604,7 @@ impl Fabric {
 
     /// A switch takes its clock in hand, with what the hardware says of its ports at this moment. Nothing is told
     /// of it.
-    pub fn clock(&mut self, s: u8, samples: [Sample; 12])
+    pub fn clock(&mut self, s: Place, samples: [Sample; 12])
         requires lawful { is_lawful self.old (events.Clock s) ≡ true }
         requires samples { samples ≡ samples_of self.old s }
         ensures { self.new ≡ after_clock s self.old }
@@ -614,7 +615,7 @@ impl Fabric {
 
     /// A switch takes a frame in hand from the wire into this port, and the buffer has its bytes then. Answers
     /// what is told of it: a copy of the frame that was lost.
-    pub fn take(&mut self, s: u8, port: u8, out: &mut FrameBuf) -> Option<Line>
+    pub fn take(&mut self, s: Place, port: Port, out: &mut FrameBuf) -> Option<Line>
         requires { is_lawful self.old (events.Take s port) ≡ true }
         ensures taken { self.new ≡ after_take s port self.old }
         ensures bytes { out.new ≡ held_bytes self.new s }
@@ -629,7 +630,7 @@ impl Fabric {
 
     /// The first of the three parts of handling: what a switch has in hand is given up. `put` follows for
     /// each frame that goes out, and then `show` or `show_port`.
-    pub fn release(&mut self, s: u8)
+    pub fn release(&mut self, s: Place)
         requires within { s < count self.old }
         requires full { is_full_at self.old s ≡ true }
         ensures { self.new ≡ emptied s self.old }
@@ -641,13 +642,13 @@ impl Fabric {
 
     /// A frame of a switch goes out, if its port has a link of two switch ports. Answers what is told of it: that
     /// it was lost.
-    pub fn put(&mut self, s: u8, frame: &FrameOut) -> Option<Line>
+    pub fn put(&mut self, s: Place, frame: &FrameOut) -> Option<Line>
         requires within { s < count self.old }
         requires frame { IsFrameOut frame.now }
         ensures put { self.new ≡ record self.old { wires = put_out s frame.now self.old.wires } }
         ensures told { option_to_list result ≡ lost_line s frame.now self.old.wires }
     {
-        let port = frame.port();
+        let port = Port(frame.port());
         if !is_link(self.wires.side(s, port).far) {
             return None;
         }
@@ -656,7 +657,7 @@ impl Fabric {
 
     /// The last of the three parts of handling: a switch shows this now, and the event has come. Where it has
     /// joined another epoch its table goes out of use.
-    pub fn show(&mut self, s: u8, note: &Note, spent: bool)
+    pub fn show(&mut self, s: Place, note: &Note, spent: bool)
         requires within { s < count self.old }
         requires room { self.old.events + full_hands self.old < self.old.script.limits.events }
         ensures { self.new ≡ shows s note.now spent self.old }
@@ -667,7 +668,7 @@ impl Fabric {
 
     /// The same where of its ports this one alone, 1 to 12, can be shown as another than before, as after a
     /// frame that came in by it.
-    pub fn show_port(&mut self, s: u8, port: u8, note: &Note, spent: bool)
+    pub fn show_port(&mut self, s: Place, port: Port, note: &Note, spent: bool)
         requires within { s < count self.old }
         requires room { self.old.events + full_hands self.old < self.old.script.limits.events }
         requires least { 1 ≤ port }
@@ -680,7 +681,7 @@ impl Fabric {
     }
 
     /// A switch uses a table, and shows this then. Answers what is told of it.
-    pub fn load(&mut self, s: u8, table: TableFor, note: &Note) -> Line
+    pub fn load(&mut self, s: Place, table: TableFor, note: &Note) -> Line
         requires { is_lawful self.old (events.Load s) ≡ true }
         ensures loaded { self.new ≡ after_load s table note.now self.old }
         ensures told { result ≡ line.Load s table.epoch table.table.number }
@@ -697,7 +698,7 @@ impl Fabric {
 
     /// A switch is switched off and on, as the next command says: it begins its next life. Answers this life, and
     /// what is told of it.
-    pub fn restart(&mut self, s: u8) -> (Life, Line)
+    pub fn restart(&mut self, s: Place) -> (Life, Line)
         requires lawful { is_lawful self.old (events.Restart s) ≡ true }
         requires boot { (station self.old s).note.life.boot < 2 ^ 32 - 1 }
         ensures restarted { self.new ≡ after_restart s (next_note_at self.old s) self.old }
@@ -712,8 +713,8 @@ impl Fabric {
     }
 
     // The address to which a packet goes, or why it is dropped before its first hop.
-    fn address_for(&self, from: HostOn, to: HostOn) -> Result<u16, DropCause>
-        ensures address { result ≡ address_for self.now from to }
+    fn address_for(&self, from: &HostOn, to: &HostOn) -> Result<u16, DropCause>
+        ensures address { result ≡ address_for self.now from.now to.now }
         ensures small { IfOk result (λ address. address < 2 ^ 12) }
     {
         if self.host(from.s, from.port).is_none() {
@@ -733,7 +734,7 @@ impl Fabric {
     {
         let from = self.plan.host(host);
         let target = self.plan.host(to);
-        let address = self.address_for(from, target);
+        let address = self.address_for(&from, &target);
         self.sent += 1;
         admit(&mut self.traffic, self.sent, from, target, address);
         self.past.command();
@@ -741,7 +742,7 @@ impl Fabric {
     }
 
     // The link of a port goes down, as the next command says. Answers how many frames were dropped.
-    fn fail(&mut self, s: u8, port: u8) -> u32
+    fn fail(&mut self, s: Place, port: Port) -> u32
         requires { is_lawful self.old (events.Fail s port) ≡ true }
         ensures failed { self.new ≡ on_wires (fail_at (place s port)) self.old }
         ensures dropped { result ≡ dropped_at (place s port) self.old.wires }
@@ -752,7 +753,7 @@ impl Fabric {
     }
 
     // The link of a port comes up, as the next command says.
-    fn repair(&mut self, s: u8, port: u8)
+    fn repair(&mut self, s: Place, port: Port)
         requires { is_lawful self.old (events.Repair s port) ≡ true }
         ensures { self.new ≡ on_wires (repair_at (place s port)) self.old }
     {
@@ -761,7 +762,7 @@ impl Fabric {
     }
 
     // So many more losses are told, as the next command says.
-    fn lose(&mut self, s: u8, port: u8, n: u32)
+    fn lose(&mut self, s: Place, port: Port, n: u32)
         requires { is_lawful self.old (events.Lose s port n) ≡ true }
         ensures { self.new ≡ on_wires (lose_on (wire_out self.old.wires s port) n) self.old }
     {
@@ -770,7 +771,7 @@ impl Fabric {
     }
 
     // So many more copies are told, as the next command says.
-    fn again(&mut self, s: u8, port: u8, n: u32)
+    fn again(&mut self, s: Place, port: Port, n: u32)
         requires { is_lawful self.old (events.Again s port n) ≡ true }
         ensures { self.new ≡ on_wires (again_on (wire_out self.old.wires s port) n) self.old }
     {
@@ -779,7 +780,7 @@ impl Fabric {
     }
 
     // So many more exchanges are told, as the next command says.
-    fn swap(&mut self, s: u8, port: u8, n: u32)
+    fn swap(&mut self, s: Place, port: Port, n: u32)
         requires { is_lawful self.old (events.Swap s port n) ≡ true }
         ensures { self.new ≡ on_wires (swap_on (wire_out self.old.wires s port) n) self.old }
     {
@@ -788,7 +789,7 @@ impl Fabric {
     }
 
     // Bytes that are no frame are put on the wire out of a port, as the next command says.
-    fn noise(&mut self, s: u8, port: u8, bytes: u32) -> Put
+    fn noise(&mut self, s: Place, port: Port, bytes: u32) -> Put
         requires { is_lawful self.old (events.Noise s port bytes) ≡ true }
         ensures put { self.new ≡ on_wires (noise_out s port bytes) self.old }
         ensures what { result

@@ -17,7 +17,7 @@ pub enum Hand {
     },
     /// A frame.
     Frame {
-        /// The port by which it came in, 1 to 12.
+        /// The port by which it came in, 1 to 12, as it is handed to the switch.
         port: u8,
     },
 }

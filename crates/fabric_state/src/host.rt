@@ -3,13 +3,15 @@
 ghost use Rattle.std.specs.Prelude.{◌≡◌, slice_index_or};
 ghost use Rattle.fabric_state.specs.Fabric.{no_host};
 
+use an_base::place::Place;
+use an_base::port::Port;
 use net_graph::wiring::HostOn;
 
 // No host.
 const NO_HOST: HostOn = HostOn {
     uid: 0,
-    s: 0,
-    port: 0,
+    s: Place(0),
+    port: Port(0),
 };
 
 /// The host at a place among these, or no host: identifier 0, at port 0 of switch 0.

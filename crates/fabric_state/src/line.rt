@@ -1,7 +1,8 @@
 //! What is told of an event.
 
 use an_base::life::{End, Life};
-use an_base::port::PortState;
+use an_base::place::Place;
+use an_base::port::{Port, PortState};
 use host_traffic::hop::DropCause;
 use wire_set::side::Loss;
 
@@ -10,10 +11,10 @@ use wire_set::side::Loss;
 pub enum Line {
     /// A port changed its state.
     Port {
-        /// The place of the switch in the script, from 0.
-        s: u8,
+        /// The switch.
+        s: Place,
         /// The port, 1 to 12.
-        port: u8,
+        port: Port,
         /// The state.
         state: PortState,
         /// The other end, where it is known.
@@ -21,27 +22,27 @@ pub enum Line {
     },
     /// What came in is no frame.
     NoFrame {
-        /// The place of the switch in the script, from 0.
-        s: u8,
+        /// The switch.
+        s: Place,
         /// The port by which it came, 1 to 12.
-        port: u8,
+        port: Port,
     },
     /// A switch joined an epoch.
     Join {
-        /// The place of the switch in the script, from 0.
-        s: u8,
+        /// The switch.
+        s: Place,
         /// The epoch.
         epoch: u64,
     },
     /// The epochs of a switch are spent.
     Spent {
-        /// The place of the switch in the script, from 0.
-        s: u8,
+        /// The switch.
+        s: Place,
     },
     /// A switch finished its epoch.
     Finish {
-        /// The place of the switch in the script, from 0.
-        s: u8,
+        /// The switch.
+        s: Place,
         /// The epoch.
         epoch: u64,
         /// The root of the topology.
@@ -51,17 +52,17 @@ pub enum Line {
     },
     /// A frame that was put on the wire out of a port was lost.
     Lost {
-        /// The place of the switch that sent it.
-        s: u8,
+        /// The switch that sent it.
+        s: Place,
         /// Its port, 1 to 12.
-        port: u8,
+        port: Port,
         /// Why.
         cause: Loss,
     },
     /// A switch loaded a table.
     Load {
-        /// The place of the switch in the script, from 0.
-        s: u8,
+        /// The switch.
+        s: Place,
         /// The epoch of its topology.
         epoch: u64,
         /// The number of the switch there, 1 to 126.
@@ -69,24 +70,24 @@ pub enum Line {
     },
     /// A link went down.
     Cut {
-        /// The place of a switch at it.
-        s: u8,
+        /// A switch at it.
+        s: Place,
         /// Its port, 1 to 12.
-        port: u8,
+        port: Port,
         /// How many frames were dropped.
         dropped: u32,
     },
     /// A link came up.
     Mended {
-        /// The place of a switch at it.
-        s: u8,
+        /// A switch at it.
+        s: Place,
         /// Its port, 1 to 12.
-        port: u8,
+        port: Port,
     },
     /// A switch began its next life.
     Restarted {
-        /// The place of the switch in the script, from 0.
-        s: u8,
+        /// The switch.
+        s: Place,
     },
     /// A packet is under way.
     Packet {
@@ -114,14 +115,14 @@ pub enum Line {
     Moved {
         /// The number of the packet, from 1.
         packet: u32,
-        /// The place of the switch at which it was.
-        s: u8,
+        /// The switch at which it was.
+        s: Place,
         /// The epoch of the table in use there.
         epoch: u64,
         /// The port by which it came in, 1 to 12.
-        entry: u8,
+        entry: Port,
         /// The port by which it went out, 1 to 12.
-        exit: u8,
+        exit: Port,
         /// The place of the host to which it was delivered, at delivery.
         host: Option<u16>,
     },
@@ -129,8 +130,8 @@ pub enum Line {
     Fell {
         /// The number of the packet, from 1.
         packet: u32,
-        /// The place of the switch at which it was.
-        s: u8,
+        /// The switch at which it was.
+        s: Place,
         /// Why.
         cause: DropCause,
     },

@@ -5,6 +5,7 @@ ghost use Rattle.fabric_state.specs.Fabric.{no_host};
 
 use crate::host::host_at;
 use an_base::memory::OutOfMemory;
+use an_base::place::Place;
 use net_graph::wiring::{HostOn, LinkAt, SwitchAt};
 use net_script::command::Command;
 use net_script::script::Script;
@@ -66,7 +67,7 @@ impl Plan {
     }
 
     /// The identifier of a switch.
-    pub fn uid(&self, s: u8) -> u64
+    pub fn uid(&self, s: Place) -> u64
         requires { s < length self.now.wires.switches }
         ensures { result ≡ uid_of self.now.wires.switches s }
     {

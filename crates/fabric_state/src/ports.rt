@@ -4,7 +4,8 @@ ghost use Rattle.wire_set.specs.WireState.{has_frame_on, place, side_at};
 ghost use Rattle.fabric_state.specs.Fabric.{is_external, sample_of, switch_behind};
 ghost use Rattle.fabric_state.specs.PortStates.{is_dead, is_good, is_host, is_loop};
 
-use an_base::port::{PortState, Sample};
+use an_base::place::Place;
+use an_base::port::{Port, PortState, Sample};
 use net_graph::wiring::Far;
 use wire_set::side::Side;
 use wire_set::wires::WireSet;
@@ -38,14 +39,14 @@ pub fn is_good(state: PortState) -> bool
 }
 
 /// Whether a port is an external one.
-pub fn is_external(port: u8) -> bool
+pub fn is_external(port: Port) -> bool
     ensures { result ≡ is_external port }
 {
-    1 <= port && port <= 12
+    1 <= port.as_u8() && port.as_u8() <= 12
 }
 
 /// The switch and port behind a link of two switch ports.
-pub fn switch_behind(far: Option<Far>) -> Option<(u8, u8)>
+pub fn switch_behind(far: Option<Far>) -> Option<(Place, Port)>
     ensures { result ≡ switch_behind far }
 {
     match far {
@@ -69,30 +70,30 @@ pub fn sample_of(side: Side) -> Sample
 }
 
 /// What the hardware says of the ports of a switch, by rising port.
-pub fn samples(wires: &WireSet, s: u8) -> [Sample; 12]
+pub fn samples(wires: &WireSet, s: Place) -> [Sample; 12]
     ensures { result ≡ map (λ port. sample_of (side_at wires.now (place s port))) externals }
 {
     let mut samples = [Sample::Down; 12];
     'ports: for port in 1..13u8 {
-        samples[usize::from(port - 1)] = sample_of(wires.side(s, port));
+        samples[usize::from(port - 1)] = sample_of(wires.side(s, Port(port)));
     }
     samples
 }
 
 // Whether a port is above this one and has a frame.
-fn is_next(wires: &WireSet, s: u8, last: u8, port: u8) -> bool
+fn is_next(wires: &WireSet, s: Place, last: Port, port: Port) -> bool
     ensures { result ≡ (nat_lt last port && has_frame_on wires.now (place s port)) }
 {
     last < port && wires.has_frame(s, port)
 }
 
 /// The lowest port above this one that has a frame.
-pub fn port_above(wires: &WireSet, s: u8, last: u8) -> Option<u8>
+pub fn port_above(wires: &WireSet, s: Place, last: Port) -> Option<Port>
     ensures { result ≡ find (λ port. nat_lt last port && has_frame_on wires.now (place s port)) externals }
 {
-    'ports: for port in last.min(12) + 1..13u8 {
-        if is_next(wires, s, last, port) {
-            return Some(port);
+    'ports: for port in last.as_u8().min(12) + 1..13u8 {
+        if is_next(wires, s, last, Port(port)) {
+            return Some(Port(port));
         }
     }
     None

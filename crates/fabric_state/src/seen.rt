@@ -1,6 +1,8 @@
 use crate::plan::Plan;
 use crate::ports::{is_host, switch_behind};
 use crate::stations::Stations;
+use an_base::place::Place;
+use an_base::port::Port;
 use host_traffic::view::HopView;
 use net_graph::wiring::Far;
 use table_build::table::Table;
@@ -27,11 +29,11 @@ impl HopView for Seen<'_> {
 
     ghost next_at = { λ seen. next_at (fabric_of_parts seen.plan.now seen.wires.now seen.stations.now) };
 
-    fn table(&self, s: u8) -> Option<&Table> {
+    fn table(&self, s: Place) -> Option<&Table> {
         self.stations.table(s)
     }
 
-    fn host(&self, s: u8, port: u8) -> Option<(u16, u64)> {
+    fn host(&self, s: Place, port: Port) -> Option<(u16, u64)> {
         let side = self.wires.side(s, port);
         if !side.is_up || !is_host(self.stations.port(s, port).state) {
             return None;
@@ -42,7 +44,7 @@ impl HopView for Seen<'_> {
         }
     }
 
-    fn next(&self, s: u8, port: u8) -> Option<(u8, u8)> {
+    fn next(&self, s: Place, port: Port) -> Option<(Place, Port)> {
         let side = self.wires.side(s, port);
         if side.is_up {
             switch_behind(side.far)

@@ -9,7 +9,7 @@ ghost use Rattle.fabric_state.specs.Starts.{started_note};
 
 use crate::hand::Hand;
 use an_base::life::Life;
-use an_base::port::{Note, Ports};
+use an_base::port::{Note, Port, Ports};
 use std::marker::Model;
 use switch_core::switch::TableFor;
 use table_build::table::Table;
@@ -64,7 +64,7 @@ pub fn write_note(to: &mut Note, note: &Note)
 }
 
 // The same where of its ports this one alone can be shown as another than before.
-fn write_port(to: &mut Note, port: u8, note: &Note)
+fn write_port(to: &mut Note, port: Port, note: &Note)
     requires least { 1 ≤ port }
     requires most { port ≤ 12 }
     requires only { ShowsOnly port to.old note.now }
@@ -73,7 +73,7 @@ fn write_port(to: &mut Note, port: u8, note: &Note)
     let _before = to.ports.as_slice();
     let _after = note.ports.as_slice();
     to.epoch = note.epoch;
-    to.ports.set(port, note.ports.get(port));
+    to.ports.set(port.as_u8(), note.ports.get(port.as_u8()));
     to.load_due = note.load_due;
     to.unacked = note.unacked;
 }
@@ -196,7 +196,7 @@ impl Station {
     }
 
     // The same where of its ports this one alone, 1 to 12, can be shown as another than before.
-    pub(crate) fn show_port(&mut self, port: u8, note: &Note, spent: bool)
+    pub(crate) fn show_port(&mut self, port: Port, note: &Note, spent: bool)
         requires least { 1 ≤ port }
         requires most { port ≤ 12 }
         requires only { ShowsOnly port self.old.note note.now }

@@ -11,7 +11,8 @@ ghost use Rattle.fabric_state.specs.Tallies.{IsCounted, IsCountedAnew, one_if, s
 use crate::hand::Hand;
 use crate::station::{Station, started_note};
 use an_base::memory::OutOfMemory;
-use an_base::port::{Note, PortState, PortView, Sample};
+use an_base::place::Place;
+use an_base::port::{Note, Port, PortState, PortView, Sample};
 use net_graph::wiring::Wiring;
 use std::alloc::Global;
 use std::marker::Model;
@@ -68,10 +69,10 @@ fn recounted(count: u32, before: bool, after: bool) -> u32
 }
 
 // What is shown of a port, among what is shown of all.
-fn view_in(views: &[PortView], port: u8) -> PortView
+fn view_in(views: &[PortView], port: Port) -> PortView
     ensures { result ≡ slice_index_or views.now (port - 1) no_view }
 {
-    match views.get(usize::from(port.saturating_sub(1))) {
+    match views.get(usize::from(port).saturating_sub(1)) {
         Some(view) => *view,
         None => NO_VIEW,
     }
@@ -101,7 +102,7 @@ fn begun(alloc: Global, wiring: &Wiring, epoch: u64) -> Result<Vec<Station>, Out
     let count = wiring.count();
     let mut stations = Vec::with_capacity(alloc, usize::from(count))?;
     'switches: for s in 0..count {
-        stations.push(Station::begin(started_note(wiring.life(s), epoch)))?;
+        stations.push(Station::begin(started_note(wiring.life(Place(s)), epoch)))?;
     }
     Ok(stations)
 }
@@ -144,7 +145,7 @@ impl Stations {
     }
 
     /// The place of a switch.
-    pub fn get(&self, s: u8) -> &Station
+    pub fn get(&self, s: Place) -> &Station
         requires { s < length self.now.items }
         ensures { result.now ≡ station_in self.now s }
     {
@@ -152,7 +153,7 @@ impl Stations {
     }
 
     /// The table in use at a switch. It answers for all values.
-    pub fn table(&self, s: u8) -> Option<&Table>
+    pub fn table(&self, s: Place) -> Option<&Table>
         ensures { option_copied result ≡ option_map (λ used. used.table) (station_in self.now s).table }
     {
         match self.items.get(usize::from(s)) {
@@ -162,7 +163,7 @@ impl Stations {
     }
 
     /// The epoch of the table in use at a switch, 0 where there is none. It answers for all values.
-    pub fn epoch_in_use(&self, s: u8) -> u64
+    pub fn epoch_in_use(&self, s: Place) -> u64
         ensures { result ≡ option_map_or (λ used. used.epoch) (station_in self.now s).table 0 }
     {
         match self.items.get(usize::from(s)) {
@@ -172,7 +173,7 @@ impl Stations {
     }
 
     /// What a switch shows of a port. It answers for all values: what is no port shows nothing.
-    pub fn port(&self, s: u8, port: u8) -> PortView
+    pub fn port(&self, s: Place, port: Port) -> PortView
         ensures { result ≡ slice_index_or (station_in self.now s).note.ports (port - 1) no_view }
     {
         match self.items.get(usize::from(s)) {
@@ -182,7 +183,7 @@ impl Stations {
     }
 
     /// Whether the clock of a switch is due.
-    pub fn is_clock_due(&self, s: u8) -> bool
+    pub fn is_clock_due(&self, s: Place) -> bool
         requires { s < length self.now.items }
         ensures { result ≡ nat_le (station_in self.now s).clock self.now.tick }
     {
@@ -242,7 +243,7 @@ impl Stations {
     }
 
     /// A switch whose clock is due and whose hand is empty takes the clock in hand, with these samples.
-    pub fn take_clock(&mut self, s: u8, samples: [Sample; 12])
+    pub fn take_clock(&mut self, s: Place, samples: [Sample; 12])
         requires within { s < length self.old.items }
         requires empty { is_empty (station_in self.old s).hand ≡ true }
         requires due { (station_in self.old s).clock ≤ self.old.tick }
@@ -262,18 +263,18 @@ impl Stations {
     }
 
     /// A switch whose hand is empty takes a frame in hand.
-    pub fn take_frame(&mut self, s: u8, port: u8)
+    pub fn take_frame(&mut self, s: Place, port: Port)
         requires within { s < length self.old.items }
         requires empty { is_empty (station_in self.old s).hand ≡ true }
         ensures { self.new ≡ with_station_in s
             (record (station_in self.old s) { hand = in_hand.Frame port }) self.old }
     {
-        self.items[usize::from(s)].take(Hand::Frame { port });
+        self.items[usize::from(s)].take(Hand::Frame { port: port.as_u8() });
         self.tally.full += 1;
     }
 
     /// A switch whose hand is full has nothing in hand then.
-    pub fn empty(&mut self, s: u8)
+    pub fn empty(&mut self, s: Place)
         requires within { s < length self.old.items }
         requires full { is_empty (station_in self.old s).hand ≡ false }
         ensures { self.new ≡ with_station_in s
@@ -284,7 +285,7 @@ impl Stations {
     }
 
     /// A switch shows this now. Where it has joined another epoch its table goes out of use.
-    pub fn show(&mut self, s: u8, note: &Note, spent: bool)
+    pub fn show(&mut self, s: Place, note: &Note, spent: bool)
         requires within { s < length self.old.items }
         ensures { self.new ≡ with_station_in s (showing note.now spent (station_in self.old s)) self.old }
     {
@@ -294,7 +295,7 @@ impl Stations {
     }
 
     /// The same where of its ports this one alone, 1 to 12, can be shown as another than before.
-    pub fn show_port(&mut self, s: u8, port: u8, note: &Note, spent: bool)
+    pub fn show_port(&mut self, s: Place, port: Port, note: &Note, spent: bool)
         requires within { s < length self.old.items }
         requires least { 1 ≤ port }
         requires most { port ≤ 12 }
@@ -307,7 +308,7 @@ impl Stations {
     }
 
     /// A switch uses this table and shows this.
-    pub fn load(&mut self, s: u8, table: TableFor, note: &Note)
+    pub fn load(&mut self, s: Place, table: TableFor, note: &Note)
         requires within { s < length self.old.items }
         ensures { self.new ≡ with_station_in s
             (record (station_in self.old s) { table = Some table; note = note.now }) self.old }
@@ -318,7 +319,7 @@ impl Stations {
     }
 
     /// A switch begins its next life, in which it shows this: its clock is due, and it uses no table.
-    pub fn restart(&mut self, s: u8, note: Note)
+    pub fn restart(&mut self, s: Place, note: Note)
         requires within { s < length self.old.items }
         ensures { self.new ≡ with_station_in s
             (restarted self.old.tick note (station_in self.old s)) self.old }

@@ -4,11 +4,13 @@ ghost use Rattle.std.specs.Prelude.{◌≡◌, option_to_list};
 ghost use Rattle.fabric_state.specs.Lines.{copy_line, hop_line, loss_line, sent_line};
 
 use crate::line::Line;
+use an_base::place::Place;
+use an_base::port::Port;
 use host_traffic::hop::{DropCause, Hop};
 use wire_set::side::Put;
 
 /// What is told of a frame that was put on the wire out of a port.
-pub fn loss_line(s: u8, port: u8, put: Put) -> Option<Line>
+pub fn loss_line(s: Place, port: Port, put: Put) -> Option<Line>
     ensures { option_to_list result ≡ loss_line s port put }
 {
     match put {
@@ -18,7 +20,7 @@ pub fn loss_line(s: u8, port: u8, put: Put) -> Option<Line>
 }
 
 /// What is told of a copy of a frame that was taken, which names the end that sent it.
-pub fn copy_line(far: Option<(u8, u8)>, copied: Option<Put>) -> Option<Line>
+pub fn copy_line(far: Option<(Place, Port)>, copied: Option<Put>) -> Option<Line>
     ensures { option_to_list result ≡ copy_line far copied }
 {
     let (s, port) = far?;
@@ -46,7 +48,7 @@ pub fn sent_line(packet: u32, host: u16, to: u16, address: Result<u16, DropCause
 }
 
 /// What is told of a hop of a packet at a switch, where a table of this epoch is in use and it came in by a port.
-pub fn hop_line(packet: u32, s: u8, epoch: u64, entry: u8, hop: Hop) -> Line
+pub fn hop_line(packet: u32, s: Place, epoch: u64, entry: Port, hop: Hop) -> Line
     ensures { result ≡ hop_line packet s epoch entry hop }
 {
     let (exit, host) = match hop {

@@ -3,7 +3,7 @@
 use crate::ending::Ending;
 use an_base::event::Event;
 use an_base::life::Life;
-use an_base::port::Sample;
+use an_base::port::{Port, Sample};
 
 /// Why there is nothing to be done at a switch.
 #[derive(Clone, Copy, PartialEq, Eq)]
@@ -34,7 +34,7 @@ pub enum Work {
     /// To handle a frame.
     Frame {
         /// The port by which it came, 1 to 12.
-        port: u8,
+        port: Port,
     },
     /// Nothing.
     Nothing {

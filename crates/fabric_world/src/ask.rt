@@ -4,6 +4,7 @@
 //! what it is asked. A letter, a parcel and a slip come back with the reply, and serve for the next ask; a sheet is
 //! made for each table.
 
+use an_base::place::Place;
 use an_base::port::Note;
 use fabric_state::line::{Line, PlacedLine};
 use fabric_state::work::{Drive, Work};
@@ -69,22 +70,22 @@ pub struct Slip {
 pub enum Ask {
     /// For the next work of a switch.
     Take {
-        /// The place of the switch in the script, from 0.
-        s: u8,
+        /// The switch.
+        s: Place,
         /// Where the work is written.
         letter: Box<Letter>,
     },
     /// To take what came of what a switch had in hand.
     Put {
-        /// The place of the switch in the script, from 0.
-        s: u8,
+        /// The switch.
+        s: Place,
         /// What came of it.
         parcel: Box<Parcel>,
     },
     /// To use a table.
     Load {
-        /// The place of the switch in the script, from 0.
-        s: u8,
+        /// The switch.
+        s: Place,
         /// The table.
         sheet: Box<Sheet>,
     },

@@ -23,6 +23,7 @@ use crate::sent::{Home, Sent, count_local, entering, homes_of, is_joined, sends_
 use an_base::entry::{Entries, Entry};
 use an_base::memory::OutOfMemory;
 use an_base::numbers::Numbers;
+use an_base::place::Place;
 use an_base::text::Word;
 use flow_channels::exits::ExitTable;
 use flow_channels::flow::Flow;
@@ -351,7 +352,7 @@ fn push_part(
 }
 
 // The name of the switch at a place.
-fn switch_name(names: &Names, switch: u8) -> &[u8]
+fn switch_name(names: &Names, switch: Place) -> &[u8]
     ensures { result.now ≡ slice_index_or names.now switch [] }
 {
     let place = usize::from(switch);

@@ -10,6 +10,7 @@ use an_base::entry::{Entries, Entry};
 use an_base::event::Event;
 use an_base::memory::OutOfMemory;
 use an_base::numbers::Numbers;
+use an_base::place::Place;
 use net_graph::wiring::{HostOn, SwitchAt};
 use net_script::script::Script;
 use std::alloc::Global;
@@ -21,10 +22,10 @@ use switch_numbering::numbering::number;
 pub struct Sent {
     /// Which one it is, from 1.
     pub packet: u32,
-    /// The place of the switch of the host that sends it.
-    pub from: u8,
-    /// The place of the switch of the host to which it goes.
-    pub to: u8,
+    /// The switch of the host that sends it.
+    pub from: Place,
+    /// The switch of the host to which it goes.
+    pub to: Place,
 }
 
 impl Sent {
@@ -37,10 +38,10 @@ impl Sent {
 }
 
 // The switch of a host.
-fn switch_of(hosts: &[HostOn], host: u16) -> u8
+fn switch_of(hosts: &[HostOn], host: u16) -> Place
     ensures { result ≡ unwrap_or (option_map (λ on. on.s) (slice_get hosts.now host)) 0 }
 {
-    hosts.get(usize::from(host)).map_or(0, |on| on.s)
+    hosts.get(usize::from(host)).map_or(Place(0), |on| on.s)
 }
 
 /// The packets that the script sends, in order.
@@ -119,7 +120,7 @@ impl Home {
     }
 
     /// The number of a switch, 0 where it is not there.
-    pub fn number(&self, switch: u8) -> u8
+    pub fn number(&self, switch: Place) -> u8
         ensures { result ≡ number_at self.now switch }
     {
         self.numbers.get(usize::from(switch)).copied().unwrap_or(0)

@@ -1,5 +1,7 @@
 //! What becomes of a packet at one switch.
 
+use an_base::port::Port;
+
 /// Why a packet is dropped.
 #[derive(Clone, Copy, PartialEq, Eq)]
 pub enum DropCause {
@@ -23,12 +25,12 @@ pub enum Hop {
     /// It goes on by an exit.
     Went {
         /// The exit, 1 to 12.
-        exit: u8,
+        exit: Port,
     },
     /// It is delivered.
     Delivered {
         /// The port of the host, 1 to 12.
-        exit: u8,
+        exit: Port,
         /// The place of the host in the script, from 0.
         host: u16,
     },

@@ -1,6 +1,8 @@
 ghost use Rattle.std.specs.Prelude.{◌≡◌, ◌/◌, ◌%◌, ◌<◌, ◌^◌, Some};
 ghost use Rattle.host_traffic.specs.Packets.{moved_to, row_entry};
 
+use an_base::place::Place;
+use an_base::port::Port;
 use std::marker::Model;
 
 /// A packet under way.
@@ -8,10 +10,10 @@ use std::marker::Model;
 pub struct Packet {
     /// Its number.
     pub packet: u32,
-    /// The place of the switch at which it is.
-    pub at: u8,
+    /// The switch at which it is.
+    pub at: Place,
     /// The port by which it came in.
-    pub entry: u8,
+    pub entry: Port,
     /// Whether its host has just sent it.
     pub is_new: bool,
     /// The address to which it goes.
@@ -56,21 +58,21 @@ impl Packet {
     }
 
     /// The port there.
-    pub fn last_port(self) -> u8
+    pub fn last_port(self) -> Port
         ensures { result ≡ self.address % 16 }
     {
-        (self.address % 16) as u8
+        Port((self.address % 16) as u8)
     }
 
     /// The entry whose row serves it.
-    pub fn row_entry(self) -> u8
+    pub fn row_entry(self) -> Port
         ensures { result ≡ row_entry self }
     {
-        if self.is_new { 0 } else { self.entry }
+        if self.is_new { Port(0) } else { self.entry }
     }
 
     /// The packet at the far end of a link.
-    pub fn moved_to(self, at: u8, entry: u8) -> Packet
+    pub fn moved_to(self, at: Place, entry: Port) -> Packet
         ensures { result ≡ moved_to (Some (at, entry)) self }
     {
         Packet {

@@ -11,6 +11,8 @@ use crate::hop::{DropCause, Hop};
 use crate::packet::Packet;
 use crate::view::HopView;
 use an_base::memory::OutOfMemory;
+use an_base::place::Place;
+use an_base::port::Port;
 use slab::Slab;
 use std::alloc::Global;
 use std::collections::VecDeque;
@@ -78,7 +80,7 @@ fn file(order: &mut VecDeque<Filed>, filed: Filed)
 
 // What becomes of a packet at the switch of its address: it is delivered to the host at the port of its
 // address, which is the one that it is for.
-fn delivery(port: u8, host: Option<(u16, u64)>, packet: Packet) -> Hop
+fn delivery(port: Port, host: Option<(u16, u64)>, packet: Packet) -> Hop
     ensures { result ≡ delivered_to port host packet }
 {
     match host {
@@ -100,8 +102,8 @@ fn onward<V: HopView>(exits: &[u8], view: &V, packet: Packet) -> Hop
         None => Hop::Dropped {
             cause: DropCause::NoExit,
         },
-        Some(exit) => match view.next(packet.at, *exit) {
-            Some(_) => Hop::Went { exit: *exit },
+        Some(exit) => match view.next(packet.at, Port(*exit)) {
+            Some(_) => Hop::Went { exit: Port(*exit) },
             None => Hop::Dropped {
                 cause: DropCause::LinkDown,
             },
@@ -123,7 +125,7 @@ fn next_hop<V: HopView>(packet: Packet, view: &V) -> Hop
                 let port = packet.last_port();
                 delivery(port, view.host(packet.at, port), packet)
             } else {
-                let exits = table.exits(packet.row_entry(), number).list();
+                let exits = table.exits(packet.row_entry().as_u8(), number).list();
                 onward(exits.as_slice(), view, packet)
             }
         }
@@ -131,10 +133,10 @@ fn next_hop<V: HopView>(packet: Packet, view: &V) -> Hop
 }
 
 // The switch and port where a packet is after a hop; none where it is under way no longer.
-fn place_after<V: HopView>(hop: Hop, view: &V, at: u8) -> Option<(u8, u8)>
-    ensures { result ≡ place_after hop (V.next_at view.now at) }
+fn place_after<V: HopView>(hop: &Hop, view: &V, at: Place) -> Option<(Place, Port)>
+    ensures { result ≡ place_after hop.now (V.next_at view.now at) }
 {
-    match hop {
+    match *hop {
         Hop::Went { exit } => view.next(at, exit),
         _ => None,
     }
@@ -155,7 +157,7 @@ impl Traffic {
     /// A host has sent the packet of this number, which is not under way, and there is room for it: it is at
     /// the switch and port of the host, and goes to this address, 16 times the number of a switch and the
     /// port there, and to the host with this identifier. The row of entry 0 serves it until its first hop.
-    pub fn send(&mut self, packet: u32, at: u8, entry: u8, address: u16, uid: u64)
+    pub fn send(&mut self, packet: u32, at: Place, entry: Port, address: u16, uid: u64)
         requires room { length self.old.packets < self.old.most }
         requires new { is_some (packet_of packet self.old.packets) ≡ false }
         requires address { address < 2 ^ 12 }
@@ -192,7 +194,7 @@ impl Traffic {
         let key = self.order[place].key;
         let moving = self.packets[key];
         let hop = next_hop(moving, view);
-        match place_after(hop, view, moving.at) {
+        match place_after(&hop, view, moving.at) {
             Some((at, entry)) => self.packets[key] = moving.moved_to(at, entry),
             None => {
                 self.packets.remove(key);
@@ -213,7 +215,7 @@ impl Traffic {
 
     /// The switch at which the packet of this number is, and the port by which it came in; none exactly where
     /// it is not under way.
-    pub fn place(&self, packet: u32) -> Option<(u8, u8)>
+    pub fn place(&self, packet: u32) -> Option<(Place, Port)>
         ensures { result ≡ option_map place_now (packet_of packet self.now.packets) }
     {
         let place = found_at(&self.order, packet)?;

@@ -4,6 +4,8 @@ ghost use Rattle.std.specs.Prelude.{◌≡◌};
 ghost use Rattle.journal.specs.Kinds.{switch_event, port_event};
 
 use an_base::event::Event;
+use an_base::place::Place;
+use an_base::port::Port;
 
 /// An event of a switch.
 #[derive(Clone, Copy, PartialEq, Eq)]
@@ -20,7 +22,7 @@ pub enum SwitchEvent {
 
 impl SwitchEvent {
     /// The event of this kind at a switch.
-    pub fn at(self, s: u8) -> Event
+    pub fn at(self, s: Place) -> Event
         ensures { result ≡ switch_event self s }
     {
         match self {
@@ -45,7 +47,7 @@ pub enum PortEvent {
 
 impl PortEvent {
     /// The event of this kind at a port.
-    pub fn at(self, s: u8, port: u8) -> Event
+    pub fn at(self, s: Place, port: Port) -> Event
         ensures { result ≡ port_event self s port }
     {
         match self {

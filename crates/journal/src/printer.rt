@@ -11,6 +11,8 @@ ghost use Rattle.journal.specs.Ready.{AreLinesOf, AreReady, AreTakesOf};
 use an_base::event::{Event, Journal};
 use an_base::limits::LAST_PORT;
 use an_base::memory::OutOfMemory;
+use an_base::place::Place;
+use an_base::port::Port;
 use itoa::Buffer;
 use net_script::script::Script;
 use script_text::printer::{push_at, push_send};
@@ -54,14 +56,14 @@ fn ready_lines(alloc: Global, script: &Script, most: usize) -> Result<Vec<ReadyL
     let count = script.wiring().switches().len().min(most);
     let mut ready = Vec::new(alloc);
     'switches: for s in 0..count as u8 {
-        let lines = lines_of(alloc, script, s)?;
+        let lines = lines_of(alloc, script, Place(s))?;
         ready.push(lines)?;
     }
     Ok(ready)
 }
 
 // The lines of the most frequent events of a switch.
-fn lines_of(alloc: Global, script: &Script, s: u8) -> Result<ReadyLines, OutOfMemory>
+fn lines_of(alloc: Global, script: &Script, s: Place) -> Result<ReadyLines, OutOfMemory>
     requires { IsSwitch script.now s }
     ensures { IfOk result (AreLinesOf script.now s) }
 {
@@ -74,12 +76,13 @@ fn lines_of(alloc: Global, script: &Script, s: u8) -> Result<ReadyLines, OutOfMe
 }
 
 // The lines of its takes, by port.
-fn lines_of_takes(alloc: Global, script: &Script, s: u8) -> Result<Vec<Vec<u8>>, OutOfMemory>
+fn lines_of_takes(alloc: Global, script: &Script, s: Place) -> Result<Vec<Vec<u8>>, OutOfMemory>
     requires { IsSwitch script.now s }
     ensures { IfOk result (λ takes. AreTakesOf script.now s takes.items) }
 {
     let mut takes = Vec::new(alloc);
     'ports: for port in 1..LAST_PORT + 1 {
+        let port = Port(port);
         let line = line_of(alloc, script, Event::Take { s, port })?;
         takes.push(line)?;
     }
@@ -125,7 +128,7 @@ fn push_ready(
     ensures { OnOk result
         (text.new.items ≡ text.old.items ++ line_text (event_words script.now event)) }
 {
-    match ready_line(ready, event) {
+    match ready_line(ready, &event) {
         Some(line) => text.extend_from_slice(line)?,
         None => push_event(text, script, event)?,
     }
@@ -133,11 +136,11 @@ fn push_ready(
 }
 
 // The line of an event, if it is ready.
-fn ready_line(ready: &[ReadyLines], event: Event) -> Option<&[u8]>
-    ensures { (script : ScriptOf) → AreReady script ready.now → CanSpell script event
-        → IfSome result (λ line. line.now ≡ line_text (event_words script event)) }
+fn ready_line<'a>(ready: &'a [ReadyLines], event: &Event) -> Option<&'a [u8]>
+    ensures { (script : ScriptOf) → AreReady script ready.now → CanSpell script event.now
+        → IfSome result (λ line. line.now ≡ line_text (event_words script event.now)) }
 {
-    match event {
+    match *event {
         Event::Clock { s } => Some(ready.get(usize::from(s))?.clock.as_slice()),
         Event::Take { s, port } => ready_take(ready.get(usize::from(s))?, port),
         Event::Handle { s } => Some(ready.get(usize::from(s))?.handle.as_slice()),
@@ -147,11 +150,11 @@ fn ready_line(ready: &[ReadyLines], event: Event) -> Option<&[u8]>
 }
 
 // The line of a take from a port, if it is ready.
-fn ready_take(lines: &ReadyLines, port: u8) -> Option<&[u8]>
+fn ready_take(lines: &ReadyLines, port: Port) -> Option<&[u8]>
     ensures { (script : ScriptOf) (node : ℕ) → AreLinesOf script node lines.now → 1 ≤ port
         → IfSome result (λ line. line.now ≡ line_text (event_words script (Take node port))) }
 {
-    let line = lines.takes.get(usize::from(port.saturating_sub(1)))?;
+    let line = lines.takes.get(usize::from(port).saturating_sub(1))?;
     Some(line.as_slice())
 }
 

@@ -12,6 +12,8 @@ ghost use Rattle.journal.specs.Steps.{ReadsForm, ReadsWords};
 
 use crate::kind::{PortEvent, SwitchEvent};
 use an_base::event::Event;
+use an_base::place::Place;
+use an_base::port::Port;
 use journal_cause::cause::JournalCause;
 use net_script::command::WireChange;
 use net_script::script::Script;
@@ -97,7 +99,7 @@ fn read_on_port(
 {
     let s = switch_at(script, name)?;
     let port = number_in(port, 1, 12)?;
-    Ok(event.at(s, port as u8))
+    Ok(event.at(s, Port(port as u8)))
 }
 
 fn read_on_wire(
@@ -112,7 +114,7 @@ fn read_on_wire(
     let s = switch_at(script, name)?;
     let port = number_in(port, 1, 12)?;
     let n = number_in(n, 1, change.most())?;
-    Ok(change.event(s, port as u8, n as u32))
+    Ok(change.event(s, Port(port as u8), n as u32))
 }
 
 fn read_send(script: &Script, host: &[u8], to: &[u8]) -> Result<Event, JournalCause>
@@ -149,7 +151,7 @@ fn port_event_of(word: &[u8]) -> Option<PortEvent>
 }
 
 // The switch that a word names.
-fn switch_at(script: &Script, word: &[u8]) -> Result<u8, JournalCause>
+fn switch_at(script: &Script, word: &[u8]) -> Result<Place, JournalCause>
     ensures { IsGoodField result (name_cause script.now.switch_names word.now)
         (λ s. IsSwitch script.now s × (word.now ≡ switch_name script.now s)) }
 {

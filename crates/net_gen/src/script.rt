@@ -11,6 +11,8 @@ ghost use Rattle.net_gen.specs.Made.{AreLow, CanSend, HasFirst, IsMade, drawn_of
 use crate::draw::Draw;
 use an_base::event::Event;
 use an_base::memory::OutOfMemory;
+use an_base::place::Place;
+use an_base::port::Port;
 use an_base::text::{Word, push_decimal};
 use net_graph::wiring::{HostOn, LinkAt, SwitchAt};
 use net_script::command::Command;
@@ -53,8 +55,8 @@ fn add_hosts(alloc: Global, script: &mut Script, count: u8) -> Result<(), OutOfM
     'places: for place in 0..count {
         let host = HostOn {
             uid: (1 << 40) + (u64::from(place) + 1),
-            s: place,
-            port: 12,
+            s: Place(place),
+            port: Port(12),
         };
         script.add_host(name(alloc, b'H', place)?, host)?;
     }
@@ -62,7 +64,7 @@ fn add_hosts(alloc: Global, script: &mut Script, count: u8) -> Result<(), OutOfM
 }
 
 // Whether no link uses a port.
-fn is_free(script: &Script, place: u8, port: u8) -> bool
+fn is_free(script: &Script, place: Place, port: Port) -> bool
     requires none { script.now.wires.hosts ≡ [] }
     ensures { result ≡ is_free script.now.wires.links place port }
 {
@@ -70,20 +72,20 @@ fn is_free(script: &Script, place: u8, port: u8) -> bool
 }
 
 // The lowest of the first ports of a switch that no link uses.
-fn lowest_free(script: &Script, place: u8) -> Option<u8>
+fn lowest_free(script: &Script, place: Place) -> Option<Port>
     requires none { script.now.wires.hosts ≡ [] }
     ensures { result ≡ lowest_free script.now.wires.links place }
 {
     'ports: for port in 1..9u8 {
-        if is_free(script, place, port) {
-            return Some(port);
+        if is_free(script, place, Port(port)) {
+            return Some(Port(port));
         }
     }
     None
 }
 
 // Links two switches by their lowest free ports, where both have one.
-fn link(script: &mut Script, a: u8, b: u8) -> Result<(), OutOfMemory>
+fn link(script: &mut Script, a: Place, b: Place) -> Result<(), OutOfMemory>
     requires none { script.old.wires.hosts ≡ [] }
     requires a { a < length script.old.wires.switches }
     requires b { b < length script.old.wires.switches }
@@ -109,7 +111,7 @@ fn free_among(script: &Script, first: u8, end: u8) -> Option<u8>
     ensures below { IfSome result (λ place. place < end) }
 {
     'places: for place in first..end {
-        if lowest_free(script, place).is_some() {
+        if lowest_free(script, Place(place)).is_some() {
             return Some(place);
         }
     }
@@ -140,7 +142,7 @@ fn grow(script: &mut Script, draw: &mut Draw, place: u8) -> Result<(), OutOfMemo
 {
     let first = draw.below(place);
     match first_with_free(script, first, place) {
-        Some(before) => link(script, before, place),
+        Some(before) => link(script, Place(before), Place(place)),
         None => Ok(()),
     }
 }
@@ -172,7 +174,7 @@ fn join(script: &mut Script, draw: &mut Draw, count: u8) -> Result<(), OutOfMemo
     if a == b {
         return Ok(());
     }
-    link(script, a, b)
+    link(script, Place(a), Place(b))
 }
 
 // As many times as there are switches, links two that are drawn.
@@ -217,11 +219,17 @@ fn add_failure(script: &mut Script, count: u8) -> Result<(), OutOfMemory>
     }
     script.add_command(Command {
         time: 20,
-        event: Event::Fail { s: 0, port: 1 },
+        event: Event::Fail {
+            s: Place(0),
+            port: Port(1),
+        },
     })?;
     script.add_command(Command {
         time: 60,
-        event: Event::Repair { s: 0, port: 1 },
+        event: Event::Repair {
+            s: Place(0),
+            port: Port(1),
+        },
     })
 }
 

@@ -5,29 +5,31 @@ ghost use Rattle.net_graph.specs.Levels.{level_at, HasNeighbourAt, IsRound, IsRe
 
 use crate::wiring::Wiring;
 use an_base::memory::OutOfMemory;
+use an_base::place::Place;
+use an_base::port::Port;
 use std::alloc::Global;
 
 /// The level of x, where it has one.
-pub fn level_of(levels: &[Option<u8>], x: u8) -> Option<u8>
+pub fn level_of(levels: &[Option<u8>], x: Place) -> Option<u8>
     ensures { result ≡ level_at levels.now x }
 {
     levels.get(usize::from(x)).copied().flatten()
 }
 
 /// Whether x has this level.
-pub fn has_level(levels: &[Option<u8>], level: u8, x: u8) -> bool
+pub fn has_level(levels: &[Option<u8>], level: u8, x: Place) -> bool
     ensures { IsTrue result ↔ (level_at levels.now x ≡ Some level) }
 {
     level_of(levels, x) == Some(level)
 }
 
 // Whether a neighbour of x has this level.
-fn has_neighbour_at(wiring: &Wiring, levels: &[Option<u8>], d: u8, x: u8) -> bool
+fn has_neighbour_at(wiring: &Wiring, levels: &[Option<u8>], d: u8, x: Place) -> bool
     requires { IsWired wiring.now }
     ensures { IsTrue result ↔ HasNeighbourAt (network wiring.now) levels.now d x }
 {
     'ports: for port in 1..13u8 {
-        if let Some((y, _)) = wiring.link_end(x, port) {
+        if let Some((y, _)) = wiring.link_end(x, Port(port)) {
             if has_level(levels, d, y) {
                 return true;
             }
@@ -38,7 +40,7 @@ fn has_neighbour_at(wiring: &Wiring, levels: &[Option<u8>], d: u8, x: u8) -> boo
 
 // Gives the level d + 1 to x if it has no level and has a neighbour at level d, and says whether
 // it did.
-fn settle(wiring: &Wiring, levels: &mut Vec<Option<u8>>, d: u8, x: u8) -> bool
+fn settle(wiring: &Wiring, levels: &mut Vec<Option<u8>>, d: u8, x: Place) -> bool
     requires wired { IsWired wiring.now }
     requires within { x < length levels.old.items }
     requires fits { d < 255 }
@@ -69,7 +71,7 @@ fn add_level(wiring: &Wiring, levels: &mut Vec<Option<u8>>, d: u8) -> u8
     let mut added = 0u8;
     let count = wiring.count();
     'nodes: for x in 0..count {
-        if settle(wiring, levels, d, x) {
+        if settle(wiring, levels, d, Place(x)) {
             added += 1;
         }
     }
@@ -92,7 +94,7 @@ fn no_levels(alloc: Global, count: u8) -> Result<Vec<Option<u8>>, OutOfMemory>
 pub fn distances_to(
     alloc: Global,
     wiring: &Wiring,
-    root: u8,
+    root: Place,
 ) -> Result<Vec<Option<u8>>, OutOfMemory>
     requires { root < length wiring.now.switches }
     ensures count { IfOk result (λ levels. length levels.items ≡ length wiring.now.switches) }

@@ -4,9 +4,10 @@ ghost use Rattle.net_graph.specs.Next.{IsLeft, IsNextOf};
 
 use crate::level::level_of;
 use crate::wiring::Wiring;
+use an_base::place::Place;
 
 // Whether x has a level, and an identifier of at least from.
-fn is_left(wiring: &Wiring, levels: &[Option<u8>], from: u64, x: u8) -> bool
+fn is_left(wiring: &Wiring, levels: &[Option<u8>], from: u64, x: Place) -> bool
     requires { x < length wiring.now.switches }
     ensures { IsTrue result ↔ IsLeft wiring.now levels.now from x }
 {
@@ -17,7 +18,13 @@ fn is_left(wiring: &Wiring, levels: &[Option<u8>], from: u64, x: u8) -> bool
 }
 
 // The lesser of the best so far and x.
-fn lesser(wiring: &Wiring, levels: &[Option<u8>], from: u64, best: Option<u8>, x: u8) -> Option<u8>
+fn lesser(
+    wiring: &Wiring,
+    levels: &[Option<u8>],
+    from: u64,
+    best: Option<Place>,
+    x: Place,
+) -> Option<Place>
     requires within { x < length wiring.now.switches }
     requires before { IsNextOf wiring.now levels.now from x best }
     ensures { IsNextOf wiring.now levels.now from (x + 1) result }
@@ -36,13 +43,13 @@ fn lesser(wiring: &Wiring, levels: &[Option<u8>], from: u64, best: Option<u8>, x
 }
 
 /// Of the switches that have a level, the one of least identifier from this one on.
-pub fn next_from(wiring: &Wiring, levels: &[Option<u8>], from: u64) -> Option<u8>
+pub fn next_from(wiring: &Wiring, levels: &[Option<u8>], from: u64) -> Option<Place>
     ensures { IsNextOf wiring.now levels.now from (length wiring.now.switches) result }
 {
     let mut best = None;
     let count = wiring.count();
     'nodes: for x in 0..count {
-        best = lesser(wiring, levels, from, best, x);
+        best = lesser(wiring, levels, from, best, Place(x));
     }
     best
 }

@@ -14,6 +14,8 @@ use an_base::entry::{Entries, Entry};
 use an_base::life::End;
 use an_base::links::{Links, PortLink};
 use an_base::memory::OutOfMemory;
+use an_base::place::Place;
+use an_base::port::Port;
 use an_base::position::Position;
 use std::alloc::Global;
 
@@ -22,10 +24,10 @@ fn better(
     wiring: &Wiring,
     levels: &[Option<u8>],
     level: u8,
-    x: u8,
-    best: Option<(u8, u8)>,
-    port: u8,
-) -> Option<(u8, u8)>
+    x: Place,
+    best: Option<(Place, Port)>,
+    port: Port,
+) -> Option<(Place, Port)>
     requires count { length levels.now ≡ length wiring.now.switches }
     requires before { IsBest (network wiring.now) levels.now level x port best }
     ensures { IsBest (network wiring.now) levels.now level x (port + 1) result }
@@ -36,30 +38,30 @@ fn better(
     if level == 0 || !has_level(levels, level - 1, y) {
         return best;
     }
-    let Some((b, _)) = best else {
+    let Some((b, b_port)) = best else {
         return Some((y, port));
     };
     if wiring.uid(b) <= wiring.uid(y) {
-        best
+        Some((b, b_port))
     } else {
         Some((y, port))
     }
 }
 
 // The parent of x and the port to it: the least of the nodes one level nearer, by the least port.
-fn parent_of(wiring: &Wiring, levels: &[Option<u8>], level: u8, x: u8) -> Option<(u8, u8)>
+fn parent_of(wiring: &Wiring, levels: &[Option<u8>], level: u8, x: Place) -> Option<(Place, Port)>
     requires { length levels.now ≡ length wiring.now.switches }
     ensures { IsBest (network wiring.now) levels.now level x 13 result }
 {
     let mut best = None;
     'ports: for port in 0..13u8 {
-        best = better(wiring, levels, level, x, best, port);
+        best = better(wiring, levels, level, x, best, Port(port));
     }
     best
 }
 
 // The place of x in the tree of the root.
-fn place_of(wiring: &Wiring, levels: &[Option<u8>], root: u8, x: u8, level: u8) -> Position
+fn place_of(wiring: &Wiring, levels: &[Option<u8>], root: Place, x: Place, level: u8) -> Position
     requires wired { IsWired wiring.now }
     requires count { length levels.now ≡ length wiring.now.switches }
     requires root { root < length wiring.now.switches }
@@ -70,12 +72,12 @@ fn place_of(wiring: &Wiring, levels: &[Option<u8>], root: u8, x: u8, level: u8) 
     let top = wiring.life(root);
     match parent_of(wiring, levels, level, x) {
         None => Position::new(top, level, top, 0),
-        Some((parent, port)) => Position::new(top, level, wiring.life(parent), port),
+        Some((parent, port)) => Position::new(top, level, wiring.life(parent), port.as_u8()),
     }
 }
 
 // Adds the link at a port, if it leads to another switch.
-fn push_link(wiring: &Wiring, links: &mut Links, x: u8, port: u8)
+fn push_link(wiring: &Wiring, links: &mut Links, x: Place, port: Port)
     requires { AreLinksBelow (network wiring.now) x port links.old }
     ensures { AreLinksBelow (network wiring.now) x (port + 1) links.new }
 {
@@ -85,23 +87,23 @@ fn push_link(wiring: &Wiring, links: &mut Links, x: u8, port: u8)
     if y == x {
         return;
     }
-    links.push(PortLink::new(port, End::new(wiring.life(y), q)));
+    links.push(PortLink::new(port.as_u8(), End::new(wiring.life(y), q.as_u8())));
 }
 
 // The links of x to other switches, by rising port.
-fn links_of(wiring: &Wiring, x: u8) -> Links
+fn links_of(wiring: &Wiring, x: Place) -> Links
     requires { IsWired wiring.now }
     ensures { AreLinks (network wiring.now) x result }
 {
     let mut links = Links::new();
     'ports: for port in 1..13u8 {
-        push_link(wiring, &mut links, x, port);
+        push_link(wiring, &mut links, x, Port(port));
     }
     links
 }
 
 // The entry of x in the tree of the root.
-fn entry_of(wiring: &Wiring, levels: &[Option<u8>], root: u8, x: u8, level: u8) -> Entry
+fn entry_of(wiring: &Wiring, levels: &[Option<u8>], root: Place, x: Place, level: u8) -> Entry
     requires wired { IsWired wiring.now }
     requires count { length levels.now ≡ length wiring.now.switches }
     requires root { root < length wiring.now.switches }
@@ -123,7 +125,7 @@ pub fn component_of(
     alloc: Global,
     wiring: &Wiring,
     levels: &[Option<u8>],
-    root: u8,
+    root: Place,
 ) -> Result<Entries, OutOfMemory>
     requires wired { IsWired wiring.now }
     requires count { length levels.now ≡ length wiring.now.switches }

@@ -5,6 +5,8 @@ ghost use Rattle.net_graph.specs.Table.{cell_at, Puts};
 
 use an_base::life::Life;
 use an_base::memory::OutOfMemory;
+use an_base::place::Place;
+use an_base::port::Port;
 use std::alloc::Global;
 use std::marker::Model;
 
@@ -23,14 +25,14 @@ pub struct SwitchAt {
 /// A link of two switch ports.
 #[derive(Clone, Copy, PartialEq, Eq)]
 pub struct LinkAt {
-    /// The switch at one end, by its place.
-    pub a: u8,
+    /// The switch at one end.
+    pub a: Place,
     /// The port at that end, 1 to 12.
-    pub a_port: u8,
-    /// The switch at the other end, by its place; it may be the same switch.
-    pub b: u8,
+    pub a_port: Port,
+    /// The switch at the other end; it may be the same switch.
+    pub b: Place,
     /// The port at the other end, 1 to 12.
-    pub b_port: u8,
+    pub b_port: Port,
 }
 
 /// A host of a network.
@@ -38,10 +40,10 @@ pub struct LinkAt {
 pub struct HostOn {
     /// Its identifier, below 2^48.
     pub uid: u64,
-    /// The switch where it is, by its place.
-    pub s: u8,
+    /// The switch where it is.
+    pub s: Place,
     /// The port of that switch, 1 to 12.
-    pub port: u8,
+    pub port: Port,
 }
 
 /// What is at the far side of a switch's port.
@@ -49,10 +51,10 @@ pub struct HostOn {
 pub enum Far {
     /// A port of a switch, which may be the same switch.
     Switch {
-        /// The switch, by its place.
-        s: u8,
+        /// The switch.
+        s: Place,
         /// Its port, 1 to 12.
-        port: u8,
+        port: Port,
     },
     /// A host.
     HostAt {
@@ -82,7 +84,7 @@ struct PortRow {
 }
 
 // What the table has at a port.
-fn cell(rows: &[PortRow], s: u8, port: u8) -> Option<Far>
+fn cell(rows: &[PortRow], s: Place, port: Port) -> Option<Far>
     ensures { result ≡ cell_at rows.now s port }
 {
     let row = rows.get(usize::from(s))?;
@@ -90,7 +92,7 @@ fn cell(rows: &[PortRow], s: u8, port: u8) -> Option<Far>
 }
 
 // Puts what is at the far side of a port into the table.
-fn put(rows: &mut Vec<PortRow>, s: u8, port: u8, far: Far)
+fn put(rows: &mut Vec<PortRow>, s: Place, port: Port, far: Far)
     requires s { s < length rows.old.items }
     requires port { port < 13 }
     ensures { Puts rows.old.items rows.new.items s port far }
@@ -173,7 +175,7 @@ impl Wiring {
     }
 
     /// The identifier of a switch, below 2^48.
-    pub fn uid(&self, s: u8) -> u64
+    pub fn uid(&self, s: Place) -> u64
         requires { s < length self.now.switches }
         ensures uid { result ≡ uid_of self.now.switches s }
         ensures most { result < 2 ^ 48 }
@@ -182,7 +184,7 @@ impl Wiring {
     }
 
     /// The number that a switch had last, 1 to 126.
-    pub fn had(&self, s: u8) -> u8
+    pub fn had(&self, s: Place) -> u8
         requires { s < length self.now.switches }
         ensures had { result ≡ had_of self.now s }
         ensures least { 1 ≤ result }
@@ -192,7 +194,7 @@ impl Wiring {
     }
 
     /// The life of a switch, in its first boot.
-    pub fn life(&self, s: u8) -> Life
+    pub fn life(&self, s: Place) -> Life
         requires { s < length self.now.switches }
         ensures { result ≡ (network self.now).life s }
     {
@@ -207,7 +209,7 @@ impl Wiring {
     }
 
     /// Whether a link or a host is on this port of this switch. It answers for all values.
-    pub fn is_used(&self, s: u8, port: u8) -> bool
+    pub fn is_used(&self, s: Place, port: Port) -> bool
         ensures { IsTrue result ↔ Contains (used_ports self.now) (s, port) }
     {
         self.far(s, port).is_some()
@@ -215,7 +217,7 @@ impl Wiring {
 
     /// What is at the far side of this port of this switch, if a link or a host is on it. It
     /// answers for all values.
-    pub fn far(&self, s: u8, port: u8) -> Option<Far>
+    pub fn far(&self, s: Place, port: Port) -> Option<Far>
         ensures far { result ≡ far_at self.now s port }
         ensures meaning { MatchOption result
             (¬ Contains (used_ports self.now) (s, port))
@@ -227,7 +229,7 @@ impl Wiring {
     }
 
     // The other end of the link at this port, if there is one.
-    pub(crate) fn link_end(&self, s: u8, port: u8) -> Option<(u8, u8)>
+    pub(crate) fn link_end(&self, s: Place, port: Port) -> Option<(Place, Port)>
         ensures far { result ≡ far_of self.now.links s port }
         ensures range { IfSome result (IsFar (length self.now.switches) s port) }
     {
@@ -267,17 +269,17 @@ impl Wiring {
         ensures ok { OnOk result (self.new ≡ record self.old { links = self.old.links ++ link ∷ [] }) }
         ensures err { OnErr result (self.new ≡ self.old) }
     {
+        let LinkAt {
+            a,
+            a_port,
+            b,
+            b_port,
+        } = link;
         self.links.push(link)?;
-        let at_a = Far::Switch {
-            s: link.a,
-            port: link.a_port,
-        };
-        let at_b = Far::Switch {
-            s: link.b,
-            port: link.b_port,
-        };
-        put(&mut self.rows, link.a, link.a_port, at_b);
-        put(&mut self.rows, link.b, link.b_port, at_a);
+        let at_a = Far::Switch { s: a, port: a_port };
+        let at_b = Far::Switch { s: b, port: b_port };
+        put(&mut self.rows, a, a_port, at_b);
+        put(&mut self.rows, b, b_port, at_a);
         Ok(())
     }
 
@@ -292,13 +294,9 @@ impl Wiring {
         ensures err { OnErr result (self.new ≡ self.old) }
     {
         let place = self.hosts.len() as u16;
+        let HostOn { uid: _, s, port } = host;
         self.hosts.push(host)?;
-        put(
-            &mut self.rows,
-            host.s,
-            host.port,
-            Far::HostAt { host: place },
-        );
+        put(&mut self.rows, s, port, Far::HostAt { host: place });
         Ok(())
     }
 }

@@ -4,6 +4,8 @@ ghost use Rattle.std.specs.Prelude.{◌≡◌, ◌≢◌, IfSome, IfNone};
 ghost use Rattle.net_script.specs.Commands.{link_event, most_count, wire_word, wire_event, is_restart};
 
 use an_base::event::Event;
+use an_base::place::Place;
+use an_base::port::Port;
 
 /// An event of a script, and the tick from which it is due.
 #[derive(Clone, Copy, PartialEq, Eq)]
@@ -25,7 +27,7 @@ pub enum LinkChange {
 
 impl LinkChange {
     // The event of this change at a port.
-    pub(crate) fn event(self, s: u8, port: u8) -> Event
+    pub(crate) fn event(self, s: Place, port: Port) -> Event
         ensures { result ≡ link_event self s port }
     {
         match self {
@@ -76,7 +78,7 @@ impl WireChange {
     }
 
     /// The event of this change at a port.
-    pub fn event(self, s: u8, port: u8, n: u32) -> Event
+    pub fn event(self, s: Place, port: Port, n: u32) -> Event
         ensures { result ≡ wire_event self s port n }
     {
         match self {

@@ -15,6 +15,8 @@ ghost use Rattle.text_lines.specs.Faults.{IsField, IsGoodField, IsTest};
 use crate::cause::ScriptCause;
 use crate::script::Script;
 use an_base::limits::MOST_SWITCHES;
+use an_base::place::Place;
+use an_base::port::Port;
 use net_graph::wiring::{Far, LinkAt, Wiring};
 use text_lines::word::{is_name, is_number, number_between, number_of, uid_of};
 
@@ -33,7 +35,7 @@ pub fn number_in(word: &[u8], least: u64, most: u64) -> Result<u64, ScriptCause>
 }
 
 /// The port that a word says.
-pub fn port_in(word: &[u8]) -> Result<u8, ScriptCause>
+pub fn port_in(word: &[u8]) -> Result<Port, ScriptCause>
     ensures port { IsField result (port_cause word.now) (number_value word.now) }
     ensures range { IfOk result (λ p. (1 ≤ p) × (p ≤ LAST_PORT)) }
 {
@@ -41,7 +43,7 @@ pub fn port_in(word: &[u8]) -> Result<u8, ScriptCause>
         return Err(ScriptCause::BadNumber);
     }
     match number_of(word) {
-        Some(port) if 1 <= port && port <= 12 => Ok(port as u8),
+        Some(port) if 1 <= port && port <= 12 => Ok(Port(port as u8)),
         _ => Err(ScriptCause::PortRange),
     }
 }
@@ -82,7 +84,7 @@ pub fn new_uid(script: &Script, word: &[u8]) -> Result<u64, ScriptCause>
 }
 
 // The place that a word names, where it is found there if the word is a name.
-fn known<Place: Copy>(word: &[u8], place: Option<Place>) -> Result<Place, ScriptCause>
+fn known<Found: Copy>(word: &[u8], place: Option<Found>) -> Result<Found, ScriptCause>
     ensures { IsGoodField result
         (first_of (unless (is_name word.now) BadName ∷ unless (is_some place) NoSuchName ∷ []))
         (λ found. place ≡ Some found) }
@@ -94,7 +96,7 @@ fn known<Place: Copy>(word: &[u8], place: Option<Place>) -> Result<Place, Script
 }
 
 /// The place of the switch that a word names.
-pub fn known_switch(script: &Script, word: &[u8]) -> Result<u8, ScriptCause>
+pub fn known_switch(script: &Script, word: &[u8]) -> Result<Place, ScriptCause>
     ensures place { IsField result (known_cause script.now.switch_names word.now)
         (place script.now.switch_names word.now) }
     ensures range { IfOk result (λ s. s < length script.now.wires.switches) }
@@ -170,7 +172,7 @@ pub fn room_for_command(script: &Script) -> Result<(), ScriptCause>
 }
 
 // Whether a port has a link or a host.
-fn is_used(wiring: &Wiring, s: u8, port: u8) -> bool
+fn is_used(wiring: &Wiring, s: Place, port: Port) -> bool
     ensures used { result ≡ is_used wiring.now s port }
     ensures ports { result ≡ false → ¬ Contains (used_ports wiring.now) (s, port) }
 {
@@ -178,11 +180,11 @@ fn is_used(wiring: &Wiring, s: u8, port: u8) -> bool
 }
 
 /// Refuses a link of which a port is used, or whose ports are one.
-pub fn free_link(wiring: &Wiring, link: LinkAt) -> Result<(), ScriptCause>
-    ensures test { IsTest result (unless (is_free wiring.now link) PortUsed) }
-    ensures apart { OnOk result (a_end link ≢ b_end link) }
-    ensures a_free { OnOk result (¬ Contains (used_ports wiring.now) (link.a, link.a_port)) }
-    ensures b_free { OnOk result (¬ Contains (used_ports wiring.now) (link.b, link.b_port)) }
+pub fn free_link(wiring: &Wiring, link: &LinkAt) -> Result<(), ScriptCause>
+    ensures test { IsTest result (unless (is_free wiring.now link.now) PortUsed) }
+    ensures apart { OnOk result (a_end link.now ≢ b_end link.now) }
+    ensures a_free { OnOk result (¬ Contains (used_ports wiring.now) (link.now.a, link.now.a_port)) }
+    ensures b_free { OnOk result (¬ Contains (used_ports wiring.now) (link.now.b, link.now.b_port)) }
 {
     if is_used(wiring, link.a, link.a_port) {
         return Err(ScriptCause::PortUsed);
@@ -197,7 +199,7 @@ pub fn free_link(wiring: &Wiring, link: LinkAt) -> Result<(), ScriptCause>
 }
 
 /// Refuses a port that is used.
-pub fn free_port(wiring: &Wiring, s: u8, port: u8) -> Result<(), ScriptCause>
+pub fn free_port(wiring: &Wiring, s: Place, port: Port) -> Result<(), ScriptCause>
     ensures test { IsTest result (unless (not (is_used wiring.now s port)) PortUsed) }
     ensures free { OnOk result (¬ Contains (used_ports wiring.now) (s, port)) }
 {
@@ -208,7 +210,7 @@ pub fn free_port(wiring: &Wiring, s: u8, port: u8) -> Result<(), ScriptCause>
 }
 
 /// Refuses a port without link and host.
-pub fn used_port(wiring: &Wiring, s: u8, port: u8) -> Result<(), ScriptCause>
+pub fn used_port(wiring: &Wiring, s: Place, port: Port) -> Result<(), ScriptCause>
     ensures test { IsTest result (unless (is_used wiring.now s port) NoLink) }
     ensures used { OnOk result (is_used wiring.now s port ≡ true) }
 {
@@ -220,7 +222,7 @@ pub fn used_port(wiring: &Wiring, s: u8, port: u8) -> Result<(), ScriptCause>
 }
 
 /// Refuses a port without link.
-pub fn linked_port(wiring: &Wiring, s: u8, port: u8) -> Result<(), ScriptCause>
+pub fn linked_port(wiring: &Wiring, s: Place, port: Port) -> Result<(), ScriptCause>
     ensures test { IsTest result (unless (is_linked wiring.now s port) NoLink) }
     ensures linked { OnOk result (is_linked wiring.now s port ≡ true) }
 {

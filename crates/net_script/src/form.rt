@@ -279,7 +279,7 @@ fn link_in(
         b,
         b_port,
     };
-    free_link(script.wiring(), link)?;
+    free_link(script.wiring(), &link)?;
     Ok(link)
 }
 

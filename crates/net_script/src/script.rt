@@ -9,6 +9,7 @@ ghost use Rattle.text_lines.specs.Names.{place_of};
 use crate::command::{Command, is_restart};
 use crate::setting::{Limits, Setting};
 use an_base::memory::OutOfMemory;
+use an_base::place::Place;
 use an_base::text::Word;
 use net_graph::wiring::{HostOn, LinkAt, SwitchAt, Wiring};
 use std::alloc::Global;
@@ -104,13 +105,13 @@ impl Script {
     }
 
     /// The place of the switch that has this name.
-    pub fn place_of_switch(&self, name: &[u8]) -> Option<u8>
+    pub fn place_of_switch(&self, name: &[u8]) -> Option<Place>
         ensures place { result ≡ place_of self.now.switch_names name.now }
         ensures range { IfSome result (λ s. s < length self.now.wires.switches) }
         ensures kept { IsScript self.now }
     {
         let place = self.switch_names.place(name)?;
-        Some(place as u8)
+        Some(Place(place as u8))
     }
 
     /// The place of the host that has this name.

@@ -9,6 +9,7 @@ ghost use Rattle.report.specs.Retellings.{Comes};
 use an_base::event::Event;
 use an_base::life::Life;
 use an_base::memory::OutOfMemory;
+use an_base::place::Place;
 use net_script::script::Script;
 use std::alloc::Global;
 use std::marker::Model;
@@ -39,7 +40,7 @@ impl Course {
         let count = wiring.count();
         let mut lives = Vec::with_capacity(alloc, usize::from(count))?;
         'switches: for s in 0..count {
-            lives.push(wiring.life(s))?;
+            lives.push(wiring.life(Place(s)))?;
         }
         Ok(Course {
             lives,
@@ -49,7 +50,7 @@ impl Course {
     }
 
     /// The present life of a switch, if there is one at this place.
-    pub fn life(&self, s: u8) -> Option<Life>
+    pub fn life(&self, s: Place) -> Option<Life>
         ensures { result ≡ slice_get self.now.lives s }
     {
         self.lives.get(usize::from(s)).copied()

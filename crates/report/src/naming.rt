@@ -53,8 +53,8 @@ fn host_name(names: &Names, host: u16) -> &[u8]
 }
 
 // The address of a host by the table in use at its switch.
-fn address_in(fabric: &Fabric, host: HostOn) -> u16
-    ensures { result ≡ address_in fabric.now host }
+fn address_in(fabric: &Fabric, host: &HostOn) -> u16
+    ensures { result ≡ address_in fabric.now host.now }
 {
     match fabric.table(host.s) {
         Some(table) => u16::from(table.number()) * 16 + u16::from(host.port),
@@ -258,7 +258,7 @@ impl<'a> Believing<'a> {
     {
         let place = packet as usize - 1;
         let sender = host_in(self.script, self.packets[place].host);
-        let address = note(&mut self.packets, place, address_in(fabric, sender));
+        let address = note(&mut self.packets, place, address_in(fabric, &sender));
         if let Some(host) = delivered {
             arrive(&mut self.caches, host, sender.uid, address, fabric.now());
         }

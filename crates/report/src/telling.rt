@@ -23,7 +23,8 @@ use crate::listener::Listener;
 use an_base::event::Event;
 use an_base::life::{End, Life};
 use an_base::memory::OutOfMemory;
-use an_base::port::PortState;
+use an_base::place::Place;
+use an_base::port::{Port, PortState};
 use an_base::row::Row;
 use fabric_book::net::Net;
 use fabric_state::ending::Ending;
@@ -214,7 +215,7 @@ impl<'a> Telling<'a> {
     }
 
     // Appends a switch behind a space.
-    fn push_switch(&self, text: &mut Vec<u8>, s: u8) -> Result<(), OutOfMemory>
+    fn push_switch(&self, text: &mut Vec<u8>, s: Place) -> Result<(), OutOfMemory>
         ensures { OnOk result (text.new.items
             ≡ text.old.items ++ spaced (switch_text self.now.script.now self.now.course.lives s ∷ [])) }
     {
@@ -228,7 +229,7 @@ impl<'a> Telling<'a> {
     fn push_at(
         &self,
         text: &mut Vec<u8>,
-        s: u8,
+        s: Place,
         word: &[u8],
         number: u64,
     ) -> Result<(), OutOfMemory>
@@ -242,7 +243,13 @@ impl<'a> Telling<'a> {
     }
 
     // Appends a word, a switch and a port, each behind a space.
-    fn push_end(&self, text: &mut Vec<u8>, word: &[u8], s: u8, port: u8) -> Result<(), OutOfMemory>
+    fn push_end(
+        &self,
+        text: &mut Vec<u8>,
+        word: &[u8],
+        s: Place,
+        port: Port,
+    ) -> Result<(), OutOfMemory>
         ensures { OnOk result (text.new.items ≡ text.old.items
             ++ spaced (word.now
             ∷ switch_text self.now.script.now self.now.course.lives s ∷ decimal port ∷ [])) }
@@ -309,7 +316,7 @@ impl<'a> Telling<'a> {
     }
 
     // Appends a packet, and where it was.
-    fn push_move(&self, text: &mut Vec<u8>, packet: u32, s: u8) -> Result<(), OutOfMemory>
+    fn push_move(&self, text: &mut Vec<u8>, packet: u32, s: Place) -> Result<(), OutOfMemory>
         ensures { OnOk result (text.new.items ≡ text.old.items
             ++ spaced (codes "move" ∷ decimal packet
             ∷ switch_text self.now.script.now self.now.course.lives s ∷ [])) }
@@ -344,8 +351,8 @@ impl<'a> Telling<'a> {
         &self,
         text: &mut Vec<u8>,
         epoch: u64,
-        entry: u8,
-        exit: u8,
+        entry: Port,
+        exit: Port,
         host: Option<u16>,
     ) -> Result<(), OutOfMemory>
         ensures { OnOk result (text.new.items ≡ text.old.items
@@ -365,8 +372,8 @@ impl<'a> Telling<'a> {
     fn push_port(
         &self,
         text: &mut Vec<u8>,
-        s: u8,
-        port: u8,
+        s: Place,
+        port: Port,
         state: PortState,
         peer: Option<End>,
     ) -> Result<(), OutOfMemory>
@@ -379,7 +386,7 @@ impl<'a> Telling<'a> {
     }
 
     // Appends what is told of a switch whose epochs are spent.
-    fn push_spent(&self, text: &mut Vec<u8>, s: u8) -> Result<(), OutOfMemory>
+    fn push_spent(&self, text: &mut Vec<u8>, s: Place) -> Result<(), OutOfMemory>
         ensures { OnOk result (text.new.items ≡ text.old.items
             ++ spaced (told_words self.now.script.now self.now.course.lives (told.Spent s))) }
     {
@@ -391,7 +398,7 @@ impl<'a> Telling<'a> {
     fn push_finish(
         &self,
         text: &mut Vec<u8>,
-        s: u8,
+        s: Place,
         epoch: u64,
         root: Life,
         members: u8,
@@ -408,7 +415,13 @@ impl<'a> Telling<'a> {
     }
 
     // Appends what is told of a frame that was lost.
-    fn push_lost(&self, text: &mut Vec<u8>, s: u8, port: u8, why: Loss) -> Result<(), OutOfMemory>
+    fn push_lost(
+        &self,
+        text: &mut Vec<u8>,
+        s: Place,
+        port: Port,
+        why: Loss,
+    ) -> Result<(), OutOfMemory>
         ensures { OnOk result (text.new.items ≡ text.old.items
             ++ spaced (told_words self.now.script.now self.now.course.lives (told.Lost s port why))) }
     {
@@ -420,7 +433,7 @@ impl<'a> Telling<'a> {
     fn push_load(
         &self,
         text: &mut Vec<u8>,
-        s: u8,
+        s: Place,
         epoch: u64,
         number: u8,
     ) -> Result<(), OutOfMemory>
@@ -433,7 +446,13 @@ impl<'a> Telling<'a> {
     }
 
     // Appends what is told of a link that went down.
-    fn push_cut(&self, text: &mut Vec<u8>, s: u8, port: u8, dropped: u32) -> Result<(), OutOfMemory>
+    fn push_cut(
+        &self,
+        text: &mut Vec<u8>,
+        s: Place,
+        port: Port,
+        dropped: u32,
+    ) -> Result<(), OutOfMemory>
         ensures { OnOk result (text.new.items ≡ text.old.items
             ++ spaced (told_words self.now.script.now self.now.course.lives (told.Cut s port dropped))) }
     {
@@ -443,7 +462,7 @@ impl<'a> Telling<'a> {
     }
 
     // Appends what is told of a switch that began its next life.
-    fn push_restarted(&self, text: &mut Vec<u8>, s: u8) -> Result<(), OutOfMemory>
+    fn push_restarted(&self, text: &mut Vec<u8>, s: Place) -> Result<(), OutOfMemory>
         ensures { OnOk result (text.new.items ≡ text.old.items
             ++ spaced (told_words self.now.script.now self.now.course.lives (told.Restarted s))) }
     {
@@ -490,7 +509,7 @@ impl<'a> Telling<'a> {
         &self,
         text: &mut Vec<u8>,
         packet: u32,
-        s: u8,
+        s: Place,
         why: DropCause,
     ) -> Result<(), OutOfMemory>
         ensures { OnOk result (text.new.items ≡ text.old.items
@@ -588,7 +607,7 @@ impl<'a> Telling<'a> {
     }
 
     // Appends these rows of the table that a switch has in use.
-    fn push_used(&self, text: &mut Vec<u8>, s: u8, rows: &[Row]) -> Result<(), OutOfMemory>
+    fn push_used(&self, text: &mut Vec<u8>, s: Place, rows: &[Row]) -> Result<(), OutOfMemory>
         ensures { OnOk result (text.new.items ≡ text.old.items
             ++ option_map_or (λ life. rows_in_use self.now.script.now life rows.now)
             (slice_get self.now.course.lives s) []) }

@@ -10,6 +10,7 @@ ghost use Rattle.script_text.specs.Canonical.{canonical_text, setting_forms, set
 
 use an_base::event::Event;
 use an_base::memory::OutOfMemory;
+use an_base::place::Place;
 use itoa::Buffer;
 use net_graph::wiring::{HostOn, LinkAt, SwitchAt};
 use net_script::command::Command;
@@ -142,8 +143,8 @@ fn push_link(text: &mut Vec<u8>, names: &Names, link: LinkAt) -> Result<(), OutO
     let a = names.get(usize::from(link.a));
     let b = names.get(usize::from(link.b));
     let (mut a_digits, mut b_digits) = (Buffer::new(), Buffer::new());
-    let a_port = a_digits.format(link.a_port).as_bytes();
-    let b_port = b_digits.format(link.b_port).as_bytes();
+    let a_port = a_digits.format(link.a_port.as_u8()).as_bytes();
+    let b_port = b_digits.format(link.b_port.as_u8()).as_bytes();
     push_line(text, &[b"link", a, a_port, b, b_port])
 }
 
@@ -173,7 +174,7 @@ fn push_host<'a>(
     let uid = identifier(alloc, host.uid)?;
     let switch = names.get(usize::from(host.s));
     let mut digits = Buffer::new();
-    let port = digits.format(host.port).as_bytes();
+    let port = digits.format(host.port.as_u8()).as_bytes();
     push_line(text, &[b"host", name, &uid, switch, port])
 }
 
@@ -223,7 +224,7 @@ pub fn push_at(
     text: &mut Vec<u8>,
     names: &Names,
     word: &[u8],
-    s: u8,
+    s: Place,
     numbers: &[u32],
 ) -> Result<(), OutOfMemory>
     requires { s < length names.now }

@@ -19,6 +19,7 @@ ghost use Rattle.switch_threads.specs.Workers.{IsAsking, IsInStep, IsNext, IsToD
 
 use an_base::life::Life;
 use an_base::memory::OutOfMemory;
+use an_base::place::Place;
 use an_base::port::Note;
 use an_base::row::Row;
 use fabric_book::account::Account;
@@ -194,8 +195,8 @@ impl Papers {
 pub(crate) struct Desk {
     /// The allocator of what the worker makes.
     pub alloc: Global,
-    /// The place of its switch in the script, from 0.
-    pub s: u8,
+    /// Its switch.
+    pub s: Place,
     /// With what the switch is started in each of its lives.
     pub power_on: PowerOn,
     /// The switch, which stays where it is when the desk is moved.
@@ -240,7 +241,7 @@ fn copied(alloc: Global, rows: &[Row]) -> Result<Vec<Row>, OutOfMemory>
 
 impl Desk {
     /// The desk and the papers of a switch that begins its first life.
-    pub fn new(alloc: Global, script: &Script, s: u8) -> Result<(Desk, Papers), OutOfMemory>
+    pub fn new(alloc: Global, script: &Script, s: Place) -> Result<(Desk, Papers), OutOfMemory>
         requires { s < length script.now.wires.switches }
         ensures place { IfOk result (λ r. r.0.s ≡ s) }
         ensures up { IfOk result (λ r. IsUpTo script.now [] r.0 r.1 r.0.pending) }
@@ -372,7 +373,7 @@ impl Desk {
         match *job {
             Work::Restart { life } => self.restart(papers, life),
             Work::Clock { now, samples } => self.handle(papers, Hand::Clock { now, samples }),
-            Work::Frame { port } => self.handle(papers, Hand::Frame { port }),
+            Work::Frame { port } => self.handle(papers, Hand::Frame { port: port.as_u8() }),
             Work::Nothing { why: _ } => Ok(()),
         }
     }

@@ -4,6 +4,8 @@
 //! driver. Who is roused is a guess, and what a run gives does not rest on it: a worker that is roused for nothing
 //! finds nothing again, and all are roused again in each round, after the driver's steps.
 
+use an_base::place::Place;
+use an_base::port::Port;
 use net_graph::wiring::Far;
 use net_script::script::Script;
 use std::mem::replace;
@@ -113,15 +115,15 @@ impl Rousing {
 /// finds them beside its own.
 #[derive(Clone, Copy)]
 pub(crate) struct Neighbours {
-    switches: [Option<u8>; PORTS],
+    switches: [Option<Place>; PORTS],
 }
 
 impl Neighbours {
     /// Those of the switch at a place of a script.
-    pub fn of(script: &Script, s: u8) -> Neighbours {
+    pub fn of(script: &Script, s: Place) -> Neighbours {
         let mut switches = [None; PORTS];
         'ports: for port in 0..PORTS as u8 {
-            if let Some(Far::Switch { s, port: _ }) = script.wiring().far(s, port) {
+            if let Some(Far::Switch { s, port: _ }) = script.wiring().far(s, Port(port)) {
                 switches[usize::from(port)] = Some(s);
             }
         }

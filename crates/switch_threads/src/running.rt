@@ -16,6 +16,7 @@ use crate::rousing::{MOST_PARTIES, Roused};
 use crate::shift::{FIRST, Hall, Shift, Then, party_after};
 use crate::worker::Worker;
 use an_base::memory::OutOfMemory;
+use an_base::place::Place;
 use fabric_book::account::Account;
 use fabric_book::book::Book;
 use fabric_book::solo::Run;
@@ -61,7 +62,7 @@ fn open(
     'switches: for s in 0..count {
         let (first, second) = turnstile.split(seat);
         seat = first;
-        workers.push(Worker::new(alloc, script, s, second)?)?;
+        workers.push(Worker::new(alloc, script, Place(s), second)?)?;
     }
     Ok((seat, workers))
 }

@@ -8,6 +8,7 @@ use crate::desk::{Desk, Next, Papers};
 use crate::gate::Gate;
 use crate::rousing::{Neighbours, Rousing};
 use an_base::memory::OutOfMemory;
+use an_base::place::Place;
 use fabric_book::account::Account;
 use fabric_book::book::Book;
 use fabric_turn::{Seat, Turnstile};
@@ -49,7 +50,7 @@ impl Worker {
     pub fn new(
         alloc: Global,
         script: &Script,
-        s: u8,
+        s: Place,
         seat: Seat<Book>,
     ) -> Result<Worker, OutOfMemory>
         requires within { s < length script.now.wires.switches }
@@ -60,7 +61,7 @@ impl Worker {
     {
         let (desk, papers) = Desk::new(alloc, script, s)?;
         Ok(Worker {
-            number: desk.s + 1,
+            number: desk.s.as_u8() + 1,
             seat,
             turns: 0,
             is_asking: false,

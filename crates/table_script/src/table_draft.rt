@@ -5,6 +5,8 @@ ghost use Rattle.table_script.specs.TableDrafts.{height_of, no_tables};
 ghost use Rattle.table_script.specs.TableRules.{is_numbered, is_labelled, is_entered, number_of};
 
 use an_base::memory::OutOfMemory;
+use an_base::place::Place;
+use an_base::port::Port;
 use an_base::row::Row;
 use std::alloc::Global;
 use std::marker::Model;
@@ -12,8 +14,8 @@ use std::marker::Model;
 /// The number of a switch.
 #[derive(Clone, Copy, PartialEq, Eq)]
 pub struct NumberAt {
-    /// The switch, by its place.
-    pub s: u8,
+    /// The switch.
+    pub s: Place,
     /// Its number, 1 to 126.
     pub number: u8,
 }
@@ -21,10 +23,10 @@ pub struct NumberAt {
 /// An entry of a switch.
 #[derive(Clone, Copy, PartialEq, Eq)]
 pub struct EntryAt {
-    /// The switch, by its place.
-    pub s: u8,
+    /// The switch.
+    pub s: Place,
     /// The entry, 0 to 12.
-    pub entry: u8,
+    pub entry: Port,
 }
 
 /// What so many lines of tables say.
@@ -39,11 +41,11 @@ pub struct TableDraft {
 }
 
 // Where an entry of a switch stands among all, by rising switch and then by rising entry.
-fn height_of(at: EntryAt) -> u32
-    ensures height { result ≡ height_of at }
+fn height_of(at: &EntryAt) -> u32
+    ensures height { result ≡ height_of at.now }
     ensures low { result < 65536 }
 {
-    u32::from(at.s) * 256 + u32::from(at.entry)
+    u32::from(at.s.as_u8()) * 256 + u32::from(at.entry)
 }
 
 impl Model for TableDraft {
@@ -84,7 +86,7 @@ impl TableDraft {
 
     /// Whether a switch had its number.
     #[tactic(auto, unfolding(crate::specs::TableRules::is_numbered))]
-    pub fn is_numbered(&self, s: u8) -> bool
+    pub fn is_numbered(&self, s: Place) -> bool
         ensures { result ≡ is_numbered self.now s }
     {
         self.numbers.iter().any(|x| x.s == s)
@@ -92,7 +94,7 @@ impl TableDraft {
 
     /// Whether a switch whose label is that of s has the number.
     #[tactic(auto, unfolding(crate::specs::TableRules::is_labelled))]
-    pub fn is_number_taken(&self, labels: &[u8], s: u8, number: u8) -> bool
+    pub fn is_number_taken(&self, labels: &[u8], s: Place, number: u8) -> bool
         requires all { All (λ x. x.s < length labels.now) self.now.numbers }
         requires within { s < length labels.now }
         ensures { result ≡ is_labelled labels.now self.now s number }
@@ -102,10 +104,10 @@ impl TableDraft {
     }
 
     // Whether an entry of a switch stands above all that had their lines.
-    fn is_next(&self, s: u8, entry: u8) -> bool
+    fn is_next(&self, s: Place, entry: Port) -> bool
         ensures { result ≡ true → is_entered self.now s entry ≡ false }
     {
-        let height = height_of(EntryAt { s, entry });
+        let height = height_of(&EntryAt { s, entry });
         if height < self.top {
             return false;
         }
@@ -115,7 +117,7 @@ impl TableDraft {
     /// Whether an entry of a switch had its line. Where the lines come by rising switch and entry it looks
     /// at none of them.
     #[tactic(auto, unfolding(crate::specs::TableRules::is_entered))]
-    pub fn is_entered(&self, s: u8, entry: u8) -> bool
+    pub fn is_entered(&self, s: Place, entry: Port) -> bool
         ensures { result ≡ is_entered self.now s entry }
     {
         if self.is_next(s, entry) {
@@ -126,7 +128,7 @@ impl TableDraft {
 
     /// The number of a switch, 0 where it had no line.
     #[tactic(auto, unfolding(crate::specs::TableRules::number_of))]
-    pub fn number_of(&self, s: u8) -> u8
+    pub fn number_of(&self, s: Place) -> u8
         ensures { result ≡ number_of self.now s }
     {
         self.numbers
@@ -147,8 +149,8 @@ impl TableDraft {
     pub fn push_entry(&mut self, entry: EntryAt) -> Result<(), OutOfMemory>
         ensures { OnOk result (self.new ≡ record self.old { entries = self.old.entries ++ entry ∷ [] }) }
     {
+        let next = height_of(&entry) + 1;
         self.entries.push(entry)?;
-        let next = height_of(entry) + 1;
         if self.top < next {
             self.top = next;
         }

@@ -19,6 +19,8 @@ ghost use Rattle.text_lines.specs.Stops.{IsStep};
 use crate::component::Network;
 use crate::table_draft::{EntryAt, NumberAt, TableDraft};
 use crate::table_words::next_word;
+use an_base::place::Place;
+use an_base::port::Port;
 use an_base::row::{Exits, Row};
 use net_script::cause::ScriptCause;
 use net_script::field::{known_switch, number_in};
@@ -151,7 +153,7 @@ fn read_row_line(
 }
 
 // The entry that a word says.
-fn entry_in(word: &[u8]) -> Result<u8, ScriptCause>
+fn entry_in(word: &[u8]) -> Result<Port, ScriptCause>
     ensures entry { IsField result (entry_cause word.now) (number_value word.now) }
     ensures range { IfOk result (λ e. e ≤ 12) }
 {
@@ -159,13 +161,13 @@ fn entry_in(word: &[u8]) -> Result<u8, ScriptCause>
         return Err(ScriptCause::BadNumber);
     }
     match number_of(word) {
-        Some(entry) if entry <= 12 => Ok(entry as u8),
+        Some(entry) if entry <= 12 => Ok(Port(entry as u8)),
         _ => Err(ScriptCause::PortRange),
     }
 }
 
 // Adds the rows of pairs whose numbers rise, the words of a text.
-fn push_rows(draft: &mut TableDraft, s: u8, entry: u8, pairs: &[u8]) -> Result<(), ScriptStop>
+fn push_rows(draft: &mut TableDraft, s: Place, entry: Port, pairs: &[u8]) -> Result<(), ScriptStop>
     ensures { IsStep result
         ((are_pairs 0 (parts_of pairs.now) ≡ true)
         × (draft.new ≡ record draft.old { rows = draft.old.rows ++ map (row_of s entry) (parts_of pairs.now) }))
@@ -188,7 +190,7 @@ fn push_rows(draft: &mut TableDraft, s: u8, entry: u8, pairs: &[u8]) -> Result<(
 
 // The row that a pair says.
 #[tactic(auto, unfolding(crate::specs::TableRules::is_pair))]
-fn row_in(s: u8, entry: u8, pair: &[u8]) -> Result<Row, ScriptCause>
+fn row_in(s: Place, entry: Port, pair: &[u8]) -> Result<Row, ScriptCause>
     ensures { IsField result (unless (is_pair pair.now) BadNumber) (row_of s entry pair.now) }
 {
     let Some(colon) = colon_of(pair) else {
@@ -197,8 +199,8 @@ fn row_in(s: u8, entry: u8, pair: &[u8]) -> Result<Row, ScriptCause>
     let to = short_number(&pair[..colon], 126)?;
     let exits = exits_in(&pair[colon + 1..])?;
     Ok(Row {
-        at: s,
-        entry,
+        at: s.as_u8(),
+        entry: entry.as_u8(),
         to,
         exits,
     })
@@ -373,5 +375,5 @@ fn read_table_end(draft: &mut TableDraft, script: &Script) -> Result<(), ScriptS
 fn are_numbered(draft: &TableDraft, count: u8) -> bool
     ensures { result ≡ list_all (is_numbered draft.now) (range_with_len 0 count) }
 {
-    (0..count).all(|s| draft.is_numbered(s))
+    (0..count).all(|s| draft.is_numbered(Place(s)))
 }

@@ -19,6 +19,7 @@ use crate::table_form::{read_row_words, read_table_form};
 use crate::table_words::{before_comment, next_word};
 use crate::tables::Tables;
 use an_base::memory::OutOfMemory;
+use an_base::place::Place;
 use net_script::cause::ScriptCause;
 use net_script::draft::{Draft, Part};
 use net_script::form::ScriptStop;
@@ -200,7 +201,7 @@ fn numbers_of(alloc: Global, draft: &TableDraft, count: u8) -> Result<Vec<u8>, O
 {
     let mut numbers = Vec::new(alloc);
     'switches: for s in 0..count {
-        numbers.push(draft.number_of(s))?;
+        numbers.push(draft.number_of(Place(s)))?;
     }
     Ok(numbers)
 }

@@ -86,7 +86,7 @@ impl Watch {
 fn is_of(event: &Event, place: u8) -> bool {
     match event {
         Event::Clock { s } | Event::Take { s, .. } | Event::Handle { s } | Event::Load { s } => {
-            *s == place
+            s.as_u8() == place
         }
         _ => false,
     }

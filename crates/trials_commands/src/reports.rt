@@ -3,6 +3,7 @@
 ghost use Rattle.report.specs.Events.{HasLegalEnd};
 
 use an_base::event::{Event, Journal};
+use an_base::place::Place;
 use fabric_state::ending::Ending;
 use net_script::reader::read;
 use net_script::script::Script;
@@ -30,9 +31,9 @@ fn alone(alloc: Global) -> Result<Script, Fail> {
 fn history(alloc: Global) -> Result<Journal, Fail> {
     let mut journal = Journal::new(alloc);
     for event in [
-        Event::Clock { s: 0 },
-        Event::Handle { s: 0 },
-        Event::Load { s: 0 },
+        Event::Clock { s: Place(0) },
+        Event::Handle { s: Place(0) },
+        Event::Load { s: Place(0) },
     ] {
         journal.push(event)?;
     }

@@ -18,6 +18,8 @@ ghost use Rattle.wire_set.specs.WireState.{wire_at, wire_out};
 use crate::frames::Frames;
 use crate::side::{Loss, Put, Side, Taken, is_link};
 use an_base::memory::OutOfMemory;
+use an_base::place::Place;
+use an_base::port::Port;
 use frame_region::buffer::FrameBuf;
 use frame_region::region::NoRoom;
 use net_graph::wiring::{Far, Wiring};
@@ -54,7 +56,7 @@ const UNUSED: Side = Side {
 const PLACES: usize = 13;
 
 // The place of a port of a switch.
-fn place_of(s: u8, port: u8) -> usize
+fn place_of(s: Place, port: Port) -> usize
     ensures { result ≡ place s port }
 {
     PLACES * usize::from(s) + usize::from(port)
@@ -82,7 +84,7 @@ fn sides_of(alloc: Global, wiring: &Wiring) -> Result<Vec<Side>, OutOfMemory>
     let count = PLACES * usize::from(wiring.count());
     let mut sides = Vec::with_capacity(alloc, count)?;
     'places: for at in 0..count {
-        let far = wiring.far((at / PLACES) as u8, (at % PLACES) as u8);
+        let far = wiring.far(Place((at / PLACES) as u8), Port((at % PLACES) as u8));
         sides.push(Side {
             far,
             is_up: far.is_some(),
@@ -109,7 +111,7 @@ impl WireSet {
     /// Puts a frame, 1 to 22,591 bytes, on the wire out of a switch by a port that has a link of two
     /// switch ports, without taking memory. It is lost by the first cause that holds: the link is down; a
     /// loss was told, and one less is then to come; too few blocks are free.
-    pub fn put(&mut self, s: u8, port: u8, bytes: &[u8]) -> Put
+    pub fn put(&mut self, s: Place, port: Port, bytes: &[u8]) -> Put
         requires link { HasLink self.old s port }
         requires least { 1 ≤ length bytes.now }
         requires most { length bytes.now ≤ MOST_FRAME }
@@ -125,7 +127,7 @@ impl WireSet {
     /// the buffer to its bytes, without taking memory. It is the second frame where an exchange was told
     /// and there are two, else the first. The switch, which held none, holds it with its blocks until
     /// `release`. Then, where a copy was told, one is put at the wire's end.
-    pub fn take(&mut self, s: u8, port: u8, out: &mut FrameBuf) -> Taken
+    pub fn take(&mut self, s: Place, port: Port, out: &mut FrameBuf) -> Taken
         requires link { HasLink self.old s port }
         requires some { 1 ≤ length (wire_at self.old (place s port)) }
         requires none_held { hand_of self.old s ≡ [] }
@@ -134,23 +136,23 @@ impl WireSet {
         ensures how { result ≡ how_taken (place s port) (place s 0) self.old }
     {
         let wire = place_of(s, port);
-        let second = self.hold(wire, place_of(s, 0), out);
+        let second = self.hold(wire, place_of(s, Port(0)), out);
         let copied = self.copy(wire, out.bytes());
         Taken { second, copied }
     }
 
     /// Frees the blocks of the frame that a switch holds, which it then holds no longer, without taking
     /// memory.
-    pub fn release(&mut self, s: u8)
+    pub fn release(&mut self, s: Place)
         requires { 1 ≤ length (hand_of self.old s) }
         ensures { self.new ≡ release_from (place s 0) self.old }
     {
-        self.frames.clear(place_of(s, 0));
+        self.frames.clear(place_of(s, Port(0)));
     }
 
     /// The link of a port, which has one or a host, goes down, and the frames of its two wires are
     /// dropped; it answers how many they were. It takes no memory.
-    pub fn fail(&mut self, s: u8, port: u8) -> u32
+    pub fn fail(&mut self, s: Place, port: Port) -> u32
         requires { IsUsed self.old s port }
         ensures failed { self.new ≡ fail_at (place s port) self.old }
         ensures dropped { result ≡ dropped_at (place s port) self.old }
@@ -165,7 +167,7 @@ impl WireSet {
     }
 
     /// The link of a port, which has one or a host, goes up, without taking memory.
-    pub fn repair(&mut self, s: u8, port: u8)
+    pub fn repair(&mut self, s: Place, port: Port)
         requires { IsUsed self.old s port }
         ensures { self.new ≡ repair_at (place s port) self.old }
     {
@@ -174,7 +176,7 @@ impl WireSet {
 
     /// The side of a port, 0 to 12: what is at its far side, whether its link is up, and what is told of the wire
     /// into it. It answers for all values, for a port above 12 of the place 13 s + port.
-    pub fn side(&self, s: u8, port: u8) -> Side
+    pub fn side(&self, s: Place, port: Port) -> Side
         ensures { result ≡ side_at self.now (place s port) }
     {
         match self.sides.get(place_of(s, port)) {
@@ -184,7 +186,7 @@ impl WireSet {
     }
 
     /// Whether the link of a port, which has one or a host, is up.
-    pub fn is_up(&self, s: u8, port: u8) -> bool
+    pub fn is_up(&self, s: Place, port: Port) -> bool
         requires { IsUsed self.now s port }
         ensures { result ≡ (side_at self.now (place s port)).is_up }
     {
@@ -193,7 +195,7 @@ impl WireSet {
 
     /// So many more losses are told for the wire out of a switch by a port that has a link of two switch
     /// ports; the count ends at 2^32 - 1.
-    pub fn lose(&mut self, s: u8, port: u8, n: u32)
+    pub fn lose(&mut self, s: Place, port: Port, n: u32)
         requires { HasLink self.old s port }
         ensures { self.new ≡ lose_on (wire_out self.old s port) n self.old }
     {
@@ -204,7 +206,7 @@ impl WireSet {
 
     /// So many more copies are told for the wire out of a switch by a port that has a link of two switch
     /// ports; the count ends at 2^32 - 1.
-    pub fn again(&mut self, s: u8, port: u8, n: u32)
+    pub fn again(&mut self, s: Place, port: Port, n: u32)
         requires { HasLink self.old s port }
         ensures { self.new ≡ again_on (wire_out self.old s port) n self.old }
     {
@@ -215,7 +217,7 @@ impl WireSet {
 
     /// So many more exchanges are told for the wire out of a switch by a port that has a link of two
     /// switch ports; the count ends at 2^32 - 1.
-    pub fn swap(&mut self, s: u8, port: u8, n: u32)
+    pub fn swap(&mut self, s: Place, port: Port, n: u32)
         requires { HasLink self.old s port }
         ensures { self.new ≡ swap_on (wire_out self.old s port) n self.old }
     {
@@ -226,7 +228,7 @@ impl WireSet {
 
     /// Whether a port of a switch, 0 to 12, has a link of two switch ports, and the wire into it a frame. It answers
     /// for all values, for a port above 12 of the place 13 s + port.
-    pub fn has_frame(&self, s: u8, port: u8) -> bool
+    pub fn has_frame(&self, s: Place, port: Port) -> bool
         ensures { result ≡ has_frame_on self.now (place s port) }
     {
         let wire = place_of(s, port);
@@ -238,7 +240,7 @@ impl WireSet {
     }
 
     /// How many frames are on the wire into a switch at a port that has a link of two switch ports.
-    pub fn len(&self, s: u8, port: u8) -> u32
+    pub fn len(&self, s: Place, port: Port) -> u32
         requires { HasLink self.now s port }
         ensures { result ≡ length (wire_at self.now (place s port)) }
     {

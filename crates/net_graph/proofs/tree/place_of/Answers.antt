@@ -8,7 +8,7 @@ new-requires c = let f = (c.requires.distances.found c.args.x c.args.level c.req
 pub new-requires-in-Some : goal.new-requires-in-Some
 new-requires-in-Some c =
     let f = (c.requires.distances.found c.args.x c.args.level c.requires.level).1 in
-    record { level = f; port = let h = c.in-Some.ensures.below in omega arith }
+    record { level = f; port = let h = c.in-Some.ensures.below in omega (arith, c.as_u8.ensures) }
 
 pub returns-in-None : goal.returns-in-None
 returns-in-None c =
