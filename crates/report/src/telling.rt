@@ -193,18 +193,18 @@ impl<'a> Telling<'a> {
     }
 
     // The word for a life, if it is the first one of the switch at a place: the name there, which is found at once.
-    fn first_word(&self, s: u8, life: Life) -> Option<&'a [u8]>
+    fn first_word(&self, s: Place, life: Life) -> Option<&'a [u8]>
         ensures { IfSome result (λ word. word.now ≡ life_text self.now.script.now life) }
     {
         let wiring = self.script.wiring();
-        if s >= wiring.count() || wiring.life(s) != life {
+        if s.as_u8() >= wiring.count() || wiring.life(s) != life {
             return None;
         }
         Some(self.script.switch_names().get(usize::from(s)))
     }
 
     // Appends the life of the switch at a place behind a space.
-    fn push_life_at(&self, text: &mut Vec<u8>, s: u8, life: Life) -> Result<(), OutOfMemory>
+    fn push_life_at(&self, text: &mut Vec<u8>, s: Place, life: Life) -> Result<(), OutOfMemory>
         ensures { OnOk result (text.new.items
             ≡ text.old.items ++ spaced (life_text self.now.script.now life ∷ [])) }
     {

@@ -9,8 +9,8 @@ returns c =
     let s = c.args.s in
     let wires = c.wiring-wiring.ensures.wires in
     let count = c.count.ensures.count ∙ ap (λ (w : Wires). length w.switches) wires in
-    let past = c.if-s-count.false in
-    let below : s < length script.wires.switches = omega (arith, count, past) in
+    let past = c.if-as_u8-count.false in
+    let below : s < length script.wires.switches = omega (arith, count, past, c.as_u8.ensures) in
     c.get.ensures
     ∙ ap (λ (names : List (List ℕ)). slice_index_or names c.from.result []) c.switch_names.ensures.names
     ∙ ap (λ (place : ℕ). slice_index_or script.switch_names place []) c.from.ensures
