@@ -73,7 +73,8 @@ fn write_port(to: &mut Note, port: Port, note: &Note)
     let _before = to.ports.as_slice();
     let _after = note.ports.as_slice();
     to.epoch = note.epoch;
-    to.ports.set(port.as_u8(), note.ports.get(port.as_u8()));
+    let number = port.as_u8();
+    to.ports.set(number, note.ports.get(number));
     to.load_due = note.load_due;
     to.unacked = note.unacked;
 }
