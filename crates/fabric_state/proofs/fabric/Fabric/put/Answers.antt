@@ -25,6 +25,6 @@ pub invariant_of-self : goal.invariant_of-self
 invariant_of-self c =
     let f = fabric_of_all c.self.inside.plan c.self.inside.wires c.self.inside.stations c.self.inside.traffic c.self.inside.sent c.self.inside.past in
     let far : is_link c.side.result.far ≡ true = sym c.is_link.ensures ∙ c.if-not-is_link.false in
-    let link : is_link (side_at c.self.inside.wires (place c.args.s c.args.frame.now.port)).far ≡ true = rw (c.side.ensures, c.port-port.ensures) at far in
+    let link : is_link (side_at c.self.inside.wires (place c.args.s c.args.frame.now.port)).far ≡ true = rw (c.side.ensures, c.port.ensures) at far in
     let fits = put_there f c.args.s c.args.frame.now link (put_fits f c.args.s c.args.frame.now c.self.invariant.fits (frame_some c.args.frame.now c.requires.frame)) in
-    rw (c.put.ensures.put, c.bytes.ensures, c.port-port.ensures) (record { fits = fits; most = c.self.invariant.most })
+    rw (c.put.ensures.put, c.bytes.ensures, c.port.ensures) (record { fits = fits; most = c.self.invariant.most })
