@@ -365,9 +365,11 @@ pub drive_told : (h : HistoryOf) (e : Event) (told : Option PlacedLine) (line : 
 drive_told h e told line placed_is line_is = one_told h e told line placed_is (line_is ∙ sym (append-nil (lines_of (world_of h) e)))
 
 pub drives_by : (h g : HistoryOf) (did : Drive) (e : Event) (told : Option PlacedLine) (line : Option Line) → did ≡ next_drive (fabric_of h) → did ≡ drive.Did e → g ≡ with_event e h
-    → option_to_list told ≡ placed (fabric_of g).events (option_to_list line) → option_to_list line ≡ lines_of (world_of h) e → Drives h.script h.events (drive.Did e) told g.events
-drives_by h g did e told line is made after placed_is line_is =
-    record {
+    → option_to_list told ≡ placed (fabric_of g).events (option_to_list line) → option_to_list line ≡ lines_of (world_of h) e → Drives h.script h.events did told g.events
+drives_by h g did e told line is made after placed_is line_is = subst (λ (d : Drive). Drives h.script h.events d told g.events) (sym made) by_event
+  where
+    by_event : Drives h.script h.events (drive.Did e) told g.events
+    by_event = record {
       drive_is = sym made ∙ is;
       event = ap (λ (x : HistoryOf). x.events) after;
       told_is = drive_told h e told line (placed_is ∙ ap (λ (x : HistoryOf). placed (fabric_of x).events (option_to_list line)) after) line_is;

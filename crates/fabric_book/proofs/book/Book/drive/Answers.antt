@@ -1,6 +1,7 @@
 -- What the driver does next may come, and is no worker's; and the history settles soon.
 
 use Rattle.std.proofs.Common.{◌≡◌, ◌∙◌, ap, subst, sym, vec_capacity}
+use Rattle.fabric_state.specs.declared.ending.Ending.TheVariants as ending
 use Rattle.fabric_state.specs.declared.work.Drive.TheVariants as drive
 use Rattle.fabric_state.specs.Choices.{next_drive}
 use Rattle.fabric_world.specs.Histories.{HistoryOf, fabric_of}
@@ -56,3 +57,6 @@ returns-clause-did c =
     let h = c.args.self.now in
     drives_by h c.drive_by-line.new.self c.drive-drive.result c.in-Did.event c.placed.result c.drive_by-line.result (c.drive-drive.ensures ∙ ap next_drive (fabric_at b.fabric b.entries.items b.taken.items (vec_capacity b.entries) c.self.invariant h c.self.view_is))
     c.in-Did.is c.drive_by-line.ensures.made c.placed.ensures c.drive_by-line.ensures.told
+
+pub returns-clause-in_time : goal.returns-clause-in_time
+returns-clause-in_time c = λ ended. absurd (let clash : drive.Did c.in-Did.event ≡ drive.Ended ending.Unsettled = sym c.in-Did.is ∙ ended in cc)

@@ -7,11 +7,12 @@ use Rattle.an_base.specs.declared.event.Event.{Event}
 use Rattle.net_script.specs.Scripts.{IsScript}
 use Rattle.fabric_state.specs.declared.work.Drive.{Drive}
 use Rattle.fabric_state.specs.declared.work.Drive.TheVariants as drive
-use Rattle.fabric_state.specs.Choices.{next_drive}
+use Rattle.fabric_state.specs.Choices.{event_of_drive, next_drive}
 use Rattle.fabric_state.specs.Lawful.{is_lawful}
 use Rattle.fabric_world.specs.Histories.{HistoryOf, fabric_of, world_of}
 use Rattle.fabric_state.specs.declared.line.Line.{Line}
 use Rattle.fabric_book.specs.Nets.{NetOf, history_of, with_events}
+use Rattle.fabric_book.specs.Rounds.{drive_lines}
 use Rattle.fabric_book.proofs.DriveLemmas.{drive_lawful}
 use Rattle.fabric_book.proofs.DriverLemmas.{rest_events, rest_lines}
 use Rattle.fabric_book.proofs.NetLemmas.{book_at, good_at, net_room}
@@ -48,10 +49,10 @@ returns c =
     let lawful = may net c.drive-drive.result e (good t) (chosen t) c.in-Did.is in
     record {
       script = subst (λ (x : NetOf). IsScript x.script) (sym stepped) (good t);
-      did = sym c.in-Did.is ∙ chosen t;
-      driven = stepped;
+      did = chosen t;
+      driven = subst (λ (d : Drive). c.make.new.self ≡ with_events (event_of_drive d) net) (sym c.in-Did.is) stepped;
       room = turn_room n.book n.lost n.powers.items n.switches.items n.bytes.items c.self.invariant net c.self.view_is (e ∷ []) (inr (e, refl)) (All-cons (λ (x : Event). is_lawful (fabric_of (history_of net)) x ≡ true) e [] lawful (All-nil (λ (x : Event). is_lawful (fabric_of (history_of net)) x ≡ true))) c.make.new.self stepped;
-      told = c.in_ok-make.ensures.told;
+      told = subst (λ (d : Drive). c.make.new.lines ≡ c.args.lines.now ++ drive_lines (world_of (history_of net)) d) (sym c.in-Did.is) c.in_ok-make.ensures.told;
     }
 
 pub returns-in_default : goal.returns-in_default
