@@ -1,8 +1,8 @@
--- The words for each cause.
+-- The words for what is wrong with a text of ranks.
 use Rattle.std.specs.Prelude.{ℕ, List, codes}
-use Rattle.ib_ranks.specs.declared.cause.RanksCause.{RanksCause}
-use Rattle.ib_ranks.specs.declared.cause.RanksCause.TheVariants.{LineTooLong, UnknownLine, BadGuid, BadPort, BadRank}
-use Rattle.ib_ranks.specs.declared.cause.RanksCause.TheVariants.{OutOfPlace, UnknownSwitch, NoChannel, RankTold, NoHead}
+use Rattle.ib_words.specs.declared.ranks_cause.RanksCause.{RanksCause}
+use Rattle.ib_words.specs.declared.ranks_cause.RanksCause.TheVariants.{LineTooLong, UnknownLine, BadGuid, BadPort, BadRank}
+use Rattle.ib_words.specs.declared.ranks_cause.RanksCause.TheVariants.{OutOfPlace, UnknownSwitch, NoChannel, RankTold, NoHead}
 
 abbrev pub cause_text : RanksCause → List ℕ
 cause_text LineTooLong = codes "line too long"

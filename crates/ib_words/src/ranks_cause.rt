@@ -1,10 +1,10 @@
 //! Why a text tells no ranks.
 
 ghost use Rattle.std.specs.Prelude.{◌≡◌};
-ghost use Rattle.ib_ranks.specs.Causes.{cause_text};
+ghost use Rattle.ib_words.specs.RanksCauses.{cause_text};
 
-/// What is wrong with a line.
-#[derive(Clone, Copy, Debug, PartialEq, Eq)]
+/// What is wrong with a line of ranks.
+#[derive(Clone, Copy)]
 pub enum RanksCause {
     /// It has more than 200 bytes.
     LineTooLong,
@@ -29,7 +29,7 @@ pub enum RanksCause {
 }
 
 impl RanksCause {
-    /// The words for a cause.
+    /// The words for it in messages.
     pub fn text(self) -> &'static str
         ensures { result.now ≡ cause_text self }
     {

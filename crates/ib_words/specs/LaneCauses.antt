@@ -1,10 +1,10 @@
 -- The words for what is wrong with a text of lanes or of service levels.
 use Rattle.std.specs.Prelude.{ℕ, List, codes}
-use Rattle.ib_lane_text.specs.declared.cause.LaneCause.{LaneCause}
-use Rattle.ib_lane_text.specs.declared.cause.LaneCause.TheVariants.{LineTooLong, UnknownLine, BadRow}
-use Rattle.ib_lane_text.specs.declared.cause.LaneCause.TheVariants.{LidRange}
-use Rattle.ib_lane_text.specs.declared.cause.LaneCause.TheVariants.{UnknownSwitch, UnknownEnd, NoSuchPort}
-use Rattle.ib_lane_text.specs.declared.cause.LaneCause.TheVariants.{OutOfPlace, NoEnd, LanesDiffer, TooMany}
+use Rattle.ib_words.specs.declared.lane_cause.LaneCause.{LaneCause}
+use Rattle.ib_words.specs.declared.lane_cause.LaneCause.TheVariants.{LineTooLong, UnknownLine, BadRow}
+use Rattle.ib_words.specs.declared.lane_cause.LaneCause.TheVariants.{LidRange}
+use Rattle.ib_words.specs.declared.lane_cause.LaneCause.TheVariants.{UnknownSwitch, UnknownEnd, NoSuchPort}
+use Rattle.ib_words.specs.declared.lane_cause.LaneCause.TheVariants.{OutOfPlace, NoEnd, LanesDiffer, TooMany}
 
 abbrev pub cause_text : LaneCause → List ℕ
 cause_text LineTooLong = codes "line too long"

@@ -1,7 +1,7 @@
 //! Why a text is no text of lanes, or of service levels.
 
 ghost use Rattle.std.specs.Prelude.{◌≡◌};
-ghost use Rattle.ib_lane_text.specs.Causes.{cause_text};
+ghost use Rattle.ib_words.specs.LaneCauses.{cause_text};
 
 /// What is wrong with a line of lanes or of service levels.
 #[derive(Clone, Copy)]
