@@ -12,7 +12,7 @@ use Rattle.text_lines.specs.Lines.{lines_of}
 use Rattle.ib_topology.specs.declared.fact.Line.{Line}
 use Rattle.ib_topology.specs.declared.fact.Part.{Part}
 use Rattle.ib_topology.specs.declared.fact.Part.TheVariants as part
-use Rattle.ib_topology.specs.Names.{AreNamesBy, AreNamesOf, far_name, named, names_in, names_told, near_name, node_told, section_name}
+use Rattle.ib_names.specs.Names.{AreNamesBy, AreNamesOf, far_name, named, names_in, names_told, near_name, node_told, section_name}
 use Rattle.ib_topology.specs.Texts.{says}
 
 -- what is found in two lists, one after the other

@@ -1,8 +1,8 @@
 use Rattle.std.proofs.Common.{◌++◌}
 use Rattle.std.specs.Option.{option_copied}
-use Rattle.ib_topology.specs.Names.{named}
-use Rattle.ib_topology.proofs.NameLemmas.{line_noted}
-use Rattle.ib_topology.proofs.names.note_names.Goals as goal
+use Rattle.ib_names.specs.Names.{named}
+use Rattle.ib_names.proofs.NameLemmas.{line_noted}
+use Rattle.ib_names.proofs.names.note_names.Goals as goal
 
 pub lines-preserved : goal.lines-preserved
 lines-preserved c =

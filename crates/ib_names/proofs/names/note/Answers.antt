@@ -4,9 +4,9 @@ use Rattle.std.specs.List.{list_any}
 use Rattle.std.specs.Map.{lookup}
 use Rattle.std.specs.Option.{option_copied}
 use Rattle.indexmap.proofs.CallerLemmas.{insert_entry-new}
-use Rattle.ib_topology.proofs.NameLemmas.{AreSo, both, first_name, has_name, none_there, not_asked, some_there}
-use Rattle.ib_topology.proofs.names.note.Goals.{else-contains-via-then-contains+else-not-contains_key, else-contains-via-else-contains}
-use Rattle.ib_topology.proofs.names.note.Goals as goal
+use Rattle.ib_names.proofs.NameLemmas.{AreSo, both, first_name, has_name, none_there, not_asked, some_there}
+use Rattle.ib_names.proofs.names.note.Goals.{else-contains-via-then-contains+else-not-contains_key, else-contains-via-else-contains}
+use Rattle.ib_names.proofs.names.note.Goals as goal
 
 pub returns-in_ok-insert : goal.returns-in_ok-insert
 returns-in_ok-insert c = λ told are.

@@ -3,16 +3,16 @@
 ghost use Rattle.std.specs.Prelude.{◌≡◌, ◌++◌, [], ℕ, List, IfOk, OnOk, nat_eq};
 ghost use Rattle.std.specs.Map.{lookup};
 ghost use Rattle.std.specs.Option.{option_copied};
-ghost use Rattle.ib_topology.specs.Names.{AreNamesBy, AreNamesOf, braced, far_name, head_name, named};
-ghost use Rattle.ib_topology.specs.Names.{near_braced, near_name, node_told, past, past_four, plain_name};
-ghost use Rattle.ib_topology.specs.Names.{section_name};
+ghost use Rattle.ib_names.specs.Names.{AreNamesBy, AreNamesOf, braced, far_name, head_name, named};
+ghost use Rattle.ib_names.specs.Names.{near_braced, near_name, node_told, past, past_four, plain_name};
+ghost use Rattle.ib_names.specs.Names.{section_name};
 
-use crate::discovered::quoted;
-use crate::dumped::{far_parts, near_parts};
-use crate::fact::{Fact, Part};
-use crate::reader::says;
 use an_base::memory::OutOfMemory;
 use an_base::text::Word;
+use ib_topology::discovered::quoted;
+use ib_topology::dumped::{far_parts, near_parts};
+use ib_topology::fact::{Fact, Part};
+use ib_topology::reader::says;
 use ib_words::cut::{after, cut, cut_first, cut_last};
 use indexmap::{IndexMap, IndexSet};
 use std::alloc::Global;

@@ -1,7 +1,7 @@
 use Rattle.std.proofs.Common.{length}
 use Rattle.std.specs.Option.{option_copied}
-use Rattle.ib_topology.proofs.NameLemmas.{IsReadTo}
-use Rattle.ib_topology.proofs.names.note_names.Given as goal
+use Rattle.ib_names.proofs.NameLemmas.{IsReadTo}
+use Rattle.ib_names.proofs.names.note_names.Given as goal
 
 -- the names of the lines before the rest are noted
 abbrev pub invariant-lines : goal.invariant-lines
