@@ -6,3 +6,5 @@ mod LostLemmas
 mod PlaceLemmas
 mod MoreLemmas
 mod StepLemmas
+mod KeepLemmas
+mod AlikeLemmas

@@ -1,5 +1,5 @@
 -- Counts of more routes with a level: of the same ones, and of one more.
-use Rattle.std.proofs.Common.{◌≡◌, ◌≢◌, ◌∙◌, sym, ap, subst, ℕ, ◌+◌, ◌≤◌, ◌⊎◌, Option, Some, None, arith, inl, inr, max}
+use Rattle.std.proofs.Common.{◌≡◌, ◌≢◌, ◌∙◌, sym, ap, refl, subst, ℕ, ◌+◌, ◌≤◌, ◌⊎◌, Option, Some, None, arith, inl, inr, max}
 use Rattle.std.specs.Prelude.{MatchOption}
 use Rattle.std.proofs.lemmas.Bool.{cases_lt}
 use Rattle.ib_cells.specs.Cells.{TablesOf}
@@ -24,6 +24,36 @@ pub no_loss : (fabric : FabricOf) (tables : TablesOf) (lanes : LanesOf) (Is : La
 no_loss fabric tables lanes Is none outcome = record {
   count = count_none LaneRoute (IsOneThat fabric tables lanes Is outcome) (λ route one. none route one.0);
   least = λ route one. none route one.0;
+}
+
+pub no_counts : (fabric : FabricOf) (tables : TablesOf) (lanes : LanesOf) (Is : LaneRoute → Type 0) → ((route : LaneRoute) → Is route → ⊥) → AreCountsOf fabric tables lanes Is (record {
+  routes = 0;
+  arrived = 0;
+  hops = 0;
+  lost = record {
+    missing = record { count = 0; least = None };
+    dead = record { count = 0; least = None };
+    wrong = record { count = 0; least = None };
+    discard = record { count = 0; least = None };
+    looping = record { count = 0; least = None };
+  };
+  silent = 0;
+})
+no_counts fabric tables lanes Is none = record {
+  routes = count_none LaneRoute Is none;
+  arrived = count_none LaneRoute (IsOneThatArrives fabric tables lanes Is) (λ route one. none route one.1.0);
+  hops = record {
+    most = λ route switches one. absurd (none route one.0);
+    some = λ not_none. absurd (not_none refl);
+  };
+  lost = record {
+    missing = no_loss fabric tables lanes Is none (Stops Missing);
+    dead = no_loss fabric tables lanes Is none (Stops Dead);
+    wrong = no_loss fabric tables lanes Is none (Stops Wrong);
+    discard = no_loss fabric tables lanes Is none Discards;
+    looping = no_loss fabric tables lanes Is none Loops;
+  };
+  all = refl;
 }
 
 module _ (fabric : FabricOf) (tables : TablesOf) (lanes : LanesOf) (Is More : LaneRoute → Type 0) (to : (route : LaneRoute) → Is route → More route) where

@@ -11,9 +11,9 @@ use Rattle.ib_lane_counts.specs.declared.counts.LaneCounts.{LaneCounts}
 use Rattle.ib_lane_counts.specs.declared.counts.LaneLoss.{LaneLoss}
 use Rattle.ib_lane_counts.specs.declared.counts.LaneLosses.{LaneLosses}
 use Rattle.ib_lane_counts.specs.declared.counts.LostLaneRoute.{LostLaneRoute}
-use Rattle.ib_lane_counts.specs.LaneCounts.{AreCountsOf, AreLaneCounts, AreLosses, IsLaneLostAt, IsLaneRouteOf, IsLoss, IsOneThatArrives, IsSilent, LaneRoute, LaneRouteEnds, lane_sum_of}
+use Rattle.ib_lane_counts.specs.LaneCounts.{AreCountsOf, AreLaneCounts, AreLosses, IsLaneLostAt, IsLaneRouteOf, IsLoss, IsSilent, LaneRoute, LaneRouteEnds, lane_sum_of}
 use Rattle.ib_lane_counts.specs.Steps.{AreCountsUntil, IsLesser, IsSilentUntil, IsUntil}
-use Rattle.ib_lane_counts.proofs.MoreLemmas.{counts_arrive, counts_lost, counts_same, loss_kept, loss_new, no_loss, other_loss}
+use Rattle.ib_lane_counts.proofs.MoreLemmas.{counts_arrive, counts_lost, counts_same, loss_kept, loss_new, no_counts, other_loss}
 use Rattle.ib_lane_counts.proofs.PlaceLemmas.{silent_all, silent_fresh, silent_from, silent_less, silent_lids, silent_next, silent_none, silent_to, silent_unsent, until_all, until_all_levels, until_fresh, until_from, until_late, until_lids, until_low, until_next, until_none, until_past, until_silent, until_to, until_unsent, until_without}
 use Rattle.ib_lane_routes.specs.declared.hop.LaneOutcome.{LaneOutcome}
 use Rattle.ib_lane_routes.specs.declared.hop.LaneOutcome.TheVariants.{Arrives, Stops, Discards, Loops}
@@ -155,31 +155,15 @@ module _ (fabric : FabricOf) (tables : TablesOf) (lanes : LanesOf) (traffic : Tr
     silent = 0;
   })
   first_counts =
-      let none = until_none fabric traffic levels in
       record {
-        exact = record {
-          routes = count_none LaneRoute (Until 0 0 0) none;
-          arrived = count_none LaneRoute (IsOneThatArrives fabric tables lanes (Until 0 0 0)) (λ route one. none route one.1.0);
-          hops = record {
-            most = λ route switches one. absurd (none route one.0);
-            some = λ not_none. absurd (not_none refl);
-          };
-          lost = record {
-            missing = no_loss fabric tables lanes (Until 0 0 0) none (Stops Missing);
-            dead = no_loss fabric tables lanes (Until 0 0 0) none (Stops Dead);
-            wrong = no_loss fabric tables lanes (Until 0 0 0) none (Stops Wrong);
-            discard = no_loss fabric tables lanes (Until 0 0 0) none Discards;
-            looping = no_loss fabric tables lanes (Until 0 0 0) none Loops;
-          };
-          all = refl;
-        };
+        exact = no_counts fabric tables lanes (Until 0 0 0) (until_none fabric traffic levels);
         silent = count_none Route (Silent 0 0) (silent_none fabric traffic levels);
         few = omega arith;
         few_silent = omega arith;
       }
 
   -- the pairs without a level are apart
-  counts_beside : (Is : LaneRoute → Type 0) (counts : LaneCounts) (silent : ℕ) → AreCountsOf fabric tables lanes Is counts → AreCountsOf fabric tables lanes Is (record counts { silent = silent })
+  pub counts_beside : (Is : LaneRoute → Type 0) (counts : LaneCounts) (silent : ℕ) → AreCountsOf fabric tables lanes Is counts → AreCountsOf fabric tables lanes Is (record counts { silent = silent })
   counts_beside Is counts silent are = record { routes = are.routes; arrived = are.arrived; hops = are.hops; lost = are.lost; all = are.all }
 
   module _ (lid : ℕ) (counts : LaneCounts) where

@@ -5,6 +5,7 @@ ghost use Rattle.std.specs.Int.{bit_at};
 ghost use Rattle.ib_cells.specs.Cells.{tables_of};
 ghost use Rattle.ib_counts.specs.Counts.{hop_for};
 ghost use Rattle.ib_counts.specs.Steps.{IsEndPort, place_of};
+ghost use Rattle.ib_lane_counts.specs.Alike.{alike};
 ghost use Rattle.ib_lane_counts.specs.Gone.{AreGone, IsGoneFrom};
 ghost use Rattle.ib_lane_counts.specs.LaneCounts.{AreCountsOf, AreLaneCounts, lane_sum_of};
 ghost use Rattle.ib_lane_counts.specs.Steps.{AreCountsUntil, AreRooms, IsBefore, IsUntil, IsUpTo, on_lanes};
@@ -18,14 +19,16 @@ ghost use Rattle.ib_rows.specs.Lanes.{lanes_of};
 ghost use Rattle.ib_rows.specs.Levels.{levels_of};
 ghost use Rattle.ib_rows.specs.PathLevels.{LevelsOf};
 
+use crate::alike::alike_counts;
 use crate::counts::LaneCounts;
 use crate::gone::{gone_from, put_gone};
+use crate::keep::is_kept;
 use crate::more::BegunRoute;
 use crate::room::Rooms;
 use crate::source::sender_begin;
 use an_base::memory::OutOfMemory;
 use ib_cells::cells::Cells;
-use ib_counts::count::{end_from, forget};
+use ib_counts::count::{count_routes, end_from, forget};
 use ib_counts::source::{end_port_at, end_ports};
 use ib_lane_routes::hop::LaneOutcome;
 use ib_net::fabric::Fabric;
@@ -53,7 +56,8 @@ fn on_lanes(outcome: Outcome, is_gone: bool) -> LaneOutcome
 }
 
 impl LaneCounts {
-    // A route, if its level is one of some, as bits. How it ends on one lane is known, and with which levels it is discarded.
+    // A route, if its level is one of some, as bits. How it ends on one lane is known, and with which levels it is
+    // discarded.
     fn add_told(
         &mut self,
         fabric: &Fabric,
@@ -272,6 +276,49 @@ fn count_lids(
     counts
 }
 
+// The counts by the routes of each end port to each LID.
+fn count_each(
+    alloc: Global,
+    fabric: &Fabric,
+    cells: &Cells,
+    lanes: &LaneRows,
+    levels: &Levels,
+    traffic: Traffic,
+) -> Result<LaneCounts, OutOfMemory>
+    requires same { switch_count fabric.now ≡ cells.now.switches }
+    requires lanes { switch_count fabric.now ≡ lanes.now.switches }
+    requires owners { length fabric.now.owners ≤ 64 * cells.now.blocks }
+    ensures counts { IfOk result (AreLaneCounts fabric.now (tables_of cells.now) (lanes_of lanes.now) traffic
+        (levels_of levels.now)) }
+    ensures few { IfOk result (λ counts. lane_sum_of counts.lost < 2 ^ 64) }
+{
+    let mut rooms = Rooms::new(alloc, fabric.switches())?;
+    Ok(count_lids(fabric, cells, lanes, levels, traffic, &mut rooms))
+}
+
+// The counts if all end ports send with the same levels, as bits.
+fn count_alike(
+    alloc: Global,
+    fabric: &Fabric,
+    cells: &Cells,
+    lanes: &LaneRows,
+    told: u16,
+    traffic: Traffic,
+) -> Result<LaneCounts, OutOfMemory>
+    requires same { switch_count fabric.now ≡ cells.now.switches }
+    requires lanes { switch_count fabric.now ≡ lanes.now.switches }
+    requires owners { length fabric.now.owners ≤ 64 * cells.now.blocks }
+    ensures counts { IfOk result (AreLaneCounts fabric.now (tables_of cells.now) (lanes_of lanes.now) traffic
+        (alike told)) }
+    ensures few { IfOk result (λ counts. lane_sum_of counts.lost < 2 ^ 64) }
+{
+    if !is_kept(fabric, lanes, u64::from(told)) {
+        return count_each(alloc, fabric, cells, lanes, &Levels::Same(told), traffic);
+    }
+    let counts = count_routes(alloc, fabric, cells, traffic)?;
+    Ok(alike_counts(told, &counts))
+}
+
 /// How many routes of a traffic with service levels there are, each level of an end port and a LID a route of its own; how
 /// many arrive, through how many switches the longest of these goes; those that do not arrive, by cause: of each the least
 /// and where it is lost; and how many pairs of an end port and a LID have no level.
@@ -290,6 +337,8 @@ pub fn count_lane_routes(
         (levels_of levels.now)) }
     ensures few { IfOk result (λ counts. lane_sum_of counts.lost < 2 ^ 64) }
 {
-    let mut rooms = Rooms::new(alloc, fabric.switches())?;
-    Ok(count_lids(fabric, cells, lanes, levels, traffic, &mut rooms))
+    match levels {
+        Levels::Same(told) => count_alike(alloc, fabric, cells, lanes, *told, traffic),
+        Levels::Told(_) => count_each(alloc, fabric, cells, lanes, levels, traffic),
+    }
 }

@@ -6,9 +6,11 @@
 //! end port and a LID have no level.
 #![tactic(auto)]
 
+mod alike;
 pub mod count;
 pub mod counts;
 mod gone;
+mod keep;
 mod lost;
 mod more;
 mod room;
