@@ -5,7 +5,7 @@ use Rattle.std.specs.Prelude.{MatchOption}
 use Rattle.std.proofs.lemmas.Bool.{cases_eq, cases_lt}
 use Rattle.std.proofs.lemmas.Nat.Bits.{bit_at-trailing_zeros, bit_at-zero}
 use Rattle.ib_cells.specs.Cells.{TablesOf}
-use Rattle.ib_counts.specs.Counts.{AreCounts, IsOf, Route, RouteEnds, RouteIsLost, hop_for}
+use Rattle.ib_counts.specs.Counts.{AreCounts, IsOf, Route, RouteEnds, RouteIsLost}
 use Rattle.ib_counts.specs.Counts as on_one
 use Rattle.ib_counts.specs.declared.counts.Counts.{Counts}
 use Rattle.ib_counts.specs.declared.counts.Loss.{Loss}
@@ -13,31 +13,25 @@ use Rattle.ib_counts.specs.declared.counts.LostRoute.{LostRoute}
 use Rattle.ib_lane_counts.specs.declared.counts.LaneCounts.{LaneCounts}
 use Rattle.ib_lane_counts.specs.declared.counts.LaneLoss.{LaneLoss}
 use Rattle.ib_lane_counts.specs.declared.counts.LostLaneRoute.{LostLaneRoute}
-use Rattle.ib_lane_counts.specs.Alike.{IsBelow, alike, least_with}
+use Rattle.ib_lane_counts.specs.Alike.{IsBelow, alike, least_with, loss_with, losses_with}
 use Rattle.ib_lane_counts.specs.Keep.{IsKept}
 use Rattle.ib_lane_counts.specs.LaneCounts.{AreCountsOf, AreMostHops, IsLaneRouteOf, IsLeastLost, IsLoss, IsOneThat, IsOneThatArrives, IsSilent, LaneRoute, LaneRouteEnds, LaneRouteIsLost, lane_route_of}
 use Rattle.ib_lane_counts.specs.Steps.{on_lanes}
-use Rattle.ib_lane_counts.proofs.EndLemmas.{ends_on_lanes, on_one_lane}
-use Rattle.ib_lane_counts.proofs.KeepLemmas.{none_gone}
-use Rattle.ib_lane_counts.proofs.LostLemmas.{lost_on_lanes}
+use Rattle.ib_lane_counts.specs.Sums.{pair_of}
+use Rattle.ib_lane_counts.proofs.KeptLemmas.{ends_on_one, ends_there, kept_here, lost_there}
 use Rattle.ib_lane_counts.proofs.MoreLemmas.{counts_same}
 use Rattle.ib_lane_routes.specs.declared.hop.LaneOutcome.{LaneOutcome}
 use Rattle.ib_lane_routes.specs.declared.hop.LaneOutcome.TheVariants.{Arrives, Discards}
-use Rattle.ib_lane_routes.specs.LaneRoutes.{LaneEndsAs, begin_of, lane_hop}
-use Rattle.ib_lane_routes.proofs.OneLaneLemmas.{begin_start, start_begin}
-use Rattle.ib_net.specs.declared.node.Spot.{Spot}
+use Rattle.ib_net.specs.declared.node.EndPort.{EndPort}
 use Rattle.ib_net.specs.Fabric.{FabricOf, IsFabric}
 use Rattle.ib_routes.specs.Counting.{IsCountOf}
 use Rattle.ib_routes.specs.declared.hop.Cause.TheVariants.{Missing, Dead, Wrong}
 use Rattle.ib_routes.specs.declared.hop.Outcome.{Outcome}
 use Rattle.ib_routes.specs.declared.hop.Outcome.TheVariants as end
 use Rattle.ib_routes.specs.declared.traffic.Traffic.{Traffic}
-use Rattle.ib_routes.specs.Routes.{EndsAs}
 use Rattle.ib_routes.proofs.CountLemmas.{count_image, count_none, count_same, count_sum}
 use Rattle.ib_rows.specs.Lanes.{LanesOf}
-
-abbrev pair_of : LaneRoute → Route
-pair_of route = record { lid = route.lid; source = route.source }
+use Rattle.ib_rows.specs.PathLevels.{HasLevel}
 
 abbrev route_at : ℕ → Route → LaneRoute
 route_at level pair = record { lid = pair.lid; source = pair.source; level = level }
@@ -52,38 +46,20 @@ module _ (fabric : FabricOf) (fits : IsFabric fabric) (tables : TablesOf) (lanes
   abbrev Ends : LaneOutcome → LaneRoute → Type 0
   Ends outcome route = LaneRouteEnds fabric tables lanes route outcome
 
-  is_kept : (route : LaneRoute) → IsRoute route → (start : Spot) → begin_of fabric route.source ≡ Some start → LaneEndsAs (lane_hop fabric tables lanes route.level route.lid) start Discards → ⊥
-  is_kept route is start begins = none_gone fabric fits tables lanes told kept route.level route.lid is.has.0 is.has.1 traffic route.source start is.sends.is_source begins
+  used : (source : EndPort) (lid level : ℕ) → HasLevel (alike told) source lid level → bit_at told level ≡ 1
+  used source lid level has = has.1
 
   not_discarded : (route : LaneRoute) → IsRoute route → Ends Discards route → ⊥
-  not_discarded route is ends = is_kept route is ends.start ends.begins ends.ends
+  not_discarded = kept_here fabric fits tables lanes traffic (alike told) told kept used
 
-  -- a route ends on its lanes as on one
   to_one : (outcome : Outcome) (route : LaneRoute) → Ends (on_lanes outcome) route → RouteEnds fabric tables (pair_of route) outcome
-  to_one outcome route ends = record {
-    start = ends.start.switch;
-    begins = begin_start fabric route.source ends.start ends.begins;
-    ends = on_one_lane fabric tables lanes route.level route.lid ends.start outcome ends.ends;
-  }
+  to_one = ends_on_one fabric tables lanes
 
   to_lanes : (outcome : Outcome) (route : LaneRoute) → IsRoute route → RouteEnds fabric tables (pair_of route) outcome → Ends (on_lanes outcome) route
-  to_lanes outcome route is ends =
-      let (start, begins, same) = start_begin fabric route.source ends.start ends.begins in
-      record {
-        start = start;
-        begins = begins;
-        ends = ends_on_lanes fabric tables lanes route.level route.lid start (is_kept route is start begins) outcome (subst (λ (s : ℕ). EndsAs (hop_for fabric tables route.lid) s outcome) (sym same) ends.ends);
-      }
+  to_lanes = ends_there fabric fits tables lanes traffic (alike told) told kept used
 
-  -- and is lost there
   lost_lanes : (outcome : Outcome) (route : LaneRoute) (at : ℕ) → IsRoute route → RouteIsLost fabric tables (pair_of route) outcome at → LaneRouteIsLost fabric tables lanes route (on_lanes outcome) at
-  lost_lanes outcome route at is lost =
-      let (start, begins, same) = start_begin fabric route.source lost.start lost.begins in
-      record {
-        start = start;
-        begins = begins;
-        lost = lost_on_lanes fabric tables lanes route.level route.lid start (is_kept route is start begins) outcome at (subst (λ (s : ℕ). on_one.IsLostAt (hop_for fabric tables route.lid) s outcome at) (sym same) lost.lost);
-      }
+  lost_lanes = lost_there fabric fits tables lanes traffic (alike told) told kept used
 
   -- with a level that all have ..
   module _ (level : ℕ) (low : level < 16) (bit : bit_at told level ≡ 1) where
@@ -157,7 +133,7 @@ module _ (fabric : FabricOf) (fits : IsFabric fabric) (tables : TablesOf) (lanes
           ];
         }
 
-    pub loss_at : (outcome : Outcome) (old : LaneLoss) (loss : Loss) → IsLoss fabric tables lanes (Below level) (on_lanes outcome) old → on_one.IsLoss fabric tables (IsOf fabric traffic) outcome loss → IsLoss fabric tables lanes (Below (level + 1)) (on_lanes outcome) (record { count = old.count + loss.count; least = least_with level old.least loss.least })
+    pub loss_at : (outcome : Outcome) (old : LaneLoss) (loss : Loss) → IsLoss fabric tables lanes (Below level) (on_lanes outcome) old → on_one.IsLoss fabric tables (IsOf fabric traffic) outcome loss → IsLoss fabric tables lanes (Below (level + 1)) (on_lanes outcome) (loss_with level old loss)
     loss_at outcome old loss is new = record {
       count = count_sum LaneRoute (IsOneThat fabric tables lanes (Below level) (on_lanes outcome)) (λ route. At route × Ends (on_lanes outcome) route) (IsOneThat fabric tables lanes (Below (level + 1)) (on_lanes outcome)) old.count loss.count
           (λ route that. (to route that.0, that.1)) (λ route that. (add route that.0, that.1))
@@ -211,13 +187,7 @@ module _ (fabric : FabricOf) (fits : IsFabric fabric) (tables : TablesOf) (lanes
       routes = old.routes + counts.routes;
       arrived = old.arrived + counts.arrived;
       hops = most;
-      lost = record {
-        missing = record { count = old.lost.missing.count + counts.lost.missing.count; least = least_with level old.lost.missing.least counts.lost.missing.least };
-        dead = record { count = old.lost.dead.count + counts.lost.dead.count; least = least_with level old.lost.dead.least counts.lost.dead.least };
-        wrong = record { count = old.lost.wrong.count + counts.lost.wrong.count; least = least_with level old.lost.wrong.least counts.lost.wrong.least };
-        discard = old.lost.discard;
-        looping = record { count = old.lost.looping.count + counts.lost.looping.count; least = least_with level old.lost.looping.least counts.lost.looping.least };
-      };
+      lost = losses_with level old.lost counts.lost;
       silent = old.silent;
     })
     counts_at old counts most is_most are new = record {

@@ -1,10 +1,10 @@
 -- With which levels what goes to a LID is discarded: at a switch, or further on, as the words of the switches tell.
 use Rattle.std.proofs.Common.{◌≡◌, ◌∙◌, sym, ap, refl, subst, ℕ, zero, suc, ◌<◌, ◌⊎◌, ◌↔◌, Bool, true, false, cond, eqb, Some, None, List, arith, length, get_or, set, inl, inr}
 use Rattle.std.specs.Int.{bit_at}
-use Rattle.std.specs.Int.RustNames.{bit_or}
+use Rattle.std.specs.Int.RustNames.{bit_and, bit_or}
 use Rattle.std.proofs.lemmas.Bool.{cases_eq, cases_lt, eqb-true, lt-ltb, ne_eqb}
 use Rattle.std.proofs.lemmas.List.{get_or-set_other, get_or-set_same}
-use Rattle.std.proofs.lemmas.Nat.Bits.{bit_at-zero, bit_at_ones, bit_at_ones_above}
+use Rattle.std.proofs.lemmas.Nat.Bits.{bit_at-zero, bit_at_and, bit_at_ones, bit_at_ones_above}
 use Rattle.ib_cells.specs.Cells.{TablesOf}
 use Rattle.ib_lane_counts.specs.Gone.{AreGone, AreOnFifteen, AreSomeGone, HasLane, IsGoneAfter, IsGoneAt, IsGoneFrom, IsGoneNext, IsNext, IsSettled}
 use Rattle.ib_lane_counts.proofs.WalkLemmas.{discards_first, discards_then, walk_first}
@@ -52,6 +52,13 @@ to_gone false port lane next = inr refl
 gone_if : (b : Bool) (does : LaneHop) → (does ≡ Discard → ⊥) → cond b Discard does ≡ Discard → b ≡ true
 gone_if true does other is = refl
 gone_if false does other is = absurd (other is)
+
+-- two words have no bit in common
+pub no_common : (one other bit : ℕ) → bit_and one other ≡ 0 → bit_at one bit ≡ 1 → bit_at other bit ≡ 1 → ⊥
+no_common one other bit none has also =
+    let zero = ap (λ (n : ℕ). bit_at n bit) none ∙ bit_at-zero bit in
+    let both = bit_at_and one other bit in
+    absurd (omega arith)
 
 -- the lanes of no row, and of one
 pub no_row : AreOnFifteen (λ level. lane_by level None) 65535

@@ -9,7 +9,7 @@ use Rattle.std.specs.Int.{bit_at}
 use Rattle.ib_cells.specs.Cells.{TablesOf}
 use Rattle.ib_lane_counts.specs.Gone.{HasLane}
 use Rattle.ib_lane_counts.specs.Keep.{AreCablesKept, AreLinksKept, IsCableKept, IsKept, IsKeptAt, IsKeptBy, IsSideKept}
-use Rattle.ib_lane_counts.proofs.GoneLemmas.{goes_next, gone_exit, next_within}
+use Rattle.ib_lane_counts.proofs.GoneLemmas.{goes_next, gone_exit, next_within, no_common}
 use Rattle.ib_lane_routes.specs.declared.hop.LaneOutcome.TheVariants.{Discards}
 use Rattle.ib_lane_routes.specs.LaneRoutes.{LaneEndsAs, LaneWalksBy, begin_of, lane_hop}
 use Rattle.ib_lane_routes.proofs.HopLemmas.{exit_side}
@@ -37,10 +37,7 @@ has_low fabric switch port has =
 
 -- no level of a word is among those of another
 pub kept_word : (word used level : ℕ) → eqb (bit_and word used) 0 ≡ true → bit_at word level ≡ 1 → bit_at used level ≡ 1 → ⊥
-kept_word word used level none one other =
-    let zero = ap (λ (n : ℕ). bit_at n level) (eqb-true (bit_and word used) 0 none) ∙ bit_at-zero level in
-    let both = bit_at_and word used level in
-    absurd (omega arith)
+kept_word word used level none = no_common word used level (eqb-true (bit_and word used) 0 none)
 
 -- one port more
 pub kept_more : (fabric : FabricOf) (lanes : LanesOf) (used : ℕ) (at : Spot) (below : ℕ) → ((port : ℕ) → port < below → IsKeptBy fabric lanes used at port) → IsKeptBy fabric lanes used at below → (port : ℕ) → port < below + 1 → IsKeptBy fabric lanes used at port

@@ -8,3 +8,8 @@ mod MoreLemmas
 mod StepLemmas
 mod KeepLemmas
 mod AlikeLemmas
+mod LevelLemmas
+mod KeptLemmas
+mod ListLemmas
+mod SumLemmas
+mod ToldLemmas

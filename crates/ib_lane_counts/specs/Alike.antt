@@ -1,6 +1,10 @@
 -- Counts if all end ports send with the same levels, level by level. Only private functions cite this.
-use Rattle.std.specs.Prelude.{◌<◌, ℕ, Option, Some, None}
+use Rattle.std.specs.Prelude.{◌<◌, ◌+◌, ℕ, Option, Some, None}
+use Rattle.ib_counts.specs.declared.counts.Loss.{Loss}
+use Rattle.ib_counts.specs.declared.counts.Losses.{Losses}
 use Rattle.ib_counts.specs.declared.counts.LostRoute.{LostRoute}
+use Rattle.ib_lane_counts.specs.declared.counts.LaneLoss.{LaneLoss}
+use Rattle.ib_lane_counts.specs.declared.counts.LaneLosses.{LaneLosses}
 use Rattle.ib_lane_counts.specs.declared.counts.LostLaneRoute.{LostLaneRoute}
 use Rattle.ib_lane_counts.specs.LaneCounts.{IsLaneRouteOf, LaneRoute}
 use Rattle.ib_net.specs.Fabric.{FabricOf}
@@ -24,3 +28,17 @@ least_with level (Some told) least = Some told
 least_with level None None = None
 least_with level None (Some found) =
     Some (record { lid = found.lid; source = found.source; level = level; at = found.at })
+
+-- the losses of lesser levels with those of one lane, with a level: nothing is discarded there
+abbrev pub loss_with : ℕ → LaneLoss → Loss → LaneLoss
+loss_with level old loss =
+    record { count = old.count + loss.count; least = least_with level old.least loss.least }
+
+abbrev pub losses_with : ℕ → LaneLosses → Losses → LaneLosses
+losses_with level old lost = record {
+  missing = loss_with level old.missing lost.missing;
+  dead = loss_with level old.dead lost.dead;
+  wrong = loss_with level old.wrong lost.wrong;
+  discard = old.discard;
+  looping = loss_with level old.looping lost.looping;
+}

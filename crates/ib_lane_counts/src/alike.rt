@@ -3,7 +3,7 @@
 ghost use Rattle.std.specs.Prelude.{◌≡◌, ◌≢◌, ◌<◌, ◌≤◌, ◌+◌, ◌^◌, max};
 ghost use Rattle.ib_cells.specs.Cells.{TablesOf};
 ghost use Rattle.ib_counts.specs.Counts.{AreCounts, sum_of};
-ghost use Rattle.ib_lane_counts.specs.Alike.{IsBelow, alike, least_with};
+ghost use Rattle.ib_lane_counts.specs.Alike.{IsBelow, alike, least_with, loss_with, losses_with};
 ghost use Rattle.ib_lane_counts.specs.Keep.{IsKept};
 ghost use Rattle.ib_lane_counts.specs.LaneCounts.{AreCountsOf, AreLaneCounts, lane_sum_of};
 ghost use Rattle.ib_net.specs.Fabric.{FabricOf, IsFabric};
@@ -11,7 +11,7 @@ ghost use Rattle.ib_routes.specs.declared.traffic.Traffic.{Traffic};
 ghost use Rattle.ib_rows.specs.Lanes.{LanesOf};
 
 use crate::counts::{LaneCounts, LaneLoss, LaneLosses, LostLaneRoute};
-use ib_counts::counts::{Counts, Loss, LostRoute};
+use ib_counts::counts::{Counts, Loss, Losses, LostRoute};
 use ib_routes::word::has_bit;
 
 // The least lost route of lesser levels; if there is none, that of one lane, with a level.
@@ -40,14 +40,27 @@ impl LaneLoss {
     // With those of one lane, with a level.
     fn with(self, level: u8, loss: Loss) -> LaneLoss
         requires { self.count + loss.count < 2 ^ 64 }
-        ensures { result ≡ record {
-          count = self.count + loss.count;
-          least = least_with level self.least loss.least;
-        } }
+        ensures { result ≡ loss_with level self loss }
     {
         LaneLoss {
             count: self.count + loss.count,
             least: least_with(level, self.least, loss.least),
+        }
+    }
+}
+
+impl LaneLosses {
+    // With those of one lane, with a level.
+    fn with(self, level: u8, lost: &Losses) -> LaneLosses
+        requires { lane_sum_of self + sum_of lost.now < 2 ^ 64 }
+        ensures { result ≡ losses_with level self lost.now }
+    {
+        LaneLosses {
+            missing: self.missing.with(level, lost.missing),
+            dead: self.dead.with(level, lost.dead),
+            wrong: self.wrong.with(level, lost.wrong),
+            discard: self.discard,
+            looping: self.looping.with(level, lost.looping),
         }
     }
 }
@@ -62,25 +75,7 @@ impl LaneCounts {
           routes = self.routes + counts.now.routes;
           arrived = self.arrived + counts.now.arrived;
           hops = max self.hops counts.now.hops;
-          lost = record {
-            missing = record {
-              count = self.lost.missing.count + counts.now.lost.missing.count;
-              least = least_with level self.lost.missing.least counts.now.lost.missing.least;
-            };
-            dead = record {
-              count = self.lost.dead.count + counts.now.lost.dead.count;
-              least = least_with level self.lost.dead.least counts.now.lost.dead.least;
-            };
-            wrong = record {
-              count = self.lost.wrong.count + counts.now.lost.wrong.count;
-              least = least_with level self.lost.wrong.least counts.now.lost.wrong.least;
-            };
-            discard = self.lost.discard;
-            looping = record {
-              count = self.lost.looping.count + counts.now.lost.looping.count;
-              least = least_with level self.lost.looping.least counts.now.lost.looping.least;
-            };
-          };
+          lost = losses_with level self.lost counts.now.lost;
           silent = self.silent;
         } }
     {
@@ -88,13 +83,7 @@ impl LaneCounts {
             routes: self.routes + counts.routes,
             arrived: self.arrived + counts.arrived,
             hops: self.hops.max(counts.hops),
-            lost: LaneLosses {
-                missing: self.lost.missing.with(level, counts.lost.missing),
-                dead: self.lost.dead.with(level, counts.lost.dead),
-                wrong: self.lost.wrong.with(level, counts.lost.wrong),
-                discard: self.lost.discard,
-                looping: self.lost.looping.with(level, counts.lost.looping),
-            },
+            lost: self.lost.with(level, &counts.lost),
             silent: self.silent,
         }
     }

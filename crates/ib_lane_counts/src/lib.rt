@@ -9,9 +9,11 @@
 mod alike;
 pub mod count;
 pub mod counts;
+mod ends;
 mod gone;
 mod keep;
 mod lost;
 mod more;
 mod room;
 mod source;
+mod sums;

@@ -7,7 +7,7 @@ use Rattle.ib_routes.specs.declared.traffic.Traffic.{Traffic}
 use Rattle.ib_routes.specs.Routes.{Sends}
 use Rattle.ib_rows.specs.Lanes.{lanes_of}
 use Rattle.ib_rows.specs.PathLevels.{LevelsOf}
-use Rattle.ib_lane_counts.proofs.counts.LaneCounts.add_levels.Given as goal
+use Rattle.ib_lane_counts.proofs.counts.LaneCounts.add_each.Given as goal
 
 -- the counts with the levels so far
 abbrev pub invariant-levels : goal.invariant-levels
