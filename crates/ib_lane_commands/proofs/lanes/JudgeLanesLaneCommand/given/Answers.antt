@@ -3,7 +3,7 @@ use Rattle.ib_cells.specs.Cells.{tables_of}
 use Rattle.ib_rows.specs.Lanes.{lanes_of}
 use Rattle.ib_rows.specs.Levels.{levels_of}
 use Rattle.ib_lane_commands.specs.LaneJudged.{IsLaneEndOf}
-use Rattle.ib_lane_commands.proofs.answer.given_for.Goals as goal
+use Rattle.ib_lane_commands.proofs.lanes.JudgeLanesLaneCommand.given.Goals as goal
 
 pub returns : goal.returns
 returns c =
@@ -15,6 +15,6 @@ returns c =
     record {
       answer = c.in_ok-answer.answer;
       is_answer = c.in_ok-answer.ensures.answer;
-      ends = subst (λ (n : ℕ). IsLaneEndOf fabric tables lanes c.args.traffic levels n c.status_of.result) (sym c.in_ok-answer.ensures.lanes) (c.status_of.ensures fabric tables lanes c.args.traffic levels input.lanes.count c.in_ok-judged.ensures);
+      ends = subst (λ (n : ℕ). IsLaneEndOf fabric tables lanes c.args.self.now.traffic levels n c.status_of.result) (sym c.in_ok-answer.ensures.lanes) (c.status_of.ensures fabric tables lanes c.args.self.now.traffic levels input.lanes.count c.in_ok-judged.ensures);
       says = c.in_ok-print.ensures;
     }
