@@ -46,6 +46,8 @@ line_of Usage =
     ++ codes "       fabric verify TOPOLOGY TABLES RANKS [hosts|lids|all]\n"
     ++ codes "       fabric dot TOPOLOGY TABLES [hosts|lids|all]\n"
     ++ codes "       fabric route TOPOLOGY [hosts|lids|all]\n"
+    ++ codes "       fabric repair TOPOLOGY TABLES [hosts|lids|all]\n"
+    ++ codes "       fabric repaired TOPOLOGY TABLES [hosts|lids|all]\n"
     ++ codes "       fabric lanes TOPOLOGY TABLES SL2VL LEVELS|any|LEVEL [hosts|lids|all]\n"
     ++ codes "       fabric between TOPOLOGY OLD NEW\n"
 line_of (TopologyRefused line cause) = refusal_line (codes "topology") line (topology_cause cause)

@@ -169,6 +169,8 @@ const USAGE: &str = "usage: fabric judge TOPOLOGY TABLES [hosts|lids|all]
        fabric verify TOPOLOGY TABLES RANKS [hosts|lids|all]
        fabric dot TOPOLOGY TABLES [hosts|lids|all]
        fabric route TOPOLOGY [hosts|lids|all]
+       fabric repair TOPOLOGY TABLES [hosts|lids|all]
+       fabric repaired TOPOLOGY TABLES [hosts|lids|all]
        fabric lanes TOPOLOGY TABLES SL2VL LEVELS|any|LEVEL [hosts|lids|all]
        fabric between TOPOLOGY OLD NEW
 ";

@@ -3,7 +3,7 @@
 use Rattle.std.specs.Prelude.{◌≡◌, ℕ, List, Some, slice_get}
 use Rattle.outside.specs.Told.{Seen}
 use Rattle.ib_routes.specs.declared.traffic.Traffic.{Traffic}
-use Rattle.ib_answering.specs.Answer.{IsUsageAnswer, Streams}
+use Rattle.ib_answering.specs.Answer.{Gives, IsAnswer, IsUsageAnswer, Streams}
 use Rattle.ib_lane_lines.specs.declared.answer.LevelsAsked.{LevelsAsked}
 use Rattle.ib_lane_commands.specs.Asked.{IsAskedBy}
 use Rattle.ib_lane_commands.specs.Inputs.{lane_sources}
@@ -11,9 +11,10 @@ use Rattle.ib_lane_commands.specs.LaneCall.{IsLanesAnswer}
 use Rattle.ib_between.specs.Answer.{IsBetweenAnswer, sources}
 use Rattle.ib_judging.specs.declared.words.Call.{Call}
 use Rattle.ib_judging.specs.declared.words.Task.{Task}
-use Rattle.ib_judging.specs.declared.words.Task.TheVariants.{Answer, Route, Lanes, Between}
+use Rattle.ib_judging.specs.declared.words.Task.TheVariants.{Answer, Route, Repair, Repaired, Lanes, Between}
 use Rattle.ib_judging.specs.Questions.{IsAnswerToQuestion}
 use Rattle.ib_judging.specs.Words.{AreNoCall, IsCall}
+use Rattle.ib_repairing.specs.Given.{gives_repair, gives_repaired}
 use Rattle.ib_routing.specs.Routed.{IsRouteAnswer}
 
 -- the sources of a call's third and fourth file
@@ -47,11 +48,17 @@ pub record IsBetweenAnswerOf (has has' : More) (old new : Streams) (answer : ℕ
       IsBetweenAnswer (sources old.read.topology old.read.tables has.third)
       (sources new.read.topology new.read.tables has'.third) old.out new.out old.err new.err answer
 
+-- a command that reads a topology and tables leaves the other sources alone
+abbrev pub IsAnswerFor : Gives → (has has' : More) → (old new : Streams) → ℕ → Type 0
+IsAnswerFor gives has has' old new answer = (has' ≡ has) × IsAnswer gives old new answer
+
 -- the answer of a task
 abbrev pub IsAnswerOf : Task → List (List ℕ) → Traffic → (has has' : More) → (old new : Streams) → ℕ → Type 0
 IsAnswerOf (Answer question) words traffic has has' old new answer =
     (has'.fourth ≡ has.fourth) × IsAnswerToQuestion question traffic has.third has'.third old new answer
 IsAnswerOf Route words traffic has has' old new answer = IsRouteAnswerOf traffic has has' old new answer
+IsAnswerOf Repair words traffic has has' old new answer = IsAnswerFor (gives_repair traffic) has has' old new answer
+IsAnswerOf Repaired words traffic has has' old new answer = IsAnswerFor (gives_repaired traffic) has has' old new answer
 IsAnswerOf Lanes words traffic has has' old new answer = IsLanesAnswerOf words traffic has has' old new answer
 IsAnswerOf Between words traffic has has' old new answer = IsBetweenAnswerOf has has' old new answer
 

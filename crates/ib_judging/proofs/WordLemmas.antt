@@ -9,7 +9,7 @@ use Rattle.ib_routes.specs.declared.traffic.Traffic.{Traffic}
 use Rattle.ib_routes.specs.declared.traffic.Traffic.TheVariants.{Hosts, Lids, All}
 use Rattle.ib_commands.specs.Words.{traffic_word}
 use Rattle.ib_judging.specs.declared.words.Task.{Task}
-use Rattle.ib_judging.specs.declared.words.Task.TheVariants.{Answer, Route, Lanes, Between}
+use Rattle.ib_judging.specs.declared.words.Task.TheVariants.{Answer, Route, Repair, Repaired, Lanes, Between}
 use Rattle.ib_judging.specs.declared.words.Question.TheVariants.{Judge, Ranks, Verify, Dot}
 use Rattle.ib_judging.specs.declared.words.Call.{Call}
 use Rattle.ib_judging.specs.Words.{AreNoCall, IsCall, NameTraffic, NameTrafficFor, file_count, is_standard, task_word}
@@ -30,7 +30,7 @@ one_word one other same = sym (by_length one) ∙ ap (λ (w : List ℕ). traffic
 -- the words of tasks differ in the sum of two letters and of their length
 task_of_sum : ℕ → Task
 task_of_sum sum =
-    cond (eqb sum 211) (Answer Judge) (cond (eqb sum 229) (Answer Ranks) (cond (eqb sum 238) (Answer Verify) (cond (eqb sum 219) (Answer Dot) (cond (eqb sum 236) Route (cond (eqb sum 223) Lanes Between)))))
+    cond (eqb sum 211) (Answer Judge) (cond (eqb sum 229) (Answer Ranks) (cond (eqb sum 238) (Answer Verify) (cond (eqb sum 219) (Answer Dot) (cond (eqb sum 236) Route (cond (eqb sum 232) Repair (cond (eqb sum 234) Repaired (cond (eqb sum 223) Lanes Between)))))))
 
 sum_of : List ℕ → ℕ
 sum_of word = slice_index word 0 + slice_index word 2 + length word
@@ -42,6 +42,8 @@ by_sum (Answer Ranks) = refl
 by_sum (Answer Verify) = refl
 by_sum (Answer Dot) = refl
 by_sum Route = refl
+by_sum Repair = refl
+by_sum Repaired = refl
 by_sum Lanes = refl
 by_sum Between = refl
 
@@ -58,6 +60,8 @@ one_traffic words one other (inr named) (inr named') = one_word one other (let b
 traffic_for_one : (task : Task) (words : List (List ℕ)) (one other : Traffic) → NameTrafficFor task words one → NameTrafficFor task words other → one ≡ other
 traffic_for_one (Answer question) words one other is too = one_traffic words one other is too
 traffic_for_one Route words one other is too = one_traffic words one other is too
+traffic_for_one Repair words one other is too = one_traffic words one other is too
+traffic_for_one Repaired words one other is too = one_traffic words one other is too
 traffic_for_one Lanes words one other is too = one_traffic words one other is too
 traffic_for_one Between words one other is too = is.1 ∙ sym too.1
 

@@ -6,7 +6,7 @@ use Rattle.ib_routes.specs.declared.traffic.Traffic.{Traffic}
 use Rattle.ib_routes.specs.declared.traffic.Traffic.TheVariants.{Hosts}
 use Rattle.ib_commands.specs.Words.{traffic_word}
 use Rattle.ib_judging.specs.declared.words.Task.{Task}
-use Rattle.ib_judging.specs.declared.words.Task.TheVariants.{Answer, Route, Lanes, Between}
+use Rattle.ib_judging.specs.declared.words.Task.TheVariants.{Answer, Route, Repair, Repaired, Lanes, Between}
 use Rattle.ib_judging.specs.declared.words.Question.{Question}
 use Rattle.ib_judging.specs.declared.words.Question.TheVariants.{Judge, Ranks, Verify, Dot}
 use Rattle.ib_judging.specs.declared.words.Call.{Call}
@@ -21,6 +21,8 @@ question_word Dot = codes "dot"
 abbrev pub task_word : Task → List ℕ
 task_word (Answer question) = question_word question
 task_word Route = codes "route"
+task_word Repair = codes "repair"
+task_word Repaired = codes "repaired"
 task_word Lanes = codes "lanes"
 task_word Between = codes "between"
 
@@ -32,6 +34,8 @@ file_count (Answer Ranks) = 2
 file_count (Answer Verify) = 3
 file_count (Answer Dot) = 2
 file_count Route = 1
+file_count Repair = 2
+file_count Repaired = 2
 file_count Lanes = 4
 file_count Between = 3
 
@@ -50,6 +54,8 @@ NameTraffic words traffic = ((words ≡ []) × (traffic ≡ Hosts)) ⊎ (words �
 abbrev pub NameTrafficFor : Task → List (List ℕ) → Traffic → Type 0
 NameTrafficFor (Answer question) words traffic = NameTraffic words traffic
 NameTrafficFor Route words traffic = NameTraffic words traffic
+NameTrafficFor Repair words traffic = NameTraffic words traffic
+NameTrafficFor Repaired words traffic = NameTraffic words traffic
 NameTrafficFor Lanes words traffic = NameTraffic words traffic
 NameTrafficFor Between words traffic = (words ≡ []) × (traffic ≡ Hosts)
 

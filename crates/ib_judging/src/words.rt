@@ -28,6 +28,10 @@ pub enum Task {
     Answer(Question),
     /// To make tables.
     Route,
+    /// To tell which rows of tables are to be set.
+    Repair,
+    /// To write tables in which they are set.
+    Repaired,
     /// To judge tables with lanes and service levels.
     Lanes,
     /// To judge what may be while old tables are replaced by new ones.
@@ -115,6 +119,12 @@ fn task_named(word: &Word) -> Option<Task>
     if is(word, "route") {
         return Some(Task::Route);
     }
+    if is(word, "repair") {
+        return Some(Task::Repair);
+    }
+    if is(word, "repaired") {
+        return Some(Task::Repaired);
+    }
     if is(word, "lanes") {
         return Some(Task::Lanes);
     }
@@ -134,6 +144,8 @@ fn file_count(task: Task) -> usize
         Task::Answer(Question::Verify) => 3,
         Task::Answer(Question::Dot) => 2,
         Task::Route => 1,
+        Task::Repair => 2,
+        Task::Repaired => 2,
         Task::Lanes => 4,
         Task::Between => 3,
     }
@@ -152,7 +164,7 @@ fn may_be_files(files: &[Word]) -> bool
     standard <= 1
 }
 
-/// The call that words are: `judge`, `ranks` or `dot` with TOPOLOGY and TABLES, `verify` with
+/// The call that words are: `judge`, `ranks`, `dot`, `repair` or `repaired` with TOPOLOGY and TABLES, `verify` with
 /// TOPOLOGY, TABLES and RANKS, `route` with TOPOLOGY, or `lanes` with TOPOLOGY, TABLES, SL2VL and LEVELS, and then `hosts`,
 /// `lids` or `all`; or `between` with TOPOLOGY, OLD and NEW. At most one file is `-`. Without a word for it the traffic is
 /// `hosts`.
