@@ -45,6 +45,7 @@ line_of Usage =
     ++ codes "       fabric ranks TOPOLOGY TABLES [hosts|lids|all]\n"
     ++ codes "       fabric verify TOPOLOGY TABLES RANKS [hosts|lids|all]\n"
     ++ codes "       fabric dot TOPOLOGY TABLES [hosts|lids|all]\n"
+    ++ codes "       fabric dot TOPOLOGY TABLES SL2VL LEVELS|any|LEVEL [hosts|lids|all]\n"
     ++ codes "       fabric route TOPOLOGY [hosts|lids|all]\n"
     ++ codes "       fabric repair TOPOLOGY TABLES [hosts|lids|all]\n"
     ++ codes "       fabric repaired TOPOLOGY TABLES [hosts|lids|all]\n"

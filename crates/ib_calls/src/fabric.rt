@@ -13,6 +13,7 @@ use ib_judging::question::answer_question;
 use ib_judging::words::{Task, call_of};
 use ib_lane_commands::asked::asked_by;
 use ib_lane_commands::lanes::lanes;
+use ib_lane_commands::picture::draw_lanes;
 use ib_lane_lines::answer::LevelsAsked;
 use ib_repairing::commands::{Repair, RepairedTables};
 use ib_routing::route::route;
@@ -32,8 +33,8 @@ fn levels_asked(words: &[Word]) -> LevelsAsked
 }
 
 /// Answers a call. The words are `judge`, `ranks`, `dot`, `repair` or `repaired` with TOPOLOGY and TABLES, `verify` with
-/// TOPOLOGY, TABLES and RANKS, `route` with TOPOLOGY, or `lanes` with TOPOLOGY, TABLES, SL2VL and LEVELS, and then `hosts`,
-/// `lids`, `all` or nothing, or `between` with TOPOLOGY, OLD and NEW: the call reads the sources that they name to their
+/// TOPOLOGY, TABLES and RANKS, `route` with TOPOLOGY, or `lanes` or `dot` with TOPOLOGY, TABLES, SL2VL and LEVELS, and then
+/// `hosts`, `lids`, `all` or nothing, or `between` with TOPOLOGY, OLD and NEW: the call reads the sources that they name to their
 /// ends, in this order, but for ranks, which come first. It writes to out the verdict, the ranks, a picture, whether the
 /// ranks fall, tables, or the rows of them that are to be set. The answer is the number of how the call ended, and its line
 /// goes to err. For other words the sources and out are left alone. OLD is read from the source of tables; RANKS, SL2VL and
@@ -73,6 +74,12 @@ pub fn fabric<T: Source, S: Source, R: Source, L: Source, O: Sink, E: Sink>(
         Task::Lanes => {
             let asked = levels_asked(words);
             lanes(
+                alloc, topology, tables, third, fourth, asked, out, err, traffic,
+            )
+        }
+        Task::LanesDot => {
+            let asked = levels_asked(words);
+            draw_lanes(
                 alloc, topology, tables, third, fourth, asked, out, err, traffic,
             )
         }
