@@ -43,10 +43,11 @@ is_current() {
         $(crates "$1" | sed 's|.*|&/src &/specs &/proofs|') -newer "$out/$1" -print -quit 2> /dev/null)" ])
 }
 
-# How many crates are proved at a time: one for each processor, as far as memory holds 2.5 GB for each.
+# How many crates are begun at a time: three for two processors, since those that wait for others below them are counted
+# too, as far as memory holds 2.5 GB for each.
 lanes() {
     awk -v processors="$(nproc)" '/^MemAvailable:/ { room = int($2 / 2500000) }
-        END { print (room < 1 ? 1 : room < processors ? room : processors) }' /proc/meminfo
+        END { most = int(3 * processors / 2); print (room < 1 ? 1 : room < most ? room : most) }' /proc/meminfo
 }
 
 # How far the build of $1 crates is: rt begins what it tells of each with a line of its name.

@@ -6,8 +6,8 @@ use Rattle.outside.specs.Told.{Seen}
 use Rattle.calling.specs.Ended.{IsLineTold}
 use Rattle.ib_fabric.specs.Causes.{cause_text as topology_cause}
 use Rattle.ib_tables.specs.Causes.{cause_text as tables_cause}
-use Rattle.ib_lane_text.specs.Causes.{cause_text as lanes_cause}
-use Rattle.ib_ranks.specs.Causes.{cause_text as ranks_cause}
+use Rattle.ib_words.specs.LaneCauses.{cause_text as lanes_cause}
+use Rattle.ib_words.specs.RanksCauses.{cause_text as ranks_cause}
 use Rattle.ib_answering.specs.declared.status.Status.{Status}
 use Rattle.ib_answering.specs.declared.status.Status.TheVariants.{Ok, Usage, TopologyRefused, TopologyTooLong, TablesRefused, ReadFault, WriteFault, RoutesLost, Cycle, OutOfMemory}
 use Rattle.ib_answering.specs.declared.status.Status.TheVariants.{LanesRefused, LevelsRefused, RanksRefused, RanksTooLong, RanksRise}
@@ -45,7 +45,10 @@ line_of Usage =
     ++ codes "       fabric ranks TOPOLOGY TABLES [hosts|lids|all]\n"
     ++ codes "       fabric verify TOPOLOGY TABLES RANKS [hosts|lids|all]\n"
     ++ codes "       fabric dot TOPOLOGY TABLES [hosts|lids|all]\n"
+    ++ codes "       fabric dot TOPOLOGY TABLES SL2VL LEVELS|any|LEVEL [hosts|lids|all]\n"
     ++ codes "       fabric route TOPOLOGY [hosts|lids|all]\n"
+    ++ codes "       fabric repair TOPOLOGY TABLES [hosts|lids|all]\n"
+    ++ codes "       fabric repaired TOPOLOGY TABLES [hosts|lids|all]\n"
     ++ codes "       fabric lanes TOPOLOGY TABLES SL2VL LEVELS|any|LEVEL [hosts|lids|all]\n"
     ++ codes "       fabric between TOPOLOGY OLD NEW\n"
 line_of (TopologyRefused line cause) = refusal_line (codes "topology") line (topology_cause cause)

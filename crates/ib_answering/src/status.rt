@@ -9,10 +9,10 @@ ghost use Rattle.ib_answering.specs.Status.{IsToldOf, code_of, line_of, refusal_
 use an_base::memory::OutOfMemory;
 use calling::end::tell;
 use ib_fabric::cause::FabricCause;
-use ib_lane_text::cause::LaneCause;
-use ib_ranks::cause::RanksCause;
 use ib_tables::cause::TablesCause;
 use ib_tables::reader::TablesRefusal;
+use ib_words::lane_cause::LaneCause;
+use ib_words::ranks_cause::RanksCause;
 use itoa::Buffer;
 use outside::sink::Sink;
 use text_lines::stop::Refusal;
@@ -168,7 +168,10 @@ const USAGE: &str = "usage: fabric judge TOPOLOGY TABLES [hosts|lids|all]
        fabric ranks TOPOLOGY TABLES [hosts|lids|all]
        fabric verify TOPOLOGY TABLES RANKS [hosts|lids|all]
        fabric dot TOPOLOGY TABLES [hosts|lids|all]
+       fabric dot TOPOLOGY TABLES SL2VL LEVELS|any|LEVEL [hosts|lids|all]
        fabric route TOPOLOGY [hosts|lids|all]
+       fabric repair TOPOLOGY TABLES [hosts|lids|all]
+       fabric repaired TOPOLOGY TABLES [hosts|lids|all]
        fabric lanes TOPOLOGY TABLES SL2VL LEVELS|any|LEVEL [hosts|lids|all]
        fabric between TOPOLOGY OLD NEW
 ";

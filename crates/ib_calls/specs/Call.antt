@@ -3,17 +3,20 @@
 use Rattle.std.specs.Prelude.{◌≡◌, ℕ, List, Some, slice_get}
 use Rattle.outside.specs.Told.{Seen}
 use Rattle.ib_routes.specs.declared.traffic.Traffic.{Traffic}
-use Rattle.ib_answering.specs.Answer.{IsUsageAnswer, Streams}
+use Rattle.ib_answering.specs.Answer.{Gives, IsAnswer, IsUsageAnswer, Streams}
 use Rattle.ib_lane_lines.specs.declared.answer.LevelsAsked.{LevelsAsked}
 use Rattle.ib_lane_commands.specs.Asked.{IsAskedBy}
 use Rattle.ib_lane_commands.specs.Inputs.{lane_sources}
-use Rattle.ib_lane_commands.specs.LaneCall.{IsLanesAnswer}
+use Rattle.ib_lane_commands.specs.LaneCall.{IsLaneAnswer, LaneGives}
+use Rattle.ib_lane_commands.specs.LaneDrawn.{IsLaneDrawn}
+use Rattle.ib_lane_commands.specs.LaneJudged.{IsLaneJudged}
 use Rattle.ib_between.specs.Answer.{IsBetweenAnswer, sources}
 use Rattle.ib_judging.specs.declared.words.Call.{Call}
 use Rattle.ib_judging.specs.declared.words.Task.{Task}
-use Rattle.ib_judging.specs.declared.words.Task.TheVariants.{Answer, Route, Lanes, Between}
+use Rattle.ib_judging.specs.declared.words.Task.TheVariants.{Answer, Route, Repair, Repaired, Lanes, LanesDot, Between}
 use Rattle.ib_judging.specs.Questions.{IsAnswerToQuestion}
 use Rattle.ib_judging.specs.Words.{AreNoCall, IsCall}
+use Rattle.ib_repairing.specs.Given.{gives_repair, gives_repaired}
 use Rattle.ib_routing.specs.Routed.{IsRouteAnswer}
 
 -- the sources of a call's third and fourth file
@@ -31,13 +34,14 @@ pub record IsRouteAnswerOf (traffic : Traffic) (has has' : More) (old new : Stre
   pub answers :
       IsRouteAnswer traffic old.read.topology new.read.topology old.out new.out old.err new.err answer
 
--- `lanes` asks for the levels that its fourth file word names
-pub record IsLanesAnswerOf (words : List (List ℕ)) (traffic : Traffic) (has has' : More) (old new : Streams) (answer : ℕ)
+-- a command over lanes asks for the levels that its fourth file word names
+pub record IsLanesAnswerOf (gives : LevelsAsked → LaneGives) (words : List (List ℕ)) (has has' : More)
+    (old new : Streams) (answer : ℕ)
     : Type 0 where
   pub asked : LevelsAsked
   pub names : (word : List ℕ) → slice_get words 4 ≡ Some word → IsAskedBy word asked
   pub answers :
-      IsLanesAnswer traffic asked (lane_sources old.read.topology old.read.tables has.third has.fourth)
+      IsLaneAnswer (gives asked) asked (lane_sources old.read.topology old.read.tables has.third has.fourth)
       (lane_sources new.read.topology new.read.tables has'.third has'.fourth) old.out new.out old.err new.err answer
 
 -- `between` reads new tables from the source of the third file
@@ -47,12 +51,21 @@ pub record IsBetweenAnswerOf (has has' : More) (old new : Streams) (answer : ℕ
       IsBetweenAnswer (sources old.read.topology old.read.tables has.third)
       (sources new.read.topology new.read.tables has'.third) old.out new.out old.err new.err answer
 
+-- a command that reads a topology and tables leaves the other sources alone
+abbrev pub IsAnswerFor : Gives → (has has' : More) → (old new : Streams) → ℕ → Type 0
+IsAnswerFor gives has has' old new answer = (has' ≡ has) × IsAnswer gives old new answer
+
 -- the answer of a task
 abbrev pub IsAnswerOf : Task → List (List ℕ) → Traffic → (has has' : More) → (old new : Streams) → ℕ → Type 0
 IsAnswerOf (Answer question) words traffic has has' old new answer =
     (has'.fourth ≡ has.fourth) × IsAnswerToQuestion question traffic has.third has'.third old new answer
 IsAnswerOf Route words traffic has has' old new answer = IsRouteAnswerOf traffic has has' old new answer
-IsAnswerOf Lanes words traffic has has' old new answer = IsLanesAnswerOf words traffic has has' old new answer
+IsAnswerOf Repair words traffic has has' old new answer = IsAnswerFor (gives_repair traffic) has has' old new answer
+IsAnswerOf Repaired words traffic has has' old new answer = IsAnswerFor (gives_repaired traffic) has has' old new answer
+IsAnswerOf Lanes words traffic has has' old new answer =
+    IsLanesAnswerOf (IsLaneJudged traffic) words has has' old new answer
+IsAnswerOf LanesDot words traffic has has' old new answer =
+    IsLanesAnswerOf (IsLaneDrawn traffic) words has has' old new answer
 IsAnswerOf Between words traffic has has' old new answer = IsBetweenAnswerOf has has' old new answer
 
 -- the answer to words: that of the call that they are, and the usage lines if they are none

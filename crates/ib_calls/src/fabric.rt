@@ -6,13 +6,16 @@ ghost use Rattle.ib_calls.specs.Call.{IsAnswerTo, more};
 ghost use Rattle.ib_lane_commands.specs.Asked.{IsAskedBy, IsOneOfSixteen};
 
 use an_base::text::Word;
+use ib_answering::command::answer;
 use ib_answering::status::{Status, finish};
 use ib_between::between::between;
 use ib_judging::question::answer_question;
 use ib_judging::words::{Task, call_of};
 use ib_lane_commands::asked::asked_by;
 use ib_lane_commands::lanes::lanes;
+use ib_lane_commands::picture::draw_lanes;
 use ib_lane_lines::answer::LevelsAsked;
+use ib_repairing::commands::{Repair, RepairedTables};
 use ib_routing::route::route;
 use outside::sink::Sink;
 use outside::source::Source;
@@ -29,12 +32,13 @@ fn levels_asked(words: &[Word]) -> LevelsAsked
     }
 }
 
-/// Answers a call. The words are `judge`, `ranks` or `dot` with TOPOLOGY and TABLES, `verify` with TOPOLOGY, TABLES and
-/// RANKS, `route` with TOPOLOGY, or `lanes` with TOPOLOGY, TABLES, SL2VL and LEVELS, and then `hosts`, `lids`, `all` or
-/// nothing, or `between` with TOPOLOGY, OLD and NEW: the call reads the sources that they name to their ends, in this order,
-/// but for ranks, which come first. It writes to out the verdict, the ranks, a picture, whether the ranks fall, or tables.
-/// The answer is the number of how the call ended, and its line goes to err. For other words the sources and out are left
-/// alone. OLD is read from the source of tables; RANKS, SL2VL and NEW from the third, and LEVELS from the fourth.
+/// Answers a call. The words are `judge`, `ranks`, `dot`, `repair` or `repaired` with TOPOLOGY and TABLES, `verify` with
+/// TOPOLOGY, TABLES and RANKS, `route` with TOPOLOGY, or `lanes` or `dot` with TOPOLOGY, TABLES, SL2VL and LEVELS, and then
+/// `hosts`, `lids`, `all` or nothing, or `between` with TOPOLOGY, OLD and NEW: the call reads the sources that they name to their
+/// ends, in this order, but for ranks, which come first. It writes to out the verdict, the ranks, a picture, whether the
+/// ranks fall, tables, or the rows of them that are to be set. The answer is the number of how the call ended, and its line
+/// goes to err. For other words the sources and out are left alone. OLD is read from the source of tables; RANKS, SL2VL and
+/// NEW from the third, and LEVELS from the fourth.
 pub fn fabric<T: Source, S: Source, R: Source, L: Source, O: Sink, E: Sink>(
     alloc: Global,
     topology: &mut T,
@@ -58,9 +62,24 @@ pub fn fabric<T: Source, S: Source, R: Source, L: Source, O: Sink, E: Sink>(
             answer_question(alloc, topology, tables, third, out, err, question, traffic)
         }
         Task::Route => route(alloc, topology, out, err, traffic),
+        Task::Repair => answer(&Repair { traffic }, alloc, topology, tables, out, err),
+        Task::Repaired => answer(
+            &RepairedTables { traffic },
+            alloc,
+            topology,
+            tables,
+            out,
+            err,
+        ),
         Task::Lanes => {
             let asked = levels_asked(words);
             lanes(
+                alloc, topology, tables, third, fourth, asked, out, err, traffic,
+            )
+        }
+        Task::LanesDot => {
+            let asked = levels_asked(words);
+            draw_lanes(
                 alloc, topology, tables, third, fourth, asked, out, err, traffic,
             )
         }

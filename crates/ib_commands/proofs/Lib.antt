@@ -1,6 +1,6 @@
-mod EndLemmas
+pub mod EndLemmas
 mod NameLemmas
-mod RankLemmas
+pub mod RankLemmas
 mod TextLemmas
 mod ReadLemmas
 mod AcceptLemmas

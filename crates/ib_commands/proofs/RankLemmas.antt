@@ -1,5 +1,5 @@
 -- The ranks of the channels, by their places.
-use Rattle.std.proofs.Common.{◌≡◌, ◌∙◌, sym, ap, refl, ℕ, zero, suc, ◌+◌, ◌-◌, ◌*◌, ◌/◌, ◌%◌, ◌^◌, ◌<◌, ◌&&◌, Bool, true, cond, ltb, List, [], ◌∷◌, ◌++◌, Option, Some, None, map, get_or, arith, inl, inr}
+use Rattle.std.proofs.Common.{◌≡◌, ◌∙◌, sym, ap, refl, ℕ, ◌+◌, ◌-◌, ◌*◌, ◌/◌, ◌%◌, ◌^◌, ◌<◌, ◌&&◌, Bool, true, cond, ltb, List, [], ◌∷◌, ◌++◌, Option, Some, None, map, get_or, arith, inl, inr}
 use Rattle.std.specs.Prelude.{slice_get}
 use Rattle.std.specs.List.{flat_map, range_with_len}
 use Rattle.std.specs.Option.{option_to_list}
@@ -7,6 +7,7 @@ use Rattle.std.proofs.lemmas.Bool.{cases_lt}
 use Rattle.std.proofs.lemmas.Bool.Decides.{nat_tests}
 use Rattle.std.proofs.lemmas.List.{flat_map_more}
 use Rattle.std.proofs.lemmas.Nat.{mul-le}
+use Rattle.an_base.proofs.ListLemmas.{places_more}
 use Rattle.ib_net.specs.declared.node.Side.{Side}
 use Rattle.ib_net.specs.declared.node.Side.TheVariants.{Bare}
 use Rattle.ib_net.specs.declared.node.Spot.{Spot}
@@ -15,20 +16,9 @@ use Rattle.ib_routes.specs.Found.{channel_of, number}
 use Rattle.ib_verdict.specs.Verdict.{rank_in, rank_over, spot_at}
 use Rattle.ib_commands.specs.Certified.{rank_at, rank_of}
 
--- one number more
-range_more : (first count : ℕ) → range_with_len first (suc count) ≡ range_with_len first count ++ (first + count) ∷ []
-range_more first zero = let same : first ≡ first + 0 = omega arith in ap (λ (n : ℕ). n ∷ []) same
-range_more first (suc count) =
-    let same : first + 1 + count ≡ first + suc count = omega arith in
-    ap (λ (ns : List ℕ). first ∷ ns) (range_more (first + 1) count ∙ ap (λ (n : ℕ). range_with_len (first + 1) count ++ n ∷ []) same)
-
+-- what comes of one number more
 pub flat_range_more : {X : Type 0} (f : ℕ → List X) (count : ℕ) → flat_map f (range_with_len 0 (count + 1)) ≡ flat_map f (range_with_len 0 count) ++ f count
-flat_range_more f count =
-    let next : count + 1 ≡ suc count = omega arith in
-    let same : 0 + count ≡ count = omega arith in
-    ap (λ (n : ℕ). flat_map f (range_with_len 0 n)) next
-    ∙ ap (flat_map f) (range_more 0 count ∙ ap (λ (n : ℕ). range_with_len 0 count ++ n ∷ []) same)
-    ∙ sym (flat_map_more f [] (range_with_len 0 count) count)
+flat_range_more f count = ap (flat_map f) (places_more count) ∙ sym (flat_map_more f [] (range_with_len 0 count) count)
 
 module _ (fabric : FabricOf) (place : ℕ) where
   pub low_place : IsFabric fabric → place < switch_count fabric * fabric.most → place < 2 ^ 22

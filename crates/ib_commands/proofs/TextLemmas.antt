@@ -12,7 +12,7 @@ use Rattle.text_lines.proofs.SpellLemmas.{IsPrinted, IsWord, decimal_number, dec
 use Rattle.ib_words.specs.Cuts.{after}
 use Rattle.ib_words.specs.Digits.{hex, is_hex}
 use Rattle.ib_words.proofs.DigitLemmas.{hex_of_digits}
-use Rattle.ib_ranks.specs.declared.cause.RanksCause.TheVariants.{BadGuid, BadPort, BadRank}
+use Rattle.ib_words.specs.declared.ranks_cause.RanksCause.TheVariants.{BadGuid, BadPort, BadRank}
 use Rattle.ib_ranks.specs.declared.line.RankLine.TheVariants.{Head, Rank as RankSaid}
 use Rattle.ib_ranks.specs.RankLines.{guid_in, number_to, or_cause, said_in}
 use Rattle.ib_ranks.proofs.RankLemmas.{said_words}

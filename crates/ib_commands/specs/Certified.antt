@@ -16,7 +16,7 @@ use Rattle.ib_verdict.specs.declared.verify.Rise.{Rise}
 use Rattle.ib_verdict.specs.declared.verify.Verified.{Verified}
 use Rattle.ib_verdict.specs.Verdict.{AllArrive, HasRanks, rank_in, spot_at}
 use Rattle.ib_verdict.specs.Verified.{Fall, IsVerified}
-use Rattle.ib_ranks.specs.declared.cause.RanksCause.{RanksCause}
+use Rattle.ib_words.specs.declared.ranks_cause.RanksCause.{RanksCause}
 use Rattle.ib_ranks.specs.Ranks.{IsRanksFault, IsRanksText}
 use Rattle.ib_lines.specs.declared.ranks.Rank.{Rank}
 use Rattle.ib_lines.specs.declared.ranks.Risen.{Risen}

@@ -6,7 +6,7 @@ use Rattle.indexmap.specs.IndexSet.{insert_all}
 use Rattle.ib_lines.specs.declared.answer.Lost.{Lost}
 use Rattle.ib_lines.specs.declared.answer.Name.{Name}
 use Rattle.ib_lines.specs.declared.answer.Step.{Step}
-use Rattle.ib_topology.specs.Names.{name_of}
+use Rattle.ib_names.specs.Names.{name_of}
 
 -- the GUIDs in steps of a cycle and in lost routes, as they stand there
 abbrev pub guids_of : List Step → List Lost → List ℕ

@@ -1,6 +1,7 @@
 //! The command `dot`: the credit loop as a picture.
 
 ghost use Rattle.std.specs.Prelude.{◌≡◌, ◌++◌, IfOk, OnOk};
+ghost use Rattle.std.specs.Option.{option_to_list};
 ghost use Rattle.ib_net.specs.Fabric.{side_of};
 ghost use Rattle.ib_commands.specs.Given.{gives_drawn};
 ghost use Rattle.ib_commands.specs.Drawn.{IsPictureOf, arrow_at, arrows_of, switches_of};
@@ -86,16 +87,24 @@ fn arrows_of(
 fn push_arrow(arrows: &mut Vec<Arrow>, fabric: &Fabric, one: LoopChannel) -> Result<(), OutOfMemory>
     ensures { OnOk result (arrows.new.items ≡ arrows.old.items ++ arrow_at fabric.now one) }
 {
+    let Some(arrow) = arrow_for(fabric, one) else {
+        return Ok(());
+    };
+    arrows.push(arrow)?;
+    Ok(())
+}
+
+/// A channel as an arrow, or None if it leads to no switch.
+pub fn arrow_for(fabric: &Fabric, one: LoopChannel) -> Option<Arrow>
+    ensures { option_to_list result ≡ arrow_at fabric.now one }
+{
     match side_of(fabric, one.channel) {
-        Side::To(next, entry) => {
-            arrows.push(Arrow {
-                step: step_of(fabric, one),
-                to: fabric.guid(EndPort::Switch(next)),
-                entry,
-            })?;
-            Ok(())
-        }
-        Side::Bare | Side::End(_) => Ok(()),
+        Side::To(next, entry) => Some(Arrow {
+            step: step_of(fabric, one),
+            to: fabric.guid(EndPort::Switch(next)),
+            entry,
+        }),
+        Side::Bare | Side::End(_) => None,
     }
 }
 

@@ -13,6 +13,6 @@ pub mod law;
 mod losses;
 pub mod names;
 mod ranks;
-mod steps;
+pub mod steps;
 pub mod verify;
 pub mod words;

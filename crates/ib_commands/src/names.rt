@@ -7,7 +7,7 @@ ghost use Rattle.ib_commands.specs.Names.{mentioned, named, names_for};
 use an_base::memory::OutOfMemory;
 use an_base::text::Word;
 use ib_lines::answer::{Lost, Name, Step};
-use ib_topology::names::names_of;
+use ib_names::names::names_of;
 use indexmap::IndexSet;
 use std::alloc::Global;
 

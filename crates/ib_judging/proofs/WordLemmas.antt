@@ -1,7 +1,7 @@
 -- Words are those of one call at most.
-use Rattle.std.proofs.Common.{◌≡◌, ◌∙◌, sym, ap, subst, refl, ℕ, suc, ◌+◌, ◌<◌, ◌↔◌, List, [], ◌∷◌, ◌++◌, Bool, true, false, cond, eqb, length, get_or, take, drop, ◌-◌, inl, inr}
+use Rattle.std.proofs.Common.{◌≡◌, ◌∙◌, sym, ap, subst, refl, ℕ, suc, ◌+◌, ◌<◌, ◌≤◌, ◌↔◌, List, [], ◌∷◌, ◌++◌, Bool, true, false, cond, eqb, ltb, length, length-append, get_or, take, drop, ◌-◌, inl, inr, arith}
 use Rattle.std.specs.Prelude.{IsTrue, codes, slice_index}
-use Rattle.std.proofs.lemmas.Bool.{false_from_ne_true}
+use Rattle.std.proofs.lemmas.Bool.{false_from_ne_true, le-ltb, lt-ltb}
 use Rattle.std.proofs.lemmas.List.{drop_at}
 use Rattle.std.proofs.lemmas.Slice.{first_rest}
 use Rattle.std.proofs.lemmas.Slice.Eq.{bytes_eq-Decides}
@@ -9,10 +9,10 @@ use Rattle.ib_routes.specs.declared.traffic.Traffic.{Traffic}
 use Rattle.ib_routes.specs.declared.traffic.Traffic.TheVariants.{Hosts, Lids, All}
 use Rattle.ib_commands.specs.Words.{traffic_word}
 use Rattle.ib_judging.specs.declared.words.Task.{Task}
-use Rattle.ib_judging.specs.declared.words.Task.TheVariants.{Answer, Route, Lanes, Between}
+use Rattle.ib_judging.specs.declared.words.Task.TheVariants.{Answer, Route, Repair, Repaired, Lanes, LanesDot, Between}
 use Rattle.ib_judging.specs.declared.words.Question.TheVariants.{Judge, Ranks, Verify, Dot}
 use Rattle.ib_judging.specs.declared.words.Call.{Call}
-use Rattle.ib_judging.specs.Words.{AreNoCall, IsCall, NameTraffic, NameTrafficFor, file_count, is_standard, task_word}
+use Rattle.ib_judging.specs.Words.{AreNoCall, FitsCount, IsCall, NameTraffic, NameTrafficFor, file_count, is_standard, task_word}
 
 -- no two words of traffics are equally long
 traffic_of_length : ℕ → Traffic
@@ -27,26 +27,29 @@ by_length All = refl
 one_word : (one other : Traffic) → traffic_word one ≡ traffic_word other → one ≡ other
 one_word one other same = sym (by_length one) ∙ ap (λ (w : List ℕ). traffic_of_length (length w)) same ∙ by_length other
 
--- the words of tasks differ in the sum of two letters and of their length
-task_of_sum : ℕ → Task
-task_of_sum sum =
-    cond (eqb sum 211) (Answer Judge) (cond (eqb sum 229) (Answer Ranks) (cond (eqb sum 238) (Answer Verify) (cond (eqb sum 219) (Answer Dot) (cond (eqb sum 236) Route (cond (eqb sum 223) Lanes Between)))))
+-- the words of tasks differ in the sum of two letters and of their length, and those with one word in how many follow
+task_of_sum : (count sum : ℕ) → Task
+task_of_sum count sum =
+    cond (eqb sum 211) (Answer Judge) (cond (eqb sum 229) (Answer Ranks) (cond (eqb sum 238) (Answer Verify) (cond (eqb sum 219) (cond (ltb count 4) (Answer Dot) LanesDot) (cond (eqb sum 236) Route (cond (eqb sum 232) Repair (cond (eqb sum 234) Repaired (cond (eqb sum 223) Lanes Between)))))))
 
 sum_of : List ℕ → ℕ
 sum_of word = slice_index word 0 + slice_index word 2 + length word
 
-by_sum : (task : Task) → task_of_sum (sum_of (task_word task)) ≡ task
+by_sum : (task : Task) (count : ℕ) → FitsCount task count → task_of_sum count (sum_of (task_word task)) ≡ task
 unfolding task_of_sum sum_of
-by_sum (Answer Judge) = refl
-by_sum (Answer Ranks) = refl
-by_sum (Answer Verify) = refl
-by_sum (Answer Dot) = refl
-by_sum Route = refl
-by_sum Lanes = refl
-by_sum Between = refl
+by_sum (Answer Judge) count fits = refl
+by_sum (Answer Ranks) count fits = refl
+by_sum (Answer Verify) count fits = refl
+by_sum (Answer Dot) count fits = ap (λ (few : Bool). cond few (Answer Dot) LanesDot) (lt-ltb count 4 fits)
+by_sum Route count fits = refl
+by_sum Repair count fits = refl
+by_sum Repaired count fits = refl
+by_sum Lanes count fits = refl
+by_sum LanesDot count fits = ap (λ (few : Bool). cond few (Answer Dot) LanesDot) (le-ltb count 4 fits)
+by_sum Between count fits = refl
 
-one_task : (one other : Task) → task_word one ≡ task_word other → one ≡ other
-one_task one other same = sym (by_sum one) ∙ ap (λ (w : List ℕ). task_of_sum (sum_of w)) same ∙ by_sum other
+one_task : (one other : Task) (count : ℕ) → FitsCount one count → FitsCount other count → task_word one ≡ task_word other → one ≡ other
+one_task one other count fits too same = sym (by_sum one count fits) ∙ ap (λ (w : List ℕ). task_of_sum count (sum_of w)) same ∙ by_sum other count too
 
 one_traffic : (words : List (List ℕ)) (one other : Traffic) → NameTraffic words one → NameTraffic words other → one ≡ other
 one_traffic words one other (inl (none, hosts)) (inl (none', hosts')) = hosts ∙ sym hosts'
@@ -58,8 +61,26 @@ one_traffic words one other (inr named) (inr named') = one_word one other (let b
 traffic_for_one : (task : Task) (words : List (List ℕ)) (one other : Traffic) → NameTrafficFor task words one → NameTrafficFor task words other → one ≡ other
 traffic_for_one (Answer question) words one other is too = one_traffic words one other is too
 traffic_for_one Route words one other is too = one_traffic words one other is too
+traffic_for_one Repair words one other is too = one_traffic words one other is too
+traffic_for_one Repaired words one other is too = one_traffic words one other is too
 traffic_for_one Lanes words one other is too = one_traffic words one other is too
+traffic_for_one LanesDot words one other is too = one_traffic words one other is too
 traffic_for_one Between words one other is too = is.1 ∙ sym too.1
+
+-- how many words follow that of a task
+few_named : (words : List (List ℕ)) (traffic : Traffic) → NameTraffic words traffic → length words ≤ 1
+few_named words traffic (inl (none, hosts)) = let no : length words ≡ 0 = ap (λ (ws : List (List ℕ)). length ws) none in omega (arith, no)
+few_named words traffic (inr named) = let one : length words ≡ 1 = ap (λ (ws : List (List ℕ)). length ws) named in omega (arith, one)
+
+fits : (task : Task) (files last : List (List ℕ)) (traffic : Traffic) → length files ≡ file_count task → NameTrafficFor task last traffic → FitsCount task (length (files ++ last))
+fits (Answer Dot) files last traffic count names = omega (arith, count, length-append files last, few_named last traffic names)
+fits LanesDot files last traffic count names = omega (arith, count, length-append files last)
+fits task files last traffic count names = tt
+
+call_fits : (first : List ℕ) (rest : List (List ℕ)) (call : Call) → IsCall (first ∷ rest) call → FitsCount call.task (length rest)
+call_fits first rest call is =
+    let are : rest ≡ is.files ++ is.last = let same = is.are in cc in
+    subst (λ (ws : List (List ℕ)). FitsCount call.task (length ws)) (sym are) (fits call.task is.files is.last call.traffic is.count is.names)
 
 -- what `between` says of no words
 pub between_names : (words : List (List ℕ)) → length words ≡ 0 → NameTrafficFor Between words Hosts
@@ -72,8 +93,11 @@ same_call one other task traffic = ap (λ (t : Task). let c : Call = record { ta
 pub one_call : (words : List (List ℕ)) (one other : Call) → IsCall words one → IsCall words other → one ≡ other
 one_call words one other is too =
     let both : task_word one.task ∷ (is.files ++ is.last) ≡ task_word other.task ∷ (too.files ++ too.last) = sym is.are ∙ too.are in
-    let task : one.task ≡ other.task = one_task one.task other.task (cc) in
     let rest : is.files ++ is.last ≡ too.files ++ too.last = cc in
+    let count = length (too.files ++ too.last) in
+    let fits_one : FitsCount one.task count = subst (λ (ws : List (List ℕ)). FitsCount one.task (length ws)) rest (fits one.task is.files is.last one.traffic is.count is.names) in
+    let fits_other : FitsCount other.task count = fits other.task too.files too.last other.traffic too.count too.names in
+    let task : one.task ≡ other.task = one_task one.task other.task count fits_one fits_other (cc) in
     let count : length too.files ≡ file_count one.task = too.count ∙ ap file_count (sym task) in
     let last : is.last ≡ too.last = sym (drop_at is.files is.last (file_count one.task) is.count) ∙ ap (drop (file_count one.task)) rest ∙ drop_at too.files too.last (file_count one.task) count in
     same_call one other task (traffic_for_one other.task too.last one.traffic other.traffic (subst (λ (t : Task). NameTrafficFor t too.last one.traffic) task (subst (λ (ws : List (List ℕ)). NameTrafficFor one.task ws one.traffic) last is.names)) too.names)
@@ -89,9 +113,9 @@ cut_first words first some is = first_rest words first some ∙ ap (λ (w : List
 
 module _ (first : List ℕ) (rest : List (List ℕ)) where
   -- after the word of a task
-  module _ (task : Task) (is_task : first ≡ task_word task) where
+  module _ (task : Task) (is_task : first ≡ task_word task) (fits_count : FitsCount task (length rest)) where
     same_task : (call : Call) → IsCall (first ∷ rest) call → call.task ≡ task
-    same_task call is = one_task call.task task (let are = is.are in cc)
+    same_task call is = one_task call.task task (length rest) (call_fits first rest call is) fits_count (let are = is.are in cc)
 
     parts : (call : Call) (is : IsCall (first ∷ rest) call) → rest ≡ is.files ++ is.last
     parts call is = let are = is.are in cc

@@ -3,7 +3,7 @@
 ghost use Rattle.std.specs.Prelude.{◌≡◌, ◌≢◌, ◌↔◌, MatchOption, IsTrue, codes};
 ghost use Rattle.ib_routes.specs.declared.traffic.Traffic.{Traffic};
 ghost use Rattle.ib_commands.specs.Words.{traffic_word};
-ghost use Rattle.ib_judging.specs.Words.{AreNoCall, IsCall, MayBeFiles, NameTraffic, NameTrafficFor, file_count, task_word};
+ghost use Rattle.ib_judging.specs.Words.{AreNoCall, FitsCount, IsCall, MayBeFiles, NameTraffic, NameTrafficFor, file_count, task_word};
 
 use an_base::text::Word;
 use ib_routes::traffic::Traffic;
@@ -28,8 +28,14 @@ pub enum Task {
     Answer(Question),
     /// To make tables.
     Route,
+    /// To tell which rows of tables are to be set.
+    Repair,
+    /// To write tables in which they are set.
+    Repaired,
     /// To judge tables with lanes and service levels.
     Lanes,
+    /// To draw the credit loop of such tables.
+    LanesDot,
     /// To judge what may be while old tables are replaced by new ones.
     Between,
 }
@@ -96,9 +102,22 @@ fn traffic_for(task: Task, words: &[Word]) -> Option<Traffic>
     }
 }
 
-// The task that a word names.
-fn task_named(word: &Word) -> Option<Task>
-    ensures { MatchOption result ((task : Task) → word.now ≢ task_word task) (λ task. word.now ≡ task_word task) }
+// The task of `dot` with so many words after it: with four files the tables have lanes.
+fn task_of_dot(count: usize) -> Task
+    ensures word { task_word result ≡ codes "dot" }
+    ensures fits { FitsCount result count }
+{
+    if count < file_count(Task::LanesDot) {
+        Task::Answer(Question::Dot)
+    } else {
+        Task::LanesDot
+    }
+}
+
+// The task that a word names with so many words after it.
+fn task_named(word: &Word, count: usize) -> Option<Task>
+    ensures { MatchOption result ((task : Task) → word.now ≢ task_word task)
+        (λ task. (word.now ≡ task_word task) × FitsCount task count) }
 {
     if is(word, "judge") {
         return Some(Task::Answer(Question::Judge));
@@ -110,10 +129,16 @@ fn task_named(word: &Word) -> Option<Task>
         return Some(Task::Answer(Question::Verify));
     }
     if is(word, "dot") {
-        return Some(Task::Answer(Question::Dot));
+        return Some(task_of_dot(count));
     }
     if is(word, "route") {
         return Some(Task::Route);
+    }
+    if is(word, "repair") {
+        return Some(Task::Repair);
+    }
+    if is(word, "repaired") {
+        return Some(Task::Repaired);
     }
     if is(word, "lanes") {
         return Some(Task::Lanes);
@@ -134,7 +159,10 @@ fn file_count(task: Task) -> usize
         Task::Answer(Question::Verify) => 3,
         Task::Answer(Question::Dot) => 2,
         Task::Route => 1,
+        Task::Repair => 2,
+        Task::Repaired => 2,
         Task::Lanes => 4,
+        Task::LanesDot => 4,
         Task::Between => 3,
     }
 }
@@ -152,17 +180,17 @@ fn may_be_files(files: &[Word]) -> bool
     standard <= 1
 }
 
-/// The call that words are: `judge`, `ranks` or `dot` with TOPOLOGY and TABLES, `verify` with
-/// TOPOLOGY, TABLES and RANKS, `route` with TOPOLOGY, or `lanes` with TOPOLOGY, TABLES, SL2VL and LEVELS, and then `hosts`,
-/// `lids` or `all`; or `between` with TOPOLOGY, OLD and NEW. At most one file is `-`. Without a word for it the traffic is
-/// `hosts`.
+/// The call that words are: `judge`, `ranks`, `dot`, `repair` or `repaired` with TOPOLOGY and TABLES, `verify` with
+/// TOPOLOGY, TABLES and RANKS, `route` with TOPOLOGY, or `lanes` or `dot` with TOPOLOGY, TABLES, SL2VL and LEVELS, and then
+/// `hosts`, `lids` or `all`; or `between` with TOPOLOGY, OLD and NEW. At most one file is `-`. Without a word for it the
+/// traffic is `hosts`.
 pub fn call_of(words: &[Word]) -> Option<Call>
     ensures { MatchOption result (AreNoCall words.now) (IsCall words.now) }
 {
     let [first, rest @ ..] = words else {
         return None;
     };
-    let task = task_named(first)?;
+    let task = task_named(first, rest.len())?;
     let count = file_count(task);
     if rest.len() < count {
         return None;

@@ -13,6 +13,7 @@ use Rattle.ib_rows.specs.Lanes.{IsLaneCount, LanesOf, lanes_of}
 use Rattle.ib_rows.specs.PathLevels.{LevelsOf}
 use Rattle.ib_lane_routes.specs.LaneFound.{SomeIsLaneStopped}
 use Rattle.ib_lane_routes.specs.LaneRoutes.{LaneChannel, LaneDependsOn}
+use Rattle.ib_verdict.specs.declared.verdict.LoopChannel.{LoopChannel}
 use Rattle.ib_lane_verdict.specs.declared.verdict.LaneLoopChannel.{LaneLoopChannel}
 use Rattle.ib_lane_verdict.specs.LaneJudgements.{IsLaneChannelCount, IsLaneDependencyCount}
 use Rattle.ib_lane_verdict.specs.LaneVerdict.{LaneCycleIs, LaneHasRanks, LanePasses}
@@ -32,7 +33,7 @@ use Rattle.ib_lane_lines.specs.LaneAnswers.{lane_answer_text}
 use Rattle.ib_lines.specs.declared.answer.Routes.{Routes}
 use Rattle.ib_answering.specs.declared.status.Status.{Status}
 use Rattle.ib_answering.specs.declared.status.Status.TheVariants.{Ok, RoutesLost, Cycle}
-use Rattle.ib_commands.specs.Judged.{IsRead}
+use Rattle.ib_commands.specs.Judged.{IsRead, step_of}
 use Rattle.ib_commands.specs.Names.{names_for}
 use Rattle.ib_commands.specs.Words.{traffic_word}
 use Rattle.ib_lane_commands.specs.Inputs.{Told}
@@ -55,19 +56,18 @@ module _ (fabric : FabricOf) (tables : TablesOf) (lanes : LanesOf) (traffic : Tr
   IsLaneLoop [] = HasNoCycle (LaneDependsOn fabric tables lanes traffic levels)
   IsLaneLoop (one ∷ rest) = LaneCycleIs fabric tables lanes traffic levels (one ∷ rest)
 
+-- the link of a channel, and the route without its service level
+abbrev pub without_lane : LaneLoopChannel → LoopChannel
+without_lane one =
+    record {
+      channel = record { switch = one.channel.switch; port = one.channel.port };
+      witness = record { lid = one.witness.lid; source = one.witness.source };
+    }
+
 -- a channel of a credit loop, with the route that takes it and the next one
 abbrev pub lane_step_of : FabricOf → LaneLoopChannel → LaneStep
 lane_step_of fabric one =
-    record {
-      step = record {
-        guid = guid_of fabric (Switch one.channel.switch);
-        port = one.channel.port;
-        lid = one.witness.lid;
-        source = guid_of fabric one.witness.source;
-      };
-      lane = one.channel.lane;
-      level = one.witness.level;
-    }
+    record { step = step_of fabric (without_lane one); lane = one.channel.lane; level = one.witness.level }
 
 -- the GUIDs in steps of a cycle and in lost routes, each once, at its first place
 abbrev pub lane_mentioned : List LaneStep → List LaneLost → List ℕ

@@ -1,66 +1,31 @@
 //! The answer for a fabric, its tables, its lanes and its levels.
 
-ghost use Rattle.std.specs.Prelude.{◌≡◌, ℕ, IfOk};
-ghost use Rattle.ib_cells.specs.Cells.{TablesOf, tables_of};
-ghost use Rattle.ib_net.specs.Fabric.{FabricOf};
-ghost use Rattle.ib_routes.specs.declared.traffic.Traffic.{Traffic};
-ghost use Rattle.ib_rows.specs.Lanes.{LanesOf, lanes_of};
+ghost use Rattle.std.specs.Prelude.{◌≡◌, IfOk};
+ghost use Rattle.ib_cells.specs.Cells.{tables_of};
+ghost use Rattle.ib_rows.specs.Lanes.{lanes_of};
 ghost use Rattle.ib_rows.specs.Levels.{levels_of};
-ghost use Rattle.ib_rows.specs.PathLevels.{LevelsOf};
 ghost use Rattle.ib_lane_counts.specs.LaneCounts.{AreLaneCounts};
 ghost use Rattle.ib_lane_verdict.specs.LaneJudgements.{IsLaneJudgement};
 ghost use Rattle.ib_lane_commands.specs.Inputs.{HasPlaces, told_in};
-ghost use Rattle.ib_lane_commands.specs.LaneJudged.{IsLaneAnswerFor, IsLaneEndOf, IsLaneJudged, IsLaneLoop, lane_routes_of};
+ghost use Rattle.ib_lane_commands.specs.LaneJudged.{IsLaneAnswerFor, lane_routes_of};
 
 use crate::input::Input;
+use crate::judged::cycle_of;
 use crate::losses::{losses_of, lost_of};
 use crate::names::names_in;
 use crate::steps::steps_of;
 use an_base::memory::OutOfMemory;
 use an_base::text::Word;
-use ib_answering::command::Given;
-use ib_answering::status::Status;
 use ib_commands::answer::read_of;
 use ib_commands::words::word_of;
 use ib_lane_counts::count::count_lane_routes;
 use ib_lane_counts::counts::LaneCounts;
 use ib_lane_lines::answer::{LaneAnswer, LevelsAsked};
-use ib_lane_lines::printer::print;
-use ib_lane_verdict::judge::{LaneJudgement, judge};
-use ib_lane_verdict::verdict::{LaneLoopChannel, LaneVerdict};
+use ib_lane_verdict::judge::LaneJudgement;
 use ib_lines::answer::Routes;
 use ib_routes::traffic::Traffic;
 use ib_verdict::links::count_links;
 use std::alloc::Global;
-
-/// How a call ends whose answer was written.
-pub fn status_of(judged: &LaneJudgement) -> Status
-    ensures { (fabric : FabricOf) (tables : TablesOf) (lanes : LanesOf) (traffic : Traffic) (levels : LevelsOf)
-        (count : ℕ) → IsLaneJudgement fabric tables lanes traffic levels count judged.now
-        → IsLaneEndOf fabric tables lanes traffic levels count result }
-{
-    match &judged.verdict {
-        LaneVerdict::Cycle { channels: _ } => Status::Cycle,
-        LaneVerdict::Ranks { ranks: _ } => {
-            if judged.stops {
-                return Status::RoutesLost;
-            }
-            Status::Ok
-        }
-    }
-}
-
-/// The channels of the credit loop, none if there is no loop.
-pub fn cycle_of(judged: &LaneJudgement) -> &[LaneLoopChannel]
-    ensures { (fabric : FabricOf) (tables : TablesOf) (lanes : LanesOf) (traffic : Traffic) (levels : LevelsOf)
-        (count : ℕ) → IsLaneJudgement fabric tables lanes traffic levels count judged.now
-        → IsLaneLoop fabric tables lanes traffic levels result.now }
-{
-    match &judged.verdict {
-        LaneVerdict::Ranks { ranks: _ } => &[],
-        LaneVerdict::Cycle { channels } => channels,
-    }
-}
 
 /// The answer for what was read, which was judged.
 pub fn answer_for(
@@ -122,30 +87,4 @@ fn routes_of(counts: LaneCounts) -> Routes
         arrived: counts.arrived,
         hops: u64::from(counts.hops),
     }
-}
-
-/// What `lanes` gives for what was read: the text of the answer, and the status with which the call ends once it is
-/// written.
-pub fn given_for(
-    alloc: Global,
-    input: &Input,
-    traffic: Traffic,
-    asked: LevelsAsked,
-) -> Result<Given, OutOfMemory>
-    requires { HasPlaces input.now }
-    ensures { IfOk result (λ given. IsLaneJudged traffic asked (told_in input.now) given.status given.text.items) }
-{
-    let judged = judge(
-        alloc,
-        &input.topology.fabric,
-        &input.tables.cells,
-        &input.lanes,
-        &input.levels,
-        traffic,
-    )?;
-    let answer = answer_for(alloc, input, traffic, asked, &judged)?;
-    Ok(Given {
-        status: status_of(&judged),
-        text: print(alloc, &answer)?,
-    })
 }

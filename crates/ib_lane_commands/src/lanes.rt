@@ -1,70 +1,44 @@
-//! The call of `lanes`.
+//! The command `lanes`: the verdict on the routes of a traffic, on lanes.
 
-ghost use Rattle.std.specs.Prelude.{◌≡◌, IfErr, IfOk};
 ghost use Rattle.ib_lane_commands.specs.Asked.{IsOneOfSixteen};
-ghost use Rattle.ib_lane_commands.specs.Inputs.{IsStop, lane_sources};
-ghost use Rattle.ib_lane_commands.specs.LaneCall.{IsGiven, IsLaneCause, IsLanesAnswer};
+ghost use Rattle.ib_lane_commands.specs.Inputs.{lane_sources};
+ghost use Rattle.ib_lane_commands.specs.LaneCall.{IsLanesAnswer};
+ghost use Rattle.ib_lane_commands.specs.LaneJudged.{IsLaneJudged};
 
-use crate::answer::given_for;
-use crate::input::read_inputs;
+use crate::answer::answer_for;
+use crate::command::{LaneCommand, answer};
+use crate::input::Input;
+use crate::judged::{judged_for, status_of};
+use an_base::memory::OutOfMemory;
 use ib_answering::command::Given;
-use ib_answering::status::{Status, finish};
 use ib_lane_lines::answer::LevelsAsked;
+use ib_lane_lines::printer::print;
 use ib_routes::traffic::Traffic;
-use outside::all::write_all;
 use outside::sink::Sink;
 use outside::source::Source;
 use std::alloc::Global;
 
-// What is given for what the sources give, or why there is nothing.
-fn found<T: Source, S: Source, L: Source, P: Source>(
-    alloc: Global,
-    topology: &mut T,
-    tables: &mut S,
-    lanes: &mut L,
-    levels: &mut P,
+// The command, for a traffic.
+#[derive(Clone, Copy)]
+struct JudgeLanes {
     traffic: Traffic,
-    asked: LevelsAsked,
-) -> Result<Given, Status>
-    requires { IsOneOfSixteen asked }
-    ensures given { IfOk result (λ given. IsGiven traffic asked
-        (lane_sources (T.seen topology.old) (S.seen tables.old) (L.seen lanes.old) (P.seen levels.old))
-        (lane_sources (T.seen topology.new) (S.seen tables.new) (L.seen lanes.new) (P.seen levels.new))
-        given.status given.text.items) }
-    ensures stopped { IfErr result (IsStop asked
-        (lane_sources (T.seen topology.old) (S.seen tables.old) (L.seen lanes.old) (P.seen levels.old))
-        (lane_sources (T.seen topology.new) (S.seen tables.new) (L.seen lanes.new) (P.seen levels.new))) }
-{
-    match read_inputs(alloc, topology, tables, lanes, levels, asked) {
-        Ok(input) => Ok(given_for(alloc, &input, traffic, asked)?),
-        Err(status) => Err(status),
-    }
 }
 
-// Writes the text to out, or answers why there is none.
-fn status_of<T: Source, S: Source, L: Source, P: Source, O: Sink>(
-    alloc: Global,
-    topology: &mut T,
-    tables: &mut S,
-    lanes: &mut L,
-    levels: &mut P,
-    out: &mut O,
-    traffic: Traffic,
-    asked: LevelsAsked,
-) -> Status
-    requires { IsOneOfSixteen asked }
-    ensures { IsLaneCause traffic asked
-        (lane_sources (T.seen topology.old) (S.seen tables.old) (L.seen lanes.old) (P.seen levels.old))
-        (lane_sources (T.seen topology.new) (S.seen tables.new) (L.seen lanes.new) (P.seen levels.new))
-        (O.seen out.old) (O.seen out.new) result }
-{
-    let given = match found(alloc, topology, tables, lanes, levels, traffic, asked) {
-        Ok(given) => given,
-        Err(status) => return status,
-    };
-    match write_all(out, &given.text) {
-        Ok(()) => given.status,
-        Err(_fault) => Status::WriteFault,
+impl LaneCommand for JudgeLanes {
+    ghost gives = { λ judge. IsLaneJudged judge.traffic };
+
+    fn given(
+        &self,
+        alloc: Global,
+        input: &Input,
+        asked: LevelsAsked,
+    ) -> Result<Given, OutOfMemory> {
+        let judged = judged_for(alloc, input, self.traffic)?;
+        let answer = answer_for(alloc, input, self.traffic, asked, &judged)?;
+        Ok(Given {
+            status: status_of(&judged),
+            text: print(alloc, &answer)?,
+        })
     }
 }
 
@@ -88,6 +62,8 @@ pub fn lanes<T: Source, S: Source, L: Source, P: Source, O: Sink, E: Sink>(
         (lane_sources (T.seen topology.new) (S.seen tables.new) (L.seen lanes.new) (P.seen levels.new))
         (O.seen out.old) (O.seen out.new) (E.seen err.old) (E.seen err.new) result }
 {
-    let status = status_of(alloc, topology, tables, lanes, levels, out, traffic, asked);
-    finish(err, status)
+    let command = JudgeLanes { traffic };
+    answer(
+        &command, alloc, topology, tables, lanes, levels, asked, out, err,
+    )
 }

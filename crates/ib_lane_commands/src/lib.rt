@@ -9,8 +9,11 @@
 
 pub mod answer;
 pub mod asked;
+pub mod command;
 pub mod input;
+pub mod judged;
 pub mod lanes;
 mod losses;
 mod names;
+pub mod picture;
 mod steps;

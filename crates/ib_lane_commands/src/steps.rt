@@ -1,14 +1,16 @@
 //! The dependencies of a credit loop on lanes, as an answer tells them.
 
 ghost use Rattle.std.specs.Prelude.{◌≡◌, map, IfOk};
-ghost use Rattle.ib_lane_commands.specs.LaneJudged.{lane_step_of};
+ghost use Rattle.ib_lane_commands.specs.LaneJudged.{lane_step_of, without_lane};
 
 use an_base::memory::OutOfMemory;
+use ib_commands::steps::step_of as link_step_of;
 use ib_lane_lines::answer::LaneStep;
 use ib_lane_verdict::verdict::LaneLoopChannel;
-use ib_lines::answer::Step;
 use ib_net::fabric::Fabric;
-use ib_net::node::EndPort;
+use ib_net::node::Spot;
+use ib_routes::witness::Witness;
+use ib_verdict::verdict::LoopChannel;
 use std::alloc::Global;
 
 /// Of each channel of a loop the switch, the port, the lane, and the route that takes it and then the next one.
@@ -31,13 +33,24 @@ fn step_of(fabric: &Fabric, one: LaneLoopChannel) -> LaneStep
     ensures { result ≡ lane_step_of fabric.now one }
 {
     LaneStep {
-        step: Step {
-            guid: fabric.guid(EndPort::Switch(one.channel.switch)),
-            port: one.channel.port,
-            lid: one.witness.lid,
-            source: fabric.guid(one.witness.source),
-        },
+        step: link_step_of(fabric, without_lane(one)),
         lane: one.channel.lane,
         level: one.witness.level,
+    }
+}
+
+/// The link of a channel, and the route without its service level.
+pub fn without_lane(one: LaneLoopChannel) -> LoopChannel
+    ensures { result ≡ without_lane one }
+{
+    LoopChannel {
+        channel: Spot {
+            switch: one.channel.switch,
+            port: one.channel.port,
+        },
+        witness: Witness {
+            lid: one.witness.lid,
+            source: one.witness.source,
+        },
     }
 }

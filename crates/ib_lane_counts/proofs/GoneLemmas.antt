@@ -1,12 +1,11 @@
 -- With which levels what goes to a LID is discarded: at a switch, or further on, as the words of the switches tell.
-use Rattle.std.proofs.Common.{◌≡◌, ◌∙◌, sym, ap, refl, subst, ℕ, zero, suc, ◌<◌, ◌⊎◌, ◌↔◌, Bool, true, false, cond, eqb, Some, None, List, arith, length, get_or, set, replicate, inl, inr}
+use Rattle.std.proofs.Common.{◌≡◌, ◌∙◌, sym, ap, refl, subst, ℕ, zero, suc, ◌<◌, ◌⊎◌, ◌↔◌, Bool, true, false, cond, eqb, Some, None, List, arith, length, get_or, set, inl, inr}
 use Rattle.std.specs.Int.{bit_at}
-use Rattle.std.specs.Int.RustNames.{bit_or}
+use Rattle.std.specs.Int.RustNames.{bit_and, bit_or}
 use Rattle.std.proofs.lemmas.Bool.{cases_eq, cases_lt, eqb-true, lt-ltb, ne_eqb}
 use Rattle.std.proofs.lemmas.List.{get_or-set_other, get_or-set_same}
-use Rattle.std.proofs.lemmas.Nat.Bits.{bit_at-zero, bit_at_ones, bit_at_ones_above}
+use Rattle.std.proofs.lemmas.Nat.Bits.{bit_at-zero, bit_at_and, bit_at_ones, bit_at_ones_above}
 use Rattle.ib_cells.specs.Cells.{TablesOf}
-use Rattle.ib_counts.proofs.HeightLemmas.{no_height}
 use Rattle.ib_lane_counts.specs.Gone.{AreGone, AreOnFifteen, AreSomeGone, HasLane, IsGoneAfter, IsGoneAt, IsGoneFrom, IsGoneNext, IsNext, IsSettled}
 use Rattle.ib_lane_counts.proofs.WalkLemmas.{discards_first, discards_then, walk_first}
 use Rattle.ib_lane_routes.specs.declared.hop.Exit.{Exit}
@@ -25,7 +24,7 @@ use Rattle.ib_routes.specs.declared.hop.Hop.TheVariants as one
 use Rattle.ib_routes.specs.Routes.{end_if, hop, hop_by, hop_over, is_host, is_switch}
 use Rattle.ib_routes.specs.Waves.{HasBit}
 use Rattle.ib_routes.proofs.ChannelLemmas.{hop_within}
-use Rattle.ib_routes.proofs.WordLemmas.{bit_or_not, joined_is}
+use Rattle.ib_routes.proofs.WordLemmas.{joined_is}
 use Rattle.ib_rows.specs.Lanes.{LanesOf, lane_by, lane_in}
 
 -- hops by their exits
@@ -53,6 +52,13 @@ to_gone false port lane next = inr refl
 gone_if : (b : Bool) (does : LaneHop) → (does ≡ Discard → ⊥) → cond b Discard does ≡ Discard → b ≡ true
 gone_if true does other is = refl
 gone_if false does other is = absurd (other is)
+
+-- two words have no bit in common
+pub no_common : (one other bit : ℕ) → bit_and one other ≡ 0 → bit_at one bit ≡ 1 → bit_at other bit ≡ 1 → ⊥
+no_common one other bit none has also =
+    let zero = ap (λ (n : ℕ). bit_at n bit) none ∙ bit_at-zero bit in
+    let both = bit_at_and one other bit in
+    absurd (omega arith)
 
 -- the lanes of no row, and of one
 pub no_row : AreOnFifteen (λ level. lane_by level None) 65535
@@ -200,10 +206,6 @@ module _ (fabric : FabricOf) (tables : TablesOf) (lanes : LanesOf) (lid : ℕ) w
         (next, is, (low, gone_then level next further leads gone)))
   ]
 
-  -- at first they tell nothing
-  pub none_told : (count : ℕ) → AreSomeGone fabric tables lanes lid (replicate count 0)
-  none_told count switch level has = absurd (let no = ap (λ (n : ℕ). bit_at n level) (no_height count switch) ∙ bit_at-zero level in omega arith)
-
   -- a word more
   pub joined_some : (words : List ℕ) (switch word fresh : ℕ) → switch < length words → ((level : ℕ) → ((bit_at word level ≡ 1) ↔ ((bit_at (get_or words switch 0) level ≡ 1) ⊎ (bit_at fresh level ≡ 1)))) → ((level : ℕ) → bit_at fresh level ≡ 1 → IsGoneNext fabric tables lanes lid words switch level) → AreSomeGone fabric tables lanes lid words → AreSomeGone fabric tables lanes lid (set words switch word)
   joined_some words switch word fresh low bits next some at level has = elim (cases_eq at switch) [
@@ -215,16 +217,6 @@ module _ (fabric : FabricOf) (tables : TablesOf) (lanes : LanesOf) (lid : ℕ) w
           | inr new ↦ some_next words switch level some (next level new)
         ]))
     | inr other ↦ some at level (sym (ap (λ (n : ℕ). bit_at n level) (get_or-set_other words switch at word 0 other)) ∙ has)
-  ]
-
-  -- or none
-  pub no_more : (words : List ℕ) (switch fresh all : ℕ) → fresh ≡ 0 → ((level : ℕ) → ((bit_at fresh level ≡ 1) ↔ ((bit_at all level ≡ 1) × (bit_at (get_or words switch 0) level ≡ 1 → ⊥)))) → ((level : ℕ) → ((bit_at all level ≡ 1) ↔ IsGoneNext fabric tables lanes lid words switch level)) → IsSettled fabric tables lanes lid words switch
-  no_more words switch fresh all none bits next level is = elim (bit_or_not (get_or words switch 0) level) [
-    | inl has ↦ has
-    | inr not ↦ absurd (
-        let bit = (bits level).1 ((next level).1 is, not) in
-        let no = ap (λ (n : ℕ). bit_at n level) none ∙ bit_at-zero level in
-        omega arith)
   ]
 
   pub from_words : (words : List ℕ) (at : Spot) (word : ℕ) → at.switch < switch_count fabric → AreGone fabric tables lanes lid words → ((level : ℕ) → ((bit_at word level ≡ 1) ↔ IsGoneAt fabric tables lanes lid at level)) → (level : ℕ) → ((bit_at word level ≡ 1) ⊎ HasBit words at.switch level) ↔ IsGoneFrom fabric tables lanes lid at level

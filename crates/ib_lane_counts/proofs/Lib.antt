@@ -6,3 +6,10 @@ mod LostLemmas
 mod PlaceLemmas
 mod MoreLemmas
 mod StepLemmas
+mod KeepLemmas
+mod AlikeLemmas
+mod LevelLemmas
+mod KeptLemmas
+mod ListLemmas
+mod SumLemmas
+mod ToldLemmas

@@ -1,5 +1,5 @@
 -- Counts of more routes with a level: of the same ones, and of one more.
-use Rattle.std.proofs.Common.{◌≡◌, ◌≢◌, ◌∙◌, sym, ap, subst, ℕ, ◌+◌, ◌≤◌, ◌⊎◌, Option, Some, None, arith, inl, inr, max}
+use Rattle.std.proofs.Common.{◌≡◌, ◌≢◌, ◌∙◌, sym, ap, refl, subst, ℕ, ◌+◌, ◌≤◌, ◌⊎◌, Option, Some, None, arith, inl, inr, max}
 use Rattle.std.specs.Prelude.{MatchOption}
 use Rattle.std.proofs.lemmas.Bool.{cases_lt}
 use Rattle.ib_cells.specs.Cells.{TablesOf}
@@ -16,7 +16,7 @@ use Rattle.ib_net.specs.declared.node.EndPort.{EndPort}
 use Rattle.ib_net.specs.Fabric.{FabricOf, guid_of}
 use Rattle.ib_routes.specs.Counting.{IsCountOf}
 use Rattle.ib_routes.specs.declared.hop.Cause.TheVariants.{Missing, Dead, Wrong}
-use Rattle.ib_routes.proofs.CountLemmas.{count_more, count_none, count_same}
+use Rattle.ib_routes.proofs.CountLemmas.{count_more, count_none, count_same, count_sum}
 use Rattle.ib_rows.specs.Lanes.{LanesOf}
 
 -- the counts of nothing
@@ -24,6 +24,36 @@ pub no_loss : (fabric : FabricOf) (tables : TablesOf) (lanes : LanesOf) (Is : La
 no_loss fabric tables lanes Is none outcome = record {
   count = count_none LaneRoute (IsOneThat fabric tables lanes Is outcome) (λ route one. none route one.0);
   least = λ route one. none route one.0;
+}
+
+pub no_counts : (fabric : FabricOf) (tables : TablesOf) (lanes : LanesOf) (Is : LaneRoute → Type 0) → ((route : LaneRoute) → Is route → ⊥) → AreCountsOf fabric tables lanes Is (record {
+  routes = 0;
+  arrived = 0;
+  hops = 0;
+  lost = record {
+    missing = record { count = 0; least = None };
+    dead = record { count = 0; least = None };
+    wrong = record { count = 0; least = None };
+    discard = record { count = 0; least = None };
+    looping = record { count = 0; least = None };
+  };
+  silent = 0;
+})
+no_counts fabric tables lanes Is none = record {
+  routes = count_none LaneRoute Is none;
+  arrived = count_none LaneRoute (IsOneThatArrives fabric tables lanes Is) (λ route one. none route one.1.0);
+  hops = record {
+    most = λ route switches one. absurd (none route one.0);
+    some = λ not_none. absurd (not_none refl);
+  };
+  lost = record {
+    missing = no_loss fabric tables lanes Is none (Stops Missing);
+    dead = no_loss fabric tables lanes Is none (Stops Dead);
+    wrong = no_loss fabric tables lanes Is none (Stops Wrong);
+    discard = no_loss fabric tables lanes Is none Discards;
+    looping = no_loss fabric tables lanes Is none Loops;
+  };
+  all = refl;
 }
 
 module _ (fabric : FabricOf) (tables : TablesOf) (lanes : LanesOf) (Is More : LaneRoute → Type 0) (to : (route : LaneRoute) → Is route → More route) where
@@ -225,3 +255,56 @@ module _ (fabric : FabricOf) (tables : TablesOf) (lanes : LanesOf) (Is More : La
       lost = losses;
       all = (let all = are.all in omega arith);
     }
+
+-- more routes, which all arrive
+module _ (fabric : FabricOf) (tables : TablesOf) (lanes : LanesOf) (Is New More : LaneRoute → Type 0) (to : (route : LaneRoute) → Is route → More route) (add : (route : LaneRoute) → New route → More route) (back : (route : LaneRoute) → More route → Is route ⊎ New route) (apart : (route : LaneRoute) → Is route → New route → ⊥) (hops : ℕ) (all : (route : LaneRoute) → New route → (switches : ℕ) × LaneRouteEnds fabric tables lanes route (Arrives switches) × (switches ≤ hops)) (some : hops ≢ 0 → (route : LaneRoute) × New route × LaneRouteEnds fabric tables lanes route (Arrives hops)) where
+  no_new : (outcome : LaneOutcome) → ((switches : ℕ) → Arrives switches ≢ outcome) → (route : LaneRoute) → IsOneThat fabric tables lanes More outcome route → Is route
+  no_new outcome differs route one = elim (back route one.0) [
+    | inl is ↦ is
+    | inr new ↦ (let arrives = all route new in absurd (differs arrives.0 (one_outcome fabric tables lanes route (Arrives arrives.0) outcome arrives.1 one.1)))
+  ]
+
+  all_arrived : (m n : ℕ) → IsCountOf (IsOneThatArrives fabric tables lanes Is) m → IsCountOf New n → IsCountOf (IsOneThatArrives fabric tables lanes More) (m + n)
+  all_arrived m n is new = count_sum LaneRoute (IsOneThatArrives fabric tables lanes Is) New (IsOneThatArrives fabric tables lanes More) m n
+      (λ route one. (one.0, (to route one.1.0, one.1.1)))
+      (λ route one. (let arrives = all route one in (arrives.0, (add route one, arrives.1))))
+      (λ route one. elim (back route one.1.0) [ inl old ↦ inl (one.0, (old, one.1.1)) | inr now ↦ inr now ])
+      (λ route one now. apart route one.1.0 now) is new
+
+  all_hops : (before most : ℕ) → most ≡ max before hops → AreMostHops fabric tables lanes Is before → AreMostHops fabric tables lanes More most
+  all_hops before most is_most are = record {
+    most = λ route switches one. elim (back route one.0) [
+      | inl old ↦ (let le = are.most route switches (old, one.1) in omega arith)
+      | inr now ↦ (
+          let arrives = all route now in
+          let e = one_outcome fabric tables lanes route (Arrives switches) (Arrives arrives.0) one.1 arrives.1 in
+          let n : switches ≡ arrives.0 = cc in
+          let le = arrives.2 in
+          omega arith)
+    ];
+    some = λ not_none. elim (cases_lt hops before) [
+      | inl less ↦ (
+          let e : before ≡ most = omega arith in
+          let one = are.some (λ none. not_none (sym e ∙ none)) in
+          subst (λ (n : ℕ). (route : LaneRoute) × IsOneThat fabric tables lanes More (Arrives n) route) e (one.0, (to one.0 one.1.0, one.1.1)))
+      | inr no_less ↦ (
+          let e : hops ≡ most = omega arith in
+          let one = some (λ none. not_none (sym e ∙ none)) in
+          subst (λ (n : ℕ). (route : LaneRoute) × IsOneThat fabric tables lanes More (Arrives n) route) e (one.0, (add one.0 one.1, one.2)))
+    ];
+  }
+
+  pub counts_all_arrive : (counts : LaneCounts) (routes most : ℕ) → most ≡ max counts.hops hops → IsCountOf New routes → AreCountsOf fabric tables lanes Is counts → AreCountsOf fabric tables lanes More (record { routes = counts.routes + routes; arrived = counts.arrived + routes; hops = most; lost = counts.lost; silent = counts.silent })
+  counts_all_arrive counts routes most is_most new are = record {
+    routes = count_sum LaneRoute Is New More counts.routes routes to add back apart are.routes new;
+    arrived = all_arrived counts.arrived routes are.arrived new;
+    hops = all_hops counts.hops most is_most are.hops;
+    lost = record {
+      missing = loss_same fabric tables lanes Is More to (Stops Missing) (no_new (Stops Missing) (λ s e. absurd (cc))) counts.lost.missing are.lost.missing;
+      dead = loss_same fabric tables lanes Is More to (Stops Dead) (no_new (Stops Dead) (λ s e. absurd (cc))) counts.lost.dead are.lost.dead;
+      wrong = loss_same fabric tables lanes Is More to (Stops Wrong) (no_new (Stops Wrong) (λ s e. absurd (cc))) counts.lost.wrong are.lost.wrong;
+      discard = loss_same fabric tables lanes Is More to Discards (no_new Discards (λ s e. absurd (cc))) counts.lost.discard are.lost.discard;
+      looping = loss_same fabric tables lanes Is More to Loops (no_new Loops (λ s e. absurd (cc))) counts.lost.looping are.lost.looping;
+    };
+    all = (let sum = are.all in omega arith);
+  }

@@ -11,9 +11,9 @@ use Rattle.ib_lane_counts.specs.declared.counts.LaneCounts.{LaneCounts}
 use Rattle.ib_lane_counts.specs.declared.counts.LaneLoss.{LaneLoss}
 use Rattle.ib_lane_counts.specs.declared.counts.LaneLosses.{LaneLosses}
 use Rattle.ib_lane_counts.specs.declared.counts.LostLaneRoute.{LostLaneRoute}
-use Rattle.ib_lane_counts.specs.LaneCounts.{AreCountsOf, AreLaneCounts, AreLosses, IsLaneLostAt, IsLaneRouteOf, IsLoss, IsOneThatArrives, IsSilent, LaneRoute, LaneRouteEnds, lane_sum_of}
+use Rattle.ib_lane_counts.specs.LaneCounts.{AreCountsOf, AreLaneCounts, AreLosses, IsLaneLost, IsLaneLostAt, IsLaneRouteOf, IsLoss, IsSilent, LaneRoute, LaneRouteEnds, lane_sum_of}
 use Rattle.ib_lane_counts.specs.Steps.{AreCountsUntil, IsLesser, IsSilentUntil, IsUntil}
-use Rattle.ib_lane_counts.proofs.MoreLemmas.{counts_arrive, counts_lost, counts_same, loss_kept, loss_new, no_loss, other_loss}
+use Rattle.ib_lane_counts.proofs.MoreLemmas.{counts_arrive, counts_lost, counts_same, loss_kept, loss_new, no_counts, other_loss}
 use Rattle.ib_lane_counts.proofs.PlaceLemmas.{silent_all, silent_fresh, silent_from, silent_less, silent_lids, silent_next, silent_none, silent_to, silent_unsent, until_all, until_all_levels, until_fresh, until_from, until_late, until_lids, until_low, until_next, until_none, until_past, until_silent, until_to, until_unsent, until_without}
 use Rattle.ib_lane_routes.specs.declared.hop.LaneOutcome.{LaneOutcome}
 use Rattle.ib_lane_routes.specs.declared.hop.LaneOutcome.TheVariants.{Arrives, Stops, Discards, Loops}
@@ -40,6 +40,13 @@ kept_told fabric (Some one) lid source not = (
     | inr no_less ↦ no_less
   ],
 )
+
+-- what does not arrive is lost
+pub not_arrived : (outcome : LaneOutcome) → ((switches : ℕ) → outcome ≡ Arrives switches → ⊥) → IsLaneLost outcome
+not_arrived (Arrives switches) none = none switches refl
+not_arrived (Stops cause) none = tt
+not_arrived Discards none = tt
+not_arrived Loops none = tt
 
 -- one route more
 module _ (fabric : FabricOf) (tables : TablesOf) (lanes : LanesOf) (traffic : Traffic) (levels : LevelsOf) (lid : ℕ) (source : EndPort) (level : ℕ) (sends : LaneSends fabric traffic levels lid source level) (start : Spot) (begins : begin_of fabric source ≡ Some start) (outcome : LaneOutcome) (ends : LaneEndsAs (lane_hop fabric tables lanes level lid) start outcome) where
@@ -81,50 +88,54 @@ module _ (fabric : FabricOf) (tables : TablesOf) (lanes : LanesOf) (traffic : Tr
   other_same : (other : LaneOutcome) (loss : LaneLoss) → other ≢ outcome → IsLoss fabric tables lanes Before other loss → IsLoss fabric tables lanes With other loss
   other_same other loss differs is = other_loss fabric tables lanes Before With to lid source level back is_new fresh late lower outcome route_ends other loss differs is
 
+  -- the losses by a cause, which is that of the route
+  by_cause : (cause : LaneOutcome) (old loss : LaneLoss) → outcome ≡ cause → (IsLoss fabric tables lanes Before outcome old → IsLoss fabric tables lanes With outcome loss) → IsLoss fabric tables lanes Before cause old → IsLoss fabric tables lanes With cause loss
+  by_cause cause old loss is more before = subst (λ (o : LaneOutcome). IsLoss fabric tables lanes With o loss) is (more (subst (λ (o : LaneOutcome). IsLoss fabric tables lanes Before o old) (sym is) before))
+
   module _ (lost : LaneLosses) (loss : LaneLoss) (are : AreLosses fabric tables lanes Before lost) where
-    pub missing_more : outcome ≡ Stops Missing → IsLoss fabric tables lanes With (Stops Missing) loss → AreLosses fabric tables lanes With (record { missing = loss; dead = lost.dead; wrong = lost.wrong; discard = lost.discard; looping = lost.looping })
-    missing_more is new = record {
-      missing = new;
+    pub missing_more : outcome ≡ Stops Missing → (IsLoss fabric tables lanes Before outcome lost.missing → IsLoss fabric tables lanes With outcome loss) → AreLosses fabric tables lanes With (record { missing = loss; dead = lost.dead; wrong = lost.wrong; discard = lost.discard; looping = lost.looping })
+    missing_more is more = record {
+      missing = by_cause (Stops Missing) lost.missing loss is more are.missing;
       dead = other_same (Stops Dead) lost.dead (λ e. (let f = e ∙ is in absurd (cc))) are.dead;
       wrong = other_same (Stops Wrong) lost.wrong (λ e. (let f = e ∙ is in absurd (cc))) are.wrong;
       discard = other_same Discards lost.discard (λ e. (let f = e ∙ is in absurd (cc))) are.discard;
       looping = other_same Loops lost.looping (λ e. (let f = e ∙ is in absurd (cc))) are.looping;
     }
 
-    pub dead_more : outcome ≡ Stops Dead → IsLoss fabric tables lanes With (Stops Dead) loss → AreLosses fabric tables lanes With (record { missing = lost.missing; dead = loss; wrong = lost.wrong; discard = lost.discard; looping = lost.looping })
-    dead_more is new = record {
+    pub dead_more : outcome ≡ Stops Dead → (IsLoss fabric tables lanes Before outcome lost.dead → IsLoss fabric tables lanes With outcome loss) → AreLosses fabric tables lanes With (record { missing = lost.missing; dead = loss; wrong = lost.wrong; discard = lost.discard; looping = lost.looping })
+    dead_more is more = record {
       missing = other_same (Stops Missing) lost.missing (λ e. (let f = e ∙ is in absurd (cc))) are.missing;
-      dead = new;
+      dead = by_cause (Stops Dead) lost.dead loss is more are.dead;
       wrong = other_same (Stops Wrong) lost.wrong (λ e. (let f = e ∙ is in absurd (cc))) are.wrong;
       discard = other_same Discards lost.discard (λ e. (let f = e ∙ is in absurd (cc))) are.discard;
       looping = other_same Loops lost.looping (λ e. (let f = e ∙ is in absurd (cc))) are.looping;
     }
 
-    pub wrong_more : outcome ≡ Stops Wrong → IsLoss fabric tables lanes With (Stops Wrong) loss → AreLosses fabric tables lanes With (record { missing = lost.missing; dead = lost.dead; wrong = loss; discard = lost.discard; looping = lost.looping })
-    wrong_more is new = record {
+    pub wrong_more : outcome ≡ Stops Wrong → (IsLoss fabric tables lanes Before outcome lost.wrong → IsLoss fabric tables lanes With outcome loss) → AreLosses fabric tables lanes With (record { missing = lost.missing; dead = lost.dead; wrong = loss; discard = lost.discard; looping = lost.looping })
+    wrong_more is more = record {
       missing = other_same (Stops Missing) lost.missing (λ e. (let f = e ∙ is in absurd (cc))) are.missing;
       dead = other_same (Stops Dead) lost.dead (λ e. (let f = e ∙ is in absurd (cc))) are.dead;
-      wrong = new;
+      wrong = by_cause (Stops Wrong) lost.wrong loss is more are.wrong;
       discard = other_same Discards lost.discard (λ e. (let f = e ∙ is in absurd (cc))) are.discard;
       looping = other_same Loops lost.looping (λ e. (let f = e ∙ is in absurd (cc))) are.looping;
     }
 
-    pub discard_more : outcome ≡ Discards → IsLoss fabric tables lanes With Discards loss → AreLosses fabric tables lanes With (record { missing = lost.missing; dead = lost.dead; wrong = lost.wrong; discard = loss; looping = lost.looping })
-    discard_more is new = record {
+    pub discard_more : outcome ≡ Discards → (IsLoss fabric tables lanes Before outcome lost.discard → IsLoss fabric tables lanes With outcome loss) → AreLosses fabric tables lanes With (record { missing = lost.missing; dead = lost.dead; wrong = lost.wrong; discard = loss; looping = lost.looping })
+    discard_more is more = record {
       missing = other_same (Stops Missing) lost.missing (λ e. (let f = e ∙ is in absurd (cc))) are.missing;
       dead = other_same (Stops Dead) lost.dead (λ e. (let f = e ∙ is in absurd (cc))) are.dead;
       wrong = other_same (Stops Wrong) lost.wrong (λ e. (let f = e ∙ is in absurd (cc))) are.wrong;
-      discard = new;
+      discard = by_cause Discards lost.discard loss is more are.discard;
       looping = other_same Loops lost.looping (λ e. (let f = e ∙ is in absurd (cc))) are.looping;
     }
 
-    pub looping_more : outcome ≡ Loops → IsLoss fabric tables lanes With Loops loss → AreLosses fabric tables lanes With (record { missing = lost.missing; dead = lost.dead; wrong = lost.wrong; discard = lost.discard; looping = loss })
-    looping_more is new = record {
+    pub looping_more : outcome ≡ Loops → (IsLoss fabric tables lanes Before outcome lost.looping → IsLoss fabric tables lanes With outcome loss) → AreLosses fabric tables lanes With (record { missing = lost.missing; dead = lost.dead; wrong = lost.wrong; discard = lost.discard; looping = loss })
+    looping_more is more = record {
       missing = other_same (Stops Missing) lost.missing (λ e. (let f = e ∙ is in absurd (cc))) are.missing;
       dead = other_same (Stops Dead) lost.dead (λ e. (let f = e ∙ is in absurd (cc))) are.dead;
       wrong = other_same (Stops Wrong) lost.wrong (λ e. (let f = e ∙ is in absurd (cc))) are.wrong;
       discard = other_same Discards lost.discard (λ e. (let f = e ∙ is in absurd (cc))) are.discard;
-      looping = new;
+      looping = by_cause Loops lost.looping loss is more are.looping;
     }
 
   pub one_arrives : (switches most : ℕ) (counts : LaneCounts) → outcome ≡ Arrives switches → most ≡ max counts.hops switches → AreCountsOf fabric tables lanes Before counts → AreCountsOf fabric tables lanes With (record { routes = counts.routes + 1; arrived = counts.arrived + 1; hops = most; lost = counts.lost; silent = counts.silent })
@@ -155,31 +166,15 @@ module _ (fabric : FabricOf) (tables : TablesOf) (lanes : LanesOf) (traffic : Tr
     silent = 0;
   })
   first_counts =
-      let none = until_none fabric traffic levels in
       record {
-        exact = record {
-          routes = count_none LaneRoute (Until 0 0 0) none;
-          arrived = count_none LaneRoute (IsOneThatArrives fabric tables lanes (Until 0 0 0)) (λ route one. none route one.1.0);
-          hops = record {
-            most = λ route switches one. absurd (none route one.0);
-            some = λ not_none. absurd (not_none refl);
-          };
-          lost = record {
-            missing = no_loss fabric tables lanes (Until 0 0 0) none (Stops Missing);
-            dead = no_loss fabric tables lanes (Until 0 0 0) none (Stops Dead);
-            wrong = no_loss fabric tables lanes (Until 0 0 0) none (Stops Wrong);
-            discard = no_loss fabric tables lanes (Until 0 0 0) none Discards;
-            looping = no_loss fabric tables lanes (Until 0 0 0) none Loops;
-          };
-          all = refl;
-        };
+        exact = no_counts fabric tables lanes (Until 0 0 0) (until_none fabric traffic levels);
         silent = count_none Route (Silent 0 0) (silent_none fabric traffic levels);
         few = omega arith;
         few_silent = omega arith;
       }
 
   -- the pairs without a level are apart
-  counts_beside : (Is : LaneRoute → Type 0) (counts : LaneCounts) (silent : ℕ) → AreCountsOf fabric tables lanes Is counts → AreCountsOf fabric tables lanes Is (record counts { silent = silent })
+  pub counts_beside : (Is : LaneRoute → Type 0) (counts : LaneCounts) (silent : ℕ) → AreCountsOf fabric tables lanes Is counts → AreCountsOf fabric tables lanes Is (record counts { silent = silent })
   counts_beside Is counts silent are = record { routes = are.routes; arrived = are.arrived; hops = are.hops; lost = are.lost; all = are.all }
 
   module _ (lid : ℕ) (counts : LaneCounts) where

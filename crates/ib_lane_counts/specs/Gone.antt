@@ -1,4 +1,5 @@
--- With which levels what goes to a LID is discarded, at a switch or further on. Only private functions cite this.
+-- With which levels what goes to a LID is discarded, at a switch or further on. Only private functions cite
+-- this.
 use Rattle.std.specs.Prelude.{◌≡◌, ◌<◌, ◌⊎◌, ◌↔◌, ℕ, List, length}
 use Rattle.std.specs.Int.{bit_at}
 use Rattle.ib_cells.specs.Cells.{TablesOf}
@@ -49,7 +50,8 @@ module _ (fabric : FabricOf) (tables : TablesOf) (lanes : LanesOf) (lid : ℕ) w
   -- words tell of each switch with which levels that is so ..
   abbrev pub AreGone : List ℕ → Type 0
   AreGone words =
-      (switch level : ℕ) → switch < switch_count fabric → (HasBit words switch level ↔ IsGoneAfter switch level)
+      (switch level : ℕ) → switch < switch_count fabric
+      → (HasBit words switch level ↔ IsGoneAfter switch level)
 
   -- .. or of some of them
   abbrev pub AreSomeGone : List ℕ → Type 0

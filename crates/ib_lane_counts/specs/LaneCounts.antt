@@ -1,4 +1,5 @@
--- How many routes with a service level there are, how many of them arrive, and how many are lost by each cause.
+-- How many routes with a service level there are, how many of them arrive, and how many are lost by each
+-- cause.
 use Rattle.std.specs.Prelude.{◌≡◌, ◌≢◌, ◌≤◌, ◌+◌, ℕ, Some, MatchOption}
 use Rattle.ib_cells.specs.Cells.{TablesOf}
 use Rattle.ib_counts.specs.Counts.{Route}
@@ -39,7 +40,8 @@ pub record IsSilent (fabric : FabricOf) (traffic : Traffic) (levels : LevelsOf) 
 -- a switch to which a route comes by arbitrarily many hops
 abbrev pub LaneComesAgain : (Spot → LaneHop) → Spot → ℕ → Type 0
 LaneComesAgain hop_at start switch =
-    (most : ℕ) → (hops : ℕ) × (most ≤ hops) × (at : Spot) × LaneWalksBy hop_at hops start at × (at.switch ≡ switch)
+    (most : ℕ)
+    → (hops : ℕ) × (most ≤ hops) × (at : Spot) × LaneWalksBy hop_at hops start at × (at.switch ≡ switch)
 
 -- the route comes to this switch, which does so with it
 abbrev pub LaneEndsAt : (Spot → LaneHop) → Spot → LaneHop → ℕ → Type 0
@@ -53,7 +55,8 @@ IsLaneLost (Stops cause) = Unit {0}
 IsLaneLost Discards = Unit {0}
 IsLaneLost Loops = Unit {0}
 
--- where it is lost: the switch at which it stops or is discarded, or the least one by which it comes again and again
+-- where it is lost: the switch at which it stops or is discarded, or the least one by which it comes again and
+-- again
 abbrev pub IsLaneLostAt : (Spot → LaneHop) → Spot → LaneOutcome → ℕ → Type 0
 IsLaneLostAt hop_at start (Arrives switches) switch = ⊥
 IsLaneLostAt hop_at start (Stops cause) switch = LaneEndsAt hop_at start (Stop cause) switch
@@ -102,8 +105,8 @@ module _ (fabric : FabricOf) (tables : TablesOf) (lanes : LanesOf) (Is : LaneRou
     pub most : (route : LaneRoute) (switches : ℕ) → IsOneThat (Arrives switches) route → switches ≤ hops
     pub some : hops ≢ 0 → (route : LaneRoute) × IsOneThat (Arrives hops) route
 
-  -- .. of those that end so this one goes to the least LID; of those to it from the least GUID; of those from there
-  -- with the least level
+  -- .. of those that end so this one goes to the least LID; of those to it from the least GUID; of those from
+  -- there with the least level
   pub record IsLeastLost (outcome : LaneOutcome) (found : LostLaneRoute) : Type 0 where
     pub is : IsOneThat outcome (lane_route_of found)
     pub at : LaneRouteIsLost fabric tables lanes (lane_route_of found) outcome found.at
@@ -118,7 +121,8 @@ module _ (fabric : FabricOf) (tables : TablesOf) (lanes : LanesOf) (Is : LaneRou
   -- .. so many end so, and this is the least of them, if there is one
   pub record IsLoss (outcome : LaneOutcome) (loss : LaneLoss) : Type 0 where
     pub count : IsCountOf (IsOneThat outcome) loss.count
-    pub least : MatchOption loss.least ((route : LaneRoute) → IsOneThat outcome route → ⊥) (IsLeastLost outcome)
+    pub least :
+        MatchOption loss.least ((route : LaneRoute) → IsOneThat outcome route → ⊥) (IsLeastLost outcome)
 
   -- .. these are the losses by each cause
   pub record AreLosses (lost : LaneLosses) : Type 0 where

@@ -1,4 +1,5 @@
--- How routes are counted, LID by LID, end port by end port and level by level. Only private functions cite this.
+-- How routes are counted, LID by LID, end port by end port and level by level. Only private functions cite
+-- this.
 use Rattle.std.specs.Prelude.{◌≡◌, ◌<◌, ◌≤◌, ◌+◌, ◌*◌, ◌^◌, ◌⊎◌, ℕ, Option, Some, None, length}
 use Rattle.ib_cells.specs.Cells.{TablesOf}
 use Rattle.ib_counts.specs.Counts.{Route}
@@ -25,8 +26,8 @@ on_lanes (Arrives switches) = lane.Arrives switches
 on_lanes (Stops cause) = lane.Stops cause
 on_lanes Loops = lane.Loops
 
--- a route to a lesser LID; or to this one, from one of the first so many end ports; or from the next one, with a lesser
--- level
+-- a route to a lesser LID; or to this one, from one of the first so many end ports; or from the next one, with
+-- a lesser level
 abbrev pub IsUntil : FabricOf → Traffic → LevelsOf → (lid place level : ℕ) → LaneRoute → Type 0
 IsUntil fabric traffic levels lid place level route =
     IsLaneRouteOf fabric traffic levels route
@@ -66,7 +67,8 @@ pub record AreRooms (count : ℕ) (rooms : Rooms) : Type 0 where
   pub path : length rooms.path.items ≡ count
   pub gone : length rooms.gone.items ≡ count
 
-module _ (fabric : FabricOf) (tables : TablesOf) (lanes : LanesOf) (traffic : Traffic) (levels : LevelsOf) where
+module _ (fabric : FabricOf) (tables : TablesOf) (lanes : LanesOf) (traffic : Traffic)
+    (levels : LevelsOf) where
   -- the counts of those, which are not too many
   pub record AreCountsUntil (lid place level : ℕ) (counts : LaneCounts) : Type 0 where
     pub exact : AreCountsOf fabric tables lanes (IsUntil fabric traffic levels lid place level) counts

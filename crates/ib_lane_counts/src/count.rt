@@ -1,36 +1,35 @@
 //! How the routes of a traffic with service levels end, and how many do.
 
-ghost use Rattle.std.specs.Prelude.{◌≡◌, ◌<◌, ◌≤◌, ◌+◌, ◌*◌, ◌^◌, ◌↔◌, ℕ, length, cond, IfOk, Some};
-ghost use Rattle.std.specs.Int.{bit_at};
+ghost use Rattle.std.specs.Prelude.{◌≡◌, ◌≢◌, ◌<◌, ◌≤◌, ◌+◌, ◌*◌, ◌^◌, length, IfOk, Some};
 ghost use Rattle.ib_cells.specs.Cells.{tables_of};
-ghost use Rattle.ib_counts.specs.Counts.{hop_for};
 ghost use Rattle.ib_counts.specs.Steps.{IsEndPort, place_of};
-ghost use Rattle.ib_lane_counts.specs.Gone.{AreGone, IsGoneFrom};
+ghost use Rattle.ib_lane_counts.specs.Alike.{alike};
+ghost use Rattle.ib_lane_counts.specs.Ends.{AreEnds, AreReady};
 ghost use Rattle.ib_lane_counts.specs.LaneCounts.{AreCountsOf, AreLaneCounts, lane_sum_of};
-ghost use Rattle.ib_lane_counts.specs.Steps.{AreCountsUntil, AreRooms, IsBefore, IsUntil, IsUpTo, on_lanes};
-ghost use Rattle.ib_lane_routes.specs.declared.hop.LaneOutcome.TheVariants.{Discards};
+ghost use Rattle.ib_lane_counts.specs.Steps.{AreCountsUntil, AreRooms, IsBefore, IsUntil, IsUpTo};
 ghost use Rattle.ib_lane_routes.specs.LaneRoutes.{begin_of};
 ghost use Rattle.ib_net.specs.Fabric.{switch_count};
 ghost use Rattle.ib_routes.specs.declared.traffic.Traffic.{Traffic};
-ghost use Rattle.ib_routes.specs.Routes.{EndsAs, Sends};
-ghost use Rattle.ib_routes.specs.Trace.{IsReady, hop_to, whole};
+ghost use Rattle.ib_routes.specs.Routes.{Sends};
 ghost use Rattle.ib_rows.specs.Lanes.{lanes_of};
 ghost use Rattle.ib_rows.specs.Levels.{levels_of};
 ghost use Rattle.ib_rows.specs.PathLevels.{LevelsOf};
 
+use crate::alike::alike_counts;
 use crate::counts::LaneCounts;
-use crate::gone::{gone_from, put_gone};
+use crate::ends::Ends;
+use crate::gone::put_gone;
+use crate::keep::is_kept;
 use crate::more::BegunRoute;
 use crate::room::Rooms;
 use crate::source::sender_begin;
+use crate::sums::sum_levels;
 use an_base::memory::OutOfMemory;
 use ib_cells::cells::Cells;
-use ib_counts::count::{end_from, forget};
+use ib_counts::count::{count_routes, forget};
 use ib_counts::source::{end_port_at, end_ports};
-use ib_lane_routes::hop::LaneOutcome;
 use ib_net::fabric::Fabric;
 use ib_net::node::{EndPort, Spot};
-use ib_routes::hop::Outcome;
 use ib_routes::start::is_target;
 use ib_routes::traffic::Traffic;
 use ib_routes::word::has_bit;
@@ -38,22 +37,8 @@ use ib_rows::lanes::LaneRows;
 use ib_rows::levels::Levels;
 use std::alloc::Global;
 
-// How a route ends that ends so on one lane, if it is discarded, and if it is not.
-fn on_lanes(outcome: Outcome, is_gone: bool) -> LaneOutcome
-    ensures { result ≡ cond is_gone Discards (on_lanes outcome) }
-{
-    if is_gone {
-        return LaneOutcome::Discards;
-    }
-    match outcome {
-        Outcome::Arrives(switches) => LaneOutcome::Arrives(switches),
-        Outcome::Stops(cause) => LaneOutcome::Stops(cause),
-        Outcome::Loops => LaneOutcome::Loops,
-    }
-}
-
 impl LaneCounts {
-    // A route, if its level is one of some, as bits. How it ends on one lane is known, and with which levels it is discarded.
+    // A route, if its level is one of some, as bits. How it ends with each level is known.
     fn add_told(
         &mut self,
         fabric: &Fabric,
@@ -61,8 +46,7 @@ impl LaneCounts {
         lanes: &LaneRows,
         told: u16,
         route: BegunRoute,
-        outcome: Outcome,
-        gone: u64,
+        ends: Ends,
     )
         requires same { switch_count fabric.now ≡ cells.now.switches }
         requires lanes { switch_count fabric.now ≡ lanes.now.switches }
@@ -71,9 +55,7 @@ impl LaneCounts {
         requires level { route.level < 16 }
         requires start { route.start.switch < switch_count fabric.now }
         requires begins { begin_of fabric.now route.source ≡ Some route.start }
-        requires ends { EndsAs (hop_for fabric.now (tables_of cells.now) route.lid) route.start.switch outcome }
-        requires gone { (level : ℕ) → ((bit_at gone level ≡ 1)
-            ↔ IsGoneFrom fabric.now (tables_of cells.now) (lanes_of lanes.now) route.lid route.start level) }
+        requires ends { AreEnds fabric.now (tables_of cells.now) (lanes_of lanes.now) route.lid route.start ends }
         requires all { self.old.routes ≡ self.old.arrived + lane_sum_of self.old.lost }
         requires fits { self.old.routes < 2 ^ 40 }
         ensures all { self.new.routes ≡ self.new.arrived + lane_sum_of self.new.lost }
@@ -86,17 +68,14 @@ impl LaneCounts {
             → AreCountsOf fabric.now (tables_of cells.now) (lanes_of lanes.now)
             (IsUpTo fabric.now traffic levels route) self.new }
     {
-        let level = usize::from(route.level);
-        if !has_bit(u64::from(told), level) {
+        if !has_bit(u64::from(told), usize::from(route.level)) {
             return;
         }
-        let ends = on_lanes(outcome, has_bit(gone, level));
-        self.add(fabric, cells, lanes, route, ends);
+        self.add(fabric, cells, lanes, route, ends.with_level(route.level));
     }
 
-    // The routes of an end port to a LID, with each level of some, as bits. How they end on one lane is known, and with
-    // which levels they are discarded.
-    fn add_levels(
+    // The routes of an end port to a LID, with each level of some, as bits, one after the other. How they end is known.
+    fn add_each(
         &mut self,
         fabric: &Fabric,
         cells: &Cells,
@@ -105,8 +84,7 @@ impl LaneCounts {
         lid: u16,
         source: EndPort,
         start: Spot,
-        outcome: Outcome,
-        gone: u64,
+        ends: Ends,
     )
         requires same { switch_count fabric.now ≡ cells.now.switches }
         requires lanes { switch_count fabric.now ≡ lanes.now.switches }
@@ -114,9 +92,7 @@ impl LaneCounts {
         requires lid { lid < 64 * cells.now.blocks }
         requires start { start.switch < switch_count fabric.now }
         requires begins { begin_of fabric.now source ≡ Some start }
-        requires ends { EndsAs (hop_for fabric.now (tables_of cells.now) lid) start.switch outcome }
-        requires gone { (level : ℕ) → ((bit_at gone level ≡ 1)
-            ↔ IsGoneFrom fabric.now (tables_of cells.now) (lanes_of lanes.now) lid start level) }
+        requires ends { AreEnds fabric.now (tables_of cells.now) (lanes_of lanes.now) lid start ends }
         requires all { self.old.routes ≡ self.old.arrived + lane_sum_of self.old.lost }
         requires fits { self.old.routes < 2 ^ 39 }
         ensures routes { self.new.routes ≤ self.old.routes + 16 }
@@ -135,7 +111,44 @@ impl LaneCounts {
                 level,
                 start,
             };
-            self.add_told(fabric, cells, lanes, told, route, outcome, gone);
+            self.add_told(fabric, cells, lanes, told, route, ends);
+        }
+    }
+
+    // The routes of an end port to a LID, with each level of some, as bits, at once if all arrive.
+    fn add_levels(
+        &mut self,
+        fabric: &Fabric,
+        cells: &Cells,
+        lanes: &LaneRows,
+        told: u16,
+        lid: u16,
+        source: EndPort,
+        start: Spot,
+        ends: Ends,
+    )
+        requires same { switch_count fabric.now ≡ cells.now.switches }
+        requires lanes { switch_count fabric.now ≡ lanes.now.switches }
+        requires few { switch_count fabric.now ≤ 2 ^ 14 }
+        requires lid { lid < 64 * cells.now.blocks }
+        requires start { start.switch < switch_count fabric.now }
+        requires begins { begin_of fabric.now source ≡ Some start }
+        requires some { told ≢ 0 }
+        requires ends { AreEnds fabric.now (tables_of cells.now) (lanes_of lanes.now) lid start ends }
+        requires all { self.old.routes ≡ self.old.arrived + lane_sum_of self.old.lost }
+        requires fits { self.old.routes < 2 ^ 39 }
+        ensures routes { self.new.routes ≤ self.old.routes + 16 }
+        ensures silent { self.new.silent ≡ self.old.silent }
+        ensures counts { (traffic : Traffic) (levels : LevelsOf) → levels source lid ≡ told
+            → Sends fabric.now traffic lid source
+            → AreCountsOf fabric.now (tables_of cells.now) (lanes_of lanes.now)
+            (IsUntil fabric.now traffic levels lid (place_of fabric.now source) 0) self.old
+            → AreCountsOf fabric.now (tables_of cells.now) (lanes_of lanes.now)
+            (IsUntil fabric.now traffic levels lid (place_of fabric.now source) 16) self.new }
+    {
+        match ends.all_arrive(told) {
+            Some(switches) => self.add_arrived(u64::from(told.count_ones()), switches),
+            None => self.add_each(fabric, cells, lanes, told, lid, source, start, ends),
         }
     }
 
@@ -155,18 +168,12 @@ impl LaneCounts {
         requires lanes { switch_count fabric.now ≡ lanes.now.switches }
         requires few { switch_count fabric.now ≤ 2 ^ 14 }
         requires lid { lid < 64 * cells.now.blocks }
-        requires rooms { AreRooms (switch_count fabric.now) rooms.old }
-        requires ready { IsReady (hop_to fabric.now (tables_of cells.now) (whole lid)) (switch_count fabric.now)
-            rooms.old.marks.items }
-        requires gone { AreGone fabric.now (tables_of cells.now) (lanes_of lanes.now) lid rooms.old.gone.items }
+        requires ready { AreReady fabric.now (tables_of cells.now) (lanes_of lanes.now) lid rooms.old }
         requires source { IsEndPort fabric.now source }
         requires low { place_of fabric.now source ≤ 2 ^ 17 }
         requires counts { AreCountsUntil fabric.now (tables_of cells.now) (lanes_of lanes.now) traffic
             (levels_of levels.now) lid (place_of fabric.now source) 0 self.old }
-        ensures rooms { AreRooms (switch_count fabric.now) rooms.new }
-        ensures ready { IsReady (hop_to fabric.now (tables_of cells.now) (whole lid)) (switch_count fabric.now)
-            rooms.new.marks.items }
-        ensures gone { rooms.new.gone.items ≡ rooms.old.gone.items }
+        ensures ready { AreReady fabric.now (tables_of cells.now) (lanes_of lanes.now) lid rooms.new }
         ensures counts { AreCountsUntil fabric.now (tables_of cells.now) (lanes_of lanes.now) traffic
             (levels_of levels.now) lid (place_of fabric.now source + 1) 0 self.new }
     {
@@ -178,12 +185,8 @@ impl LaneCounts {
             self.silent += 1;
             return;
         }
-        let at = start.switch as usize;
-        let outcome = end_from(fabric, cells, lid, &mut rooms.marks, &mut rooms.path, at);
-        let gone = gone_from(fabric, cells, lanes, lid, &rooms.gone, start);
-        self.add_levels(
-            fabric, cells, lanes, told, lid, source, start, outcome, gone,
-        );
+        let ends = rooms.ends_from(fabric, cells, lanes, lid, start);
+        self.add_levels(fabric, cells, lanes, told, lid, source, start, ends);
     }
 
     // The routes of all end ports to a LID, one after the other.
@@ -272,6 +275,76 @@ fn count_lids(
     counts
 }
 
+// The counts by the routes of each end port to each LID.
+fn count_each(
+    alloc: Global,
+    fabric: &Fabric,
+    cells: &Cells,
+    lanes: &LaneRows,
+    levels: &Levels,
+    traffic: Traffic,
+) -> Result<LaneCounts, OutOfMemory>
+    requires same { switch_count fabric.now ≡ cells.now.switches }
+    requires lanes { switch_count fabric.now ≡ lanes.now.switches }
+    requires owners { length fabric.now.owners ≤ 64 * cells.now.blocks }
+    ensures counts { IfOk result (AreLaneCounts fabric.now (tables_of cells.now) (lanes_of lanes.now) traffic
+        (levels_of levels.now)) }
+    ensures few { IfOk result (λ counts. lane_sum_of counts.lost < 2 ^ 64) }
+{
+    let mut rooms = Rooms::new(alloc, fabric.switches())?;
+    Ok(count_lids(fabric, cells, lanes, levels, traffic, &mut rooms))
+}
+
+// The counts if all end ports send with the same levels, as bits.
+fn count_alike(
+    alloc: Global,
+    fabric: &Fabric,
+    cells: &Cells,
+    lanes: &LaneRows,
+    told: u16,
+    traffic: Traffic,
+) -> Result<LaneCounts, OutOfMemory>
+    requires same { switch_count fabric.now ≡ cells.now.switches }
+    requires lanes { switch_count fabric.now ≡ lanes.now.switches }
+    requires owners { length fabric.now.owners ≤ 64 * cells.now.blocks }
+    ensures counts { IfOk result (AreLaneCounts fabric.now (tables_of cells.now) (lanes_of lanes.now) traffic
+        (alike told)) }
+    ensures few { IfOk result (λ counts. lane_sum_of counts.lost < 2 ^ 64) }
+{
+    if !is_kept(fabric, lanes, u64::from(told)) {
+        return count_each(alloc, fabric, cells, lanes, &Levels::Same(told), traffic);
+    }
+    let counts = count_routes(alloc, fabric, cells, traffic)?;
+    Ok(alike_counts(told, &counts))
+}
+
+// The counts if each end port and LID have levels of their own: at once, if nothing can be discarded, all arrive on one lane,
+// and each pair has a level.
+fn count_told(
+    alloc: Global,
+    fabric: &Fabric,
+    cells: &Cells,
+    lanes: &LaneRows,
+    levels: &Levels,
+    traffic: Traffic,
+) -> Result<LaneCounts, OutOfMemory>
+    requires same { switch_count fabric.now ≡ cells.now.switches }
+    requires lanes { switch_count fabric.now ≡ lanes.now.switches }
+    requires owners { length fabric.now.owners ≤ 64 * cells.now.blocks }
+    ensures counts { IfOk result (AreLaneCounts fabric.now (tables_of cells.now) (lanes_of lanes.now) traffic
+        (levels_of levels.now)) }
+    ensures few { IfOk result (λ counts. lane_sum_of counts.lost < 2 ^ 64) }
+{
+    if !is_kept(fabric, lanes, 0xFFFF) {
+        return count_each(alloc, fabric, cells, lanes, levels, traffic);
+    }
+    let counts = count_routes(alloc, fabric, cells, traffic)?;
+    match sum_levels(fabric, levels, traffic).counts(&counts) {
+        Some(all) => Ok(all),
+        None => count_each(alloc, fabric, cells, lanes, levels, traffic),
+    }
+}
+
 /// How many routes of a traffic with service levels there are, each level of an end port and a LID a route of its own; how
 /// many arrive, through how many switches the longest of these goes; those that do not arrive, by cause: of each the least
 /// and where it is lost; and how many pairs of an end port and a LID have no level.
@@ -290,6 +363,8 @@ pub fn count_lane_routes(
         (levels_of levels.now)) }
     ensures few { IfOk result (λ counts. lane_sum_of counts.lost < 2 ^ 64) }
 {
-    let mut rooms = Rooms::new(alloc, fabric.switches())?;
-    Ok(count_lids(fabric, cells, lanes, levels, traffic, &mut rooms))
+    match levels {
+        Levels::Same(told) => count_alike(alloc, fabric, cells, lanes, *told, traffic),
+        Levels::Told(_) => count_told(alloc, fabric, cells, lanes, levels, traffic),
+    }
 }

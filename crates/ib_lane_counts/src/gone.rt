@@ -4,7 +4,8 @@ ghost use Rattle.std.specs.Prelude.{◌≡◌, ◌<◌, ◌*◌, ◌↔◌, ℕ,
 ghost use Rattle.std.specs.Int.{bit_at};
 ghost use Rattle.std.specs.Bool.{OnTrue, OnFalse};
 ghost use Rattle.ib_cells.specs.Cells.{tables_of};
-ghost use Rattle.ib_lane_counts.specs.Gone.{AreGone, AreOnFifteen, lane_by_row, IsGoneAt, IsGoneFrom, IsGoneNext, IsJoined, IsSettled};
+ghost use Rattle.ib_lane_counts.specs.Gone.{AreGone, AreOnFifteen, IsGoneAt, IsGoneFrom, IsGoneNext, IsJoined};
+ghost use Rattle.ib_lane_counts.specs.Gone.{IsSettled, lane_by_row};
 ghost use Rattle.ib_lane_routes.specs.LaneExits.{IsExit, exit_of};
 ghost use Rattle.ib_net.specs.Fabric.{switch_count};
 ghost use Rattle.ib_rows.specs.Lanes.{lanes_of};
@@ -32,8 +33,8 @@ fn on_fifteen(row: u64) -> u64
     word
 }
 
-// The levels, as bits, that are on lane 15 from a port of a switch to another: all, if no row was told for these.
-fn gone_by(lanes: &LaneRows, at: Spot, port: u8) -> u64
+/// The levels, as bits, that are on lane 15 from a port of a switch to another: all, if no row was told for these.
+pub fn gone_by(lanes: &LaneRows, at: Spot, port: u8) -> u64
     requires { at.switch < lanes.now.switches }
     ensures { AreOnFifteen (lanes_of lanes.now at.switch at.port port) result }
 {

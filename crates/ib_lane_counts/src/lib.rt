@@ -6,10 +6,14 @@
 //! end port and a LID have no level.
 #![tactic(auto)]
 
+mod alike;
 pub mod count;
 pub mod counts;
+mod ends;
 mod gone;
+mod keep;
 mod lost;
 mod more;
 mod room;
 mod source;
+mod sums;

@@ -1,10 +1,9 @@
 //! Counts with one route more.
 
-ghost use Rattle.std.specs.Prelude.{◌≡◌, ◌<◌, ◌≤◌, ◌+◌, ◌*◌, ◌^◌, ◌↔◌, None, Some, IsTrue};
+ghost use Rattle.std.specs.Prelude.{◌≡◌, ◌<◌, ◌≤◌, ◌+◌, ◌*◌, ◌^◌, ◌↔◌, None, Some, IsTrue, max};
 ghost use Rattle.ib_cells.specs.Cells.{tables_of};
 ghost use Rattle.ib_lane_counts.specs.LaneCounts.{AreCountsOf, AreLosses, IsLaneLost, IsLoss, lane_sum_of};
 ghost use Rattle.ib_lane_counts.specs.Steps.{IsBefore, IsLesser, IsUpTo};
-ghost use Rattle.ib_lane_routes.specs.declared.hop.LaneOutcome.TheVariants.{Discards, Loops, Stops};
 ghost use Rattle.ib_lane_routes.specs.LaneRoutes.{LaneEndsAs, LaneSends, begin_of, lane_hop};
 ghost use Rattle.ib_net.specs.Fabric.{switch_count};
 ghost use Rattle.ib_routes.specs.declared.traffic.Traffic.{Traffic};
@@ -37,6 +36,20 @@ fn is_less(fabric: &Fabric, told: Option<LostLaneRoute>, lid: u16, source: EndPo
     match told {
         None => true,
         Some(one) => one.lid == lid && fabric.guid(source) < fabric.guid(one.source),
+    }
+}
+
+impl BegunRoute {
+    // It is lost at a switch.
+    fn lost(self, at: u32) -> LostLaneRoute
+        ensures { result ≡ record { lid = self.lid; source = self.source; level = self.level; at = at } }
+    {
+        LostLaneRoute {
+            lid: self.lid,
+            source: self.source,
+            level: self.level,
+            at,
+        }
     }
 }
 
@@ -86,24 +99,19 @@ impl LaneLoss {
             route.start,
             outcome,
         );
-        self.least = Some(LostLaneRoute {
-            lid: route.lid,
-            source: route.source,
-            level: route.level,
-            at,
-        });
+        self.least = Some(route.lost(at));
     }
 }
 
 impl LaneLosses {
-    // One route more that stops, by a cause.
+    // One lost route more.
     fn add(
         &mut self,
         fabric: &Fabric,
         cells: &Cells,
         lanes: &LaneRows,
         route: BegunRoute,
-        cause: Cause,
+        outcome: LaneOutcome,
     )
         requires same { switch_count fabric.now ≡ cells.now.switches }
         requires lanes { switch_count fabric.now ≡ lanes.now.switches }
@@ -112,71 +120,28 @@ impl LaneLosses {
         requires level { route.level < 16 }
         requires start { route.start.switch < switch_count fabric.now }
         requires begins { begin_of fabric.now route.source ≡ Some route.start }
+        requires lost { IsLaneLost outcome }
         requires fits { lane_sum_of self.old < 2 ^ 40 }
         ensures sum { lane_sum_of self.new ≡ lane_sum_of self.old + 1 }
         ensures losses { (traffic : Traffic) (levels : LevelsOf)
             → LaneSends fabric.now traffic levels route.lid route.source route.level
             → LaneEndsAs (lane_hop fabric.now (tables_of cells.now) (lanes_of lanes.now) route.level route.lid)
-            route.start (Stops cause)
+            route.start outcome
             → AreLosses fabric.now (tables_of cells.now) (lanes_of lanes.now)
             (IsBefore fabric.now traffic levels route) self.old
             → AreLosses fabric.now (tables_of cells.now) (lanes_of lanes.now)
             (IsUpTo fabric.now traffic levels route) self.new }
     {
-        let outcome = LaneOutcome::Stops(cause);
-        match cause {
-            Cause::Missing => self.missing.add(fabric, cells, lanes, route, outcome),
-            Cause::Dead => self.dead.add(fabric, cells, lanes, route, outcome),
-            Cause::Wrong => self.wrong.add(fabric, cells, lanes, route, outcome),
+        match outcome {
+            LaneOutcome::Arrives(_) => {}
+            LaneOutcome::Stops(cause) => match cause {
+                Cause::Missing => self.missing.add(fabric, cells, lanes, route, outcome),
+                Cause::Dead => self.dead.add(fabric, cells, lanes, route, outcome),
+                Cause::Wrong => self.wrong.add(fabric, cells, lanes, route, outcome),
+            },
+            LaneOutcome::Discards => self.discard.add(fabric, cells, lanes, route, outcome),
+            LaneOutcome::Loops => self.looping.add(fabric, cells, lanes, route, outcome),
         }
-    }
-
-    // One more that is discarded.
-    fn add_discard(&mut self, fabric: &Fabric, cells: &Cells, lanes: &LaneRows, route: BegunRoute)
-        requires same { switch_count fabric.now ≡ cells.now.switches }
-        requires lanes { switch_count fabric.now ≡ lanes.now.switches }
-        requires few { switch_count fabric.now ≤ 2 ^ 14 }
-        requires lid { route.lid < 64 * cells.now.blocks }
-        requires level { route.level < 16 }
-        requires start { route.start.switch < switch_count fabric.now }
-        requires begins { begin_of fabric.now route.source ≡ Some route.start }
-        requires fits { lane_sum_of self.old < 2 ^ 40 }
-        ensures sum { lane_sum_of self.new ≡ lane_sum_of self.old + 1 }
-        ensures losses { (traffic : Traffic) (levels : LevelsOf)
-            → LaneSends fabric.now traffic levels route.lid route.source route.level
-            → LaneEndsAs (lane_hop fabric.now (tables_of cells.now) (lanes_of lanes.now) route.level route.lid)
-            route.start Discards
-            → AreLosses fabric.now (tables_of cells.now) (lanes_of lanes.now)
-            (IsBefore fabric.now traffic levels route) self.old
-            → AreLosses fabric.now (tables_of cells.now) (lanes_of lanes.now)
-            (IsUpTo fabric.now traffic levels route) self.new }
-    {
-        self.discard
-            .add(fabric, cells, lanes, route, LaneOutcome::Discards);
-    }
-
-    // One more that goes on for ever.
-    fn add_loop(&mut self, fabric: &Fabric, cells: &Cells, lanes: &LaneRows, route: BegunRoute)
-        requires same { switch_count fabric.now ≡ cells.now.switches }
-        requires lanes { switch_count fabric.now ≡ lanes.now.switches }
-        requires few { switch_count fabric.now ≤ 2 ^ 14 }
-        requires lid { route.lid < 64 * cells.now.blocks }
-        requires level { route.level < 16 }
-        requires start { route.start.switch < switch_count fabric.now }
-        requires begins { begin_of fabric.now route.source ≡ Some route.start }
-        requires fits { lane_sum_of self.old < 2 ^ 40 }
-        ensures sum { lane_sum_of self.new ≡ lane_sum_of self.old + 1 }
-        ensures losses { (traffic : Traffic) (levels : LevelsOf)
-            → LaneSends fabric.now traffic levels route.lid route.source route.level
-            → LaneEndsAs (lane_hop fabric.now (tables_of cells.now) (lanes_of lanes.now) route.level route.lid)
-            route.start Loops
-            → AreLosses fabric.now (tables_of cells.now) (lanes_of lanes.now)
-            (IsBefore fabric.now traffic levels route) self.old
-            → AreLosses fabric.now (tables_of cells.now) (lanes_of lanes.now)
-            (IsUpTo fabric.now traffic levels route) self.new }
-    {
-        self.looping
-            .add(fabric, cells, lanes, route, LaneOutcome::Loops);
     }
 }
 
@@ -248,9 +213,24 @@ impl LaneCounts {
                 self.arrived += 1;
                 self.hops = self.hops.max(switches);
             }
-            LaneOutcome::Stops(cause) => self.lost.add(fabric, cells, lanes, route, cause),
-            LaneOutcome::Discards => self.lost.add_discard(fabric, cells, lanes, route),
-            LaneOutcome::Loops => self.lost.add_loop(fabric, cells, lanes, route),
+            _ => self.lost.add(fabric, cells, lanes, route, outcome),
         }
+    }
+
+    /// So many more that all arrive, each through so many switches.
+    pub fn add_arrived(&mut self, routes: u64, switches: u32)
+        requires all { self.old.arrived ≤ self.old.routes }
+        requires fits { self.old.routes + routes < 2 ^ 64 }
+        ensures { self.new ≡ record {
+          routes = self.old.routes + routes;
+          arrived = self.old.arrived + routes;
+          hops = max self.old.hops switches;
+          lost = self.old.lost;
+          silent = self.old.silent;
+        } }
+    {
+        self.routes += routes;
+        self.arrived += routes;
+        self.hops = self.hops.max(switches);
     }
 }

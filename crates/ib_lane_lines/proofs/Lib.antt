@@ -1,1 +1,2 @@
 mod LaneRowLemmas
+mod LanePictureLemmas

@@ -1,1 +1,2 @@
 pub mod LaneAnswers
+pub mod LanePictures

@@ -70,7 +70,7 @@ fn push_judged(
     )
 }
 
-fn levels_word(levels: LevelsAsked) -> RowWord<'static>
+pub(crate) fn levels_word(levels: LevelsAsked) -> RowWord<'static>
     ensures { word_text result ≡ levels_word levels }
 {
     match levels {

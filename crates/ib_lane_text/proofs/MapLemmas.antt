@@ -3,8 +3,8 @@ use Rattle.std.proofs.Common.{◌≡◌, ap, refl, ℕ, inl, inr, List, [], ◌�
 use Rattle.outside.specs.Told.{Seen}
 use Rattle.text_lines.specs.Chains.{LeadsBy, IsFaultOf}
 use Rattle.text_lines.specs.Lines.{lines_of}
-use Rattle.ib_lane_text.specs.declared.cause.LaneCause.{LaneCause}
-use Rattle.ib_lane_text.specs.declared.cause.LaneCause.TheVariants.{NoEnd}
+use Rattle.ib_words.specs.declared.lane_cause.LaneCause.{LaneCause}
+use Rattle.ib_words.specs.declared.lane_cause.LaneCause.TheVariants.{NoEnd}
 use Rattle.ib_lane_text.specs.declared.reader.LaneRefusal.{LaneRefusal}
 use Rattle.ib_lane_text.specs.declared.reader.LaneRefusal.TheVariants as refusal
 use Rattle.ib_lane_text.specs.Texts.{AddsLine, IsFaultyLine, IsFaultFrom, IsTextOf, GaveText, GaveFault, IsRefusedBy}

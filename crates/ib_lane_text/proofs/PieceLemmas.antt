@@ -13,8 +13,8 @@ use Rattle.text_lines.specs.Lines.{lines_of}
 use Rattle.text_lines.specs.Chains.{LeadsBy}
 use Rattle.text_lines.proofs.LineLemmas.{parts_some, first_of_parts, position_none, line_at_feed, line_without_feed, no_lines}
 use Rattle.text_lines.proofs.ChainLaws.{LeadsBy-push}
-use Rattle.ib_lane_text.specs.declared.cause.LaneCause.{LaneCause}
-use Rattle.ib_lane_text.specs.declared.cause.LaneCause.TheVariants.{LineTooLong, NoEnd}
+use Rattle.ib_words.specs.declared.lane_cause.LaneCause.{LaneCause}
+use Rattle.ib_words.specs.declared.lane_cause.LaneCause.TheVariants.{LineTooLong, NoEnd}
 use Rattle.ib_lane_text.specs.Texts.{AddsLine, IsFaultyLine, IsFaultFrom, IsFaultOfAll}
 use Rattle.ib_lane_text.specs.Pieces.{AreLinesOf, IsReadTo, AreAllRead, is_feed}
 

@@ -15,8 +15,8 @@ use Rattle.outside.proofs.ToldLemmas.{with_front_twice}
 use Rattle.text_lines.specs.Stops.{IsStep}
 use Rattle.text_lines.specs.declared.stop.Stop.{Stop}
 use Rattle.text_lines.specs.declared.stop.Stop.TheVariants.{Fault, OutOfMemory}
-use Rattle.ib_lane_text.specs.declared.cause.LaneCause.{LaneCause}
-use Rattle.ib_lane_text.specs.declared.cause.LaneCause.TheVariants.{TooMany}
+use Rattle.ib_words.specs.declared.lane_cause.LaneCause.{LaneCause}
+use Rattle.ib_words.specs.declared.lane_cause.LaneCause.TheVariants.{TooMany}
 use Rattle.ib_lane_text.specs.declared.reader.LaneRefusal.{LaneRefusal}
 use Rattle.ib_lane_text.specs.declared.reader.LaneRefusal.TheVariants as refusal
 use Rattle.ib_lane_text.specs.Texts.{AddsLine, IsFaultyLine, IsFaultOfAll, GaveText, GaveFault, IsRefusedBy}

@@ -3,7 +3,7 @@ use Rattle.std.proofs.Common.{◌≡◌, ◌∙◌, ap, Result, Ok, Err}
 use Rattle.text_lines.specs.Stops.{IsStep}
 use Rattle.text_lines.specs.declared.stop.Stop.{Stop}
 use Rattle.text_lines.specs.declared.stop.Stop.TheVariants.{Fault, OutOfMemory}
-use Rattle.ib_lane_text.specs.declared.cause.LaneCause.{LaneCause}
+use Rattle.ib_words.specs.declared.lane_cause.LaneCause.{LaneCause}
 use Rattle.ib_lane_text.specs.Says.{and_then, IsSaid, LedTo}
 
 module _ {Line Told : Type 0} (said : Result Line LaneCause) (told_with : Line → Result Told LaneCause) (after : Told) where

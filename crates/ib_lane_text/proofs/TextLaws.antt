@@ -3,8 +3,8 @@ use Rattle.std.proofs.Common.{◌≡◌, ◌∙◌, sym, refl, ℕ, ◌<◌, ◌
 use Rattle.std.proofs.lemmas.Bool.{cases_lt}
 use Rattle.text_lines.specs.Lines.{lines_of}
 use Rattle.text_lines.proofs.ChainLaws.{LeadsBy-once, end_or_fault, no_fault_of, one_fault_of}
-use Rattle.ib_lane_text.specs.declared.cause.LaneCause.{LaneCause}
-use Rattle.ib_lane_text.specs.declared.cause.LaneCause.TheVariants.{LineTooLong, NoEnd}
+use Rattle.ib_words.specs.declared.lane_cause.LaneCause.{LaneCause}
+use Rattle.ib_words.specs.declared.lane_cause.LaneCause.TheVariants.{LineTooLong, NoEnd}
 use Rattle.ib_lane_text.specs.Texts.{AddsLine, IsFaultyLine, IsFaultFrom, IsTextOf}
 
 module _ {State : Type 0} (step : State → List ℕ → Result State LaneCause) (IsEnded : State → Type 0) (ended_or : (s : State) → IsEnded s ⊎ (¬ IsEnded s)) (start : State) where

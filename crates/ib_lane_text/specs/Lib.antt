@@ -1,4 +1,3 @@
-pub mod Causes
 pub mod Heads
 pub mod Says
 pub mod Texts

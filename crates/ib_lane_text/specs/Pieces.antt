@@ -6,7 +6,7 @@ use Rattle.text_lines.specs.Lines.{lines_of}
 use Rattle.text_lines.specs.Chains.{LeadsBy}
 use Rattle.text_lines.specs.declared.stop.Stop.{Stop}
 use Rattle.text_lines.specs.declared.stop.Stop.TheVariants.{Fault, OutOfMemory}
-use Rattle.ib_lane_text.specs.declared.cause.LaneCause.{LaneCause}
+use Rattle.ib_words.specs.declared.lane_cause.LaneCause.{LaneCause}
 use Rattle.ib_lane_text.specs.declared.reader.LaneRefusal.{LaneRefusal}
 use Rattle.ib_lane_text.specs.declared.reader.LaneRefusal.TheVariants as refusal
 use Rattle.ib_lane_text.specs.Texts.{AddsLine, IsFaultFrom, IsFaultOfAll, IsTextOf}

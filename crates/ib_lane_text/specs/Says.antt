@@ -3,7 +3,7 @@ use Rattle.std.specs.Prelude.{◌≡◌, ℕ, List, Option, Some, None, Result, 
 use Rattle.text_lines.specs.Words.{is_number_in, number_value}
 use Rattle.text_lines.specs.declared.stop.Stop.{Stop}
 use Rattle.text_lines.specs.declared.stop.Stop.TheVariants.{Fault, OutOfMemory}
-use Rattle.ib_lane_text.specs.declared.cause.LaneCause.{LaneCause}
+use Rattle.ib_words.specs.declared.lane_cause.LaneCause.{LaneCause}
 
 -- a number in decimal, up to a greatest one
 abbrev pub number_to : (most : ℕ) → List ℕ → Option ℕ

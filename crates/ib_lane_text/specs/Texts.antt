@@ -3,8 +3,8 @@ use Rattle.std.specs.Prelude.{◌≡◌, ◌⊎◌, ◌<◌, ◌≤◌, ◌^◌,
 use Rattle.outside.specs.Told.{Seen, Gave, IsAtEnd, Failed}
 use Rattle.text_lines.specs.Chains.{LeadsBy, IsFaultOf}
 use Rattle.text_lines.specs.Lines.{lines_of}
-use Rattle.ib_lane_text.specs.declared.cause.LaneCause.{LaneCause}
-use Rattle.ib_lane_text.specs.declared.cause.LaneCause.TheVariants.{LineTooLong, NoEnd, TooMany}
+use Rattle.ib_words.specs.declared.lane_cause.LaneCause.{LaneCause}
+use Rattle.ib_words.specs.declared.lane_cause.LaneCause.TheVariants.{LineTooLong, NoEnd, TooMany}
 use Rattle.ib_lane_text.specs.declared.reader.LaneRefusal.{LaneRefusal}
 use Rattle.ib_lane_text.specs.declared.reader.LaneRefusal.TheVariants as refusal
 

@@ -12,10 +12,10 @@ ghost use Rattle.ib_lane_text.specs.Pieces.{is_feed, refused, GavePiece, IsFinis
 ghost use Rattle.ib_lane_text.specs.Pieces.{IsLastRead, IsLineRead};
 ghost use Rattle.ib_lane_text.specs.Pieces.{IsReadOn, IsStoppedLast, IsStoppedOn};
 
-use crate::cause::LaneCause;
 use crate::takes::{LaneStop, TakesLines};
 use an_base::memory::OutOfMemory;
 use ib_net::fabric::Fabric;
+use ib_words::lane_cause::LaneCause;
 use outside::source::{Got, Source};
 use std::alloc::Global;
 use text_lines::line::first_of;

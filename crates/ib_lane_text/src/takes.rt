@@ -3,10 +3,10 @@
 ghost use Rattle.std.specs.Prelude.{◌↔◌, ℕ, List, IsTrue, OnOk};
 ghost use Rattle.text_lines.specs.Stops.{IsStep};
 ghost use Rattle.ib_net.specs.Fabric.{FabricOf};
-ghost use Rattle.ib_lane_text.specs.declared.cause.LaneCause.{LaneCause};
+ghost use Rattle.ib_words.specs.declared.lane_cause.LaneCause.{LaneCause};
 
-use crate::cause::LaneCause;
 use ib_net::fabric::Fabric;
+use ib_words::lane_cause::LaneCause;
 use std::alloc::Global;
 use text_lines::stop::Stop;
 

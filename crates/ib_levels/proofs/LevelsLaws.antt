@@ -2,7 +2,7 @@
 use Rattle.std.proofs.Common.{◌≡◌, ◌∙◌, sym, ap, refl, ℕ, ◌⊎◌, inl, inr, List, Bool, true, false}
 use Rattle.ib_net.specs.Fabric.{FabricOf}
 use Rattle.ib_rows.specs.PathLevels.{LevelsOf}
-use Rattle.ib_lane_text.specs.declared.cause.LaneCause.{LaneCause}
+use Rattle.ib_words.specs.declared.lane_cause.LaneCause.{LaneCause}
 use Rattle.ib_lane_text.proofs.TextLaws as laws
 use Rattle.ib_levels.specs.Levels.{IsEnded, IsLevelsFault, IsLevelsText, Told, is_begun, none_told, told_after}
 

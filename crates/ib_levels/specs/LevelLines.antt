@@ -8,8 +8,8 @@ use Rattle.ib_words.specs.Digits.{decimal, hex}
 use Rattle.ib_lane_text.specs.Heads.{node_head}
 use Rattle.ib_lane_text.specs.Says.{number_to, or_cause}
 use Rattle.ib_lane_text.specs.declared.head.NodeHead.{NodeHead}
-use Rattle.ib_lane_text.specs.declared.cause.LaneCause.{LaneCause}
-use Rattle.ib_lane_text.specs.declared.cause.LaneCause.TheVariants.{UnknownLine, BadRow, LidRange}
+use Rattle.ib_words.specs.declared.lane_cause.LaneCause.{LaneCause}
+use Rattle.ib_words.specs.declared.lane_cause.LaneCause.TheVariants.{UnknownLine, BadRow, LidRange}
 use Rattle.ib_levels.specs.declared.line.LevelLine.{LevelLine}
 use Rattle.ib_levels.specs.declared.line.LevelLine.TheVariants.{Nothing, Head, Level, Path}
 

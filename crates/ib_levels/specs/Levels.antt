@@ -9,8 +9,8 @@ use Rattle.ib_lane_text.specs.Says.{and_then}
 use Rattle.ib_lane_text.specs.Texts.{IsFaultFrom, IsTextOf}
 use Rattle.ib_lane_text.specs.declared.head.NodeHead.{NodeHead}
 use Rattle.ib_lane_text.specs.declared.head.NodeHead.TheVariants as head
-use Rattle.ib_lane_text.specs.declared.cause.LaneCause.{LaneCause}
-use Rattle.ib_lane_text.specs.declared.cause.LaneCause.TheVariants.{UnknownSwitch, UnknownEnd, OutOfPlace}
+use Rattle.ib_words.specs.declared.lane_cause.LaneCause.{LaneCause}
+use Rattle.ib_words.specs.declared.lane_cause.LaneCause.TheVariants.{UnknownSwitch, UnknownEnd, OutOfPlace}
 use Rattle.ib_levels.specs.declared.line.LevelLine.{LevelLine}
 use Rattle.ib_levels.specs.declared.line.LevelLine.TheVariants.{Nothing, Head, Level, Path}
 use Rattle.ib_levels.specs.declared.reading.Part.{Part}

@@ -3,7 +3,7 @@
 ghost use Rattle.std.specs.Prelude.{◌≡◌, ◌⊎◌, ℕ, List};
 ghost use Rattle.ib_net.specs.Fabric.{FabricOf};
 ghost use Rattle.ib_rows.specs.PathLevels.{LevelsOf};
-ghost use Rattle.ib_lane_text.specs.declared.cause.LaneCause.{LaneCause};
+ghost use Rattle.ib_words.specs.declared.lane_cause.LaneCause.{LaneCause};
 ghost use Rattle.ib_levels.specs.Levels.{IsLevelsFault, IsLevelsText};
 
 /// Bytes are the text of one assignment of levels, or have one first fault, and not both; and one of the

@@ -5,11 +5,11 @@ ghost use Rattle.ib_lane_text.specs.Says.{IsSaid};
 ghost use Rattle.ib_levels.specs.LevelLines.{HasLowLevel, hex_after, level_in, level_said, path_said};
 ghost use Rattle.ib_levels.specs.LevelLines.{said_by, said_by_three, said_in};
 
-use ib_lane_text::cause::LaneCause;
 use ib_lane_text::head::{NodeHead, node_head};
 use ib_lane_text::takes::LaneStop;
 use ib_words::cut::after;
 use ib_words::digits::{decimal, hex};
+use ib_words::lane_cause::LaneCause;
 use std::alloc::Global;
 use text_lines::line::words;
 use text_lines::stop::Stop;

@@ -8,12 +8,12 @@ ghost use Rattle.ib_levels.specs.Readings.{IsEndOf, IsFit, told_of};
 
 use crate::line::{LevelLine, level_line};
 use an_base::memory::OutOfMemory;
-use ib_lane_text::cause::LaneCause;
 use ib_lane_text::head::NodeHead;
 use ib_lane_text::takes::{LaneStop, TakesLines};
 use ib_net::fabric::Fabric;
 use ib_net::node::EndPort;
 use ib_rows::levels::LevelRows;
+use ib_words::lane_cause::LaneCause;
 use std::alloc::Global;
 use text_lines::stop::Stop;
 

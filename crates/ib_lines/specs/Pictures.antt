@@ -21,11 +21,11 @@ escape byte = if (byte == 34) || (byte == 92)
 abbrev pub escaped : List ℕ → List ℕ
 escaped name = flat_map escape name
 
--- what loop there is, if any
-abbrev pub title_row : List ℕ → ℕ → Row
-title_row traffic many = if many == 0
-    then codes "label = \"traffic" ∷ traffic ∷ codes "has no credit loop\"" ∷ []
-    else codes "label = \"traffic" ∷ traffic ∷ codes "has a credit loop of" ∷ decimal many ∷ codes "channels\"" ∷ []
+-- how many channels a loop has, or that there is none, at the end of a text in quotes
+abbrev pub loop_word : ℕ → List ℕ
+loop_word many = if many == 0
+    then codes "has no credit loop\""
+    else codes "has a credit loop of " ++ (decimal many ++ codes " channels\"")
 
 -- a GUID at the end of a text in quotes, and a switch by its GUID
 abbrev pub closed_word : ℕ → List ℕ
@@ -42,12 +42,21 @@ label_word name = codes "\"" ++ (escaped name ++ codes "\\n\\N\"")
 abbrev pub switch_row : Name → Row
 switch_row name = switch_word name.guid ∷ codes "[ label =" ∷ label_word name.text ∷ codes "]" ∷ []
 
--- a channel: from its switch out of a port, to another one into a port, with the route that makes it depend on the next
-abbrev pub arrow_row : Arrow → Row
-arrow_row arrow =
+-- A channel: from its switch out of a port, to another one into a port, with the route that makes it depend on the next.
+-- Its label begins with a word.
+abbrev pub arrow_row_by : List ℕ → Arrow → Row
+arrow_row_by label arrow =
     switch_word arrow.step.guid ∷ codes "->" ∷ switch_word arrow.to
     ∷ codes "[ taillabel =" ∷ decimal arrow.step.port ∷ codes "headlabel =" ∷ decimal arrow.entry
-    ∷ codes "label = \"lid" ∷ decimal arrow.step.lid ∷ codes "from" ∷ closed_word arrow.step.source ∷ codes "]" ∷ []
+    ∷ label ∷ decimal arrow.step.lid ∷ codes "from" ∷ closed_word arrow.step.source ∷ codes "]" ∷ []
+
+abbrev pub arrow_row : Arrow → Row
+arrow_row arrow = arrow_row_by (codes "label = \"lid") arrow
+
+-- how the label begins on a lane: the lane and the service level of the route have a line of their own
+abbrev pub lane_label : (lane level : ℕ) → List ℕ
+lane_label lane level =
+    codes "label = \"lane " ++ (decimal lane ++ (codes " level " ++ (decimal level ++ codes "\\nlid")))
 
 -- how boxes and the numbers of ports are drawn
 abbrev pub style_rows : List Row
@@ -56,11 +65,16 @@ style_rows = (codes "node [ shape = box ]" ∷ []) ∷ (codes "edge [ labeldista
 abbrev pub end_rows : List Row
 end_rows = (codes "}" ∷ []) ∷ []
 
--- all of it
-unfoldable pub picture_rows : Picture → List Row
-picture_rows picture =
-    (codes "digraph cycle {" ∷ []) ∷ title_row picture.traffic (length picture.arrows.items)
-    ∷ (style_rows ++ map switch_row picture.names.items ++ map arrow_row picture.arrows.items ++ end_rows)
+-- all of it: what was judged and what loop there is, the switches that have names, and the channels
+unfoldable pub picture_rows_by : {Channel : Type 0} → (Channel → Row) → Row → List Name → List Channel → List Row
+picture_rows_by row_of title names channels =
+    (codes "digraph cycle {" ∷ []) ∷ (codes "label = \"traffic" ∷ title)
+    ∷ (style_rows ++ map switch_row names ++ map row_of channels ++ end_rows)
+
+abbrev pub picture_text_by : {Channel : Type 0} → (Channel → Row) → Row → List Name → List Channel → List ℕ
+picture_text_by row_of title names channels = lines_text (picture_rows_by row_of title names channels)
 
 abbrev pub picture_text : Picture → List ℕ
-picture_text picture = lines_text (picture_rows picture)
+picture_text picture =
+    picture_text_by arrow_row (picture.traffic ∷ loop_word (length picture.arrows.items) ∷ [])
+    picture.names.items picture.arrows.items

@@ -3,9 +3,9 @@
 use Rattle.std.specs.Prelude.{ℕ, List}
 use Rattle.std.specs.Fmt.{decimal}
 use Rattle.ib_lines.specs.declared.row.RowWord.{RowWord}
-use Rattle.ib_lines.specs.declared.row.RowWord.TheVariants.{Text, Number, Guid, Quoted, Closed, Label}
+use Rattle.ib_lines.specs.declared.row.RowWord.TheVariants.{Text, Number, Guid, Quoted, Closed, Label, Loop, OnLane}
 use Rattle.ib_lines.specs.Answers.{guid_word}
-use Rattle.ib_lines.specs.Pictures.{closed_word, label_word, switch_word}
+use Rattle.ib_lines.specs.Pictures.{closed_word, label_word, lane_label, loop_word, switch_word}
 
 -- what stands for a word
 abbrev pub word_text : RowWord → List ℕ
@@ -15,3 +15,5 @@ word_text (Guid guid) = guid_word guid
 word_text (Quoted guid) = switch_word guid
 word_text (Closed guid) = closed_word guid
 word_text (Label name) = label_word name.now
+word_text (Loop many) = loop_word many
+word_text (OnLane lane level) = lane_label lane level

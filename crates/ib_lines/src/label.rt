@@ -1,9 +1,10 @@
-//! The labels of switches in a picture.
+//! The labels of a picture.
 
 ghost use Rattle.std.specs.Prelude.{◌≡◌, ◌++◌, ◌∷◌, [], OnOk, MatchOption};
-ghost use Rattle.ib_lines.specs.Pictures.{escape, escaped, label_word};
+ghost use Rattle.ib_lines.specs.Pictures.{escape, escaped, label_word, lane_label, loop_word};
 
-use std::alloc::AllocError;
+use an_base::text::push_decimal;
+use std::alloc::{AllocError, Global};
 
 /// Appends the label of a switch with a name.
 pub(crate) fn push_label(text: &mut Vec<u8>, name: &[u8]) -> Result<(), AllocError>
@@ -44,4 +45,33 @@ fn escape(byte: u8) -> Option<&'static [u8]>
         0..=31 | 127 => Some(b"?"),
         _ => None,
     }
+}
+
+/// Appends how many channels a loop has, at the end of a text in quotes; or that there is no loop.
+pub(crate) fn push_loop(alloc: Global, text: &mut Vec<u8>, many: usize) -> Result<(), AllocError>
+    ensures { OnOk result (text.new.items ≡ text.old.items ++ loop_word many) }
+{
+    if many == 0 {
+        return text.extend_from_slice(b"has no credit loop\"");
+    }
+    text.extend_from_slice(b"has a credit loop of ")?;
+    push_decimal(alloc, text, many as u64)?;
+    text.extend_from_slice(b" channels\"")?;
+    Ok(())
+}
+
+/// Appends how the label of a channel on a lane begins, for a route with a service level.
+pub(crate) fn push_on_lane(
+    alloc: Global,
+    text: &mut Vec<u8>,
+    lane: u8,
+    level: u8,
+) -> Result<(), AllocError>
+    ensures { OnOk result (text.new.items ≡ text.old.items ++ lane_label lane level) }
+{
+    text.extend_from_slice(b"label = \"lane ")?;
+    push_decimal(alloc, text, u64::from(lane))?;
+    text.extend_from_slice(b" level ")?;
+    push_decimal(alloc, text, u64::from(level))?;
+    text.extend_from_slice(b"\\nlid")
 }

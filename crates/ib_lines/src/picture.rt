@@ -2,11 +2,12 @@
 
 ghost use Rattle.std.specs.Prelude.{◌≡◌, ◌++◌, map, IfOk, OnOk};
 ghost use Rattle.text_lines.specs.Lines.{line_text, lines_text};
-ghost use Rattle.ib_lines.specs.Pictures.{picture_text, style_rows, switch_row, title_row};
+ghost use Rattle.ib_lines.specs.Pictures.{arrow_row_by, picture_text, picture_text_by, style_rows, switch_row};
+ghost use Rattle.ib_lines.specs.RowWords.{word_text};
 
 use crate::answer::{Name, Step};
-use crate::row::RowWord::{Closed, Label, Number, Quoted, Text};
-use crate::row::{HasRow, push_row, push_rows};
+use crate::row::RowWord::{Closed, Label, Loop, Number, Quoted, Text};
+use crate::row::{HasRow, RowWord, push_row, push_rows};
 use an_base::memory::OutOfMemory;
 use an_base::text::Word;
 use std::alloc::Global;
@@ -37,57 +38,47 @@ pub struct Picture {
 pub fn print_picture(alloc: Global, picture: &Picture) -> Result<Vec<u8>, OutOfMemory>
     ensures { IfOk result (λ text. text.items ≡ picture_text picture.now) }
 {
+    print_picture_by(
+        alloc,
+        &[Text(picture.traffic.as_bytes()), Loop(picture.arrows.len())],
+        &picture.names,
+        &picture.arrows,
+    )
+}
+
+/// The text of a picture with a title, the names of switches, and an arrow for each channel.
+pub fn print_picture_by<T: HasRow>(
+    alloc: Global,
+    title: &[RowWord],
+    names: &[Name],
+    channels: &[T],
+) -> Result<Vec<u8>, OutOfMemory>
+    ensures { IfOk result (λ text.
+        text.items ≡ picture_text_by T.words (map word_text title.now) names.now channels.now) }
+{
     let mut text = Vec::new(alloc);
-    match push_picture(alloc, &mut text, picture) {
+    match push_picture(alloc, &mut text, title, names, channels) {
         Ok(()) => Ok(text),
         Err(error) => Err(error),
     }
 }
 
-fn push_picture(alloc: Global, text: &mut Vec<u8>, picture: &Picture) -> Result<(), OutOfMemory>
-    ensures { OnOk result (text.new.items ≡ text.old.items ++ picture_text picture.now) }
-{
-    push_row(alloc, text, Text(b"digraph cycle {"), &[])?;
-    push_title(
-        alloc,
-        text,
-        picture.traffic.as_bytes(),
-        picture.arrows.len(),
-    )?;
-    push_style(alloc, text)?;
-    push_switches(alloc, text, &picture.names)?;
-    push_rows(alloc, text, &picture.arrows)?;
-    push_row(alloc, text, Text(b"}"), &[])
-}
-
-// What loop there is.
-fn push_title(
+fn push_picture<T: HasRow>(
     alloc: Global,
     text: &mut Vec<u8>,
-    traffic: &[u8],
-    many: usize,
+    title: &[RowWord],
+    names: &[Name],
+    channels: &[T],
 ) -> Result<(), OutOfMemory>
-    ensures { OnOk result (text.new.items ≡ text.old.items ++ line_text (title_row traffic.now many)) }
+    ensures { OnOk result (text.new.items ≡ text.old.items
+        ++ picture_text_by T.words (map word_text title.now) names.now channels.now) }
 {
-    if many == 0 {
-        return push_row(
-            alloc,
-            text,
-            Text(b"label = \"traffic"),
-            &[Text(traffic), Text(b"has no credit loop\"")],
-        );
-    }
-    push_row(
-        alloc,
-        text,
-        Text(b"label = \"traffic"),
-        &[
-            Text(traffic),
-            Text(b"has a credit loop of"),
-            Number(many as u64),
-            Text(b"channels\""),
-        ],
-    )
+    push_row(alloc, text, Text(b"digraph cycle {"), &[])?;
+    push_row(alloc, text, Text(b"label = \"traffic"), title)?;
+    push_style(alloc, text)?;
+    push_switches(alloc, text, names)?;
+    push_rows(alloc, text, channels)?;
+    push_row(alloc, text, Text(b"}"), &[])
 }
 
 // How the picture is drawn.
@@ -125,23 +116,36 @@ impl HasRow for Arrow {
     ghost words = { arrow_row };
 
     fn push(&self, alloc: Global, text: &mut Vec<u8>) -> Result<(), OutOfMemory> {
-        push_row(
-            alloc,
-            text,
-            Quoted(self.step.guid),
-            &[
-                Text(b"->"),
-                Quoted(self.to),
-                Text(b"[ taillabel ="),
-                Number(u64::from(self.step.port)),
-                Text(b"headlabel ="),
-                Number(u64::from(self.entry)),
-                Text(b"label = \"lid"),
-                Number(u64::from(self.step.lid)),
-                Text(b"from"),
-                Closed(self.step.source),
-                Text(b"]"),
-            ],
-        )
+        push_arrow(alloc, text, Text(b"label = \"lid"), self)
     }
+}
+
+/// Appends the row of an arrow whose label begins with a word.
+pub fn push_arrow(
+    alloc: Global,
+    text: &mut Vec<u8>,
+    label: RowWord,
+    arrow: &Arrow,
+) -> Result<(), OutOfMemory>
+    ensures { OnOk result
+        (text.new.items ≡ text.old.items ++ line_text (arrow_row_by (word_text label.entry) arrow.now)) }
+{
+    push_row(
+        alloc,
+        text,
+        Quoted(arrow.step.guid),
+        &[
+            Text(b"->"),
+            Quoted(arrow.to),
+            Text(b"[ taillabel ="),
+            Number(u64::from(arrow.step.port)),
+            Text(b"headlabel ="),
+            Number(u64::from(arrow.entry)),
+            label,
+            Number(u64::from(arrow.step.lid)),
+            Text(b"from"),
+            Closed(arrow.step.source),
+            Text(b"]"),
+        ],
+    )
 }

@@ -6,7 +6,7 @@ ghost use Rattle.ib_lines.specs.Answers.{guid_word};
 ghost use Rattle.ib_lines.specs.Pictures.{closed_word, label_word, switch_word};
 ghost use Rattle.ib_lines.specs.RowWords.{word_text};
 
-use crate::label::push_label;
+use crate::label::{push_label, push_loop, push_on_lane};
 use an_base::memory::OutOfMemory;
 use an_base::text::push_decimal;
 use std::alloc::{AllocError, Global};
@@ -27,6 +27,15 @@ pub enum RowWord<'a> {
     Closed(u64),
     /// The label of a switch with this name.
     Label(&'a [u8]),
+    /// How many channels a loop has, at the end of a text in quotes; or with 0 that there is no loop.
+    Loop(usize),
+    /// How the label of a channel on a lane begins.
+    OnLane {
+        /// The lane.
+        lane: u8,
+        /// The service level of the route.
+        level: u8,
+    },
 }
 
 /// What has a row in a text.
@@ -82,6 +91,8 @@ fn push_word(alloc: Global, text: &mut Vec<u8>, word: RowWord) -> Result<(), All
         RowWord::Quoted(guid) => push_quoted(text, guid),
         RowWord::Closed(guid) => push_closed(text, guid),
         RowWord::Label(name) => push_label(text, name),
+        RowWord::Loop(many) => push_loop(alloc, text, many),
+        RowWord::OnLane { lane, level } => push_on_lane(alloc, text, lane, level),
     }
 }
 

@@ -3,7 +3,5 @@ mod PacketLemmas
 mod RowLemmas
 mod GrowLemmas
 mod TurnLemmas
-mod LoopLemmas
-mod CountLemmas
 mod VerdictLemmas
 mod ChangedLemmas

@@ -1,5 +1,5 @@
 -- What mixtures of two tables do.
-use Rattle.std.proofs.Common.{◌≡◌, ◌≢◌, ◌∙◌, ◌+◌, sym, ap, refl, ℕ, zero, suc, Bool, true, false, cond, eqb, Option, arith, inl, inr, ◌⊎◌}
+use Rattle.std.proofs.Common.{◌≡◌, ◌≢◌, ◌∙◌, ◌+◌, sym, ap, refl, ℕ, zero, suc, Bool, true, false, cond, eqb, Option, None, arith, inl, inr, ◌⊎◌}
 use Rattle.std.proofs.lemmas.Bool.Decides.{nat_tests}
 use Rattle.channel_graph.specs.Cycles.{HasNoCycle}
 use Rattle.channel_graph.proofs.PathLemmas.{more_steps}
@@ -11,7 +11,7 @@ use Rattle.ib_routes.specs.declared.hop.Hop.TheVariants.{On}
 use Rattle.ib_routes.specs.declared.traffic.Traffic.{Traffic}
 use Rattle.ib_routes.specs.declared.traffic.Traffic.TheVariants.{Hosts, Lids, All}
 use Rattle.ib_routes.specs.Routes.{Channel, DependsOn, IsTarget, Sends, hop, hop_by}
-use Rattle.ib_mixtures.specs.Mixtures.{IsMixture, IsSentTo, MayBeFollowed, MayTake, MayTakeBoth}
+use Rattle.ib_mixtures.specs.Mixtures.{IsEmptied, IsMixture, IsSentTo, MayBeFollowed, MayTake, MayTakeBoth}
 use Rattle.ib_mixtures.specs.Moves.{DependsWhile}
 
 -- a hop is by one entry
@@ -131,3 +131,30 @@ module _ (fabric : FabricOf) (old new : TablesOf) where
           },
         ),
       )
+
+-- where rows are taken out, nothing is added
+no_row : (fabric : FabricOf) (switch lid port next : ℕ) → hop_by fabric switch lid None ≡ On port next → ⊥
+no_row fabric switch lid port next on = cc
+
+module _ (fabric : FabricOf) (old emptied : TablesOf) (is : IsEmptied old emptied) where
+  took : (lid switch port next : ℕ) → MayTake fabric old emptied lid switch port next → MayTake fabric old old lid switch port next
+  unfolding hop
+  took lid switch port next (inl on) = inl on
+  took lid switch port next (inr on) = elim (is switch lid) [
+    | inl same ↦ inl (sym (hop_same fabric emptied old switch lid same) ∙ on)
+    | inr none ↦ absurd (no_row fabric switch lid port next (sym (ap (λ (told : Option ℕ). hop_by fabric switch lid told) none) ∙ on))
+  ]
+
+  pub emptied_follows : (channel next : Channel) → MayBeFollowed fabric old emptied channel next → MayBeFollowed fabric old old channel next
+  emptied_follows channel next (lid, may) = (
+    lid,
+    record {
+      sent = may.sent;
+      first = took lid channel.switch channel.port next.switch may.first;
+      after = may.after;
+      second = took lid next.switch next.port may.after may.second;
+    },
+  )
+
+  pub no_loop_emptied : HasNoCycle (MayBeFollowed fabric old old) → HasNoCycle (MayBeFollowed fabric old emptied)
+  no_loop_emptied none = more_steps (MayBeFollowed fabric old emptied) (MayBeFollowed fabric old old) emptied_follows none

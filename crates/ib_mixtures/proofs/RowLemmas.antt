@@ -1,6 +1,5 @@
 -- The rows of the graph of the channels.
-use Rattle.std.proofs.Common.{◌≡◌, ◌∙◌, sym, ap, subst, ℕ, ◌+◌, ◌-◌, ◌*◌, ◌<◌, List, arith, length, set, get_or-set_same, get_or-set_other, get_or, inl, inr, ◌⊎◌, ◌↔◌}
-use Rattle.std.proofs.lemmas.Bool.{cases_eq}
+use Rattle.std.proofs.Common.{◌≡◌, ◌∙◌, sym, ap, ℕ, ◌+◌, ◌-◌, ◌*◌, List, arith, length, get_or, inl, inr, ◌⊎◌, ◌↔◌}
 use Rattle.channel_graph.specs.Graph.{GraphOf, LeadsTo}
 use Rattle.ib_net.specs.Fabric.{FabricOf}
 use Rattle.ib_routes.specs.Waves.{IsGraphOf}
@@ -26,10 +25,3 @@ insert_numbers old new at most port next next_port wide_most wide_port wide_next
         | inr (a, b) ↦ (leads one other).1 (inr (a ∙ sym channel, b ∙ sym second))
       ],
     )
-
--- what holds of each place so far, and of the next one
-pub put_more : (P : ℕ → ℕ → Type 0) (xs : List ℕ) (place value : ℕ) → place < length xs → P place value → ((k : ℕ) → k < place → P k (get_or xs k 0)) → (k : ℕ) → k < place + 1 → P k (get_or (set xs place value) k 0)
-put_more P xs place value low here before k within = elim (cases_eq k place) [
-  | inl same ↦ subst (λ (n : ℕ). P n (get_or (set xs place value) n 0)) (sym same) (subst (λ (x : ℕ). P place x) (sym (get_or-set_same xs place value 0 low)) here)
-  | inr other ↦ subst (λ (x : ℕ). P k x) (sym (get_or-set_other xs place k value 0 other)) (before k (omega arith))
-]

@@ -1,5 +1,5 @@
 -- The verdict on the graph, of the channels.
-use Rattle.std.proofs.Common.{◌≡◌, ◌∙◌, sym, ap, subst, refl, ℕ, ◌<◌, max, List, [], ◌∷◌, Option, None, map, arith}
+use Rattle.std.proofs.Common.{◌≡◌, ◌∙◌, sym, ap, subst, refl, ℕ, ◌<◌, max, List, [], ◌∷◌, None, map, arith}
 use Rattle.std.specs.Prelude.{slice_get}
 use Rattle.std.specs.Ordering.{nat_cmp}
 use Rattle.channel_graph.specs.Cycles.{AreRanks, HasNoCycle, IsLeastCycle}
@@ -8,7 +8,6 @@ use Rattle.channel_graph.specs.Verdict.{Passes}
 use Rattle.channel_graph.proofs.NumberLemmas.{least_cycle, no_cycle, ranks}
 use Rattle.ib_cells.specs.Cells.{TablesOf}
 use Rattle.ib_net.specs.declared.node.Side.{Side}
-use Rattle.ib_net.specs.declared.node.Side.TheVariants.{Bare, To, End}
 use Rattle.ib_net.specs.declared.node.Spot.{Spot}
 use Rattle.ib_net.specs.Fabric.{FabricOf, IsFabric, side_of}
 use Rattle.ib_routes.specs.Counting.{IsCountOf}
@@ -17,11 +16,11 @@ use Rattle.ib_routes.specs.Routes.{Channel}
 use Rattle.ib_routes.proofs.ChannelLemmas.{channel_low, channel_place}
 use Rattle.ib_verdict.specs.Steps.{IsStep}
 use Rattle.ib_verdict.specs.Verdict.{channel_cmp, rank_in, rank_over, spot_at}
-use Rattle.ib_verdict.proofs.NumberLemmas.{channel_at, channel_back, in_order}
+use Rattle.ib_verdict.proofs.NumberLemmas.{channel_at, channel_back, in_order, rank_none}
 use Rattle.ib_mixtures.specs.declared.judge.LoopChannel.{LoopChannel}
 use Rattle.ib_mixtures.specs.Steps.{AreSteps}
 use Rattle.ib_mixtures.specs.Verdict.{IsLeastTurn}
-use Rattle.ib_mixtures.proofs.CountLemmas.{count_of_steps, number_back}
+use Rattle.ib_verdict.proofs.CountLemmas.{count_of_steps, number_back}
 
 -- a channel that is told, and what is told with it and the next one
 abbrev pub channel_in : LoopChannel → Spot
@@ -34,11 +33,6 @@ Fits fabric old new one next = IsLeastTurn fabric old new (channel_of one.channe
 maps : (most : ℕ) (places : List ℕ) → map channel_of (map (spot_at most) places) ≡ map (channel_at most) places
 maps most [] = refl
 maps most (place ∷ places) = ap (λ (xs : List Channel). channel_at most place ∷ xs) (maps most places)
-
-rank_none : (side : Side) (rank : Option ℕ) → ((to entry : ℕ) → side ≡ To to entry → ⊥) → rank_over side rank ≡ None
-rank_none (To to entry) rank other = absurd (other to entry refl)
-rank_none Bare rank other = refl
-rank_none (End end) rank other = refl
 
 module _ (fabric : FabricOf) (Step : Channel → Channel → Type 0) (both : (one other : Channel) → Step one other → IsChannel fabric one × IsChannel fabric other) (g : GraphOf) (are : AreSteps fabric Step g) where
   some_most : (one other : ℕ) → LeadsTo g one other → 0 < fabric.most
@@ -74,7 +68,7 @@ module _ (fabric : FabricOf) (Step : Channel → Channel → Type 0) (both : (on
       same channel is = ap (λ (side : Side). rank_over side (slice_get list (number fabric channel))) is.leads
 
       none : (channel : Channel) → (IsChannel fabric channel → ⊥) → rank_in fabric list channel ≡ None
-      none channel other = rank_none (side_of fabric channel.switch channel.port) (slice_get list (number fabric channel)) (λ to entry leads. other (record { to = to; entry = entry; leads = leads }))
+      none channel other = rank_none fabric (side_of fabric channel.switch channel.port) (slice_get list (number fabric channel)) (λ to entry leads. other (record { to = to; entry = entry; leads = leads }))
 
   -- as many steps of the graph as there are pairs of channels
   pub pairs : (count : ℕ) → IsCountOf (IsStep g) count → IsCountOf (λ (pair : Channel × Channel). Step pair.0 pair.1) count

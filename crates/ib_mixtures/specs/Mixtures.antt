@@ -1,5 +1,5 @@
 -- While tables are replaced each row stands for the old or for the new one, in any mixture.
-use Rattle.std.specs.Prelude.{◌≡◌, ◌⊎◌, ℕ, Some}
+use Rattle.std.specs.Prelude.{◌≡◌, ◌⊎◌, ℕ, Some, None}
 use Rattle.ib_cells.specs.Cells.{TablesOf}
 use Rattle.ib_net.specs.declared.node.EndPort.{EndPort}
 use Rattle.ib_net.specs.Fabric.{FabricOf, owner_of}
@@ -32,3 +32,7 @@ pub record MayTakeBoth (fabric : FabricOf) (old new : TablesOf) (lid : ℕ) (cha
 -- a channel may be followed by another one, by what goes to some LID
 abbrev pub MayBeFollowed : FabricOf → (old new : TablesOf) → Channel → Channel → Type 0
 MayBeFollowed fabric old new channel next = (lid : ℕ) × MayTakeBoth fabric old new lid channel next
+
+-- tables of which some rows are taken out: each entry is that of others, or none
+abbrev pub IsEmptied : (old emptied : TablesOf) → Type 0
+IsEmptied old emptied = (switch lid : ℕ) → (emptied switch lid ≡ old switch lid) ⊎ (emptied switch lid ≡ None)

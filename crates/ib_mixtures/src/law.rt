@@ -9,7 +9,7 @@ ghost use Rattle.ib_routes.specs.declared.traffic.Traffic.{Traffic};
 ghost use Rattle.ib_routes.specs.declared.traffic.Traffic.TheVariants.{All};
 ghost use Rattle.ib_routes.specs.Routes.{Channel, DependsOn, Sends};
 ghost use Rattle.ib_verdict.specs.Packets.{QueuesOf};
-ghost use Rattle.ib_mixtures.specs.Mixtures.{IsMixture, MayBeFollowed, MayTakeBoth};
+ghost use Rattle.ib_mixtures.specs.Mixtures.{IsEmptied, IsMixture, MayBeFollowed, MayTakeBoth};
 ghost use Rattle.ib_mixtures.specs.Moves.{DependsWhile};
 ghost use Rattle.ib_mixtures.specs.Packets.{AllStandWhile, ComesFree};
 
@@ -45,6 +45,17 @@ pub fn what_may_be_followed_is()
         → MayTakeBoth fabric old new lid channel next → Sends fabric All lid (port.Switch channel.switch)
         → channel.switch ≢ next.switch
         → (mixed : TablesOf) × IsMixture old new mixed × DependsOn fabric mixed All channel next }
+{}
+
+/// Rows may be taken out first. Tables and what is left of them make together no more than they make alone, so no
+/// channels lead round if none do by the tables alone.
+pub fn emptied_rows_add_nothing()
+    ensures follows { (fabric : FabricOf) (old emptied : TablesOf) (channel next : Channel)
+        → IsEmptied old emptied → MayBeFollowed fabric old emptied channel next
+        → MayBeFollowed fabric old old channel next }
+    ensures no_loop { (fabric : FabricOf) (old emptied : TablesOf)
+        → HasNoCycle (MayBeFollowed fabric old old) → IsEmptied old emptied
+        → HasNoCycle (MayBeFollowed fabric old emptied) }
 {}
 
 /// Some packet can move while rows change. Let numbers fall from each channel to all by which it may be followed, let

@@ -1,31 +1,18 @@
 //! The graph of the channels of a fabric, before anything is known of which may be followed by which.
 
-ghost use Rattle.std.specs.Prelude.{◌≡◌, ◌<◌, ◌≤◌, ◌*◌, ◌^◌, ℕ, IfOk, length};
+ghost use Rattle.std.specs.Prelude.{◌≡◌, ◌*◌, ℕ, IfOk, length};
 ghost use Rattle.channel_graph.specs.Graph.{LeadsTo};
-ghost use Rattle.ib_net.specs.Fabric.{LeadsWithin, switch_count};
-ghost use Rattle.ib_routes.specs.Finding.{AreBases, base_of};
+ghost use Rattle.ib_net.specs.Fabric.{switch_count};
+ghost use Rattle.ib_routes.specs.Finding.{AreBases};
 ghost use Rattle.ib_routes.specs.Waves.{IsGraphOf};
 
 use an_base::memory::OutOfMemory;
 use channel_graph::graph::Graph;
 use ib_net::fabric::Fabric;
-use ib_net::node::Side;
+use ib_routes::find::find_base;
 use std::alloc::Global;
 
-// The number of port 1 of the switch to which a port leads.
-fn find_base(most: usize, side: Side) -> u32
-    requires most { most < 255 }
-    requires side { LeadsWithin (2 ^ 20) side }
-    ensures { result ≡ base_of most side }
-{
-    match side {
-        Side::Bare => 0,
-        Side::To(next, _) => (next as usize * most) as u32,
-        Side::End(_) => 0,
-    }
-}
-
-// Those of all ports.
+// The number of the first channel of the switch to which each port leads.
 fn find_bases(alloc: Global, fabric: &Fabric) -> Result<Vec<u32>, OutOfMemory>
     ensures { IfOk result (λ bases. (length bases.items ≡ switch_count fabric.now * fabric.now.most)
         × AreBases fabric.now (switch_count fabric.now * fabric.now.most) bases.items) }

@@ -5,8 +5,8 @@ use Rattle.std.proofs.lemmas.Bool.Decides.{nat_tests}
 use Rattle.std.proofs.lemmas.List.{map_push, take_more}
 use Rattle.text_lines.specs.Lines.{lines_of, words_of}
 use Rattle.ib_net.specs.Fabric.{FabricOf}
-use Rattle.ib_ranks.specs.declared.cause.RanksCause.{RanksCause}
-use Rattle.ib_ranks.specs.declared.cause.RanksCause.TheVariants.{LineTooLong, NoHead}
+use Rattle.ib_words.specs.declared.ranks_cause.RanksCause.{RanksCause}
+use Rattle.ib_words.specs.declared.ranks_cause.RanksCause.TheVariants.{LineTooLong, NoHead}
 use Rattle.text_lines.proofs.ChainLaws.{LeadsBy-once, end_or_fault, no_fault_of, one_fault_of}
 use Rattle.ib_ranks.specs.RankLines.{said_by, said_by_four, said_by_two, said_in}
 use Rattle.ib_ranks.specs.Ranks.{AddsTo, HasBegun, IsFaultyAfter, IsRanksFault, IsRanksText, Step, Told, none_told, told_by, told_with}

@@ -1,4 +1,3 @@
-pub mod Causes
 pub mod RankLines
 pub mod Ranks
 pub mod Readings

@@ -8,8 +8,8 @@ use Rattle.ib_words.specs.Cuts.{after}
 use Rattle.ib_words.specs.Digits.{hex}
 use Rattle.ib_ranks.specs.declared.line.RankLine.{RankLine}
 use Rattle.ib_ranks.specs.declared.line.RankLine.TheVariants.{Nothing, Head, Rank}
-use Rattle.ib_ranks.specs.declared.cause.RanksCause.{RanksCause}
-use Rattle.ib_ranks.specs.declared.cause.RanksCause.TheVariants.{LineTooLong, UnknownLine, BadGuid, BadPort, BadRank}
+use Rattle.ib_words.specs.declared.ranks_cause.RanksCause.{RanksCause}
+use Rattle.ib_words.specs.declared.ranks_cause.RanksCause.TheVariants.{LineTooLong, UnknownLine, BadGuid, BadPort, BadRank}
 
 -- what a line says, or the first cause why it says nothing
 abbrev pub Said : Type 0

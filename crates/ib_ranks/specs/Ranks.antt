@@ -8,8 +8,8 @@ use Rattle.ib_net.specs.declared.node.Side.TheVariants.{Bare, To, End}
 use Rattle.ib_net.specs.Fabric.{FabricOf, side_of, switch_count, switch_with}
 use Rattle.ib_routes.specs.Routes.{Channel}
 use Rattle.ib_routes.specs.Found.{number}
-use Rattle.ib_ranks.specs.declared.cause.RanksCause.{RanksCause}
-use Rattle.ib_ranks.specs.declared.cause.RanksCause.TheVariants.{OutOfPlace, UnknownSwitch, NoChannel, RankTold, NoHead}
+use Rattle.ib_words.specs.declared.ranks_cause.RanksCause.{RanksCause}
+use Rattle.ib_words.specs.declared.ranks_cause.RanksCause.TheVariants.{OutOfPlace, UnknownSwitch, NoChannel, RankTold, NoHead}
 use Rattle.ib_ranks.specs.declared.line.RankLine.{RankLine}
 use Rattle.ib_ranks.specs.declared.line.RankLine.TheVariants.{Nothing, Head, Rank}
 use Rattle.ib_ranks.specs.RankLines.{said_in}

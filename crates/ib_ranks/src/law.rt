@@ -2,7 +2,7 @@
 
 ghost use Rattle.std.specs.Prelude.{◌≡◌, ◌⊎◌, ℕ, List};
 ghost use Rattle.ib_net.specs.Fabric.{FabricOf};
-ghost use Rattle.ib_ranks.specs.declared.cause.RanksCause.{RanksCause};
+ghost use Rattle.ib_words.specs.declared.ranks_cause.RanksCause.{RanksCause};
 ghost use Rattle.ib_ranks.specs.Ranks.{IsRanksFault, IsRanksText};
 
 /// Bytes are the text of one list of ranks, or have one first fault, and not both; and one of the two comes.

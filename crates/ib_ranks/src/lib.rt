@@ -5,7 +5,6 @@
 //! in place of either. Its laws: bytes are the text of one list of ranks, or have one first fault, and not both.
 #![tactic(auto)]
 
-pub mod cause;
 pub mod law;
 pub mod line;
 pub mod read;

@@ -3,9 +3,9 @@
 ghost use Rattle.std.specs.Prelude.{◌≡◌, ◌≤◌, map, IfSome};
 ghost use Rattle.ib_ranks.specs.RankLines.{guid_in, number_to, rank_said, said_by, said_by_four, said_by_two};
 
-use crate::cause::RanksCause;
 use ib_words::cut::after;
 use ib_words::digits::hex;
+use ib_words::ranks_cause::RanksCause;
 use text_lines::word::{is, number_between};
 
 /// What a line says.

@@ -7,9 +7,9 @@ ghost use Rattle.text_lines.specs.Stops.{IsRefusalBy};
 ghost use Rattle.ib_ranks.specs.Ranks.{AddsTo, HasBegun, IsRanksFault, IsRanksText, none_told};
 ghost use Rattle.ib_ranks.specs.Readings.{told_of};
 
-use crate::cause::RanksCause;
 use crate::reading::Reading;
 use ib_net::fabric::Fabric;
+use ib_words::ranks_cause::RanksCause;
 use std::alloc::Global;
 use text_lines::line::first_line;
 use text_lines::stop::Refusal;

@@ -7,11 +7,11 @@ ghost use Rattle.ib_routes.specs.Found.{number};
 ghost use Rattle.ib_ranks.specs.Ranks.{AddsTo, IsFaultyAfter, head_told, none_told, put_once, told_with};
 ghost use Rattle.ib_ranks.specs.Readings.{HasPlaces, told_of};
 
-use crate::cause::RanksCause;
 use crate::line::{RankLine, said_by};
 use an_base::memory::OutOfMemory;
 use ib_net::fabric::Fabric;
 use ib_net::node::Side;
+use ib_words::ranks_cause::RanksCause;
 use std::alloc::Global;
 use text_lines::line::{MOST_LINE, words};
 use text_lines::stop::Stop;

@@ -2,7 +2,7 @@
 use Rattle.std.proofs.Common.{◌≡◌, ◌∙◌, sym, ap, refl, ℕ, ◌⊎◌, inl, inr, List}
 use Rattle.ib_net.specs.Fabric.{FabricOf}
 use Rattle.ib_rows.specs.Lanes.{LanesOf, lanes_by}
-use Rattle.ib_lane_text.specs.declared.cause.LaneCause.{LaneCause}
+use Rattle.ib_words.specs.declared.lane_cause.LaneCause.{LaneCause}
 use Rattle.ib_lane_text.proofs.TextLaws as laws
 use Rattle.ib_sl2vl.specs.declared.reading.Part.{Part}
 use Rattle.ib_sl2vl.specs.declared.reading.Part.TheVariants.{Start, Between, Switch, SwitchRows, Adapter, AdapterRows}

@@ -7,8 +7,8 @@ use Rattle.ib_words.specs.Cuts.{after, ◌>>=◌}
 use Rattle.ib_lane_text.specs.Heads.{node_head}
 use Rattle.ib_lane_text.specs.Says.{number_to, or_cause}
 use Rattle.ib_lane_text.specs.declared.head.NodeHead.{NodeHead}
-use Rattle.ib_lane_text.specs.declared.cause.LaneCause.{LaneCause}
-use Rattle.ib_lane_text.specs.declared.cause.LaneCause.TheVariants.{UnknownLine, BadRow}
+use Rattle.ib_words.specs.declared.lane_cause.LaneCause.{LaneCause}
+use Rattle.ib_words.specs.declared.lane_cause.LaneCause.TheVariants.{UnknownLine, BadRow}
 use Rattle.ib_sl2vl.specs.declared.line.LaneLine.{LaneLine}
 use Rattle.ib_sl2vl.specs.declared.line.LaneLine.TheVariants.{Nothing, Dashes, Head, Row}
 

@@ -8,10 +8,10 @@ use Rattle.ib_lane_text.specs.Says.{and_then}
 use Rattle.ib_lane_text.specs.Texts.{IsFaultFrom, IsTextOf}
 use Rattle.ib_lane_text.specs.declared.head.NodeHead.{NodeHead}
 use Rattle.ib_lane_text.specs.declared.head.NodeHead.TheVariants as head
-use Rattle.ib_lane_text.specs.declared.cause.LaneCause.{LaneCause}
-use Rattle.ib_lane_text.specs.declared.cause.LaneCause.TheVariants.{UnknownSwitch, NoSuchPort, OutOfPlace}
-use Rattle.ib_lane_text.specs.declared.cause.LaneCause.TheVariants.{NoEnd}
-use Rattle.ib_lane_text.specs.declared.cause.LaneCause.TheVariants.{LanesDiffer}
+use Rattle.ib_words.specs.declared.lane_cause.LaneCause.{LaneCause}
+use Rattle.ib_words.specs.declared.lane_cause.LaneCause.TheVariants.{UnknownSwitch, NoSuchPort, OutOfPlace}
+use Rattle.ib_words.specs.declared.lane_cause.LaneCause.TheVariants.{NoEnd}
+use Rattle.ib_words.specs.declared.lane_cause.LaneCause.TheVariants.{LanesDiffer}
 use Rattle.ib_sl2vl.specs.declared.line.LaneLine.{LaneLine}
 use Rattle.ib_sl2vl.specs.declared.line.LaneLine.TheVariants.{Nothing, Dashes, Head, Row}
 use Rattle.ib_sl2vl.specs.declared.reading.Part.{Part}

@@ -5,10 +5,10 @@ ghost use Rattle.ib_lane_text.specs.Says.{IsSaid};
 ghost use Rattle.ib_sl2vl.specs.LaneLines.{begins, lanes_in, packed, port_in, row_said, said_after};
 ghost use Rattle.ib_sl2vl.specs.LaneLines.{said_by, said_in};
 
-use ib_lane_text::cause::LaneCause;
 use ib_lane_text::head::{NodeHead, node_head};
 use ib_lane_text::takes::LaneStop;
 use ib_words::cut::after;
+use ib_words::lane_cause::LaneCause;
 use std::alloc::Global;
 use text_lines::line::words;
 use text_lines::stop::Stop;

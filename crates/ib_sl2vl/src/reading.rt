@@ -10,11 +10,11 @@ ghost use Rattle.ib_sl2vl.specs.Readings.{IsFit, KeepsSize, switch_in, told_of};
 
 use crate::line::{LaneLine, lane_line};
 use an_base::memory::OutOfMemory;
-use ib_lane_text::cause::LaneCause;
 use ib_lane_text::head::NodeHead;
 use ib_lane_text::takes::{LaneStop, TakesLines};
 use ib_net::fabric::Fabric;
 use ib_rows::lanes::LaneRows;
+use ib_words::lane_cause::LaneCause;
 use std::alloc::Global;
 use text_lines::stop::Stop;
 

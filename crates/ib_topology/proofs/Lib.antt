@@ -1,2 +1,1 @@
 pub mod DumpedLemmas
-mod NameLemmas

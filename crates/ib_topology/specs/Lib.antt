@@ -4,4 +4,3 @@ pub mod Discovered
 pub mod Dumped
 pub mod Plain
 pub mod Texts
-pub mod Names

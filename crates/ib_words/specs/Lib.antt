@@ -1,3 +1,5 @@
 pub mod Cuts
 pub mod Digits
+pub mod LaneCauses
+pub mod RanksCauses
 pub mod Rows

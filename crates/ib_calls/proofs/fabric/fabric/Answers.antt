@@ -1,5 +1,5 @@
 use Rattle.std.proofs.Common.{refl}
-use Rattle.ib_judging.specs.declared.words.Task.TheVariants.{Answer, Between, Lanes, Route}
+use Rattle.ib_judging.specs.declared.words.Task.TheVariants.{Answer, Between, Lanes, LanesDot, Repair, Repaired, Route}
 use Rattle.ib_calls.proofs.CallLemmas.{answers_call, answers_usage}
 use Rattle.ib_calls.proofs.fabric.fabric.Goals as goal
 
@@ -9,8 +9,17 @@ returns-in-Answer g c = answers_call _ _ _ _ _ _ c.in-Some.call (Answer c.in-Ans
 pub returns-in-Route : goal.returns-in-Route
 returns-in-Route g c = answers_call _ _ _ _ _ _ c.in-Some.call Route c.in-Some.ensures c.in-Route.is (record { more_kept = refl; tables_kept = refl; answers = c.route.ensures })
 
+pub returns-in-Repair : goal.returns-in-Repair
+returns-in-Repair g c = answers_call _ _ _ _ _ _ c.in-Some.call Repair c.in-Some.ensures c.in-Repair.is (refl, c.answer.ensures)
+
+pub returns-in-Repaired : goal.returns-in-Repaired
+returns-in-Repaired g c = answers_call _ _ _ _ _ _ c.in-Some.call Repaired c.in-Some.ensures c.in-Repaired.is (refl, c.answer-in-Repaired.ensures)
+
 pub returns-in-Lanes : goal.returns-in-Lanes
 returns-in-Lanes g c = answers_call _ _ _ _ _ _ c.in-Some.call Lanes c.in-Some.ensures c.in-Lanes.is (record { asked = c.levels_asked-asked.result; names = c.levels_asked-asked.ensures.named; answers = c.lanes.ensures })
+
+pub returns-in-LanesDot : goal.returns-in-LanesDot
+returns-in-LanesDot g c = answers_call _ _ _ _ _ _ c.in-Some.call LanesDot c.in-Some.ensures c.in-LanesDot.is (record { asked = c.levels_asked-asked-in-LanesDot.result; names = c.levels_asked-asked-in-LanesDot.ensures.named; answers = c.draw_lanes.ensures })
 
 pub returns-in-Between : goal.returns-in-Between
 returns-in-Between g c = answers_call _ _ _ _ _ _ c.in-Some.call Between c.in-Some.ensures c.in-Between.is (record { fourth_kept = refl; answers = c.between.ensures })

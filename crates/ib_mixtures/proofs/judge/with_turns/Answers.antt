@@ -5,7 +5,7 @@ use Rattle.ib_cells.specs.Cells.{tables_of}
 use Rattle.ib_net.specs.declared.node.Spot.{Spot}
 use Rattle.ib_routes.specs.Found.{channel_of}
 use Rattle.ib_verdict.specs.Verdict.{channel_cmp, spot_at}
-use Rattle.ib_mixtures.proofs.LoopLemmas.{done, loop_places, more, next_at, spot_there}
+use Rattle.ib_verdict.proofs.LoopLemmas.{done, loop_places, more, next_at, spot_there}
 use Rattle.ib_mixtures.specs.declared.judge.LoopChannel.{LoopChannel}
 use Rattle.ib_mixtures.specs.Mixtures.{MayBeFollowed}
 use Rattle.ib_mixtures.proofs.VerdictLemmas.{Fits, channel_in}

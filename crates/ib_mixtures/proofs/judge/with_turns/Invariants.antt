@@ -1,7 +1,7 @@
 use Rattle.std.proofs.Common.{map}
 use Rattle.ib_cells.specs.Cells.{tables_of}
 use Rattle.ib_verdict.specs.Verdict.{spot_at}
-use Rattle.ib_mixtures.proofs.LoopLemmas.{AreSoFar}
+use Rattle.ib_verdict.proofs.LoopLemmas.{AreSoFar}
 use Rattle.ib_mixtures.proofs.VerdictLemmas.{Fits, channel_in}
 use Rattle.ib_mixtures.proofs.judge.with_turns.Given as goal
 

@@ -3,7 +3,7 @@ use Rattle.ib_net.specs.declared.node.Side.TheVariants.{Bare}
 use Rattle.ib_net.specs.Fabric.{switch_count}
 use Rattle.ib_routes.specs.Finding.{base_of}
 use Rattle.ib_routes.proofs.ChannelLemmas.{base_as}
-use Rattle.ib_mixtures.proofs.RowLemmas.{put_more}
+use Rattle.ib_routes.proofs.WordLemmas.{put_more}
 use Rattle.ib_mixtures.proofs.rows.find_bases.Goals as goal
 
 pub places-preserved : goal.places-preserved

@@ -2,8 +2,8 @@ use Rattle.std.proofs.Common.{arith, sym, subst}
 use Rattle.text_lines.specs.Stops.{IsRefusalBy}
 use Rattle.text_lines.specs.declared.stop.Refusal.{Refusal}
 use Rattle.text_lines.proofs.ChainLaws.{all_read, read_more}
-use Rattle.ib_ranks.specs.declared.cause.RanksCause.{RanksCause}
-use Rattle.ib_ranks.specs.declared.cause.RanksCause.TheVariants.{NoHead}
+use Rattle.ib_words.specs.declared.ranks_cause.RanksCause.{RanksCause}
+use Rattle.ib_words.specs.declared.ranks_cause.RanksCause.TheVariants.{NoHead}
 use Rattle.ib_ranks.specs.Ranks.{AddsTo, HasBegun, IsFaultyAfter, IsRanksFault, none_told}
 use Rattle.ib_ranks.specs.Readings.{told_of}
 use Rattle.ib_ranks.proofs.StopLemmas.{stopped, unended}

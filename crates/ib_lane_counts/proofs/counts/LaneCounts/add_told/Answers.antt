@@ -1,10 +1,8 @@
-use Rattle.std.proofs.Common.{◌≡◌, ◌∙◌, ℕ, ap, sym, subst}
+use Rattle.std.proofs.Common.{◌≡◌, ◌∙◌, ℕ, ap, sym}
 use Rattle.std.specs.Int.{bit_at}
 use Rattle.ib_cells.specs.Cells.{tables_of}
 use Rattle.ib_counts.proofs.PlaceLemmas.{end_port}
-use Rattle.ib_lane_counts.proofs.EndLemmas.{ends_if}
 use Rattle.ib_lane_counts.proofs.StepLemmas.{without_counts}
-use Rattle.ib_lane_routes.specs.LaneRoutes.{LaneEndsAs, lane_hop}
 use Rattle.ib_rows.specs.Lanes.{lanes_of}
 use Rattle.ib_lane_counts.proofs.counts.LaneCounts.add_told.Goals as goal
 
@@ -12,7 +10,7 @@ pub returns-then-not-has_bit-clause-counts : goal.returns-then-not-has_bit-claus
 returns-then-not-has_bit-clause-counts c = λ traffic levels same sends are.
     without_counts c.args.fabric.now (tables_of c.args.cells.now) (lanes_of c.args.lanes.now) traffic levels c.args.route.lid c.args.self.now c.args.route.source c.args.route.level (end_port c.args.fabric.now traffic c.args.route.source sends.is_source)
     (λ has. absurd (
-    let bit : bit_at c.from.result c.from-level.result ≡ 1 = ap (λ (n : ℕ). bit_at n c.from-level.result) (c.from.ensures ∙ sym same) ∙ ap (bit_at (levels c.args.route.source c.args.route.lid)) c.from-level.ensures ∙ has.1 in
+    let bit : bit_at c.from.result c.from-2.result ≡ 1 = ap (λ (n : ℕ). bit_at n c.from-2.result) (c.from.ensures ∙ sym same) ∙ ap (bit_at (levels c.args.route.source c.args.route.lid)) c.from-2.ensures ∙ has.1 in
     let t = c.has_bit.ensures.1 bit in
     let f = c.if-not-has_bit.true in
     cc)) are
@@ -20,10 +18,6 @@ returns-then-not-has_bit-clause-counts c = λ traffic levels same sends are.
 pub returns-clause-counts : goal.returns-clause-counts
 returns-clause-counts c = λ traffic levels same sends are.
     let bit = c.has_bit.ensures.0 c.if-not-has_bit.false in
-    let has : bit_at (levels c.args.route.source c.args.route.lid) c.args.route.level ≡ 1 = ap (λ (n : ℕ). bit_at n c.args.route.level) (same ∙ sym c.from.ensures) ∙ ap (bit_at c.from.result) (sym c.from-level.ensures) ∙ bit in
+    let has : bit_at (levels c.args.route.source c.args.route.lid) c.args.route.level ≡ 1 = ap (λ (n : ℕ). bit_at n c.args.route.level) (same ∙ sym c.from.ensures) ∙ ap (bit_at c.from.result) (sym c.from-2.ensures) ∙ bit in
     c.add.ensures.counts traffic levels (record { sends = sends; has = (c.requires.level, has) })
-    (subst (LaneEndsAs (lane_hop c.args.fabric.now (tables_of c.args.cells.now) (lanes_of c.args.lanes.now) c.args.route.level c.args.route.lid) c.args.route.start) (sym c.on_lanes-ends.ensures)
-    (ends_if c.args.fabric.now (tables_of c.args.cells.now) (lanes_of c.args.lanes.now) c.args.route.level c.args.route.lid c.args.route.start c.has_bit-2.result c.args.outcome
-    (λ is. ((c.requires.gone c.args.route.level).0 (ap (bit_at c.args.gone) (sym c.from-level.ensures) ∙ c.has_bit-2.ensures.0 is)).1)
-    (λ gone. c.has_bit-2.ensures.1 (ap (bit_at c.args.gone) c.from-level.ensures ∙ (c.requires.gone c.args.route.level).1 (c.requires.level, gone)))
-    c.requires.ends)) are
+    (c.with_level.ensures c.args.fabric.now (tables_of c.args.cells.now) (lanes_of c.args.lanes.now) c.args.route.lid c.args.route.start c.requires.ends) are

@@ -1,6 +1,5 @@
 use Rattle.std.proofs.Common.{◌+◌, sym, subst, ℕ, arith}
 use Rattle.ib_cells.specs.Cells.{tables_of}
-use Rattle.ib_lane_counts.specs.Gone.{AreGone}
 use Rattle.ib_lane_counts.specs.Steps.{AreCountsUntil}
 use Rattle.ib_lane_counts.proofs.StepLemmas.{next_counts}
 use Rattle.ib_rows.specs.Lanes.{lanes_of}
@@ -12,9 +11,7 @@ add_source-requires-clause-counts c = subst (λ (n : ℕ). AreCountsUntil c.args
 
 pub places-preserved : goal.places-preserved
 places-preserved c = record {
-  rooms = c.add_source.ensures.rooms;
   ready = c.add_source.ensures.ready;
-  gone = subst (AreGone c.args.fabric.now (tables_of c.args.cells.now) (lanes_of c.args.lanes.now) c.args.lid) (sym c.add_source.ensures.gone) c.places.invariant.gone;
   counts = subst (λ (n : ℕ). AreCountsUntil c.args.fabric.now (tables_of c.args.cells.now) (lanes_of c.args.lanes.now) c.args.traffic (levels_of c.args.levels.now) c.args.lid (n + 1) 0 c.add_source.new.self) c.end_port_at-source.ensures.place c.add_source.ensures.counts;
 }
 

@@ -1,5 +1,8 @@
-use Rattle.std.proofs.Common.{◌+◌, refl}
+use Rattle.std.proofs.Common.{◌+◌, Some, refl, subst, sym}
 use Rattle.ib_cells.specs.Cells.{tables_of}
+use Rattle.ib_lane_counts.specs.declared.counts.LostLaneRoute.{LostLaneRoute}
+use Rattle.ib_lane_counts.specs.LaneCounts.{IsLoss}
+use Rattle.ib_lane_counts.specs.Steps.{IsUpTo}
 use Rattle.ib_lane_counts.proofs.StepLemmas.{told_before, told_now}
 use Rattle.ib_rows.specs.Lanes.{lanes_of}
 use Rattle.ib_lane_counts.proofs.counts.LaneLoss.add.Goals as goal
@@ -8,4 +11,6 @@ pub returns-then-not-is_less-clause-loss : goal.returns-then-not-is_less-clause-
 returns-then-not-is_less-clause-loss c = λ traffic levels lost sends ends is. told_before c.args.fabric.now (tables_of c.args.cells.now) (lanes_of c.args.lanes.now) traffic levels c.args.route.lid c.args.route.source c.args.route.level sends c.args.route.start c.requires.begins c.args.outcome ends (c.args.self.now.count + 1) c.args.self.now refl (λ lesser. absurd (let t = c.is_less.ensures.1 lesser in let f = c.if-not-is_less.true in cc)) is
 
 pub returns-clause-loss : goal.returns-clause-loss
-returns-clause-loss c = λ traffic levels lost sends ends is. told_now c.args.fabric.now (tables_of c.args.cells.now) (lanes_of c.args.lanes.now) traffic levels c.args.route.lid c.args.route.source c.args.route.level sends c.args.route.start c.requires.begins c.args.outcome ends (c.args.self.now.count + 1) c.args.self.now c.lane_lost_at-at.result refl (c.is_less.ensures.0 c.if-not-is_less.false) (c.lane_lost_at-at.ensures lost ends) is
+returns-clause-loss c = λ traffic levels lost sends ends is.
+    subst (λ (least : LostLaneRoute). IsLoss c.args.fabric.now (tables_of c.args.cells.now) (lanes_of c.args.lanes.now) (IsUpTo c.args.fabric.now traffic levels c.args.route) c.args.outcome (record { count = c.args.self.now.count + 1; least = Some least })) (sym c.lost.ensures)
+    (told_now c.args.fabric.now (tables_of c.args.cells.now) (lanes_of c.args.lanes.now) traffic levels c.args.route.lid c.args.route.source c.args.route.level sends c.args.route.start c.requires.begins c.args.outcome ends (c.args.self.now.count + 1) c.args.self.now c.lane_lost_at-at.result refl (c.is_less.ensures.0 c.if-not-is_less.false) (c.lane_lost_at-at.ensures lost ends) is)

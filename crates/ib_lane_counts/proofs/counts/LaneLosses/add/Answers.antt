@@ -1,31 +1,36 @@
-use Rattle.std.proofs.Common.{ap, subst, sym}
+use Rattle.std.proofs.Common.{ap, subst}
 use Rattle.ib_cells.specs.Cells.{tables_of}
-use Rattle.ib_lane_counts.specs.LaneCounts.{IsLoss}
-use Rattle.ib_lane_counts.specs.Steps.{IsBefore, IsUpTo}
-use Rattle.ib_lane_counts.proofs.StepLemmas.{dead_more, missing_more, wrong_more}
-use Rattle.ib_lane_routes.specs.declared.hop.LaneOutcome.{LaneOutcome}
+use Rattle.ib_lane_counts.specs.LaneCounts.{IsLaneLost}
+use Rattle.ib_lane_counts.proofs.StepLemmas.{dead_more, discard_more, looping_more, missing_more, wrong_more}
 use Rattle.ib_lane_routes.specs.declared.hop.LaneOutcome.TheVariants.{Stops}
+use Rattle.ib_lane_routes.specs.LaneRoutes.{LaneEndsAs, lane_hop}
 use Rattle.ib_routes.specs.declared.hop.Cause.{Cause}
 use Rattle.ib_rows.specs.Lanes.{lanes_of}
 use Rattle.ib_lane_counts.proofs.counts.LaneLosses.add.Goals as goal
 
+pub returns-in-Arrives-clause-sum : goal.returns-in-Arrives-clause-sum
+returns-in-Arrives-clause-sum c = absurd (subst IsLaneLost c.in-Arrives.is c.requires.lost)
+
+pub returns-in-Arrives-clause-losses : goal.returns-in-Arrives-clause-losses
+returns-in-Arrives-clause-losses c = absurd (subst IsLaneLost c.in-Arrives.is c.requires.lost)
+
 pub returns-in-Missing-clause-losses : goal.returns-in-Missing-clause-losses
 returns-in-Missing-clause-losses c = λ traffic levels sends ends are.
-    let is = ap (λ (k : Cause). Stops k) c.in-Missing.is in
-    missing_more c.args.fabric.now (tables_of c.args.cells.now) (lanes_of c.args.lanes.now) traffic levels c.args.route.lid c.args.route.source c.args.route.level sends c.args.route.start c.requires.begins (Stops c.args.cause) ends c.args.self.now c.add.new.self are is
-    (subst (λ (o : LaneOutcome). IsLoss c.args.fabric.now (tables_of c.args.cells.now) (lanes_of c.args.lanes.now) (IsUpTo c.args.fabric.now traffic levels c.args.route) o c.add.new.self) is
-    (c.add.ensures.loss traffic levels tt sends ends (subst (λ (o : LaneOutcome). IsLoss c.args.fabric.now (tables_of c.args.cells.now) (lanes_of c.args.lanes.now) (IsBefore c.args.fabric.now traffic levels c.args.route) o c.args.self.now.missing) (sym is) are.missing)))
+    let stops = subst (LaneEndsAs (lane_hop c.args.fabric.now (tables_of c.args.cells.now) (lanes_of c.args.lanes.now) c.args.route.level c.args.route.lid) c.args.route.start) c.in-Stops.is ends in
+    missing_more c.args.fabric.now (tables_of c.args.cells.now) (lanes_of c.args.lanes.now) traffic levels c.args.route.lid c.args.route.source c.args.route.level sends c.args.route.start c.requires.begins (Stops c.in-Stops.cause) stops c.args.self.now c.add.new.self are (ap (λ (k : Cause). Stops k) c.in-Missing.is) (c.add.ensures.loss traffic levels tt sends stops)
 
 pub returns-in-Dead-clause-losses : goal.returns-in-Dead-clause-losses
 returns-in-Dead-clause-losses c = λ traffic levels sends ends are.
-    let is = ap (λ (k : Cause). Stops k) c.in-Dead.is in
-    dead_more c.args.fabric.now (tables_of c.args.cells.now) (lanes_of c.args.lanes.now) traffic levels c.args.route.lid c.args.route.source c.args.route.level sends c.args.route.start c.requires.begins (Stops c.args.cause) ends c.args.self.now c.add-in-Dead.new.self are is
-    (subst (λ (o : LaneOutcome). IsLoss c.args.fabric.now (tables_of c.args.cells.now) (lanes_of c.args.lanes.now) (IsUpTo c.args.fabric.now traffic levels c.args.route) o c.add-in-Dead.new.self) is
-    (c.add-in-Dead.ensures.loss traffic levels tt sends ends (subst (λ (o : LaneOutcome). IsLoss c.args.fabric.now (tables_of c.args.cells.now) (lanes_of c.args.lanes.now) (IsBefore c.args.fabric.now traffic levels c.args.route) o c.args.self.now.dead) (sym is) are.dead)))
+    let stops = subst (LaneEndsAs (lane_hop c.args.fabric.now (tables_of c.args.cells.now) (lanes_of c.args.lanes.now) c.args.route.level c.args.route.lid) c.args.route.start) c.in-Stops.is ends in
+    dead_more c.args.fabric.now (tables_of c.args.cells.now) (lanes_of c.args.lanes.now) traffic levels c.args.route.lid c.args.route.source c.args.route.level sends c.args.route.start c.requires.begins (Stops c.in-Stops.cause) stops c.args.self.now c.add-in-Dead.new.self are (ap (λ (k : Cause). Stops k) c.in-Dead.is) (c.add-in-Dead.ensures.loss traffic levels tt sends stops)
 
 pub returns-in-Wrong-clause-losses : goal.returns-in-Wrong-clause-losses
 returns-in-Wrong-clause-losses c = λ traffic levels sends ends are.
-    let is = ap (λ (k : Cause). Stops k) c.in-Wrong.is in
-    wrong_more c.args.fabric.now (tables_of c.args.cells.now) (lanes_of c.args.lanes.now) traffic levels c.args.route.lid c.args.route.source c.args.route.level sends c.args.route.start c.requires.begins (Stops c.args.cause) ends c.args.self.now c.add-in-Wrong.new.self are is
-    (subst (λ (o : LaneOutcome). IsLoss c.args.fabric.now (tables_of c.args.cells.now) (lanes_of c.args.lanes.now) (IsUpTo c.args.fabric.now traffic levels c.args.route) o c.add-in-Wrong.new.self) is
-    (c.add-in-Wrong.ensures.loss traffic levels tt sends ends (subst (λ (o : LaneOutcome). IsLoss c.args.fabric.now (tables_of c.args.cells.now) (lanes_of c.args.lanes.now) (IsBefore c.args.fabric.now traffic levels c.args.route) o c.args.self.now.wrong) (sym is) are.wrong)))
+    let stops = subst (LaneEndsAs (lane_hop c.args.fabric.now (tables_of c.args.cells.now) (lanes_of c.args.lanes.now) c.args.route.level c.args.route.lid) c.args.route.start) c.in-Stops.is ends in
+    wrong_more c.args.fabric.now (tables_of c.args.cells.now) (lanes_of c.args.lanes.now) traffic levels c.args.route.lid c.args.route.source c.args.route.level sends c.args.route.start c.requires.begins (Stops c.in-Stops.cause) stops c.args.self.now c.add-in-Wrong.new.self are (ap (λ (k : Cause). Stops k) c.in-Wrong.is) (c.add-in-Wrong.ensures.loss traffic levels tt sends stops)
+
+pub returns-in-Discards-clause-losses : goal.returns-in-Discards-clause-losses
+returns-in-Discards-clause-losses c = λ traffic levels sends ends are. discard_more c.args.fabric.now (tables_of c.args.cells.now) (lanes_of c.args.lanes.now) traffic levels c.args.route.lid c.args.route.source c.args.route.level sends c.args.route.start c.requires.begins c.args.outcome ends c.args.self.now c.add-in-Discards.new.self are c.in-Discards.is (c.add-in-Discards.ensures.loss traffic levels c.requires.lost sends ends)
+
+pub returns-in-Loops-clause-losses : goal.returns-in-Loops-clause-losses
+returns-in-Loops-clause-losses c = λ traffic levels sends ends are. looping_more c.args.fabric.now (tables_of c.args.cells.now) (lanes_of c.args.lanes.now) traffic levels c.args.route.lid c.args.route.source c.args.route.level sends c.args.route.start c.requires.begins c.args.outcome ends c.args.self.now c.add-in-Loops.new.self are c.in-Loops.is (c.add-in-Loops.ensures.loss traffic levels c.requires.lost sends ends)

@@ -1,4 +1,0 @@
-use Rattle.ib_lane_commands.proofs.lanes.lanes.Goals as goal
-
-pub returns : goal.returns
-returns g c = record { status = c.status_of-status.result; cause = c.status_of-status.ensures; told = c.finish.ensures }

@@ -1,0 +1,122 @@
+//! The call of a command: a topology, tables, lanes and service levels are read, the command gives a text for them, the
+//! text is written, and the status is told.
+
+ghost use Rattle.std.specs.Prelude.{◌≡◌, IfErr, IfOk};
+ghost use Rattle.ib_answering.specs.declared.status.Status.TheVariants.{OutOfMemory as Wanting};
+ghost use Rattle.ib_lane_commands.specs.Asked.{IsOneOfSixteen};
+ghost use Rattle.ib_lane_commands.specs.Inputs.{HasPlaces, IsStop, lane_sources, told_in};
+ghost use Rattle.ib_lane_commands.specs.LaneCall.{IsGiven, IsLaneAnswer, IsLaneCause, LaneGives};
+ghost use Rattle.ib_lane_lines.specs.declared.answer.LevelsAsked.{LevelsAsked};
+
+use crate::input::{Input, read_inputs};
+use an_base::memory::OutOfMemory;
+use ib_answering::command::Given;
+use ib_answering::status::{Status, finish};
+use ib_lane_lines::answer::LevelsAsked;
+use outside::all::write_all;
+use outside::sink::Sink;
+use outside::source::Source;
+use std::alloc::Global;
+
+/// A command that judges tables with lanes.
+pub trait LaneCommand {
+    /// For the levels that were asked for and what the sources tell, the status with which the command ends and what it
+    /// writes.
+    ghost gives: { Self → LevelsAsked → LaneGives };
+
+    /// What the command gives for what was read.
+    fn given(&self, alloc: Global, input: &Input, asked: LevelsAsked) -> Result<Given, OutOfMemory>
+        requires { HasPlaces input.now }
+        ensures { IfOk result (λ given. gives self.now asked (told_in input.now) given.status given.text.items) };
+}
+
+// What the command gives for what the sources give, or why there is nothing.
+fn found<C: LaneCommand, T: Source, S: Source, L: Source, P: Source>(
+    command: &C,
+    alloc: Global,
+    topology: &mut T,
+    tables: &mut S,
+    lanes: &mut L,
+    levels: &mut P,
+    asked: LevelsAsked,
+) -> Result<Given, Status>
+    requires { IsOneOfSixteen asked }
+    ensures given { IfOk result (λ given. IsGiven (C.gives command.now asked) asked
+        (lane_sources (T.seen topology.old) (S.seen tables.old) (L.seen lanes.old) (P.seen levels.old))
+        (lane_sources (T.seen topology.new) (S.seen tables.new) (L.seen lanes.new) (P.seen levels.new))
+        given.status given.text.items) }
+    ensures stopped { IfErr result (IsStop asked
+        (lane_sources (T.seen topology.old) (S.seen tables.old) (L.seen lanes.old) (P.seen levels.old))
+        (lane_sources (T.seen topology.new) (S.seen tables.new) (L.seen lanes.new) (P.seen levels.new))) }
+{
+    match read_inputs(alloc, topology, tables, lanes, levels, asked) {
+        Ok(input) => given_of(command, alloc, &input, asked),
+        Err(status) => Err(status),
+    }
+}
+
+// The same of what was read.
+fn given_of<C: LaneCommand>(
+    command: &C,
+    alloc: Global,
+    input: &Input,
+    asked: LevelsAsked,
+) -> Result<Given, Status>
+    requires { HasPlaces input.now }
+    ensures given { IfOk result (λ given.
+        C.gives command.now asked (told_in input.now) given.status given.text.items) }
+    ensures wanting { IfErr result (λ status. status ≡ Wanting) }
+{
+    Ok(command.given(alloc, input, asked)?)
+}
+
+// Writes the text to out, or answers why there is none.
+fn status_of<C: LaneCommand, T: Source, S: Source, L: Source, P: Source, O: Sink>(
+    command: &C,
+    alloc: Global,
+    topology: &mut T,
+    tables: &mut S,
+    lanes: &mut L,
+    levels: &mut P,
+    asked: LevelsAsked,
+    out: &mut O,
+) -> Status
+    requires { IsOneOfSixteen asked }
+    ensures { IsLaneCause (C.gives command.now asked) asked
+        (lane_sources (T.seen topology.old) (S.seen tables.old) (L.seen lanes.old) (P.seen levels.old))
+        (lane_sources (T.seen topology.new) (S.seen tables.new) (L.seen lanes.new) (P.seen levels.new))
+        (O.seen out.old) (O.seen out.new) result }
+{
+    let given = match found(command, alloc, topology, tables, lanes, levels, asked) {
+        Ok(given) => given,
+        Err(status) => return status,
+    };
+    match write_all(out, &given.text) {
+        Ok(()) => given.status,
+        Err(_fault) => Status::WriteFault,
+    }
+}
+
+/// Answers a command: reads a topology, tables, lanes and, if they are asked for, service levels from the sources, in
+/// this order, writes what the command gives for them to out, and tells the status. The answer is the number of the
+/// status, whose line goes to err. If a source is wrong, those after it are left alone, and so is out.
+pub fn answer<C: LaneCommand, T: Source, S: Source, L: Source, P: Source, O: Sink, E: Sink>(
+    command: &C,
+    alloc: Global,
+    topology: &mut T,
+    tables: &mut S,
+    lanes: &mut L,
+    levels: &mut P,
+    asked: LevelsAsked,
+    out: &mut O,
+    err: &mut E,
+) -> u8
+    requires { IsOneOfSixteen asked }
+    ensures { IsLaneAnswer (C.gives command.now asked) asked
+        (lane_sources (T.seen topology.old) (S.seen tables.old) (L.seen lanes.old) (P.seen levels.old))
+        (lane_sources (T.seen topology.new) (S.seen tables.new) (L.seen lanes.new) (P.seen levels.new))
+        (O.seen out.old) (O.seen out.new) (E.seen err.old) (E.seen err.new) result }
+{
+    let status = status_of(command, alloc, topology, tables, lanes, levels, asked, out);
+    finish(err, status)
+}

@@ -1,0 +1,69 @@
+//! The judgement of what was read.
+
+ghost use Rattle.std.specs.Prelude.{ℕ, IfOk};
+ghost use Rattle.ib_cells.specs.Cells.{TablesOf, tables_of};
+ghost use Rattle.ib_net.specs.Fabric.{FabricOf};
+ghost use Rattle.ib_routes.specs.declared.traffic.Traffic.{Traffic};
+ghost use Rattle.ib_rows.specs.Lanes.{LanesOf, lanes_of};
+ghost use Rattle.ib_rows.specs.Levels.{levels_of};
+ghost use Rattle.ib_rows.specs.PathLevels.{LevelsOf};
+ghost use Rattle.ib_lane_verdict.specs.LaneJudgements.{IsLaneJudgement};
+ghost use Rattle.ib_lane_commands.specs.Inputs.{HasPlaces};
+ghost use Rattle.ib_lane_commands.specs.LaneJudged.{IsLaneEndOf, IsLaneLoop};
+
+use crate::input::Input;
+use an_base::memory::OutOfMemory;
+use ib_answering::status::Status;
+use ib_lane_verdict::judge::{LaneJudgement, judge};
+use ib_lane_verdict::verdict::{LaneLoopChannel, LaneVerdict};
+use ib_routes::traffic::Traffic;
+use std::alloc::Global;
+
+/// The judgement of what was read.
+pub fn judged_for(
+    alloc: Global,
+    input: &Input,
+    traffic: Traffic,
+) -> Result<LaneJudgement, OutOfMemory>
+    requires { HasPlaces input.now }
+    ensures { IfOk result (IsLaneJudgement input.now.topology.fabric (tables_of input.now.tables.cells)
+        (lanes_of input.now.lanes) traffic (levels_of input.now.levels) input.now.lanes.count) }
+{
+    judge(
+        alloc,
+        &input.topology.fabric,
+        &input.tables.cells,
+        &input.lanes,
+        &input.levels,
+        traffic,
+    )
+}
+
+/// How a call ends for which something was written.
+pub fn status_of(judged: &LaneJudgement) -> Status
+    ensures { (fabric : FabricOf) (tables : TablesOf) (lanes : LanesOf) (traffic : Traffic) (levels : LevelsOf)
+        (count : ℕ) → IsLaneJudgement fabric tables lanes traffic levels count judged.now
+        → IsLaneEndOf fabric tables lanes traffic levels count result }
+{
+    match &judged.verdict {
+        LaneVerdict::Cycle { channels: _ } => Status::Cycle,
+        LaneVerdict::Ranks { ranks: _ } => {
+            if judged.stops {
+                return Status::RoutesLost;
+            }
+            Status::Ok
+        }
+    }
+}
+
+/// The channels of the credit loop, none if there is no loop.
+pub fn cycle_of(judged: &LaneJudgement) -> &[LaneLoopChannel]
+    ensures { (fabric : FabricOf) (tables : TablesOf) (lanes : LanesOf) (traffic : Traffic) (levels : LevelsOf)
+        (count : ℕ) → IsLaneJudgement fabric tables lanes traffic levels count judged.now
+        → IsLaneLoop fabric tables lanes traffic levels result.now }
+{
+    match &judged.verdict {
+        LaneVerdict::Ranks { ranks: _ } => &[],
+        LaneVerdict::Cycle { channels } => channels,
+    }
+}

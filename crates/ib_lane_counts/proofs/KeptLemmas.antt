@@ -1,0 +1,62 @@
+-- Routes of which none is discarded end as on one lane.
+use Rattle.std.proofs.Common.{◌≡◌, sym, subst, ℕ, Some}
+use Rattle.std.specs.Int.{bit_at}
+use Rattle.ib_cells.specs.Cells.{TablesOf}
+use Rattle.ib_counts.specs.Counts.{IsLostAt, RouteEnds, RouteIsLost, hop_for}
+use Rattle.ib_lane_counts.specs.Keep.{IsKept}
+use Rattle.ib_lane_counts.specs.LaneCounts.{IsLaneRouteOf, LaneRoute, LaneRouteEnds, LaneRouteIsLost}
+use Rattle.ib_lane_counts.specs.Steps.{on_lanes}
+use Rattle.ib_lane_counts.specs.Sums.{pair_of}
+use Rattle.ib_lane_counts.proofs.EndLemmas.{ends_on_lanes, on_one_lane}
+use Rattle.ib_lane_counts.proofs.KeepLemmas.{none_gone}
+use Rattle.ib_lane_counts.proofs.LostLemmas.{lost_on_lanes}
+use Rattle.ib_lane_routes.specs.declared.hop.LaneOutcome.TheVariants.{Discards}
+use Rattle.ib_lane_routes.specs.LaneRoutes.{LaneEndsAs, begin_of, lane_hop}
+use Rattle.ib_lane_routes.proofs.OneLaneLemmas.{begin_start, start_begin}
+use Rattle.ib_net.specs.declared.node.EndPort.{EndPort}
+use Rattle.ib_net.specs.declared.node.Spot.{Spot}
+use Rattle.ib_net.specs.Fabric.{FabricOf, IsFabric}
+use Rattle.ib_routes.specs.declared.hop.Outcome.{Outcome}
+use Rattle.ib_routes.specs.declared.traffic.Traffic.{Traffic}
+use Rattle.ib_routes.specs.Routes.{EndsAs}
+use Rattle.ib_rows.specs.Lanes.{LanesOf}
+use Rattle.ib_rows.specs.PathLevels.{HasLevel, LevelsOf}
+
+-- what ends so on its lanes ends so on one
+pub ends_on_one : (fabric : FabricOf) (tables : TablesOf) (lanes : LanesOf) (outcome : Outcome) (route : LaneRoute) → LaneRouteEnds fabric tables lanes route (on_lanes outcome) → RouteEnds fabric tables (pair_of route) outcome
+ends_on_one fabric tables lanes outcome route ends = record {
+  start = ends.start.switch;
+  begins = begin_start fabric route.source ends.start ends.begins;
+  ends = on_one_lane fabric tables lanes route.level route.lid ends.start outcome ends.ends;
+}
+
+-- all levels are among some, with which nothing is discarded
+module _ (fabric : FabricOf) (fits : IsFabric fabric) (tables : TablesOf) (lanes : LanesOf) (traffic : Traffic) (levels : LevelsOf) (told : ℕ) (kept : IsKept fabric lanes told) (used : (source : EndPort) (lid level : ℕ) → HasLevel levels source lid level → bit_at told level ≡ 1) where
+  abbrev IsRoute : LaneRoute → Type 0
+  IsRoute = IsLaneRouteOf fabric traffic levels
+
+  is_kept : (route : LaneRoute) → IsRoute route → (start : Spot) → begin_of fabric route.source ≡ Some start → LaneEndsAs (lane_hop fabric tables lanes route.level route.lid) start Discards → ⊥
+  is_kept route is start begins = none_gone fabric fits tables lanes told kept route.level route.lid is.has.0 (used route.source route.lid route.level is.has) traffic route.source start is.sends.is_source begins
+
+  pub kept_here : (route : LaneRoute) → IsRoute route → LaneRouteEnds fabric tables lanes route Discards → ⊥
+  kept_here route is ends = is_kept route is ends.start ends.begins ends.ends
+
+  -- what ends so on one lane ends so on its lanes
+  pub ends_there : (outcome : Outcome) (route : LaneRoute) → IsRoute route → RouteEnds fabric tables (pair_of route) outcome → LaneRouteEnds fabric tables lanes route (on_lanes outcome)
+  ends_there outcome route is ends =
+      let (start, begins, same) = start_begin fabric route.source ends.start ends.begins in
+      record {
+        start = start;
+        begins = begins;
+        ends = ends_on_lanes fabric tables lanes route.level route.lid start (is_kept route is start begins) outcome (subst (λ (s : ℕ). EndsAs (hop_for fabric tables route.lid) s outcome) (sym same) ends.ends);
+      }
+
+  -- and is lost there
+  pub lost_there : (outcome : Outcome) (route : LaneRoute) (at : ℕ) → IsRoute route → RouteIsLost fabric tables (pair_of route) outcome at → LaneRouteIsLost fabric tables lanes route (on_lanes outcome) at
+  lost_there outcome route at is lost =
+      let (start, begins, same) = start_begin fabric route.source lost.start lost.begins in
+      record {
+        start = start;
+        begins = begins;
+        lost = lost_on_lanes fabric tables lanes route.level route.lid start (is_kept route is start begins) outcome at (subst (λ (s : ℕ). IsLostAt (hop_for fabric tables route.lid) s outcome at) (sym same) lost.lost);
+      }

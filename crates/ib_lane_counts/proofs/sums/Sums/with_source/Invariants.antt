@@ -1,0 +1,8 @@
+use Rattle.ib_counts.specs.Steps.{place_of}
+use Rattle.ib_lane_counts.specs.Sums.{AreSums}
+use Rattle.ib_rows.specs.Levels.{levels_of}
+use Rattle.ib_lane_counts.proofs.sums.Sums.with_source.Given as goal
+
+-- the sums with the LIDs so far
+abbrev pub invariant-lids : goal.invariant-lids
+invariant-lids l = AreSums l.fabric l.traffic (levels_of l.levels) (place_of l.fabric l.source) l.lid l.sums

@@ -1,0 +1,73 @@
+//! A credit loop over lanes as a picture, in the language of Graphviz.
+
+ghost use Rattle.std.specs.Prelude.{◌≡◌, IfOk};
+ghost use Rattle.ib_lane_lines.specs.LanePictures.{lane_picture_text};
+
+use crate::answer::LevelsAsked;
+use crate::printer::levels_word;
+use an_base::memory::OutOfMemory;
+use an_base::text::Word;
+use ib_lines::answer::Name;
+use ib_lines::picture::{Arrow, print_picture_by, push_arrow};
+use ib_lines::row::HasRow;
+use ib_lines::row::RowWord::{Loop, Number, OnLane, Text};
+use std::alloc::Global;
+
+/// A channel of a credit loop over lanes.
+#[derive(Clone, Copy)]
+pub struct LaneArrow {
+    /// Its link, with the route that takes it and the next one.
+    pub arrow: Arrow,
+    /// Its lane.
+    pub lane: u8,
+    /// The service level of the route.
+    pub level: u8,
+}
+
+/// A picture of a credit loop over lanes, or of none.
+#[derive(Drop)]
+pub struct LanePicture {
+    /// The word of the traffic that was judged.
+    pub traffic: Word,
+    /// How many lanes there are.
+    pub lanes: u64,
+    /// With which service levels it was judged.
+    pub levels: LevelsAsked,
+    /// The names of the switches.
+    pub names: Vec<Name>,
+    /// The channels, or none if there is no credit loop.
+    pub arrows: Vec<LaneArrow>,
+}
+
+/// The text of a picture.
+pub fn print_picture(alloc: Global, picture: &LanePicture) -> Result<Vec<u8>, OutOfMemory>
+    ensures { IfOk result (λ text. text.items ≡ lane_picture_text picture.now) }
+{
+    print_picture_by(
+        alloc,
+        &[
+            Text(picture.traffic.as_bytes()),
+            Text(b"lanes"),
+            Number(picture.lanes),
+            Text(b"levels"),
+            levels_word(picture.levels),
+            Loop(picture.arrows.len()),
+        ],
+        &picture.names,
+        &picture.arrows,
+    )
+}
+
+impl HasRow for LaneArrow {
+    ghost use Rattle.ib_lane_lines.specs.LanePictures.{lane_arrow_row};
+
+    ghost words = { lane_arrow_row };
+
+    fn push(&self, alloc: Global, text: &mut Vec<u8>) -> Result<(), OutOfMemory> {
+        let label = OnLane {
+            lane: self.lane,
+            level: self.level,
+        };
+        push_arrow(alloc, text, label, &self.arrow)
+    }
+}

@@ -1,0 +1,6 @@
+use Rattle.ib_laying.specs.Made.{AreTablesFor}
+use Rattle.ib_repair.proofs.writing.put_rows.Given as goal
+
+-- they have the shape
+abbrev pub invariant-rows : goal.invariant-rows
+invariant-rows l = AreTablesFor l.fabric l.made

@@ -1,0 +1,371 @@
+//! Tables repaired along the best of several orders.
+
+ghost use Rattle.std.specs.Prelude.{◌≡◌, ◌≤◌, ◌*◌, length, IfOk, IfSome};
+ghost use Rattle.ib_net.specs.Fabric.{switch_count};
+ghost use Rattle.ib_repair.specs.Repaired.{AreRepairedOf};
+
+use crate::changes::Changes;
+use crate::figures::measure;
+use crate::mending::{Scope, mend};
+use crate::roots::{falling, find_root, order_by, tree_from, widest};
+use crate::task::{Ports, Task};
+use crate::weights::{reweigh, weigh};
+use crate::wishes::wish;
+use crate::writing::write_tables;
+use an_base::memory::OutOfMemory;
+use ib_cells::cells::Cells;
+use ib_channels::channels::{Channel, Channels};
+use ib_channels::demand::Demand;
+use ib_channels::order::Order;
+use ib_channels::table::Table;
+use ib_laying::measures::Measures;
+use ib_net::fabric::Fabric;
+use ib_orders::recipe::Recipe;
+use ib_routes::traffic::Traffic;
+use ib_sorting::effort::Effort;
+use ib_sorting::sorting::{Sorting, Wanted, heaviest};
+use std::alloc::Global;
+
+// How often an order is made better, and how often that may bring nothing.
+const ROUNDS: u32 = 10;
+
+const IDLE: u32 = 3;
+
+// Of so many cells one row may be set at most for it to be made better.
+const WORTH: usize = 8;
+
+// How many steps are taken to find better rows, before what is there is taken.
+const STEPS: u64 = 1 << 26;
+
+/// Tables that were repaired.
+#[derive(Drop)]
+pub struct Repaired {
+    /// The tables.
+    pub cells: Cells,
+    /// For how many LIDs rows were set.
+    pub lids: u32,
+    /// How good the given tables were.
+    pub before: Measures,
+    /// How good these are.
+    pub after: Measures,
+}
+
+// Where the search for an order begins.
+#[derive(Drop)]
+struct Start {
+    order: Order,
+    // Which channels are of a tree whose turns are kept, if they are: then there is a route from each switch to each.
+    tree: Option<Table<bool>>,
+}
+
+// How it is made: the order from a root, and whether the turns of a tree from it are kept.
+#[derive(Clone, Copy)]
+struct Begin {
+    recipe: Recipe,
+    root: u32,
+    tree: bool,
+}
+
+// The same, and what the turns of the given routes weigh that fall in the order.
+#[derive(Clone, Copy)]
+struct Ranked {
+    begin: Begin,
+    weight: u64,
+}
+
+// Where searches begin, for the root that is broken least and for a switch with the most channels.
+fn begins(root: u32, widest: u32) -> [Begin; 4] {
+    let from_root = Begin {
+        recipe: Recipe::Levels,
+        root,
+        tree: false,
+    };
+    [
+        from_root,
+        Begin {
+            root: widest,
+            ..from_root
+        },
+        Begin {
+            recipe: Recipe::Heights,
+            ..from_root
+        },
+        Begin {
+            tree: true,
+            ..from_root
+        },
+    ]
+}
+
+// What is looked for.
+#[derive(Clone, Copy)]
+struct Search<'a> {
+    alloc: Global,
+    task: Task<'a>,
+    // For how many pairs of a switch and a LID the given routes make each turn, and these turns, the heaviest first.
+    weights: &'a Table<u32>,
+    wanted: &'a [Wanted],
+    // How many rows may be set for an order to be made better.
+    worth: usize,
+}
+
+// An order, and the rows that are to be set so that routes rise in it.
+#[derive(Drop)]
+struct Found {
+    order: Order,
+    changes: Changes,
+}
+
+// Adds the turns of a tree from a channel of it.
+fn add_turns_after(
+    channels: &Channels,
+    tree: &Table<bool>,
+    channel: Channel,
+    sorting: &mut Sorting,
+    effort: &mut Effort,
+) -> Result<(), OutOfMemory> {
+    let ends = channels.ends(channel);
+    'exits: for number in channels.exits(ends.to) {
+        let next = Channel(number);
+        if tree.get(next) && next != ends.back {
+            let _ = sorting.add(channels, channel, next, effort)?;
+        }
+    }
+    Ok(())
+}
+
+// Adds the turns of a tree.
+fn add_tree(
+    channels: &Channels,
+    tree: &Table<bool>,
+    sorting: &mut Sorting,
+    effort: &mut Effort,
+) -> Result<(), OutOfMemory> {
+    'channels: for number in 0..channels.count() {
+        if tree.get(number) {
+            add_turns_after(channels, tree, Channel(number), sorting, effort)?;
+        }
+    }
+    Ok(())
+}
+
+impl Search<'_> {
+    // An order to which the turns of the tree were added, if they are kept.
+    fn sorting(
+        self,
+        order: &Order,
+        start: &Start,
+        effort: &mut Effort,
+    ) -> Result<Sorting, OutOfMemory> {
+        let mut sorting = Sorting::of(self.alloc, self.task.channels, order)?;
+        if let Some(tree) = &start.tree {
+            add_tree(self.task.channels, tree, &mut sorting, effort)?;
+        }
+        Ok(sorting)
+    }
+
+    // Adds the turns of the given routes, and finds the rows that are to be set.
+    fn mend(
+        self,
+        mut sorting: Sorting,
+        scope: Scope<'_>,
+        effort: &mut Effort,
+    ) -> Result<Option<Found>, OutOfMemory> {
+        let Search { alloc, task, .. } = self;
+        let _ = sorting.add_all(alloc, task.channels, self.wanted, effort)?;
+        let order = sorting.order(alloc)?;
+        match mend(alloc, task, &order, scope, effort)? {
+            Some(changes) => Ok(Some(Found { order, changes })),
+            None => Ok(None),
+        }
+    }
+
+    // The same after the turns of the routes that were found and those with which there would be fewer rows. Notes those
+    // of the latter that cannot rise.
+    fn mend_again(
+        self,
+        start: &Start,
+        found: &Found,
+        refused: &mut Table<bool>,
+        effort: &mut Effort,
+    ) -> Result<Option<Found>, OutOfMemory> {
+        let Search { alloc, task, .. } = self;
+        let mut sorting = self.sorting(&found.order, start, effort)?;
+        let made = reweigh(alloc, task, self.weights, &found.changes)?;
+        let scope = if found.changes.lost() == 0 {
+            sorting.add_rising(task.channels, &made);
+            Scope::Concerned(&found.changes)
+        } else {
+            Scope::AllInTime
+        };
+        let made = heaviest(alloc, task.channels, &made, sorting.added())?;
+        let _ = sorting.add_all(alloc, task.channels, &made, effort)?;
+        let wishes = wish(alloc, task, &found.order, &found.changes, refused, effort)?;
+        let wishes = heaviest(alloc, task.channels, &wishes, sorting.added())?;
+        'refused: for turn in &sorting.add_all(alloc, task.channels, &wishes, effort)? {
+            refused.put(*turn, true);
+        }
+        self.mend(sorting, scope, effort)
+    }
+
+    // The rows that are to be set by the best order that is found from a start, if one is found.
+    fn search(
+        self,
+        start: &Start,
+        scope: Scope<'_>,
+        effort: &mut Effort,
+    ) -> Result<Option<Changes>, OutOfMemory> {
+        let sorting = self.sorting(&start.order, start, effort)?;
+        let mut best = match self.mend(sorting, scope, effort)? {
+            Some(found) => found,
+            None => return Ok(None),
+        };
+        let mut refused = Table::filled(self.alloc, self.task.channels.turns(), false)?;
+        let mut idle = 0u32;
+        'rounds: for _ in 0..ROUNDS {
+            let rows = best.changes.rows().len();
+            if best.changes.is_empty() || rows > self.worth || idle == IDLE {
+                break;
+            }
+            let Some(found) = self.mend_again(start, &best, &mut refused, effort)? else {
+                break;
+            };
+            if found.changes.is_better(&best.changes) {
+                best = found;
+            } else {
+                idle = idle.wrapping_add(1);
+            }
+        }
+        Ok(Some(best.changes))
+    }
+
+    // The order with which a search begins, if there is one.
+    fn order(self, begin: Begin) -> Result<Option<Order>, OutOfMemory> {
+        order_by(self.alloc, self.task, begin.recipe, begin.root)
+    }
+
+    // Where a search begins, if there is an order.
+    fn start(self, begin: Begin) -> Result<Option<Start>, OutOfMemory> {
+        let Some(order) = self.order(begin)? else {
+            return Ok(None);
+        };
+        let tree = if begin.tree {
+            Some(tree_from(self.alloc, self.task, begin.root)?)
+        } else {
+            None
+        };
+        Ok(Some(Start { order, tree }))
+    }
+
+    // Searches, and keeps what is found if it is better. Without effort the first search is made, and one that keeps a
+    // tree if something is lost.
+    fn search_from(
+        self,
+        begin: Begin,
+        best: &mut Option<Changes>,
+        effort: &mut Effort,
+    ) -> Result<(), OutOfMemory> {
+        if best.as_ref().is_some_and(Changes::is_empty) {
+            return Ok(());
+        }
+        let Some(start) = self.start(begin)? else {
+            return Ok(());
+        };
+        let is_wanted = match best {
+            Some(best) => best.lost() > 0 && begin.tree,
+            None => true,
+        };
+        let scope = if is_wanted {
+            Scope::All
+        } else {
+            Scope::AllInTime
+        };
+        let Some(changes) = self.search(&start, scope, effort)? else {
+            return Ok(());
+        };
+        let is_better = match best {
+            Some(best) => changes.is_better(best),
+            None => true,
+        };
+        if is_better {
+            *best = Some(changes);
+        }
+        Ok(())
+    }
+
+    // Where searches begin, the orders first in which the given routes fall least.
+    fn ranked(self) -> Result<Vec<Ranked>, OutOfMemory> {
+        let root = find_root(self.alloc, self.task, self.weights)?;
+        let mut ranked = Vec::new(self.alloc);
+        'begins: for begin in begins(root, widest(self.task)) {
+            if let Some(order) = self.order(begin)? {
+                let weight = falling(self.task, self.weights, &order);
+                ranked.push(Ranked { begin, weight })?;
+            }
+        }
+        ranked.sort_by_key(|ranked| ranked.weight)?;
+        Ok(ranked)
+    }
+
+    // The rows that are to be set by the best order of all that are tried.
+    fn best(self) -> Result<Option<Changes>, OutOfMemory> {
+        let mut effort = Effort::of(STEPS);
+        let mut best = None;
+        'begins: for ranked in &self.ranked()? {
+            self.search_from(ranked.begin, &mut best, &mut effort)?;
+        }
+        Ok(best)
+    }
+}
+
+// The rows that are to be set so that nothing is lost, if such are found.
+fn find_changes(alloc: Global, task: Task<'_>) -> Result<Option<Changes>, OutOfMemory> {
+    let weights = weigh(alloc, task)?;
+    let added = Table::empty(alloc, false);
+    let wanted = heaviest(alloc, task.channels, &weights, &added)?;
+    let switches = task.channels.switches() as usize;
+    let cells = switches.wrapping_mul(task.demand.targets().len());
+    let search = Search {
+        alloc,
+        task,
+        weights: &weights,
+        wanted: &wanted,
+        worth: cells / WORTH,
+    };
+    let best = search.best()?;
+    Ok(best.filter(|changes| changes.lost() == 0))
+}
+
+/// Tables in which few rows are set otherwise than in given ones, with all ways for the traffic; none where no such
+/// tables are found, as where the fabric is in parts. The same tables are repaired alike each time. The error is want of
+/// memory alone.
+pub fn repair(
+    alloc: Global,
+    fabric: &Fabric,
+    cells: &Cells,
+    traffic: Traffic,
+) -> Result<Option<Repaired>, OutOfMemory>
+    requires switches { cells.now.switches ≡ switch_count fabric.now }
+    requires lids { length fabric.now.owners ≤ 64 * cells.now.blocks }
+    ensures { IfOk result (λ found. IfSome found (λ made. AreRepairedOf fabric.now cells.now made.cells)) }
+{
+    let channels = Channels::of(alloc, fabric)?;
+    let demand = Demand::of(alloc, fabric)?;
+    let ports = Ports::of(alloc, &channels)?;
+    let task = Task {
+        channels: &channels,
+        demand: &demand,
+        ports: &ports,
+        cells,
+        traffic,
+    };
+    let Some(changes) = find_changes(alloc, task)? else {
+        return Ok(None);
+    };
+    Ok(Some(Repaired {
+        lids: changes.lids(),
+        before: measure(alloc, task, None)?,
+        after: measure(alloc, task, Some(&changes))?,
+        cells: write_tables(alloc, fabric, cells, changes.rows())?,
+    }))
+}

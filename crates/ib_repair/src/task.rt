@@ -1,0 +1,103 @@
+//! What is to be repaired.
+
+use an_base::memory::OutOfMemory;
+use ib_cells::cells::Cells;
+use ib_channels::channels::{Channel, Channels};
+use ib_channels::demand::{Demand, Target};
+use ib_channels::table::Table;
+use ib_routes::traffic::Traffic;
+use std::alloc::Global;
+
+// How many slots a switch has: one for each number that a port may have.
+const SLOTS: u32 = 256;
+
+// The slot of a port.
+fn slot_of(switch: u32, port: u8) -> u32 {
+    switch.wrapping_mul(SLOTS).wrapping_add(u32::from(port))
+}
+
+/// Which channel leaves by each port of each switch, if one does.
+#[derive(Drop)]
+pub struct Ports {
+    slots: Table<Option<Channel>>,
+}
+
+impl Ports {
+    /// The channels of the ports.
+    pub fn of(alloc: Global, channels: &Channels) -> Result<Ports, OutOfMemory> {
+        let count = channels.switches().wrapping_mul(SLOTS);
+        let mut slots = Table::filled(alloc, count, None)?;
+        'channels: for number in 0..channels.count() {
+            let ends = channels.ends(Channel(number));
+            slots.put(slot_of(ends.from, ends.port), Some(Channel(number)));
+        }
+        Ok(Ports { slots })
+    }
+
+    /// The channel of a port.
+    pub fn channel(&self, switch: u32, port: u8) -> Option<Channel> {
+        self.slots.get(slot_of(switch, port))
+    }
+}
+
+/// What is to be repaired: the tables of a fabric, for a traffic.
+#[derive(Clone, Copy)]
+pub struct Task<'a> {
+    /// The channels of the fabric.
+    pub channels: &'a Channels,
+    /// Its end ports.
+    pub demand: &'a Demand,
+    /// The channels of its ports.
+    pub ports: &'a Ports,
+    /// The tables.
+    pub cells: &'a Cells,
+    /// The traffic that is to arrive.
+    pub traffic: Traffic,
+}
+
+impl Task<'_> {
+    /// Whether routes of the traffic begin at a switch.
+    pub fn sends_from(self, switch: u32) -> bool {
+        match self.traffic {
+            Traffic::Hosts => self.demand.hosts(switch) > 0,
+            Traffic::Lids => self.demand.hosts(switch) > 0,
+            Traffic::All => true,
+        }
+    }
+
+    /// Whether routes of the traffic lead to a target.
+    pub fn sends_to(self, target: Target) -> bool {
+        match self.traffic {
+            Traffic::Hosts => target.is_host(),
+            Traffic::Lids => true,
+            Traffic::All => true,
+        }
+    }
+
+    // The port of a switch for a LID.
+    fn port(self, switch: u32, lid: u16) -> Option<u8> {
+        let switch = switch as usize;
+        let block = usize::from(lid) / 64;
+        let bit = usize::from(lid) % 64;
+        if switch >= self.cells.switches() || block >= self.cells.blocks() {
+            return None;
+        }
+        self.cells.port(switch, block, bit)
+    }
+
+    /// The channel by which a switch sends to a LID; none where it sends to an end port or does not send.
+    pub fn exit(self, switch: u32, lid: u16) -> Option<Channel> {
+        let port = self.port(switch, lid)?;
+        self.channel(switch, port)
+    }
+
+    /// The channel that leaves a switch by a port, if one does.
+    pub fn channel(self, switch: u32, port: u8) -> Option<Channel> {
+        self.ports.channel(switch, port)
+    }
+
+    /// Whether the switch of a target has the owner's port for it.
+    pub fn delivers(self, target: Target) -> bool {
+        self.port(target.switch, target.lid) == Some(target.port)
+    }
+}

@@ -1,0 +1,3 @@
+pub mod Repairs
+pub mod Reports
+pub mod Given

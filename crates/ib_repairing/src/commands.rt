@@ -1,0 +1,158 @@
+//! The commands `repair` and `repaired`.
+
+ghost use Rattle.std.specs.Prelude.{◌≡◌, ℕ, List, IfOk};
+ghost use Rattle.ib_cells.specs.Cells.{tables_of};
+ghost use Rattle.ib_net.specs.Fabric.{FabricOf};
+ghost use Rattle.ib_tables.specs.Reads.{HasCells};
+ghost use Rattle.ib_answering.specs.Answer.{IsEnding};
+ghost use Rattle.ib_repair.specs.Repaired.{AreRepairedOf};
+ghost use Rattle.ib_repairing.specs.Repairs.{Pass, cell_count};
+ghost use Rattle.ib_repairing.specs.Given.{AreRowsTold, AreTablesGiven, IsNoRepair, gives_repair, gives_repaired};
+
+use crate::repaired::find_repaired;
+use crate::report::{Report, print_none, print_report};
+use crate::rows::rows_set;
+use an_base::memory::OutOfMemory;
+use an_base::text::Word;
+use ib_answering::command::{Command, Given};
+use ib_answering::input::Topology;
+use ib_answering::status::Status;
+use ib_commands::answer::status_of;
+use ib_commands::words::word_of;
+use ib_net::fabric::Fabric;
+use ib_repair::repair::Repaired;
+use ib_routes::traffic::Traffic;
+use ib_routing::apart::find_apart;
+use ib_tables::reader::Tables;
+use ib_tables_text::printer::print;
+use ib_verdict::judge::judge;
+use std::alloc::Global;
+
+/// The command `repair`: the rows of given tables that are to be set so that they pass for a traffic.
+#[derive(Clone, Copy)]
+pub struct Repair {
+    /// The traffic.
+    pub traffic: Traffic,
+}
+
+impl Command for Repair {
+    ghost gives = { λ repair. gives_repair repair.traffic };
+
+    fn given(
+        &self,
+        alloc: Global,
+        topology: &Topology,
+        tables: &Tables,
+    ) -> Result<Given, OutOfMemory> {
+        match find_repaired(alloc, &topology.fabric, &tables.cells, self.traffic)? {
+            Some(made) => given_rows(alloc, &topology.fabric, tables, self.traffic, &made),
+            None => given_none(alloc, &topology.fabric, tables, self.traffic),
+        }
+    }
+}
+
+// What `repair` gives for tables that were repaired.
+fn given_rows(
+    alloc: Global,
+    fabric: &Fabric,
+    tables: &Tables,
+    traffic: Traffic,
+    made: &Repaired,
+) -> Result<Given, OutOfMemory>
+    requires cells { HasCells fabric.now tables.now }
+    requires shape { AreRepairedOf fabric.now tables.now.cells made.now.cells }
+    requires pass { Pass traffic fabric.now (tables_of made.now.cells) }
+    ensures given { IfOk result (λ given. AreRowsTold traffic fabric.now tables.now given.status given.text.items) }
+    ensures ends { IfOk result (λ given. IsEnding given.status) }
+{
+    let report = Report {
+        traffic: Word::of(alloc, word_of(traffic).as_bytes())?,
+        cells: count_cells(fabric),
+        lids: made.lids,
+        before: made.before,
+        after: made.after,
+        rows: rows_set(alloc, fabric, &tables.cells, &made.cells)?,
+    };
+    Ok(Given {
+        status: Status::Ok,
+        text: print_report(alloc, &report)?,
+    })
+}
+
+// How many cells tables of a fabric have: one for each switch and each LID that has an owner.
+fn count_cells(fabric: &Fabric) -> u64
+    ensures { result ≡ cell_count fabric.now }
+{
+    let mut owned = 0u64;
+    'lids: for lid in 0..fabric.lids() {
+        if fabric.owner(lid).is_some() {
+            owned += 1;
+        }
+    }
+    owned * fabric.switches() as u64
+}
+
+// What both commands give where no tables were found that pass: how the given ones end, and who is not joined to whom.
+fn given_none(
+    alloc: Global,
+    fabric: &Fabric,
+    tables: &Tables,
+    traffic: Traffic,
+) -> Result<Given, OutOfMemory>
+    requires { HasCells fabric.now tables.now }
+    ensures given { IfOk result (λ given. IsNoRepair traffic fabric.now tables.now given.status given.text.items) }
+    ensures ends { IfOk result (λ given. IsEnding given.status) }
+{
+    let judged = judge(alloc, fabric, &tables.cells, traffic)?;
+    let apart = find_apart(alloc, fabric, traffic)?;
+    Ok(Given {
+        status: status_of(&judged),
+        text: print_none(alloc, fabric, apart)?,
+    })
+}
+
+/// The command `repaired`: the tables in which these rows are set.
+#[derive(Clone, Copy)]
+pub struct RepairedTables {
+    /// The traffic.
+    pub traffic: Traffic,
+}
+
+impl Command for RepairedTables {
+    ghost gives = { λ repaired. gives_repaired repaired.traffic };
+
+    fn given(
+        &self,
+        alloc: Global,
+        topology: &Topology,
+        tables: &Tables,
+    ) -> Result<Given, OutOfMemory> {
+        match find_repaired(alloc, &topology.fabric, &tables.cells, self.traffic)? {
+            Some(made) => given_tables(alloc, &topology.fabric, tables, self.traffic, &made),
+            None => given_none(alloc, &topology.fabric, tables, self.traffic),
+        }
+    }
+}
+
+// What `repaired` gives for tables that were repaired. A fabric without switches has no tables.
+fn given_tables(
+    alloc: Global,
+    fabric: &Fabric,
+    tables: &Tables,
+    traffic: Traffic,
+    made: &Repaired,
+) -> Result<Given, OutOfMemory>
+    requires cells { HasCells fabric.now tables.now }
+    requires shape { AreRepairedOf fabric.now tables.now.cells made.now.cells }
+    requires pass { Pass traffic fabric.now (tables_of made.now.cells) }
+    ensures given { IfOk result (λ given. AreTablesGiven traffic fabric.now tables.now given.status given.text.items) }
+    ensures ends { IfOk result (λ given. IsEnding given.status) }
+{
+    if fabric.switches() == 0 {
+        return given_none(alloc, fabric, tables, traffic);
+    }
+    Ok(Given {
+        status: Status::Ok,
+        text: print(alloc, fabric, &made.cells)?,
+    })
+}

@@ -1,0 +1,12 @@
+//! The commands of `fabric` that repair tables: `repair` tells which rows are to be set, `repaired` gives the tables in
+//! which they are.
+//!
+//! It stands on `ib_repair`, which finds the rows, on the verdict, and on the text of tables. Its one contract: what each
+//! command gives for the text of a topology, its fabric and tables. With status 0 the tables pass in which the rows are
+//! set: there is no credit loop, and each route of the traffic arrives. That few rows are set is not claimed.
+#![tactic(auto)]
+
+pub mod commands;
+pub mod repaired;
+pub mod report;
+pub mod rows;
