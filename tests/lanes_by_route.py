@@ -8,6 +8,9 @@ NODE = (r"\{ ([\w-]+) Ports:(\w+) SystemGUID:\w+ NodeGUID:(\w+) PortGUID:(\w+) V
         r"LID:(\w+) PN:(\w+) \}")
 PAIR = re.compile(f"{NODE} {NODE}")
 HEAD = re.compile(r"(Switch|Channel Adapter|Router) 0x(\w{16}), base LID ")
+NAME = re.compile(r"NodeGUID:(\w{16}) PortGUID:\w+ VenID:\w+ DevID:\w+ Rev:\w+ \{(.*?)\} LID:")
+CHANNEL = re.compile(r"channel (?P<switch>\w+) (?P<port>\d+) lane (?P<lane>\d+) "
+                     r"lid (?P<lid>\d+) from (?P<source>\w+) level (?P<level>\d+)")
 DISCARD = 15
 
 Node = collections.namedtuple("Node", "is_switch guid ports lid port")
@@ -209,3 +212,30 @@ def lines_of(folder, word, traffic):
               "any": lambda: lambda source, lid: range(16)}.get(word, lambda: lambda source, lid: [int(word)])()
     told = "file" if word == "levels" else word
     return [f"judged traffic {traffic} lanes {fabric.count} levels {told}", *Answer(fabric, levels, traffic).lines(word)]
+
+
+def names_in(path):
+    """The name of each node, as the first line with the node tells it."""
+    names = {}
+    for line in open(path, errors="replace"):
+        for guid, name in NAME.findall(line):
+            names.setdefault(f"0x{guid}", name)
+    return names
+
+
+def picture_of(folder, lines):
+    """The lines of the picture of the loop that the lines of an answer tell."""
+    far, names = Fabric(folder).far, names_in(folder / "opensm-subnet.lst")
+    loop = [CHANNEL.fullmatch(line) for line in lines if line.startswith("channel ")]
+    found = f"has a credit loop of {len(loop)} channels" if loop else "has no credit loop"
+    yield from ("digraph cycle {", f'label = "{lines[0].removeprefix("judged ")} {found}"')
+    yield from ("node [ shape = box ]", "edge [ labeldistance = 2 ]")
+    for switch in dict.fromkeys(one["switch"] for one in loop):
+        name = re.sub(r'["\\\\]', r"\\\g<0>", names[switch]).replace("&", "&amp;")
+        yield f'"{switch}" [ label = "{name}\\n\\N" ]'
+    for one in loop:
+        to = far[int(one["switch"], 16), int(one["port"])]
+        label = f"lane {one['lane']} level {one['level']}\\nlid {one['lid']} from {one['source']}"
+        yield (f'"{one["switch"]}" -> "0x{to.guid:016x}" '
+               f'[ taillabel = {one["port"]} headlabel = {to.port} label = "{label}" ]')
+    yield "}"
