@@ -1,7 +1,10 @@
 """Judges tables with lanes route by route, with nothing of the program: each end port, LID and service level by itself.
-Takes a folder with what OpenSM dumps, opensm-subnet.lst, opensm-lfts.dump and opensm-sl2vl.dump. Slow."""
+Takes a folder with what OpenSM dumps, opensm-subnet.lst, opensm-lfts.dump and opensm-sl2vl.dump. A route is followed up
+to a port by which one to the same LID, on the same lanes, came before: from there both do the same."""
 
 import collections
+import functools
+import itertools
 import re
 
 NODE = (r"\{ ([\w-]+) Ports:(\w+) SystemGUID:\w+ NodeGUID:(\w+) PortGUID:(\w+) VenID:.*?\} "
@@ -24,7 +27,7 @@ def node_of(words):
 
 
 class Fabric:
-    """What the files of a folder say."""
+    """What the files of a folder say. `like` has for each level the least one that all switches put on the same lanes."""
 
     def __init__(self, folder):
         self.far, self.cable, self.owner, self.ports = {}, {}, {}, {}
@@ -42,12 +45,14 @@ class Fabric:
                 table = self.table[int(head[1], 16)]
             elif row and row[2] != "255":
                 table[int(row[1], 16)] = int(row[2])
-        self.lanes = {}
+        self.lanes, rows = {}, {}
         for switch, line in parts_of(folder / "opensm-sl2vl.dump", "Switch"):
             ports, _, row = line.partition(":")
             if row:
-                self.lanes[(switch, *map(int, ports.split()))] = [int(lane) for lane in row.split()]
-        self.count = 1 + max((lane for row in self.lanes.values() for lane in row if lane < DISCARD), default=-1)
+                self.lanes[(switch, *map(int, ports.split()))] = rows.setdefault(row, [int(lane) for lane in row.split()])
+        self.count = 1 + max((lane for row in rows.values() for lane in row if lane < DISCARD), default=-1)
+        columns = list(zip(*rows.values())) or [()] * 16
+        self.like = [columns.index(column) for column in columns]
 
     def add(self, node, far):
         """A node, with the far side of its port."""
@@ -78,6 +83,12 @@ class Fabric:
         return (switch, port, lane), (far.guid, far.port)
 
 
+@functools.lru_cache(maxsize=1)
+def fabric_in(folder):
+    """The fabric of a folder, which is read once for all that is asked of it."""
+    return Fabric(folder)
+
+
 def parts_of(path, kind):
     """The lines of the parts of nodes of a kind, each with the GUID of its node; no comments."""
     guid = None
@@ -89,13 +100,15 @@ def parts_of(path, kind):
             yield guid, line
 
 
+@functools.lru_cache(maxsize=1)
 def levels_in(path):
     """The levels of each pair of an end port and a LID, as a file tells them in parts."""
     levels = collections.defaultdict(set)
-    for guid, line in parts_of(path, "Channel Adapter"):
+    for guid, line in itertools.chain(parts_of(path, "Channel Adapter"), parts_of(path, "Switch")):
         lid, level = line.split(":")
         levels[guid, int(lid, 16)].add(int(level))
-    return lambda source, lid: sorted(levels[source, lid])
+    in_order = {pair: tuple(sorted(some)) for pair, some in levels.items()}
+    return lambda source, lid: in_order.get((source, lid), ())
 
 
 class Answer:
@@ -105,51 +118,72 @@ class Answer:
         self.fabric, self.levels = fabric, levels
         self.routes = self.arrived = self.hops = self.silent = 0
         self.depends, self.lost, self.first = {}, collections.Counter(), {}
+        self.known, self.counted = {}, {}
         sources = {guid: begin for guid, begin in fabric.cable.items()}
         if traffic == "all":
             sources.update({guid: (guid, 0) for guid in fabric.ports})
+        in_order = sorted(sources.items())
         for lid, (is_switch, owner) in sorted(fabric.owner.items()):
             if is_switch and traffic == "hosts":
                 continue
-            for source in sorted(sources):
+            self.known = {like: {} for like in fabric.like}
+            for source, begin in in_order:
                 if source != owner:
-                    self.add(sources[source], source, lid)
+                    self.add(begin, source, lid)
 
     def add(self, begin, source, lid):
         """The routes of a pair, each level one."""
-        levels = self.levels(source, lid)
+        levels = tuple(self.levels(source, lid))
         self.silent += not levels
+        if levels not in self.counted:
+            self.counted[levels] = self.count_like(levels)
+        for level, count in self.counted[levels]:
+            self.end(*self.follow(begin, (lid, source, level)), (lid, source, level), count)
+
+    def count_like(self, levels):
+        """Of levels that take the same lanes the least, and how many these are."""
+        counts = {}
         for level in levels:
-            self.routes += 1
-            self.follow(begin, (lid, source, level))
+            counts.setdefault(self.fabric.like[level], [level, 0])[1] += 1
+        return list(counts.values())
 
     def follow(self, spot, route):
-        """One route."""
+        """How a route ends: the cause, how many switches it takes if it arrives, and the switch where it is lost."""
         lid, _, level = route
-        before, seen = None, set()
-        while spot not in seen:
-            seen.add(spot)
-            does, spot_after = self.fabric.hop(*spot, level, lid)
+        known, way, before = self.known[self.fabric.like[level]], {}, None
+        while spot not in known and spot not in way:
+            does, spot_after = way[spot] = self.fabric.hop(*spot, level, lid)
             if spot_after is None:
-                return self.end(does, len(seen), spot[0], route)
+                return self.learn(known, way, (does, 0, spot[0]))
             if before is not None:
                 self.depends.setdefault((before, does), route)
             before, spot = does, spot_after
-        does, _ = self.fabric.hop(*spot, level, lid)
-        self.depends.setdefault((before, does), route)
-        ring, at = [], spot
-        while not ring or at != spot:
-            ring.append(at[0])
-            at = self.fabric.hop(*at, level, lid)[1]
-        return self.end("loop", 0, min(ring), route)
+        if spot in way:
+            self.depends.setdefault((before, way[spot][0]), route)
+            ring = list(way)[list(way).index(spot):]
+            return self.learn(known, way, ("loop", 0, min(ring)[0]))
+        does, *ends = known[spot]
+        if before is not None and isinstance(does, tuple):
+            self.depends.setdefault((before, does), route)
+        return self.learn(known, way, ends)
 
-    def end(self, how, switches, at, route):
-        """A route ends: it arrives, or is lost at a switch."""
+    @staticmethod
+    def learn(known, way, ends):
+        """Keeps what is done by each port of a way, and how routes end from there; how the whole way does."""
+        how, switches, at = ends
+        for spot, (does, _) in reversed(way.items()):
+            switches += 1
+            known[spot] = does, how, switches, at
+        return how, switches, at
+
+    def end(self, how, switches, at, route, count):
+        """So many routes end: they arrive, or are lost at a switch."""
+        self.routes += count
         if how == "arrive":
-            self.arrived += 1
+            self.arrived += count
             self.hops = max(self.hops, switches)
         else:
-            self.lost[how] += 1
+            self.lost[how] += count
             self.first.setdefault(how, (*route, at))
 
     def cycle(self):
@@ -207,7 +241,7 @@ class Answer:
 
 def lines_of(folder, word, traffic):
     """The lines of the answer for a folder: `levels` takes those of path-sl.dump, else one level or `any`."""
-    fabric = Fabric(folder)
+    fabric = fabric_in(folder)
     levels = {"levels": lambda: levels_in(folder / "path-sl.dump"),
               "any": lambda: lambda source, lid: range(16)}.get(word, lambda: lambda source, lid: [int(word)])()
     told = "file" if word == "levels" else word
