@@ -21,13 +21,17 @@ import fabrics
 
 ROOT = pathlib.Path(os.environ.get("OPENSM_ROOT", "/"))
 LIBRARIES = ROOT / "usr/lib/x86_64-linux-gnu"
+ASKER = pathlib.Path(__file__).resolve().with_name("levels")
 SECONDS = 60
 ON_ONE_LANE = ("minhop", "dnup", "sssp", "dor", "updn", "ftree", "nue")
-WITH_LANES = ("lash", "dfsssp", "torus-2QoS")
+FOR_SWITCHES = ("updn+roots", "ftree+roots", "nue+switches")
+WITH_LANES = ("lash", "dfsssp", "torus-2QoS", "nue+lanes")
+ENGINES = (*ON_ONE_LANE, *FOR_SWITCHES, *WITH_LANES)
 OPTIONS = {"updn+roots": "connect_roots TRUE", "ftree+roots": "connect_roots TRUE",
-           "nue+switches": "nue_include_switches TRUE"}
-ENGINES = (*ON_ONE_LANE, *OPTIONS, *WITH_LANES)
-KEPT = ("opensm-subnet.lst", "opensm-lfts.dump", "opensm-sl2vl.dump")
+           "nue+switches": "nue_include_switches TRUE", "nue+lanes": "nue_max_num_vls 8"}
+TIMES = {"dfsssp": 8}
+LEVELS = "path-sl.dump"
+KEPT = ("opensm-subnet.lst", "opensm-lfts.dump", "opensm-sl2vl.dump", LEVELS)
 REFUSALS = ("No routing engine able", "cannot find or setup routing engine")
 
 
@@ -120,9 +124,10 @@ class Simulation:
         return process
 
     def simulated(self, words):
-        """The words of a call whose adapter is a simulated one."""
+        """The words of a call, of one of the packages or by a path, whose adapter is a simulated one."""
         name, *rest = words
-        return ["env", f"LD_PRELOAD={LIBRARIES / 'umad2sim/libumad2sim.so'}", program(name), *rest]
+        path = name if "/" in name else program(name)
+        return ["env", f"LD_PRELOAD={LIBRARIES / 'umad2sim/libumad2sim.so'}", path, *rest]
 
     def read(self, name):
         """What a file of the folder has so far."""
@@ -170,14 +175,19 @@ class Simulation:
         self.simulator.stdin.flush()
         return self.fabric.switches[one], port
 
-    def call(self, words, out):
+    def call(self, words, out, given="", seconds=SECONDS):
         """Writes into a file of the folder what a program prints that asks the fabric from the last host."""
         asker = f"H{len(self.fabric.hosts) - 1}"
         with open(self.folder / out, "w") as file, open(self.folder / f"{out}.err", "w") as err:
             subprocess.run(["setpriv", "--pdeathsig", "KILL", *self.simulated(words)], cwd=self.folder, check=True,
-                           env=dict(self.variables, SIM_HOST=asker), stdin=subprocess.DEVNULL, stdout=file, stderr=err,
-                           timeout=SECONDS)
+                           env=dict(self.variables, SIM_HOST=asker), input=given, text=True, stdout=file, stderr=err,
+                           timeout=seconds)
         return self.folder / out
+
+    def ask_levels(self):
+        """Writes into a file of the folder the service levels of all paths, as the subnet manager tells them."""
+        words = [str(ASKER), str(TIMES.get(self.engine, 1))]
+        return self.call(words, LEVELS, self.read("opensm-subnet.lst"), 10 * SECONDS)
 
     def end(self):
         """Ends what was started, the last first, and takes away what the simulated adapters leave."""
@@ -204,6 +214,8 @@ def make(folder, name, engine):
     try:
         with Simulation(place, fabrics.fabric_called(name), engine) as running:
             running.wait_for_sweep(1)
+            if engine in WITH_LANES:
+                running.ask_levels()
         is_made = True
     except Refused:
         is_made = False
