@@ -27,7 +27,8 @@ def node_of(words):
 
 
 class Fabric:
-    """What the files of a folder say. `like` has for each level the least one that all switches put on the same lanes."""
+    """What the files of a folder say. `like` has for each level the least one that all switches put on the same lanes;
+    `gate` for each port in a switch the least one from which all levels take the same lanes."""
 
     def __init__(self, folder):
         self.far, self.cable, self.owner, self.ports = {}, {}, {}, {}
@@ -53,6 +54,15 @@ class Fabric:
         self.count = 1 + max((lane for row in rows.values() for lane in row if lane < DISCARD), default=-1)
         columns = list(zip(*rows.values())) or [()] * 16
         self.like = [columns.index(column) for column in columns]
+        self.gate = self.gates()
+
+    def gates(self):
+        """The least port of each switch with the same lanes to all ports."""
+        rows = collections.defaultdict(list)
+        for (switch, entry, port), row in sorted(self.lanes.items()):
+            rows[switch, entry].append((port, id(row)))
+        gates = {}
+        return {(switch, entry): (switch, gates.setdefault((switch, *row), entry)) for (switch, entry), row in rows.items()}
 
     def add(self, node, far):
         """A node, with the far side of its port."""
@@ -80,7 +90,7 @@ class Fabric:
             return "discard", None
         if not far.is_switch:
             return ("arrive" if owner == (False, far.guid) else "wrong"), None
-        return (switch, port, lane), (far.guid, far.port)
+        return (switch, port, lane), self.gate.get((far.guid, far.port), (far.guid, far.port))
 
 
 @functools.lru_cache(maxsize=1)
@@ -119,9 +129,9 @@ class Answer:
         self.routes = self.arrived = self.hops = self.silent = 0
         self.depends, self.lost, self.first = {}, collections.Counter(), {}
         self.known, self.counted = {}, {}
-        sources = {guid: begin for guid, begin in fabric.cable.items()}
+        sources = {guid: fabric.gate.get(begin, begin) for guid, begin in fabric.cable.items()}
         if traffic == "all":
-            sources.update({guid: (guid, 0) for guid in fabric.ports})
+            sources.update({guid: fabric.gate.get((guid, 0), (guid, 0)) for guid in fabric.ports})
         in_order = sorted(sources.items())
         for lid, (is_switch, owner) in sorted(fabric.owner.items()):
             if is_switch and traffic == "hosts":
@@ -138,7 +148,10 @@ class Answer:
         if levels not in self.counted:
             self.counted[levels] = self.count_like(levels)
         for level, count in self.counted[levels]:
-            self.end(*self.follow(begin, (lid, source, level)), (lid, source, level), count)
+            known = self.known[self.fabric.like[level]]
+            if begin not in known:
+                self.follow(begin, (lid, source, level), known)
+            self.end(*known[begin][1:], (lid, source, level), count)
 
     def count_like(self, levels):
         """Of levels that take the same lanes the least, and how many these are."""
@@ -147,34 +160,34 @@ class Answer:
             counts.setdefault(self.fabric.like[level], [level, 0])[1] += 1
         return list(counts.values())
 
-    def follow(self, spot, route):
-        """How a route ends: the cause, how many switches it takes if it arrives, and the switch where it is lost."""
+    def follow(self, spot, route, known):
+        """Follows a route to where it ends, or to a spot that is known: keeps of each spot on its way what is done there,
+        and how a route ends from there: the cause, how many switches it takes, and the switch where it is lost."""
         lid, _, level = route
-        known, way, before = self.known[self.fabric.like[level]], {}, None
+        way, before = {}, None
         while spot not in known and spot not in way:
             does, spot_after = way[spot] = self.fabric.hop(*spot, level, lid)
             if spot_after is None:
-                return self.learn(known, way, (does, 0, spot[0]))
+                return self.keep(known, way, (does, 0, spot[0]))
             if before is not None:
                 self.depends.setdefault((before, does), route)
             before, spot = does, spot_after
         if spot in way:
             self.depends.setdefault((before, way[spot][0]), route)
             ring = list(way)[list(way).index(spot):]
-            return self.learn(known, way, ("loop", 0, min(ring)[0]))
+            return self.keep(known, way, ("loop", 0, min(ring)[0]))
         does, *ends = known[spot]
         if before is not None and isinstance(does, tuple):
             self.depends.setdefault((before, does), route)
-        return self.learn(known, way, ends)
+        return self.keep(known, way, ends)
 
     @staticmethod
-    def learn(known, way, ends):
-        """Keeps what is done by each port of a way, and how routes end from there; how the whole way does."""
+    def keep(known, way, ends):
+        """Keeps how routes end from each spot of a way."""
         how, switches, at = ends
         for spot, (does, _) in reversed(way.items()):
             switches += 1
             known[spot] = does, how, switches, at
-        return how, switches, at
 
     def end(self, how, switches, at, route, count):
         """So many routes end: they arrive, or are lost at a switch."""
