@@ -1,6 +1,6 @@
 //! By which route a channel depends on another, with lanes.
 
-ghost use Rattle.std.specs.Prelude.{◌≡◌, ◌<◌, ◌≤◌, ◌*◌, ◌^◌, ◌↔◌, ℕ, length, IfOk, IsTrue, MatchOption};
+ghost use Rattle.std.specs.Prelude.{◌≡◌, ◌<◌, ◌≤◌, ◌*◌, ◌^◌, ◌↔◌, ℕ, length, IfOk, IfSome, IsTrue, MatchOption};
 ghost use Rattle.std.specs.Int.{bit_at};
 ghost use Rattle.ib_cells.specs.Cells.{tables_of};
 ghost use Rattle.ib_net.specs.declared.node.EndPort.{EndPort};
@@ -13,17 +13,19 @@ ghost use Rattle.ib_lane_routes.specs.declared.hop.LaneHop.TheVariants.{On};
 ghost use Rattle.ib_lane_routes.specs.LaneFound.{IsLeastLaneWitness};
 ghost use Rattle.ib_routes.specs.Witness.{IsFirst};
 ghost use Rattle.ib_lane_routes.specs.LaneRoutes.{lane_hop};
-ghost use Rattle.ib_lane_witness.specs.Search.{AreOn, AreOnFor, GoesBy, IsLeastAt, IsLeastLevel, IsReadyFor, LeadsTo};
+ghost use Rattle.ib_lane_routes.specs.LaneWays.{IsWay};
+ghost use Rattle.ib_lane_witness.specs.Search.{AreOn, AreOnFor, GoesBy, IsLeastAt, IsLeastLevel, IsReadyFor};
 ghost use Rattle.ib_lane_witness.specs.Search.{Takes, TakesAs};
 ghost use Rattle.ib_lane_witness.specs.Witness.{HasNoLaneWitness, lane_channel_of};
 
 use crate::walk::goes_by;
 use an_base::memory::OutOfMemory;
 use ib_cells::cells::Cells;
-use ib_lane_routes::hop::{Exit, LaneHop, find_exit, lane_hop_at};
+use ib_lane_routes::hop::{LaneHop, lane_hop_at};
 use ib_lane_routes::start::begin_at;
+use ib_lane_routes::way::find_way;
 use ib_net::fabric::Fabric;
-use ib_net::node::{EndPort, Side, Spot};
+use ib_net::node::{EndPort, Spot};
 use ib_routes::start::is_target;
 use ib_routes::trace::Mark;
 use ib_routes::traffic::Traffic;
@@ -76,25 +78,18 @@ fn comes_out(fabric: &Fabric, cells: &Cells, lid: usize, channel: LaneSpot) -> O
     requires same { switch_count fabric.now ≡ cells.now.switches }
     requires lid { lid < 64 * cells.now.blocks }
     requires channel { channel.switch < switch_count fabric.now }
-    ensures { MatchOption result
-        ((spot : Spot) → LeadsTo fabric.now (tables_of cells.now) lid (lane_channel_of channel) spot → ⊥)
-        (LeadsTo fabric.now (tables_of cells.now) lid (lane_channel_of channel)) }
+    ensures way { MatchOption result
+        ((spot : Spot) → IsWay fabric.now (tables_of cells.now) lid channel.switch channel.port spot → ⊥)
+        (IsWay fabric.now (tables_of cells.now) lid channel.switch channel.port) }
+    ensures within { IfSome result (λ spot. spot.switch < switch_count fabric.now) }
 {
-    let exit = find_exit(fabric, cells, channel.switch as usize, lid / 64, lid % 64);
-    let Exit::By(port, side) = exit else {
+    let Some(way) = find_way(fabric, cells, channel.switch as usize, lid / 64, lid % 64) else {
         return None;
     };
-    if port != channel.port {
+    if way.port != channel.port {
         return None;
     }
-    match side {
-        Side::Bare => None,
-        Side::To(switch, entry) => Some(Spot {
-            switch,
-            port: entry,
-        }),
-        Side::End(_) => None,
-    }
+    Some(way.next)
 }
 
 // The levels with which what goes to a LID and leaves a switch by the link of a channel goes on by the next channel, as
