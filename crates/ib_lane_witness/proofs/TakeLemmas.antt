@@ -1,24 +1,28 @@
 -- What goes to a LID by the link of a channel, and which routes take a channel and then another.
-use Rattle.std.proofs.Common.{◌≡◌, ◌∙◌, sym, ap, subst, refl, ℕ, ◌+◌, ◌*◌, ◌/◌, ◌%◌, ◌<◌, ◌≤◌, ◌↔◌, Some, arith, length, inl, inr, ◌⊎◌}
+use Rattle.std.proofs.Common.{◌≡◌, ◌∙◌, sym, ap, subst, refl, ℕ, ◌+◌, ◌*◌, ◌/◌, ◌%◌, ◌<◌, ◌≤◌, ◌↔◌, Option, Some, arith, inl, inr, ◌⊎◌}
 use Rattle.std.specs.Int.{bit_at}
+use Rattle.std.specs.Prelude.{MatchOption}
 use Rattle.std.proofs.lemmas.Bool.{cases_eq, cases_lt}
 use Rattle.std.proofs.lemmas.Nat.Bits.{bit_at-zero}
 use Rattle.ib_net.specs.declared.node.EndPort.{EndPort}
-use Rattle.ib_net.specs.declared.node.EndPort.TheVariants.{Host, Switch}
 use Rattle.ib_net.specs.declared.node.Side.TheVariants.{To}
 use Rattle.ib_net.specs.declared.node.Spot.{Spot}
-use Rattle.ib_net.specs.Fabric.{FabricOf, side_of, switch_count}
+use Rattle.ib_net.specs.Fabric.{FabricOf, IsFabric, side_of}
 use Rattle.ib_cells.specs.Cells.{TablesOf}
 use Rattle.ib_rows.specs.Lanes.{LanesOf}
 use Rattle.ib_rows.specs.PathLevels.{LevelsOf}
 use Rattle.ib_routes.specs.declared.traffic.Traffic.{Traffic}
+use Rattle.ib_routes.specs.Witness.{IsFirst, IsFirstSource, IsLesser}
 use Rattle.ib_routes.proofs.StartLemmas.{cabled_low, source_low}
+use Rattle.ib_routes.proofs.WitnessLemmas.{first_of}
 use Rattle.ib_lane_routes.specs.declared.hop.LaneHop.TheVariants.{On}
 use Rattle.ib_lane_routes.specs.LaneFound.{IsLeastLaneWitness}
 use Rattle.ib_lane_routes.specs.LaneRoutes.{LaneChannel, LaneSends, LaneTakes, LaneWalksBy, begin_of, lane_hop}
 use Rattle.ib_lane_routes.specs.LaneWays.{HasNoWay, IsWay}
 use Rattle.ib_lane_routes.proofs.OnLemmas.{on_way}
-use Rattle.ib_lane_witness.specs.Search.{AreOn, GoesBy, GoesOn, IsLeastAt, Takes}
+use Rattle.ib_lane_witness.specs.declared.witness.Kind.{Kind}
+use Rattle.ib_lane_witness.specs.declared.witness.Kind.TheVariants.{Hosts, Switches}
+use Rattle.ib_lane_witness.specs.Search.{AreOn, GoesBy, GoesOn, IsLeastAt, Takes, count_of, end_at}
 
 same_spot : (a b : Spot) → a.switch ≡ b.switch → a.port ≡ b.port → a ≡ b
 same_spot a b switch port = ap (λ (s : ℕ). let spot : Spot = record { switch = s; port = a.port } in spot) switch ∙ ap (λ (p : ℕ). let spot : Spot = record { switch = b.switch; port = p } in spot) port
@@ -120,11 +124,13 @@ module _ (fabric : FabricOf) (tables : TablesOf) (lanes : LanesOf) (lid : ℕ) w
     }
 
     -- who takes is one of the fabric
-    pub host_takes : (end : ℕ) → Takes fabric tables lanes traffic levels lid channel next (Host end) → end < length fabric.cables
-    host_takes end (level, takes) = let source = takes.comes.sends.sends.is_source in cabled_low fabric traffic end source.0 source.1
+    pub takes_low : (kind : Kind) (place : ℕ) → Takes fabric tables lanes traffic levels lid channel next (end_at kind place) → place < count_of fabric kind
+    takes_low Hosts end (level, takes) = let source = takes.comes.sends.sends.is_source in cabled_low fabric traffic end source.0 source.1
+    takes_low Switches switch (level, takes) = source_low fabric traffic switch takes.comes.sends.sends.is_source
 
-    pub switch_takes : (switch : ℕ) → Takes fabric tables lanes traffic levels lid channel next (Switch switch) → switch < switch_count fabric
-    switch_takes switch (level, takes) = source_low fabric traffic switch takes.comes.sends.sends.is_source
+    -- the end port of least GUID, of those of both kinds
+    pub first_takes : IsFabric fabric → (host switch : Option ℕ) (found : Option EndPort) → MatchOption host ((end : ℕ) → Takes fabric tables lanes traffic levels lid channel next (end_at Hosts end) → ⊥) (IsFirst (λ end. Takes fabric tables lanes traffic levels lid channel next (end_at Hosts end))) → MatchOption switch ((at : ℕ) → Takes fabric tables lanes traffic levels lid channel next (end_at Switches at) → ⊥) (IsFirst (λ at. Takes fabric tables lanes traffic levels lid channel next (end_at Switches at))) → IsLesser fabric host switch found → MatchOption found ((source : EndPort) → Takes fabric tables lanes traffic levels lid channel next source → ⊥) (IsFirstSource fabric (Takes fabric tables lanes traffic levels lid channel next))
+    first_takes fits host switch found hosts switches lesser = first_of fabric fits (Takes fabric tables lanes traffic levels lid channel next) (takes_low Hosts) (takes_low Switches) host switch found hosts switches lesser
 
 -- the least LID
 pub least_witness : (fabric : FabricOf) (tables : TablesOf) (lanes : LanesOf) (traffic : Traffic) (levels : LevelsOf) (lid : ℕ) (channel next : LaneChannel) (source : EndPort) (level : ℕ) → ((other : ℕ) → other < lid → (source : EndPort) → Takes fabric tables lanes traffic levels other channel next source → ⊥) → IsLeastAt fabric tables lanes traffic levels lid channel next source level → IsLeastLaneWitness fabric tables lanes traffic levels channel next lid source level

@@ -1,7 +1,8 @@
 -- How a witness is looked for. Only private functions cite this.
-use Rattle.std.specs.Prelude.{◌≡◌, ◌<◌, ◌↔◌, ℕ, List}
+use Rattle.std.specs.Prelude.{◌≡◌, ◌<◌, ◌↔◌, ℕ, List, length}
 use Rattle.std.specs.Int.{bit_at}
 use Rattle.ib_net.specs.declared.node.EndPort.{EndPort}
+use Rattle.ib_net.specs.declared.node.EndPort.TheVariants.{Host, Switch}
 use Rattle.ib_net.specs.declared.node.Spot.{Spot}
 use Rattle.ib_net.specs.Fabric.{FabricOf, switch_count}
 use Rattle.ib_cells.specs.Cells.{TablesOf}
@@ -15,6 +16,8 @@ use Rattle.ib_lane_routes.specs.declared.hop.LaneHop.{LaneHop}
 use Rattle.ib_lane_routes.specs.declared.hop.LaneHop.TheVariants.{On}
 use Rattle.ib_lane_routes.specs.LaneRoutes.{LaneChannel, LaneTakes, LaneWalksBy, lane_hop}
 use Rattle.ib_lane_routes.specs.LaneWays.{IsWay}
+use Rattle.ib_lane_witness.specs.declared.witness.Kind.{Kind}
+use Rattle.ib_lane_witness.specs.declared.witness.Kind.TheVariants.{Hosts, Switches}
 use Rattle.ib_lane_witness.specs.declared.witness.Sought.{Sought}
 use Rattle.ib_lane_witness.specs.Witness.{lane_channel_of}
 
@@ -72,3 +75,12 @@ TakesAs fabric tables lanes traffic levels sought =
 abbrev pub IsReadyFor : FabricOf → TablesOf → Sought → List Mark → Type 0
 IsReadyFor fabric tables sought marks =
     IsReady (hop_to fabric tables (way sought.lid sought.channel.switch)) (switch_count fabric) marks
+
+-- the end ports of a kind: how many there are, and the one of a place
+abbrev pub count_of : FabricOf → Kind → ℕ
+count_of fabric Hosts = length fabric.cables
+count_of fabric Switches = switch_count fabric
+
+abbrev pub end_at : Kind → ℕ → EndPort
+end_at Hosts place = Host place
+end_at Switches place = Switch place
