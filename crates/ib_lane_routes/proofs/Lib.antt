@@ -1,2 +1,4 @@
 pub mod HopLemmas
 pub mod OneLaneLemmas
+mod WayLemmas
+pub mod OnLemmas

@@ -1,3 +1,4 @@
 pub mod LaneRoutes
 pub mod LaneExits
 pub mod LaneFound
+pub mod LaneWays

@@ -7,7 +7,8 @@ use Rattle.ib_rows.specs.PathLevels.{LevelsOf}
 use Rattle.ib_routes.specs.declared.traffic.Traffic.{Traffic}
 use Rattle.ib_verdict.proofs.LoopLemmas as list
 use Rattle.ib_lane_routes.specs.LaneRoutes.{LaneChannel, LaneDependsOn}
-use Rattle.ib_lane_waves.proofs.OnLemmas.{lane_on, switch_low}
+use Rattle.ib_lane_routes.proofs.OnLemmas.{lane_on}
+use Rattle.ib_lane_waves.proofs.OnLemmas.{switch_low}
 use Rattle.ib_lane_witness.specs.declared.witness.LaneSpot.{LaneSpot}
 use Rattle.ib_lane_verdict.specs.declared.verdict.LaneLoopChannel.{LaneLoopChannel}
 use Rattle.ib_lane_verdict.specs.LaneVerdict.{IsLaneWitnessed, IsLeastLaneLoop, LaneCycleIs}

@@ -19,7 +19,7 @@ use Rattle.ib_lane_waves.specs.LaneGates.{AreAlike, AreGates, IsGateOf, source_a
 use Rattle.ib_lane_waves.specs.LaneSteps.{departure_place}
 use Rattle.ib_lane_waves.proofs.GateLemmas.{source_place}
 use Rattle.ib_lane_waves.proofs.OnLemmas.{alike_hop}
-use Rattle.ib_lane_waves.proofs.StepLemmas.{on_parts}
+use Rattle.ib_lane_routes.proofs.OnLemmas.{on_parts}
 
 some_spot : (a b : Spot) → Some a ≡ Some b → a ≡ b
 some_spot a b same = cc

@@ -17,7 +17,8 @@ use Rattle.ib_lane_routes.specs.LaneFound.{IsLaneChannel, SomeIsLaneStopped, lan
 use Rattle.ib_lane_routes.specs.LaneRoutes.{LaneChannel, LaneTakes}
 use Rattle.ib_lane_waves.specs.LaneBlocks.{AreLaneDependencies, AreLaneFoundBelow, IsLaneWaved, SomeIsLaneStoppedTo, TakesLaneNumbers}
 use Rattle.ib_lane_waves.specs.LaneSteps.{IsLaneGraphOf}
-use Rattle.ib_lane_waves.proofs.OnLemmas.{lane_low, lane_on}
+use Rattle.ib_lane_routes.proofs.OnLemmas.{lane_on}
+use Rattle.ib_lane_waves.proofs.OnLemmas.{lane_low}
 use Rattle.ib_lane_waves.proofs.StepLemmas.{same_channel}
 
 module _ (fabric : FabricOf) (tables : TablesOf) (lanes : LanesOf) (count : ℕ) (traffic : Traffic) (levels : LevelsOf) where

@@ -12,11 +12,11 @@ use Rattle.ib_lane_waves.proofs.SetLemmas.{put_word, set_as, set_more, set_none}
 pub no_bit : (word bit : ℕ) → word ≡ 0 → bit_at word bit ≡ 1 → ⊥
 no_bit word bit none is = absurd (let z = bit_at-zero bit in let e : bit_at word bit ≡ bit_at 0 bit = ap (λ (n : ℕ). bit_at n bit) none in omega arith)
 
--- sixteen bits have no more levels
-pub level_low : (levels level : ℕ) → levels < 2 ^ 16 → bit_at levels level ≡ 1 → level < 16
-level_low levels level fits has = elim (cases_lt level 16) [
+-- so many bits are below their number
+pub bit_below : (word width bit : ℕ) → word < 2 ^ width → bit_at word bit ≡ 1 → bit < width
+bit_below word width bit fits has = elim (cases_lt bit width) [
   | inl low ↦ low
-  | inr high ↦ absurd (let none = bit_at_above levels 16 level fits high in omega arith)
+  | inr high ↦ absurd (let none = bit_at_above word width bit fits high in omega arith)
 ]
 
 -- a word stands in those of some levels, but for those that are left

@@ -1,6 +1,5 @@
 mod SpreadLemmas
 mod StepLemmas
-mod WayLemmas
 pub mod OnLemmas
 mod BlockLemmas
 pub mod FindLemmas

@@ -12,9 +12,11 @@ use Rattle.ib_routes.specs.Routes.{IsSource, Sends}
 use Rattle.ib_routes.specs.Starts.{AreTargets}
 use Rattle.ib_routes.specs.Waves.{HasBit}
 use Rattle.ib_routes.proofs.StartLemmas.{no_owner, sends_of}
+use Rattle.ib_routes.proofs.WordLemmas.{bit_or_not}
 use Rattle.ib_lane_routes.specs.LaneRoutes.{LaneSends}
-use Rattle.ib_lane_waves.specs.LaneBlocks.{AreOwned, AreSent, AreSetBy}
+use Rattle.ib_lane_waves.specs.LaneBlocks.{AreOwned, AreSent, AreSetBy, StandsAlready}
 use Rattle.ib_lane_waves.specs.LaneGates.{source_at, source_count}
+use Rattle.ib_lane_waves.proofs.SetLemmas.{set_had}
 
 -- words that are 0 have no bit
 pub no_bits : (count place bit : ℕ) → HasBit (replicate count 0) place bit → ⊥
@@ -97,6 +99,23 @@ module _ (fabric : FabricOf) (traffic : Traffic) (block : ℕ) where
             (more.1 (gate * top + level) bit).1 (inr (level, by.has, ap (λ (k : ℕ). k * top + level) one, (is_word bit).1 (fits, by.sends))))
       ],
     )
+
+    -- what stands already in the words of the gate, since one before sends so
+    pub sent_had : (targets : ℕ) (owned : List ℕ) (end of word had rest : ℕ) (old new : List ℕ) → AreTargets fabric traffic block targets → AreOwned fabric block owned → end < source_count fabric → ((one : ℕ) → one < source_count fabric → get_or gates one None ≡ Some of → IsSource fabric traffic (source_at fabric one)) → ((bit : ℕ) → bit_at had bit ≡ 1 → StandsAlready fabric levels targets block gates owned end of bit) → ((bit : ℕ) → ((bit_at rest bit ≡ 1) ↔ ((bit_at word bit ≡ 1) × (bit_at had bit ≡ 1 → ⊥)))) → AreLevelsBelow levels top → AreSentBelow end old → AreSetBy old new (Sent end (of * top) rest) → AreSetBy old new (Sent end (of * top) word)
+    sent_had targets owned end of word had rest old new are_targets are_owned end_low sources stood is_rest below are more = set_had (Sent end (of * top) word) (Sent end (of * top) rest) old new
+        (λ place bit (level, is, at, in_word). elim (bit_or_not had bit) [
+          | inl stands ↦ (
+              let s = stood bit stands in
+              let less = s.less in
+              let low : s.before < source_count fabric = omega arith in
+              let target = (are_targets bit).0 s.target in
+              let sends = sends_of fabric traffic (64 * block + bit) (source_at fabric s.before) (sources s.before low s.same) target.1 (λ owns. s.not_own ((are_owned s.before bit low target.0).1 owns)) in
+              let with : HasLevel levels (source_at fabric s.before) (64 * block + bit) level = (is.0, ap (λ (n : ℕ). bit_at n level) (sym s.levels_are) ∙ is.1) in
+              inr (subst (λ (k : ℕ). HasBit old k bit) (sym at) ((are of level bit (below (source_at fabric end) (64 * block + bit) level is)).1 (target.0, (s.before, less, s.same, record { sends = sends; has = with })))))
+          | inr not ↦ inl (level, is, at, (is_rest bit).1 (in_word, not))
+        ])
+        (λ place bit (level, is, at, in_rest). (level, is, at, ((is_rest bit).0 in_rest).0))
+        more
 
     pub all_sent : (count : ℕ) (words : List ℕ) → AreSentBelow (length gates) words → AreSent fabric traffic levels gates count block top words
     all_sent count words are gate level bit within low fits = (

@@ -39,6 +39,25 @@ set_as P R old new to from are = (
   ),
 )
 
+-- what stands already need not be set again
+pub set_had : (P Q : ℕ → ℕ → Type 0) (old new : List ℕ) → ((place bit : ℕ) → P place bit → Q place bit ⊎ HasBit old place bit) → ((place bit : ℕ) → Q place bit → P place bit) → AreSetBy old new Q → AreSetBy old new P
+set_had P Q old new split from are = (
+  are.0,
+  λ place bit. (
+    λ has. elim ((are.1 place bit).0 has) [
+      | inl had ↦ inl had
+      | inr q ↦ inr (from place bit q)
+    ],
+    λ either. elim either [
+      | inl had ↦ (are.1 place bit).1 (inl had)
+      | inr p ↦ elim (split place bit p) [
+        | inl q ↦ (are.1 place bit).1 (inr q)
+        | inr had ↦ (are.1 place bit).1 (inl had)
+      ]
+    ],
+  ),
+)
+
 pub set_more : (P Q R : ℕ → ℕ → Type 0) (a b c : List ℕ) → ((place bit : ℕ) → R place bit → P place bit ⊎ Q place bit) → ((place bit : ℕ) → P place bit → R place bit) → ((place bit : ℕ) → Q place bit → R place bit) → AreSetBy a b P → AreSetBy b c Q → AreSetBy a c R
 set_more P Q R a b c split left right first second = (
   second.0 ∙ first.0,

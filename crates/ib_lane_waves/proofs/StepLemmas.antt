@@ -14,6 +14,7 @@ use Rattle.ib_lane_routes.specs.declared.hop.LaneHop.TheVariants.{On}
 use Rattle.ib_lane_routes.specs.LaneFound.{lane_number}
 use Rattle.ib_lane_routes.specs.LaneRoutes.{IsLaneStop, LaneChannel, lane_hop}
 use Rattle.ib_routes.specs.Waves.{IsLink}
+use Rattle.ib_lane_routes.proofs.OnLemmas.{on_parts}
 use Rattle.ib_lane_waves.specs.LaneSteps.{ArePlaces, IsLaneGraphOf, LaneStep, LaneStops, Leaves, departure_place}
 
 -- a place is of one level, switch and lane
@@ -83,9 +84,6 @@ same_spot a b switch port = ap (λ (s : ℕ). let x : Spot = record { switch = s
 
 pub same_channel : (a b : LaneChannel) → a.switch ≡ b.switch → a.port ≡ b.port → a.lane ≡ b.lane → a ≡ b
 same_channel a b switch port lane = ap (λ (s : ℕ). let x : LaneChannel = record { switch = s; port = a.port; lane = a.lane } in x) switch ∙ ap (λ (p : ℕ). let x : LaneChannel = record { switch = b.switch; port = p; lane = a.lane } in x) port ∙ ap (λ (v : ℕ). let x : LaneChannel = record { switch = b.switch; port = b.port; lane = v } in x) lane
-
-pub on_parts : (p v q w : ℕ) (a b : Spot) → On p v a ≡ On q w b → (p ≡ q) × (v ≡ w) × (a ≡ b)
-on_parts p v q w a b same = (cc, cc, cc)
 
 some_same : (a b : ℕ) → Some a ≡ Some b → a ≡ b
 some_same a b same = cc

@@ -1,6 +1,7 @@
 -- Where the routes to the LIDs of a block begin, and what is found of them.
 use Rattle.std.specs.Prelude.{◌≡◌, ◌<◌, ◌⊎◌, ◌↔◌, ◌+◌, ◌*◌, ℕ, Bool, true, List, Option, Some, None}
 use Rattle.std.specs.Prelude.{length, slice_get, slice_index_or}
+use Rattle.std.specs.Int.{bit_at}
 use Rattle.channel_graph.specs.Graph.{GraphOf, LeadsTo}
 use Rattle.ib_cells.specs.Cells.{TablesOf}
 use Rattle.ib_rows.specs.Lanes.{LanesOf}
@@ -38,6 +39,17 @@ abbrev pub AreSent :
 AreSent fabric traffic levels gates count block top words =
     (gate level bit : ℕ) → gate < count → level < top → bit < 64
     → (HasBit words (gate * top + level) bit ↔ IsSentFrom fabric traffic levels gates gate (64 * block + bit) level)
+
+-- the end port before the one of a place has the same gate and levels, and sends to the LID
+pub record StandsAlready (fabric : FabricOf) (levels : LevelsOf) (targets block : ℕ) (gates : List (Option ℕ))
+    (owned : List ℕ) (place gate bit : ℕ)
+    : Type 0 where
+  pub before : ℕ
+  pub less : before < place
+  pub same : slice_index_or gates before None ≡ Some gate
+  pub target : bit_at targets bit ≡ 1
+  pub not_own : HasBit owned before bit → ⊥
+  pub levels_are : levels (source_at fabric place) (64 * block + bit) ≡ levels (source_at fabric before) (64 * block + bit)
 
 -- The first hops of routes are taken, those from the triples of a kind of place, level and bit: each shows the bit at the
 -- place of what goes out of the switch; and it is told whether something stops there.

@@ -1,5 +1,4 @@
 pub mod Waves
 pub mod LaneSteps
-pub mod LaneWays
 pub mod LaneGates
 pub mod LaneBlocks

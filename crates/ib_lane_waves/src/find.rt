@@ -65,17 +65,8 @@ fn add_block(
     put_sent(fabric, levels, top, traffic, block, gates, owned, sent);
     clear(seen);
     clear(done);
-    let stops = begin_all(
-        fabric,
-        cells,
-        lanes,
-        block,
-        &gates.spots,
-        sent,
-        top,
-        seen,
-        stopped,
-    );
+    let spots = &gates.spots;
+    let stops = begin_all(fabric, cells, lanes, block, spots, sent, top, seen, stopped);
     run(fabric, cells, lanes, block, seen, done, graph, stops)
 }
 

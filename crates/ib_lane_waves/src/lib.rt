@@ -5,7 +5,7 @@
 //! a traffic make with their service levels, and says whether one of them stops or is discarded.
 //!
 //! What goes out of a switch on a lane with a level departs there (`departure`), and the tables lead it from departure to
-//! departure (`way`, `wave`). Where routes begin, end ports of a switch from which all goes on the same lanes share a gate
+//! departure (`wave`). Where routes begin, end ports of a switch from which all goes on the same lanes share a gate
 //! (`gate`), so that first hops are taken once for all of them (`start`).
 #![tactic(auto)]
 
@@ -15,4 +15,3 @@ pub mod gate;
 mod mark;
 mod start;
 mod wave;
-mod way;

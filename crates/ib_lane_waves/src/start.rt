@@ -1,6 +1,6 @@
 //! The routes to the LIDs of a block begin.
 
-ghost use Rattle.std.specs.Prelude.{◌≡◌, ◌<◌, ◌≤◌, ◌+◌, ◌*◌, ◌↔◌, ℕ, Some, length, slice_get};
+ghost use Rattle.std.specs.Prelude.{◌≡◌, ◌<◌, ◌≤◌, ◌+◌, ◌*◌, ◌^◌, ◌↔◌, ℕ, Some, length, slice_get};
 ghost use Rattle.std.specs.Int.{bit_at};
 ghost use Rattle.ib_net.specs.declared.node.Spot.{Spot};
 ghost use Rattle.ib_net.specs.Fabric.{owner_of, switch_count};
@@ -12,6 +12,7 @@ ghost use Rattle.ib_routes.specs.Waves.{HasBit};
 ghost use Rattle.ib_lane_routes.specs.LaneExits.{IsExit, exit_of};
 ghost use Rattle.ib_lane_waves.specs.LaneGates.{AreGates, source_at, source_count};
 ghost use Rattle.ib_lane_waves.specs.LaneBlocks.{AreBegunBy, AreOwned, AreSent, AreSetBy, IsFirstHop, IsOfGates, IsOfRow};
+ghost use Rattle.ib_lane_waves.specs.LaneBlocks.{StandsAlready};
 
 use crate::departure::{Departure, place_of};
 use crate::gate::{Gates, place_of_source, source_of, sources};
@@ -118,6 +119,42 @@ fn add_source(
     }
 }
 
+// Of the LIDs of a block to which the end port of a place sends, those that stand in the words of its gate already: those
+// to which the one before sends, if it has the same gate and the same levels.
+#[inline]
+fn stand_already(
+    fabric: &Fabric,
+    levels: &Levels,
+    targets: u64,
+    block: usize,
+    gates: &Gates,
+    owned: &[u64],
+    place: usize,
+    gate: u32,
+) -> u64
+    requires place { place < length owned.now }
+    requires few { place < 2 ^ 17 }
+    requires size { length owned.now ≡ source_count fabric.now }
+    requires gates { length gates.now.gates.items ≡ length owned.now }
+    ensures { (bit : ℕ) → bit_at result bit ≡ 1 → StandsAlready fabric.now (levels_of levels.now) targets block
+        gates.now.gates.items owned.now place gate bit }
+{
+    if place == 0 {
+        return 0;
+    }
+    let Some(other) = gates.gates[place - 1] else {
+        return 0;
+    };
+    if other != gate {
+        return 0;
+    }
+    let before = source_of(fabric, place - 1);
+    if !levels.are_same(source_of(fabric, place), before, block) {
+        return 0;
+    }
+    fresh_of(targets, owned[place - 1])
+}
+
 /// Puts for each gate and level below a number the LIDs of a block to which some end port of the gate sends with the level.
 pub fn put_sent(
     fabric: &Fabric,
@@ -144,8 +181,16 @@ pub fn put_sent(
     'sources: for place in 0..sources(fabric) {
         if let Some(gate) = gates.gates[place] {
             let word = fresh_of(targets, owned[place]);
+            let had = stand_already(fabric, levels, targets, block, gates, owned, place, gate);
             let source = source_of(fabric, place);
-            add_source(levels, block, source, gate as usize * top, word, sent);
+            add_source(
+                levels,
+                block,
+                source,
+                gate as usize * top,
+                fresh_of(word, had),
+                sent,
+            );
         }
     }
 }

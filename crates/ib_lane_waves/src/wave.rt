@@ -10,11 +10,11 @@ ghost use Rattle.ib_lane_waves.specs.Waves.{IsFurther, IsSpread, IsTurned, Taken
 
 use crate::departure::{Departure, departure_at, place_of};
 use crate::mark::mark;
-use crate::way::find_way;
 use channel_graph::bits::{lowest, without};
 use channel_graph::graph::Graph;
 use ib_cells::cells::Cells;
 use ib_lane_routes::hop::{LaneHop, find_lane_hop};
+use ib_lane_routes::way::find_way;
 use ib_net::fabric::Fabric;
 use ib_routes::word::{fresh_of, joined};
 use ib_rows::lanes::LaneRows;

@@ -1,101 +1,85 @@
 -- What goes to a LID by the link of a channel, and which routes take a channel and then another.
-use Rattle.std.proofs.Common.{◌≡◌, ◌∙◌, sym, ap, subst, refl, ℕ, ◌+◌, ◌*◌, ◌/◌, ◌%◌, ◌<◌, ◌≤◌, ◌↔◌, Bool, true, false, cond, eqb, Some, arith, length, inl, inr, ◌⊎◌}
+use Rattle.std.proofs.Common.{◌≡◌, ◌∙◌, sym, ap, subst, refl, ℕ, ◌+◌, ◌*◌, ◌/◌, ◌%◌, ◌<◌, ◌≤◌, ◌↔◌, Option, Some, arith, inl, inr, ◌⊎◌}
 use Rattle.std.specs.Int.{bit_at}
+use Rattle.std.specs.Prelude.{MatchOption}
 use Rattle.std.proofs.lemmas.Bool.{cases_eq, cases_lt}
 use Rattle.std.proofs.lemmas.Nat.Bits.{bit_at-zero}
 use Rattle.ib_net.specs.declared.node.EndPort.{EndPort}
-use Rattle.ib_net.specs.declared.node.EndPort.TheVariants.{Host, Switch}
-use Rattle.ib_net.specs.declared.node.Side.{Side}
-use Rattle.ib_net.specs.declared.node.Side.TheVariants.{Bare, To, End}
+use Rattle.ib_net.specs.declared.node.Side.TheVariants.{To}
 use Rattle.ib_net.specs.declared.node.Spot.{Spot}
-use Rattle.ib_net.specs.Fabric.{FabricOf, owner_of, switch_count}
+use Rattle.ib_net.specs.Fabric.{FabricOf, IsFabric, side_of}
 use Rattle.ib_cells.specs.Cells.{TablesOf}
 use Rattle.ib_rows.specs.Lanes.{LanesOf}
 use Rattle.ib_rows.specs.PathLevels.{LevelsOf}
 use Rattle.ib_routes.specs.declared.traffic.Traffic.{Traffic}
-use Rattle.ib_routes.specs.Routes.{is_host, is_switch}
+use Rattle.ib_routes.specs.Witness.{IsFirst, IsFirstSource, IsLesser}
 use Rattle.ib_routes.proofs.StartLemmas.{cabled_low, source_low}
-use Rattle.ib_lane_routes.specs.declared.hop.Exit.{Exit}
-use Rattle.ib_lane_routes.specs.declared.hop.Exit.TheVariants.{Nowhere, Own, By}
-use Rattle.ib_lane_routes.specs.declared.hop.LaneHop.TheVariants.{On, Discard}
-use Rattle.ib_lane_routes.specs.LaneExits.{exit_of}
+use Rattle.ib_routes.proofs.WitnessLemmas.{first_of}
+use Rattle.ib_lane_routes.specs.declared.hop.LaneHop.TheVariants.{On}
 use Rattle.ib_lane_routes.specs.LaneFound.{IsLeastLaneWitness}
-use Rattle.ib_lane_routes.specs.LaneRoutes.{LaneChannel, LaneSends, LaneTakes, LaneWalksBy, begin_of, lane_end_if, lane_hop}
-use Rattle.ib_lane_routes.proofs.HopLemmas.{hop_is, through}
-use Rattle.ib_lane_witness.specs.Search.{AreOn, GoesBy, GoesOn, IsLeastAt, LeadsTo, Takes}
-
-module _ (fabric : FabricOf) (lanes : LanesOf) (level lid : ℕ) (at : Spot) where
-  no_end : (b : Bool) (port lane : ℕ) (next : Spot) → lane_end_if b ≡ On port lane next → ⊥
-  no_end true port lane next is = cc
-  no_end false port lane next is = cc
-
-  no_far_end : (b c : Bool) (port lane : ℕ) (next : Spot) → cond b Discard (lane_end_if c) ≡ On port lane next → ⊥
-  no_far_end true c port lane next is = cc
-  no_far_end false c port lane next is = no_end c port lane next is
-
-  by_link : (b : Bool) (out way switch entry port lane : ℕ) (next : Spot) → cond b Discard (On out way (record { switch = switch; port = entry })) ≡ On port lane next → By out (To switch entry) ≡ By port (To next.switch next.port)
-  by_link true out way switch entry port lane next is = absurd (cc)
-  by_link false out way switch entry port lane next is =
-      let first : out ≡ port = cc in
-      let to : ◌≡◌ {A = Spot} (record { switch = switch; port = entry }) next = cc in
-      ap (λ (p : ℕ). By p (To switch entry)) first ∙ ap (λ (s : Spot). By port (To s.switch s.port)) to
-
-  exit_on : (exit : Exit) (port lane : ℕ) (next : Spot) → through fabric lanes level lid at exit ≡ On port lane next → exit ≡ By port (To next.switch next.port)
-  exit_on Nowhere port lane next is = absurd (cc)
-  exit_on Own port lane next is = absurd (no_end (is_switch (owner_of fabric lid) at.switch) port lane next is)
-  exit_on (By out Bare) port lane next is = absurd (cc)
-  exit_on (By out (To switch entry)) port lane next is = by_link (eqb (lanes at.switch at.port out level) 15) out (lanes at.switch at.port out level) switch entry port lane next is
-  exit_on (By out (End end)) port lane next is = absurd (no_far_end (eqb (lanes at.switch at.port out level) 15) (is_host (owner_of fabric lid) end) port lane next is)
-
-  -- what goes on does so by the exit of its switch
-  pub goes_out : (tables : TablesOf) (port lane : ℕ) (next : Spot) → lane_hop fabric tables lanes level lid at ≡ On port lane next → exit_of fabric at.switch (tables at.switch lid) ≡ By port (To next.switch next.port)
-  goes_out tables port lane next is = exit_on (exit_of fabric at.switch (tables at.switch lid)) port lane next (hop_is fabric lanes level lid at tables (exit_of fabric at.switch (tables at.switch lid)) refl ∙ is)
+use Rattle.ib_lane_routes.specs.LaneRoutes.{LaneChannel, LaneSends, LaneTakes, LaneWalksBy, begin_of, lane_hop}
+use Rattle.ib_lane_routes.specs.LaneWays.{HasNoWay, IsWay}
+use Rattle.ib_lane_routes.proofs.OnLemmas.{on_way}
+use Rattle.ib_lane_witness.specs.declared.witness.Kind.{Kind}
+use Rattle.ib_lane_witness.specs.declared.witness.Kind.TheVariants.{Hosts, Switches}
+use Rattle.ib_lane_witness.specs.Search.{AreOn, GoesBy, GoesOn, IsLeastAt, Takes, count_of, end_at}
 
 same_spot : (a b : Spot) → a.switch ≡ b.switch → a.port ≡ b.port → a ≡ b
 same_spot a b switch port = ap (λ (s : ℕ). let spot : Spot = record { switch = s; port = a.port } in spot) switch ∙ ap (λ (p : ℕ). let spot : Spot = record { switch = b.switch; port = p } in spot) port
 
--- two exits to a switch that are one lead to one port
-same_to : (out port : ℕ) (to next : Spot) → By out (To to.switch to.port) ≡ By port (To next.switch next.port) → to ≡ next
-same_to out port to next is =
-    let switch : to.switch ≡ next.switch = cc in
-    let entry : to.port ≡ next.port = cc in
-    same_spot to next switch entry
+-- the ways of a switch for a LID
+module _ (fabric : FabricOf) (tables : TablesOf) (lid switch : ℕ) where
+  abbrev Way : ℕ → Spot → Type 0
+  Way = IsWay fabric tables lid switch
 
--- the link by which what goes to a LID leaves a switch, by the exit that was found
-module _ (fabric : FabricOf) (tables : TablesOf) (lid : ℕ) (channel : LaneChannel) (exit : Exit) (is : exit ≡ exit_of fabric channel.switch (tables channel.switch (64 * (lid / 64) + lid % 64))) where
-  exit_is : exit_of fabric channel.switch (tables channel.switch lid) ≡ exit
-  exit_is = let same : lid ≡ 64 * (lid / 64) + lid % 64 = omega arith in ap (λ (d : ℕ). exit_of fabric channel.switch (tables channel.switch d)) same ∙ sym is
+  one_port : (port out : ℕ) (next to : Spot) → Way port next → Way out to → port ≡ out
+  one_port port out next to way other = let a = way.told in let b = other.told in cc
 
-  pub leads : (port switch entry : ℕ) (side : Side) → exit ≡ By port side → port ≡ channel.port → side ≡ To switch entry → LeadsTo fabric tables lid channel (record { switch = switch; port = entry })
-  leads port switch entry side by same to = exit_is ∙ by ∙ ap (λ (p : ℕ). By p side) same ∙ ap (By channel.port) to
+  -- lead to one place
+  pub one_way : (port out : ℕ) (next to : Spot) → Way port next → Way out to → next ≡ to
+  one_way port out next to way other =
+      let sides : To next.switch next.port ≡ To to.switch to.port = sym way.leads ∙ ap (λ (p : ℕ). side_of fabric switch p) (one_port port out next to way other) ∙ other.leads in
+      same_spot next to (cc) (cc)
 
-  pub leads_not : ((spot : Spot) → exit ≡ By channel.port (To spot.switch spot.port) → ⊥) → (spot : Spot) → LeadsTo fabric tables lid channel spot → ⊥
-  leads_not other spot leads = other spot (sym exit_is ∙ leads)
+  -- and are told by block and bit
+  same_lid : 64 * (lid / 64) + lid % 64 ≡ lid
+  same_lid = omega arith
+
+  pub way_of : (port out : ℕ) (next : Spot) → IsWay fabric tables (64 * (lid / 64) + lid % 64) switch port next → port ≡ out → Way out next
+  way_of port out next way same = subst (λ (p : ℕ). Way p next) same (subst (λ (d : ℕ). IsWay fabric tables d switch port next) same_lid way)
+
+  pub none_of : HasNoWay fabric tables (64 * (lid / 64) + lid % 64) switch → (port : ℕ) (next : Spot) → Way port next → ⊥
+  none_of none port next way = none port next (subst (λ (d : ℕ). IsWay fabric tables d switch port next) (sym same_lid) way)
+
+  pub other_of : (port out : ℕ) (next to : Spot) → IsWay fabric tables (64 * (lid / 64) + lid % 64) switch port next → (port ≡ out → ⊥) → Way out to → ⊥
+  other_of port out next to way away other = away (one_port port out next to (way_of port port next way refl) other)
 
 module _ (fabric : FabricOf) (tables : TablesOf) (lanes : LanesOf) (lid : ℕ) where
   -- whichever port it came in by, what goes on from a switch goes on to one place
   pub same_next : (level : ℕ) (one other to beyond : Spot) (out way exit by : ℕ) → one.switch ≡ other.switch → lane_hop fabric tables lanes level lid one ≡ On out way to → lane_hop fabric tables lanes level lid other ≡ On exit by beyond → to ≡ beyond
   same_next level one other to beyond out way exit by same goes goes_too =
-      same_to out exit to beyond
-      (sym (goes_out fabric lanes level lid one tables out way to goes) ∙ ap (λ (s : ℕ). exit_of fabric s (tables s lid)) same ∙ goes_out fabric lanes level lid other tables exit by beyond goes_too)
+      one_way fabric tables lid other.switch out exit to beyond (subst (λ (s : ℕ). IsWay fabric tables lid s out to) same (on_way fabric tables lanes level lid one out way to goes)) (on_way fabric tables lanes level lid other exit by beyond goes_too)
 
   -- what goes by a channel goes on by the next one exactly if it does so from where the channel leads
   module _ (channel next : LaneChannel) where
     abbrev GoesFrom : ℕ → Spot → Type 0
     GoesFrom level spot = (after : Spot) × (lane_hop fabric tables lanes level lid spot ≡ On next.port next.lane after)
 
-    pub goes_on : (level : ℕ) (spot : Spot) → LeadsTo fabric tables lid channel spot → spot.switch ≡ next.switch → GoesFrom level spot → GoesOn fabric tables lanes lid level channel next
+    pub goes_on : (level : ℕ) (spot : Spot) → IsWay fabric tables lid channel.switch channel.port spot → spot.switch ≡ next.switch → GoesFrom level spot → GoesOn fabric tables lanes lid level channel next
     goes_on level spot leads same (after, goes) = record {
       entry = spot.port;
-      leads = leads ∙ ap (λ (s : ℕ). By channel.port (To s spot.port)) same;
+      leads = subst (IsWay fabric tables lid channel.switch channel.port) here leads;
       after = after;
-      goes = ap (lane_hop fabric tables lanes level lid) (same_spot (record { switch = next.switch; port = spot.port }) spot (sym same) refl) ∙ goes;
+      goes = ap (lane_hop fabric tables lanes level lid) (sym here) ∙ goes;
     }
+      where
+        here : spot ≡ record { switch = next.switch; port = spot.port }
+        here = same_spot spot (record { switch = next.switch; port = spot.port }) same refl
 
-    pub on_here : (level : ℕ) (spot : Spot) → LeadsTo fabric tables lid channel spot → GoesOn fabric tables lanes lid level channel next → (spot.switch ≡ next.switch) × GoesFrom level spot
+    pub on_here : (level : ℕ) (spot : Spot) → IsWay fabric tables lid channel.switch channel.port spot → GoesOn fabric tables lanes lid level channel next → (spot.switch ≡ next.switch) × GoesFrom level spot
     on_here level spot leads on =
         let there : Spot = record { switch = next.switch; port = on.entry } in
-        let here = same_to channel.port channel.port spot there (sym leads ∙ on.leads) in
+        let here = one_way fabric tables lid channel.switch channel.port channel.port spot there leads on.leads in
         (ap (λ (s : Spot). s.switch) here, (on.after, ap (lane_hop fabric tables lanes level lid) here ∙ on.goes))
 
     pub none_on : ((level : ℕ) → GoesOn fabric tables lanes lid level channel next → ⊥) → AreOn fabric tables lanes lid channel next 0
@@ -117,8 +101,7 @@ module _ (fabric : FabricOf) (tables : TablesOf) (lanes : LanesOf) (lid : ℕ) w
     }
       where
         to : by.next ≡ record { switch = next.switch; port = on.entry }
-        to = same_to channel.port channel.port by.next (record { switch = next.switch; port = on.entry })
-            (sym (goes_out fabric lanes level lid (record { switch = channel.switch; port = by.entry }) tables channel.port channel.lane by.next by.goes) ∙ on.leads)
+        to = one_way fabric tables lid channel.switch channel.port channel.port by.next (record { switch = next.switch; port = on.entry }) (on_way fabric tables lanes level lid (record { switch = channel.switch; port = by.entry }) channel.port channel.lane by.next by.goes) on.leads
 
     pub goes_of : (source : EndPort) (level : ℕ) (start : Spot) → begin_of fabric source ≡ Some start → TakesBy source level → GoesBy (lane_hop fabric tables lanes level lid) start channel
     goes_of source level start begins takes = record {
@@ -135,17 +118,19 @@ module _ (fabric : FabricOf) (tables : TablesOf) (lanes : LanesOf) (lid : ℕ) w
     pub on_of : (source : EndPort) (level : ℕ) → TakesBy source level → GoesOn fabric tables lanes lid level channel next
     on_of source level takes = record {
       entry = takes.next_entry;
-      leads = goes_out fabric lanes level lid (record { switch = channel.switch; port = takes.entry }) tables channel.port channel.lane (record { switch = next.switch; port = takes.next_entry }) takes.first;
+      leads = on_way fabric tables lanes level lid (record { switch = channel.switch; port = takes.entry }) channel.port channel.lane (record { switch = next.switch; port = takes.next_entry }) takes.first;
       after = takes.after;
       goes = takes.second;
     }
 
     -- who takes is one of the fabric
-    pub host_takes : (end : ℕ) → Takes fabric tables lanes traffic levels lid channel next (Host end) → end < length fabric.cables
-    host_takes end (level, takes) = let source = takes.comes.sends.sends.is_source in cabled_low fabric traffic end source.0 source.1
+    pub takes_low : (kind : Kind) (place : ℕ) → Takes fabric tables lanes traffic levels lid channel next (end_at kind place) → place < count_of fabric kind
+    takes_low Hosts end (level, takes) = let source = takes.comes.sends.sends.is_source in cabled_low fabric traffic end source.0 source.1
+    takes_low Switches switch (level, takes) = source_low fabric traffic switch takes.comes.sends.sends.is_source
 
-    pub switch_takes : (switch : ℕ) → Takes fabric tables lanes traffic levels lid channel next (Switch switch) → switch < switch_count fabric
-    switch_takes switch (level, takes) = source_low fabric traffic switch takes.comes.sends.sends.is_source
+    -- the end port of least GUID, of those of both kinds
+    pub first_takes : IsFabric fabric → (host switch : Option ℕ) (found : Option EndPort) → MatchOption host ((end : ℕ) → Takes fabric tables lanes traffic levels lid channel next (end_at Hosts end) → ⊥) (IsFirst (λ end. Takes fabric tables lanes traffic levels lid channel next (end_at Hosts end))) → MatchOption switch ((at : ℕ) → Takes fabric tables lanes traffic levels lid channel next (end_at Switches at) → ⊥) (IsFirst (λ at. Takes fabric tables lanes traffic levels lid channel next (end_at Switches at))) → IsLesser fabric host switch found → MatchOption found ((source : EndPort) → Takes fabric tables lanes traffic levels lid channel next source → ⊥) (IsFirstSource fabric (Takes fabric tables lanes traffic levels lid channel next))
+    first_takes fits host switch found hosts switches lesser = first_of fabric fits (Takes fabric tables lanes traffic levels lid channel next) (takes_low Hosts) (takes_low Switches) host switch found hosts switches lesser
 
 -- the least LID
 pub least_witness : (fabric : FabricOf) (tables : TablesOf) (lanes : LanesOf) (traffic : Traffic) (levels : LevelsOf) (lid : ℕ) (channel next : LaneChannel) (source : EndPort) (level : ℕ) → ((other : ℕ) → other < lid → (source : EndPort) → Takes fabric tables lanes traffic levels other channel next source → ⊥) → IsLeastAt fabric tables lanes traffic levels lid channel next source level → IsLeastLaneWitness fabric tables lanes traffic levels channel next lid source level

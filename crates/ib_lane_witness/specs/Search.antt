@@ -1,8 +1,8 @@
 -- How a witness is looked for. Only private functions cite this.
-use Rattle.std.specs.Prelude.{◌≡◌, ◌<◌, ◌↔◌, ℕ, List}
+use Rattle.std.specs.Prelude.{◌≡◌, ◌<◌, ◌↔◌, ℕ, List, length}
 use Rattle.std.specs.Int.{bit_at}
 use Rattle.ib_net.specs.declared.node.EndPort.{EndPort}
-use Rattle.ib_net.specs.declared.node.Side.TheVariants.{To}
+use Rattle.ib_net.specs.declared.node.EndPort.TheVariants.{Host, Switch}
 use Rattle.ib_net.specs.declared.node.Spot.{Spot}
 use Rattle.ib_net.specs.Fabric.{FabricOf, switch_count}
 use Rattle.ib_cells.specs.Cells.{TablesOf}
@@ -12,11 +12,12 @@ use Rattle.ib_routes.specs.declared.traffic.Traffic.{Traffic}
 use Rattle.ib_routes.specs.declared.trace.Mark.{Mark}
 use Rattle.ib_routes.specs.Trace.{IsReady, hop_to, way}
 use Rattle.ib_routes.specs.Witness.{IsFirst, IsFirstSource}
-use Rattle.ib_lane_routes.specs.declared.hop.Exit.TheVariants.{By}
 use Rattle.ib_lane_routes.specs.declared.hop.LaneHop.{LaneHop}
 use Rattle.ib_lane_routes.specs.declared.hop.LaneHop.TheVariants.{On}
-use Rattle.ib_lane_routes.specs.LaneExits.{exit_of}
 use Rattle.ib_lane_routes.specs.LaneRoutes.{LaneChannel, LaneTakes, LaneWalksBy, lane_hop}
+use Rattle.ib_lane_routes.specs.LaneWays.{IsWay}
+use Rattle.ib_lane_witness.specs.declared.witness.Kind.{Kind}
+use Rattle.ib_lane_witness.specs.declared.witness.Kind.TheVariants.{Hosts, Switches}
 use Rattle.ib_lane_witness.specs.declared.witness.Sought.{Sought}
 use Rattle.ib_lane_witness.specs.Witness.{lane_channel_of}
 
@@ -28,17 +29,13 @@ pub record GoesBy (hop_at : Spot → LaneHop) (start : Spot) (channel : LaneChan
   pub next : Spot
   pub goes : hop_at (record { switch = channel.switch; port = entry }) ≡ On channel.port channel.lane next
 
--- what goes to a LID leaves a switch by the link of a channel, which leads to a port of a switch
-abbrev pub LeadsTo : FabricOf → TablesOf → ℕ → LaneChannel → Spot → Type 0
-LeadsTo fabric tables lid channel spot =
-    exit_of fabric channel.switch (tables channel.switch lid) ≡ By channel.port (To spot.switch spot.port)
-
--- .. of the switch of the next channel, and goes on by this one if it has a level
+-- what goes to a LID leaves a switch by the link of a channel, which leads to the switch of the next one, and goes on by
+-- this one if it has a level
 pub record GoesOn (fabric : FabricOf) (tables : TablesOf) (lanes : LanesOf) (lid level : ℕ)
     (channel next : LaneChannel)
     : Type 0 where
   pub entry : ℕ
-  pub leads : LeadsTo fabric tables lid channel (record { switch = next.switch; port = entry })
+  pub leads : IsWay fabric tables lid channel.switch channel.port (record { switch = next.switch; port = entry })
   pub after : Spot
   pub goes :
       lane_hop fabric tables lanes level lid (record { switch = next.switch; port = entry })
@@ -78,3 +75,12 @@ TakesAs fabric tables lanes traffic levels sought =
 abbrev pub IsReadyFor : FabricOf → TablesOf → Sought → List Mark → Type 0
 IsReadyFor fabric tables sought marks =
     IsReady (hop_to fabric tables (way sought.lid sought.channel.switch)) (switch_count fabric) marks
+
+-- the end ports of a kind: how many there are, and the one of a place
+abbrev pub count_of : FabricOf → Kind → ℕ
+count_of fabric Hosts = length fabric.cables
+count_of fabric Switches = switch_count fabric
+
+abbrev pub end_at : Kind → ℕ → EndPort
+end_at Hosts place = Host place
+end_at Switches place = Switch place

@@ -1,10 +1,9 @@
 //! By which route a channel depends on another, with lanes.
 
-ghost use Rattle.std.specs.Prelude.{◌≡◌, ◌<◌, ◌≤◌, ◌*◌, ◌^◌, ◌↔◌, ℕ, length, IfOk, IsTrue, MatchOption};
+ghost use Rattle.std.specs.Prelude.{◌≡◌, ◌<◌, ◌≤◌, ◌*◌, ◌^◌, ◌↔◌, ℕ, length, IfOk, IfSome, IsTrue, MatchOption};
 ghost use Rattle.std.specs.Int.{bit_at};
 ghost use Rattle.ib_cells.specs.Cells.{tables_of};
 ghost use Rattle.ib_net.specs.declared.node.EndPort.{EndPort};
-ghost use Rattle.ib_net.specs.declared.node.EndPort.TheVariants as port;
 ghost use Rattle.ib_net.specs.declared.node.Spot.{Spot};
 ghost use Rattle.ib_net.specs.Fabric.{IsFabric, switch_count};
 ghost use Rattle.ib_rows.specs.Lanes.{lanes_of};
@@ -13,17 +12,19 @@ ghost use Rattle.ib_lane_routes.specs.declared.hop.LaneHop.TheVariants.{On};
 ghost use Rattle.ib_lane_routes.specs.LaneFound.{IsLeastLaneWitness};
 ghost use Rattle.ib_routes.specs.Witness.{IsFirst};
 ghost use Rattle.ib_lane_routes.specs.LaneRoutes.{lane_hop};
-ghost use Rattle.ib_lane_witness.specs.Search.{AreOn, AreOnFor, GoesBy, IsLeastAt, IsLeastLevel, IsReadyFor, LeadsTo};
-ghost use Rattle.ib_lane_witness.specs.Search.{Takes, TakesAs};
+ghost use Rattle.ib_lane_routes.specs.LaneWays.{IsWay};
+ghost use Rattle.ib_lane_witness.specs.Search.{AreOn, AreOnFor, GoesBy, IsLeastAt, IsLeastLevel, IsReadyFor};
+ghost use Rattle.ib_lane_witness.specs.Search.{Takes, TakesAs, count_of, end_at};
 ghost use Rattle.ib_lane_witness.specs.Witness.{HasNoLaneWitness, lane_channel_of};
 
 use crate::walk::goes_by;
 use an_base::memory::OutOfMemory;
 use ib_cells::cells::Cells;
-use ib_lane_routes::hop::{Exit, LaneHop, find_exit, lane_hop_at};
+use ib_lane_routes::hop::{LaneHop, lane_hop_at};
 use ib_lane_routes::start::begin_at;
+use ib_lane_routes::way::find_way;
 use ib_net::fabric::Fabric;
-use ib_net::node::{EndPort, Side, Spot};
+use ib_net::node::{EndPort, Spot};
 use ib_routes::start::is_target;
 use ib_routes::trace::Mark;
 use ib_routes::traffic::Traffic;
@@ -59,6 +60,36 @@ struct Sought {
     on: u64,
 }
 
+// The end ports of adapters and routers, or those of switches.
+#[derive(Clone, Copy)]
+enum Kind {
+    Hosts,
+    Switches,
+}
+
+impl Kind {
+    // How many a fabric has.
+    fn count(self, fabric: &Fabric) -> usize
+        ensures count { result ≡ count_of fabric.now self }
+        ensures few { result < 2 ^ 16 }
+    {
+        match self {
+            Kind::Hosts => fabric.ends(),
+            Kind::Switches => fabric.switches(),
+        }
+    }
+
+    // The one of a place.
+    fn end_port(self, place: u32) -> EndPort
+        ensures { result ≡ end_at self place }
+    {
+        match self {
+            Kind::Hosts => EndPort::Host(place),
+            Kind::Switches => EndPort::Switch(place),
+        }
+    }
+}
+
 // Whether a switch sends by the port and on the lane of a channel.
 fn is_by(does: LaneHop, channel: LaneSpot) -> bool
     ensures { IsTrue result ↔ ((after : Spot) × (does ≡ On channel.port channel.lane after)) }
@@ -76,25 +107,18 @@ fn comes_out(fabric: &Fabric, cells: &Cells, lid: usize, channel: LaneSpot) -> O
     requires same { switch_count fabric.now ≡ cells.now.switches }
     requires lid { lid < 64 * cells.now.blocks }
     requires channel { channel.switch < switch_count fabric.now }
-    ensures { MatchOption result
-        ((spot : Spot) → LeadsTo fabric.now (tables_of cells.now) lid (lane_channel_of channel) spot → ⊥)
-        (LeadsTo fabric.now (tables_of cells.now) lid (lane_channel_of channel)) }
+    ensures way { MatchOption result
+        ((spot : Spot) → IsWay fabric.now (tables_of cells.now) lid channel.switch channel.port spot → ⊥)
+        (IsWay fabric.now (tables_of cells.now) lid channel.switch channel.port) }
+    ensures within { IfSome result (λ spot. spot.switch < switch_count fabric.now) }
 {
-    let exit = find_exit(fabric, cells, channel.switch as usize, lid / 64, lid % 64);
-    let Exit::By(port, side) = exit else {
+    let Some(way) = find_way(fabric, cells, channel.switch as usize, lid / 64, lid % 64) else {
         return None;
     };
-    if port != channel.port {
+    if way.port != channel.port {
         return None;
     }
-    match side {
-        Side::Bare => None,
-        Side::To(switch, entry) => Some(Spot {
-            switch,
-            port: entry,
-        }),
-        Side::End(_) => None,
-    }
+    Some(way.next)
 }
 
 // The levels with which what goes to a LID and leaves a switch by the link of a channel goes on by the next channel, as
@@ -243,8 +267,8 @@ fn takes(
     }
 }
 
-// The end port of an adapter or router of least GUID whose route does.
-fn first_host(
+// The first of the end ports of a kind, which stand by rising GUID, whose route does.
+fn first_of_kind(
     fabric: &Fabric,
     cells: &Cells,
     lanes: &LaneRows,
@@ -254,6 +278,7 @@ fn first_host(
     marks: &mut [Mark],
     path: &mut [u32],
     seen: &mut [bool],
+    kind: Kind,
 ) -> Option<u32>
     requires same { switch_count fabric.now ≡ cells.now.switches }
     requires lanes { switch_count fabric.now ≡ lanes.now.switches }
@@ -265,51 +290,15 @@ fn first_host(
     requires ready { IsReadyFor fabric.now (tables_of cells.now) sought marks.old }
     ensures ready { IsReadyFor fabric.now (tables_of cells.now) sought marks.new }
     ensures first { MatchOption result
-        ((end : ℕ) → TakesAs fabric.now (tables_of cells.now) (lanes_of lanes.now) traffic (levels_of levels.now) sought (port.Host end) → ⊥)
-        (IsFirst (λ end. TakesAs fabric.now (tables_of cells.now) (lanes_of lanes.now) traffic (levels_of levels.now) sought (port.Host end))) }
+        ((place : ℕ) → TakesAs fabric.now (tables_of cells.now) (lanes_of lanes.now) traffic (levels_of levels.now) sought (end_at kind place) → ⊥)
+        (IsFirst (λ place. TakesAs fabric.now (tables_of cells.now) (lanes_of lanes.now) traffic (levels_of levels.now) sought (end_at kind place))) }
 {
-    'ends: for end in 0..fabric.ends() {
-        let source = EndPort::Host(end as u32);
+    'places: for place in 0..kind.count(fabric) {
+        let source = kind.end_port(place as u32);
         if takes(
             fabric, cells, lanes, levels, traffic, sought, marks, path, seen, source,
         ) {
-            return Some(end as u32);
-        }
-    }
-    None
-}
-
-// The same of the switches.
-fn first_switch(
-    fabric: &Fabric,
-    cells: &Cells,
-    lanes: &LaneRows,
-    levels: &Levels,
-    traffic: Traffic,
-    sought: Sought,
-    marks: &mut [Mark],
-    path: &mut [u32],
-    seen: &mut [bool],
-) -> Option<u32>
-    requires same { switch_count fabric.now ≡ cells.now.switches }
-    requires lanes { switch_count fabric.now ≡ lanes.now.switches }
-    requires few { switch_count fabric.now ≤ 2 ^ 14 }
-    requires lid { sought.lid < 64 * cells.now.blocks }
-    requires on { AreOnFor fabric.now (tables_of cells.now) (lanes_of lanes.now) sought }
-    requires room { switch_count fabric.now ≤ length path.old }
-    requires seen { length seen.old ≡ switch_count fabric.now }
-    requires ready { IsReadyFor fabric.now (tables_of cells.now) sought marks.old }
-    ensures ready { IsReadyFor fabric.now (tables_of cells.now) sought marks.new }
-    ensures first { MatchOption result
-        ((switch : ℕ) → TakesAs fabric.now (tables_of cells.now) (lanes_of lanes.now) traffic (levels_of levels.now) sought (port.Switch switch) → ⊥)
-        (IsFirst (λ switch. TakesAs fabric.now (tables_of cells.now) (lanes_of lanes.now) traffic (levels_of levels.now) sought (port.Switch switch))) }
-{
-    'switches: for switch in 0..fabric.switches() {
-        let source = EndPort::Switch(switch as u32);
-        if takes(
-            fabric, cells, lanes, levels, traffic, sought, marks, path, seen, source,
-        ) {
-            return Some(switch as u32);
+            return Some(place as u32);
         }
     }
     None
@@ -340,11 +329,13 @@ fn first_of_all(
         (λ found. IsLeastAt fabric.now (tables_of cells.now) (lanes_of lanes.now) traffic (levels_of levels.now) sought.lid
         (lane_channel_of sought.channel) (lane_channel_of sought.next) found.0 found.1) }
 {
-    let host = first_host(
-        fabric, cells, lanes, levels, traffic, sought, marks, path, seen,
+    let hosts = Kind::Hosts;
+    let switches = Kind::Switches;
+    let host = first_of_kind(
+        fabric, cells, lanes, levels, traffic, sought, marks, path, seen, hosts,
     );
-    let switch = first_switch(
-        fabric, cells, lanes, levels, traffic, sought, marks, path, seen,
+    let switch = first_of_kind(
+        fabric, cells, lanes, levels, traffic, sought, marks, path, seen, switches,
     );
     let source = lesser(fabric, host, switch)?;
     let level = least_level(

@@ -191,3 +191,14 @@ insert_as fabric graph at port next next_port wide_most wide_port wide_next m p 
 
 pub base_as : (most wide : ℕ) (side at : Side) (base : ℕ) → most ≡ wide → side ≡ at → base ≡ base_of most side → base ≡ base_of wide at
 base_as most wide side at base same is e = e ∙ ap (λ (m : ℕ). base_of m side) same ∙ ap (base_of wide) is
+
+-- the channel of a link is a node, and the offset of the next one is within its row
+pub node_as : (fabric : FabricOf) (graph : GraphOf) (at port wide_most wide_port : ℕ) → wide_most ≡ fabric.most → wide_port ≡ port → IsGraphOf fabric graph → at < switch_count fabric → 0 < port → port ≤ fabric.most → at * wide_most + (wide_port - 1) < length graph.bases
+node_as fabric graph at port wide_most wide_port m p rows low used few =
+    let channel : at * wide_most + (wide_port - 1) ≡ at * fabric.most + (port - 1) = cc in
+    let place = mul-add-lt at fabric.most (port - 1) (switch_count fabric) low (omega arith) in
+    let count = rows.count in
+    omega arith
+
+pub offset_as : (fabric : FabricOf) (graph : GraphOf) (port wide_port : ℕ) → wide_port ≡ port → IsGraphOf fabric graph → 0 < port → port ≤ fabric.most → wide_port - 1 < 64 * graph.wide
+offset_as fabric graph port wide_port p rows used few = let wide = rows.wide in omega arith

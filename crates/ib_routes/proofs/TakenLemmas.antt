@@ -1,8 +1,9 @@
 -- Hops that are taken one after another.
 use Rattle.std.proofs.Common.{◌≡◌, ◌∙◌, sym, ap, subst, refl, ℕ, ◌+◌, ◌-◌, ◌*◌, List, Bool, true, length, inl, inr, ◌⊎◌, ◌↔◌}
 use Rattle.channel_graph.specs.Graph.{GraphOf, LeadsTo}
+use Rattle.ib_routes.specs.declared.hop.Cause.{Cause}
 use Rattle.ib_routes.specs.declared.hop.Hop.{Hop}
-use Rattle.ib_routes.specs.declared.hop.Hop.TheVariants.{On}
+use Rattle.ib_routes.specs.declared.hop.Hop.TheVariants.{On, Arrive, Stop}
 use Rattle.ib_net.specs.Fabric.{FabricOf}
 use Rattle.ib_cells.specs.Cells.{TablesOf}
 use Rattle.ib_routes.specs.Routes.{hop, IsStop}
@@ -241,3 +242,15 @@ module _ (fabric : FabricOf) (tables : TablesOf) (block : ℕ) where
         wide = refl;
         bases = refl;
       }
+
+    pub taken_arrive : hop fabric tables at (64 * block + bit) ≡ Arrive → (seen : List ℕ) (graph : GraphOf) (stopped : Bool) → Taken fabric tables block Here (record { seen = seen; graph = graph; stopped = stopped }) (record { seen = seen; graph = graph; stopped = stopped })
+    taken_arrive is seen graph stopped = taken_end Arrive is (λ port next on. (cc)) seen graph stopped stopped (
+      λ same. inl same,
+      λ either. elim either [
+        | inl had ↦ had
+        | inr never ↦ absurd never
+      ],
+    )
+
+    pub taken_stop : (cause : Cause) → hop fabric tables at (64 * block + bit) ≡ Stop cause → (seen : List ℕ) (graph : GraphOf) (stopped : Bool) → Taken fabric tables block Here (record { seen = seen; graph = graph; stopped = stopped }) (record { seen = seen; graph = graph; stopped = true })
+    taken_stop cause is seen graph stopped = taken_end (Stop cause) is (λ port next on. (cc)) seen graph stopped true (λ _. inr tt, λ _. refl)

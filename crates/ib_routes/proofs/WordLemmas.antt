@@ -117,6 +117,40 @@ with_is word bit low other = elim (cases_eq other bit) [
       ))
 ]
 
+-- where no bit is fresh, each bit of the word is gone
+pub none_fresh : (word gone fresh : ℕ) → fresh ≡ 0 → ((bit : ℕ) → ((bit_at fresh bit ≡ 1) ↔ ((bit_at word bit ≡ 1) × (bit_at gone bit ≡ 1 → ⊥)))) → (bit : ℕ) → bit_at word bit ≡ 1 → bit_at gone bit ≡ 1
+none_fresh word gone fresh none is bit has = elim (bit_or_not gone bit) [
+  | inl had ↦ had
+  | inr not ↦ absurd (
+      let e = (is bit).1 (has, not) in
+      let z = bit_at-zero bit in
+      let f : bit_at fresh bit ≡ bit_at 0 bit = ap (λ (n : ℕ). bit_at n bit) none in
+      omega arith)
+]
+
+-- a word of the numbers that have something, with one number more
+module _ (Has : ℕ → Type 0) (word at : ℕ) (so_far : (bit : ℕ) → ((bit_at word bit ≡ 1) ↔ ((bit < at) × Has bit))) where
+  pub has_more : (new : ℕ) → Has at → ((other : ℕ) → ((bit_at new other ≡ 1) ↔ ((bit_at word other ≡ 1) ⊎ (other ≡ at)))) → (bit : ℕ) → ((bit_at new bit ≡ 1) ↔ ((bit < at + 1) × Has bit))
+  has_more new has put bit = (
+    λ is. elim ((put bit).0 is) [
+      | inl had ↦ (let before = (so_far bit).0 had in let low = before.0 in (omega arith, before.1))
+      | inr same ↦ (omega arith, subst Has (sym same) has)
+    ],
+    λ (low, here). elim (cases_eq bit at) [
+      | inl same ↦ (put bit).1 (inr same)
+      | inr other ↦ (put bit).1 (inl ((so_far bit).1 (omega arith, here)))
+    ],
+  )
+
+  pub has_same : (new : ℕ) → (Has at → ⊥) → new ≡ word → (bit : ℕ) → ((bit_at new bit ≡ 1) ↔ ((bit < at + 1) × Has bit))
+  has_same new not same bit = (
+    λ is. (let before = (so_far bit).0 (ap (λ (n : ℕ). bit_at n bit) (sym same) ∙ is) in let low = before.0 in (omega arith, before.1)),
+    λ (low, here). elim (cases_eq bit at) [
+      | inl is ↦ absurd (not (subst Has is here))
+      | inr other ↦ ap (λ (n : ℕ). bit_at n bit) same ∙ (so_far bit).1 (omega arith, here)
+    ],
+  )
+
 -- what holds of each element so far holds of one more that is put
 pub put_more : (P : ℕ → ℕ → Type 0) (xs : List ℕ) (place value : ℕ) → place < length xs → P place value → ((k : ℕ) → k < place → P k (get_or xs k 0)) → (k : ℕ) → k < place + 1 → P k (get_or (set xs place value) k 0)
 put_more P xs place value low here before k within = elim (cases_eq k place) [

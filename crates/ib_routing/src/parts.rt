@@ -60,6 +60,9 @@ fn join_port(fabric: &Fabric, labels: &mut [u32], switch: usize, port: u8)
 fn rename(labels: &mut [u32], from: u32, to: u32)
     ensures { AreRenamed from to labels.old labels.new }
 {
+    if from == to {
+        return;
+    }
     'labels: for place in 0..labels.len() {
         if labels[place] == from {
             labels[place] = to;

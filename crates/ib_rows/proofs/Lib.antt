@@ -1,3 +1,4 @@
 pub mod RowLemmas
 pub mod BlockLemmas
 pub mod SelectLemmas
+mod SameLemmas

@@ -24,6 +24,11 @@ AreLevelsAmong levels others =
 abbrev pub AreLevelsBelow : LevelsOf → ℕ → Type 0
 AreLevelsBelow levels count = (source : EndPort) (lid level : ℕ) → HasLevel levels source lid level → level < count
 
+-- two end ports send with the same levels to each LID of a block
+abbrev pub HaveSameLevels : LevelsOf → (one other : EndPort) (block : ℕ) → Type 0
+HaveSameLevels levels one other block =
+    (bit : ℕ) → bit < 64 → levels one (64 * block + bit) ≡ levels other (64 * block + bit)
+
 -- How many levels there are at most. The different blocks, of each end port and block of LIDs the place of its block among them, and the
 -- levels of the end port that was told last.
 pub record LevelRowsOf : Type 0 where

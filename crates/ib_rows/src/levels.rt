@@ -1,12 +1,12 @@
 //! The service levels with which end ports send.
 
-ghost use Rattle.std.specs.Prelude.{◌≡◌, ◌<◌, ◌≤◌, ◌^◌, ◌+◌, ◌*◌, ◌/◌, ◌%◌, ℕ, length, slice_get};
-ghost use Rattle.std.specs.Prelude.{slice_index, take, drop, IfOk, IfSome, None, Some, OnOk};
+ghost use Rattle.std.specs.Prelude.{◌≡◌, ◌<◌, ◌≤◌, ◌^◌, ◌+◌, ◌*◌, ◌/◌, ◌%◌, ℕ, length, slice_get, slice_index_or};
+ghost use Rattle.std.specs.Prelude.{slice_index, take, drop, IfOk, IfSome, IsTrue, None, Some, OnOk};
 ghost use Rattle.std.specs.Int.{bit_at};
 ghost use Rattle.ib_net.specs.declared.node.EndPort.{EndPort};
 ghost use Rattle.ib_rows.specs.Levels.{levels_of};
 ghost use Rattle.ib_rows.specs.PathLevels.{AreLevelsBelow, AreBlocksOf, AreOthersSame, ArePlaces, HasBlockAt, IsLevelAdded};
-ghost use Rattle.ib_rows.specs.PathLevels.{IsPlaced, KeepsBlocks, ReadsBlocks};
+ghost use Rattle.ib_rows.specs.PathLevels.{HaveSameLevels, IsPlaced, KeepsBlocks, ReadsBlocks};
 ghost use Rattle.ib_rows.specs.PathLevels.{SaysAsMuch, block_word, told_levels, place_of_source, stored_at};
 
 use crate::lanes::LEVELS;
@@ -233,6 +233,16 @@ impl LevelRows {
         self.stored(place, lid)
     }
 
+    // The place of a block of an end port.
+    #[inline]
+    fn place_of_block(&self, place: usize, block: usize) -> u32
+        requires place { place < self.now.ends + self.now.switches }
+        requires block { block < self.now.blocks }
+        ensures { result ≡ slice_index_or self.now.places (place * self.now.blocks + block) 4294967295 }
+    {
+        self.places[place * self.blocks + block]
+    }
+
     // The levels of an end port that was not told last.
     #[inline]
     fn stored(&self, place: usize, lid: usize) -> u16
@@ -240,7 +250,24 @@ impl LevelRows {
         requires lid { lid < 64 * self.now.blocks }
         ensures { result ≡ stored_at self.now place lid }
     {
-        word_at(&self.rows, self.places[place * self.blocks + lid / 64], lid)
+        word_at(&self.rows, self.place_of_block(place, lid / 64), lid)
+    }
+
+    /// Whether two end ports are known to send with the same levels to each LID of a block of 64. It is not known of
+    /// the end port that was told last.
+    pub fn are_same(&self, one: EndPort, other: EndPort, block: usize) -> bool
+        ensures { IsTrue result → HaveSameLevels (told_levels self.now) one other block }
+    {
+        let Some(at) = self.place(one) else {
+            return false;
+        };
+        let Some(there) = self.place(other) else {
+            return false;
+        };
+        if at == self.current || there == self.current || block >= self.blocks {
+            return false;
+        }
+        self.place_of_block(at, block) == self.place_of_block(there, block)
     }
 
     // Makes an end port the one that is told of now. What was told stays as it is.
@@ -332,6 +359,16 @@ impl Levels {
         match self {
             Levels::Same(levels) => *levels,
             Levels::Told(told) => told.levels(source, lid),
+        }
+    }
+
+    /// Whether two end ports are known to send with the same levels to each LID of a block of 64.
+    pub fn are_same(&self, one: EndPort, other: EndPort, block: usize) -> bool
+        ensures { IsTrue result → HaveSameLevels (levels_of self.now) one other block }
+    {
+        match self {
+            Levels::Same(_) => true,
+            Levels::Told(told) => told.are_same(one, other, block),
         }
     }
 }

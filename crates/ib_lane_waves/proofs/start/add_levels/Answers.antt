@@ -1,12 +1,12 @@
 use Rattle.std.proofs.Common.{◌∙◌, sym, ap, ℕ, arith}
 use Rattle.std.specs.Int.{bit_at}
-use Rattle.ib_lane_waves.proofs.LevelLemmas.{level_low, levels_all, levels_more, levels_none}
+use Rattle.ib_lane_waves.proofs.LevelLemmas.{bit_below, levels_all, levels_more, levels_none}
 use Rattle.ib_lane_waves.proofs.start.add_levels.Goals as goal
 
 pub levels-init : goal.levels-init
 levels-init c = record {
   set = levels_none c.args.row c.args.levels c.args.word c.from-left.result c.args.sent.now c.from-left.ensures;
-  had = λ level has. (let is = ap (λ (n : ℕ). bit_at n level) (sym c.from-left.ensures) ∙ has in (level_low c.args.levels level c.ranges.levels.fits is, is));
+  had = λ level has. (let is = ap (λ (n : ℕ). bit_at n level) (sym c.from-left.ensures) ∙ has in (bit_below c.args.levels 16 level c.ranges.levels.fits is, is));
 }
 
 pub levels-preserved : goal.levels-preserved

@@ -7,7 +7,7 @@ use Rattle.ib_lane_waves.specs.LaneBlocks.{AreSetBy}
 use Rattle.ib_lane_waves.specs.LaneGates.{source_count}
 use Rattle.ib_lane_waves.proofs.GateLemmas.{gate_there}
 use Rattle.ib_lane_waves.proofs.LevelLemmas.{Told}
-use Rattle.ib_lane_waves.proofs.SentLemmas.{AreSentBelow, all_sent, sent_more, sent_none, sent_skip, word_sends}
+use Rattle.ib_lane_waves.proofs.SentLemmas.{AreSentBelow, all_sent, sent_had, sent_more, sent_none, sent_skip, word_sends}
 use Rattle.ib_lane_waves.proofs.start.put_sent.Goals as goal
 use Rattle.ib_lane_waves.proofs.start.put_sent.Goals.{in-Some, in_default}
 
@@ -38,7 +38,10 @@ sources-preserved c =
           let sends = word_sends c.args.fabric.now c.args.traffic c.args.block c.sources.place c.targets_of-targets.result w.fresh_of-word.result c.args.owned.now low there.0 c.targets_of-targets.ensures c.requires.owned w.fresh_of-word.ensures in
           subst (λ (words : List ℕ). AreSentBelow c.args.fabric.now c.args.traffic c.args.block (levels_of c.args.levels.now) c.args.gates.now.gates.items c.args.top (c.sources.place + 1) words) (sym w.sent-is)
           (sent_more c.args.fabric.now c.args.traffic c.args.block (levels_of c.args.levels.now) c.args.gates.now.gates.items c.args.top c.sources.place w.in-Some.gate w.fresh_of-word.result c.sources.sent w.add_source.new.sent c.requires.top is sends
-          (subst (λ (source : EndPort). AreSetBy c.sources.sent w.add_source.new.sent (Told (levels_of c.args.levels.now) source c.args.block (w.in-Some.gate * c.args.top) w.fresh_of-word.result)) w.source_of-source.ensures w.add_source.ensures)
+          (sent_had c.args.fabric.now c.args.traffic c.args.block (levels_of c.args.levels.now) c.args.gates.now.gates.items c.args.top c.targets_of-targets.result c.args.owned.now c.sources.place w.in-Some.gate w.fresh_of-word.result w.stand_already-had.result w.fresh_of.result c.sources.sent w.add_source.new.sent c.targets_of-targets.ensures c.requires.owned low
+          (λ one before same. (gate_there c.args.fabric.now lanes c.args.traffic (source_count c.args.fabric.now) c.args.gates.now.spots.items c.args.gates.now.gates.items are.all one w.in-Some.gate before same).0)
+          w.stand_already-had.ensures w.fresh_of.ensures c.requires.top c.sources.invariant
+          (subst (λ (source : EndPort). AreSetBy c.sources.sent w.add_source.new.sent (Told (levels_of c.args.levels.now) source c.args.block (w.in-Some.gate * c.args.top) w.fresh_of.result)) w.source_of-source.ensures w.add_source.ensures))
           c.sources.invariant))
       | in_default w ↦ subst (λ (words : List ℕ). AreSentBelow c.args.fabric.now c.args.traffic c.args.block (levels_of c.args.levels.now) c.args.gates.now.gates.items c.args.top (c.sources.place + 1) words) (sym w.sent-is)
           (sent_skip c.args.fabric.now c.args.traffic c.args.block (levels_of c.args.levels.now) c.args.gates.now.gates.items c.args.top c.sources.place c.sources.sent (told ∙ w.in_default.is) c.sources.invariant)

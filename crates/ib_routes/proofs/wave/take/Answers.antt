@@ -1,8 +1,8 @@
-use Rattle.std.proofs.Common.{◌≡◌, ◌∙◌, sym, ap, ◌⊎◌, ◌↔◌, ℕ, ◌+◌, ◌-◌, ◌*◌, arith, inl, inr, get_or}
+use Rattle.std.proofs.Common.{◌≡◌, ◌∙◌, ◌<◌, sym, ap, subst, ◌⊎◌, ◌↔◌, ℕ, ◌+◌, ◌-◌, ◌*◌, arith, inl, inr, get_or}
 use Rattle.channel_graph.specs.Graph.{GraphOf, LeadsTo}
 use Rattle.ib_cells.specs.Cells.{tables_of}
-use Rattle.ib_routes.proofs.ChannelLemmas.{insert_as}
-use Rattle.ib_routes.proofs.TakenLemmas.{taken_on, taken_last}
+use Rattle.ib_routes.proofs.ChannelLemmas.{insert_as, node_as, offset_as}
+use Rattle.ib_routes.proofs.TakenLemmas.{taken_arrive, taken_last, taken_on, taken_stop}
 use Rattle.ib_routes.proofs.wave.take.Goals as goal
 
 -- the numbers of the code are those of the channels
@@ -35,3 +35,24 @@ returns-in-Some c =
 pub returns-in_default : goal.returns-in_default
 returns-in_default c =
     taken_last c.args.fabric.now (tables_of c.args.cells.now) c.args.block c.args.at c.args.bit c.in-On.port c.in-On.next (sym c.in-On.ensures.hop) c.args.seen.now c.mark.new.words c.args.graph.now c.args.stopped c.mark.ensures (omega arith) c.in_default.ensures.hop
+
+pub mark-requires-clause-switch : goal.mark-requires-clause-switch
+mark-requires-clause-switch c = subst (λ (n : ℕ). c.in-On.next < n) (sym c.requires.count) c.in-On.ensures.link.within
+
+pub overflow_sub-channel : goal.overflow_sub-channel
+overflow_sub-channel c = subst (λ (n : ℕ). 0 < n) (sym c.from.ensures) c.in-On.ensures.link.used
+
+pub overflow_sub-from : goal.overflow_sub-from
+overflow_sub-from c = subst (λ (n : ℕ). 0 < n) (sym c.from-in-Some.ensures) c.in-Some.ensures.low.0
+
+pub insert-requires-clause-node : goal.insert-requires-clause-node
+insert-requires-clause-node c = node_as c.args.fabric.now c.args.graph.now c.args.at c.in-On.port c.most.result c.from.result c.most.ensures.most c.from.ensures c.requires.graph c.requires.at c.in-On.ensures.link.used c.in-On.ensures.link.low
+
+pub insert-requires-clause-offset : goal.insert-requires-clause-offset
+insert-requires-clause-offset c = offset_as c.args.fabric.now c.args.graph.now c.in-Some.next_port c.from-in-Some.result c.from-in-Some.ensures c.requires.graph c.in-Some.ensures.low.0 c.in-Some.ensures.low.1
+
+pub returns-in-Arrive : goal.returns-in-Arrive
+returns-in-Arrive c = taken_arrive c.args.fabric.now (tables_of c.args.cells.now) c.args.block c.args.at c.args.bit (sym c.in-Arrive.ensures.hop) c.args.seen.now c.args.graph.now c.args.stopped
+
+pub returns-in-Stop : goal.returns-in-Stop
+returns-in-Stop c = taken_stop c.args.fabric.now (tables_of c.args.cells.now) c.args.block c.args.at c.args.bit _ (sym c.in-Stop.ensures.hop) c.args.seen.now c.args.graph.now c.args.stopped

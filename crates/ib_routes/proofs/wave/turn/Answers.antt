@@ -1,9 +1,9 @@
-use Rattle.std.proofs.Common.{◌≡◌, ◌<◌, length, length-set, arith}
+use Rattle.std.proofs.Common.{◌≡◌, ◌<◌, refl, length, length-set, get_or, arith}
 use Rattle.std.specs.Int.{bit_at}
 use Rattle.ib_cells.specs.Cells.{tables_of}
 use Rattle.ib_routes.specs.Waves.{HasBit}
 use Rattle.ib_routes.proofs.TakenLemmas.{taken_as}
-use Rattle.ib_routes.proofs.WordLemmas.{bit_low, done_more, gap_less}
+use Rattle.ib_routes.proofs.WordLemmas.{bit_low, done_more, gap_less, none_fresh}
 use Rattle.ib_routes.proofs.wave.turn.Goals as goal
 
 pub returns : goal.returns
@@ -23,3 +23,13 @@ returns c =
       count = length-set done at word;
       less = gap_less done at word low c.joined.ensures.more (omega arith);
     }
+
+pub returns-then-fresh-eq0 : goal.returns-then-fresh-eq0
+returns-then-fresh-eq0 c = record {
+  same = refl;
+  same_done = refl;
+  none = none_fresh (get_or c.args.seen.now c.args.at 0) (get_or c.args.done.now c.args.at 0) c.fresh_of-fresh.result c.if-fresh-eq0.true c.fresh_of-fresh.ensures;
+}
+
+pub joined-requires-clause-apart : goal.joined-requires-clause-apart
+joined-requires-clause-apart c = λ bit has gone. ((c.fresh_of-fresh.ensures bit).0 has).1 gone

@@ -3,7 +3,7 @@ use Rattle.std.specs.Int.{bit_at}
 use Rattle.std.proofs.lemmas.Bool.{cases_eq}
 use Rattle.std.proofs.lemmas.Nat.Bits.{bit_at-zero}
 use Rattle.ib_cells.specs.Cells.{tables_of}
-use Rattle.ib_routes.proofs.TakenLemmas.{taken_more, taken_as}
+use Rattle.ib_routes.proofs.TakenLemmas.{taken_as, taken_more, taken_none}
 use Rattle.ib_routes.proofs.RunLemmas.{graph_kept}
 use Rattle.ib_routes.proofs.wave.visit.Goals as goal
 
@@ -41,3 +41,10 @@ returns c =
     (λ s o r. (r.0, r.1, no_bit c.bits.left o none))
     (λ s o p. (p.0, p.1))
     c.bits.invariant.taken
+
+pub bits-init : goal.bits-init
+bits-init c = record {
+  taken = taken_none c.args.fabric.now (tables_of c.args.cells.now) c.args.block (But c.args.at c.args.fresh c.args.fresh) (record { seen = c.args.seen.now; graph = c.args.graph.now; stopped = c.args.stopped }) (λ s o r. r.2 r.1);
+  had = λ o has. has;
+  graph = c.requires.graph;
+}

@@ -1,10 +1,12 @@
+//! The link by which a switch sends what goes to a LID, whatever its lane.
+
 ghost use Rattle.std.specs.Prelude.{◌≡◌, ◌<◌, ◌+◌, ◌*◌, MatchOption};
 ghost use Rattle.ib_cells.specs.Cells.{tables_of};
 ghost use Rattle.ib_net.specs.Fabric.{switch_count};
-ghost use Rattle.ib_lane_waves.specs.LaneWays.{HasNoWay, IsWayByLink};
+ghost use Rattle.ib_lane_routes.specs.LaneWays.{HasNoWay, IsWayByLink};
 
+use crate::hop::{Exit, find_exit};
 use ib_cells::cells::Cells;
-use ib_lane_routes::hop::{Exit, find_exit};
 use ib_net::fabric::Fabric;
 use ib_net::node::{Side, Spot};
 

@@ -12,7 +12,7 @@ use Rattle.ib_lane_routes.specs.declared.hop.Exit.{Exit}
 use Rattle.ib_lane_routes.specs.declared.hop.Exit.TheVariants.{Nowhere, Own, By}
 use Rattle.ib_lane_routes.specs.LaneExits.{exit_of}
 use Rattle.ib_lane_routes.proofs.HopLemmas.{exit_side}
-use Rattle.ib_lane_waves.specs.LaneWays.{HasNoWay, IsWay, IsWayByLink}
+use Rattle.ib_lane_routes.specs.LaneWays.{HasNoWay, IsWay, IsWayByLink}
 
 -- a way is an exit by a port
 pub exit_way : (fabric : FabricOf) (tables : TablesOf) (lid switch port : ℕ) (next : Spot) → IsWay fabric tables lid switch port next → exit_of fabric switch (tables switch lid) ≡ By port (To next.switch next.port)

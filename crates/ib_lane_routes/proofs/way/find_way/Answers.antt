@@ -3,8 +3,8 @@ use Rattle.ib_cells.specs.Cells.{tables_of}
 use Rattle.ib_net.specs.Fabric.{LeadsWithin, switch_count}
 use Rattle.ib_routes.specs.Links.{IsTo}
 use Rattle.ib_lane_routes.specs.declared.hop.Exit.TheVariants.{Nowhere, Own, By}
-use Rattle.ib_lane_waves.proofs.WayLemmas.{nowhere_way, own_way, side_way, to_way}
-use Rattle.ib_lane_waves.proofs.way.find_way.Goals as goal
+use Rattle.ib_lane_routes.proofs.WayLemmas.{nowhere_way, own_way, side_way, to_way}
+use Rattle.ib_lane_routes.proofs.way.find_way.Goals as goal
 
 pub returns-in-Nowhere : goal.returns-in-Nowhere
 returns-in-Nowhere c = nowhere_way c.args.fabric.now (tables_of c.args.cells.now) (64 * c.args.block + c.args.bit) c.args.switch Nowhere c.in-Nowhere.ensures.exit refl

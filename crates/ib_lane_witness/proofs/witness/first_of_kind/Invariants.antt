@@ -1,0 +1,14 @@
+use Rattle.std.proofs.Common.{◌<◌, ℕ}
+use Rattle.ib_cells.specs.Cells.{tables_of}
+use Rattle.ib_rows.specs.Lanes.{lanes_of}
+use Rattle.ib_rows.specs.Levels.{levels_of}
+use Rattle.ib_lane_witness.specs.Search.{IsReadyFor, TakesAs, end_at}
+use Rattle.ib_lane_witness.proofs.witness.first_of_kind.Given as goal
+
+-- none of those so far
+abbrev pub invariant-places : goal.invariant-places
+invariant-places l =
+    record {
+      ready : IsReadyFor l.fabric (tables_of l.cells) l.sought l.marks;
+      none : (other : ℕ) → other < l.place → TakesAs l.fabric (tables_of l.cells) (lanes_of l.lanes) l.traffic (levels_of l.levels) l.sought (end_at l.kind other) → ⊥;
+    }
