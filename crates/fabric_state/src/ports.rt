@@ -49,8 +49,8 @@ pub fn is_external(port: Port) -> bool
 pub fn switch_behind(far: Option<Far>) -> Option<(Place, Port)>
     ensures { result ≡ switch_behind far }
 {
-    match far {
-        Some(Far::Switch { s, port }) => Some((s, port)),
+    match &far {
+        Some(Far::Switch { s, port }) => Some((*s, *port)),
         _ => None,
     }
 }

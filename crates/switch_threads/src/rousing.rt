@@ -123,8 +123,8 @@ impl Neighbours {
     pub fn of(script: &Script, s: Place) -> Neighbours {
         let mut switches = [None; PORTS];
         'ports: for port in 0..PORTS as u8 {
-            if let Some(Far::Switch { s, port: _ }) = script.wiring().far(s, Port(port)) {
-                switches[usize::from(port)] = Some(s);
+            if let Some(Far::Switch { s, port: _ }) = &script.wiring().far(s, Port(port)) {
+                switches[usize::from(port)] = Some(*s);
             }
         }
         Neighbours { switches }

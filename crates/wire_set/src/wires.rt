@@ -66,8 +66,8 @@ fn place_of(s: Place, port: Port) -> usize
 fn far_place(far: Option<Far>) -> usize
     ensures { result ≡ far_place far }
 {
-    match far {
-        Some(Far::Switch { s, port }) => place_of(s, port),
+    match &far {
+        Some(Far::Switch { s, port }) => place_of(*s, *port),
         _ => 0,
     }
 }
@@ -160,8 +160,8 @@ impl WireSet {
         let here = place_of(s, port);
         let far = self.sides[here].far;
         self.set_link(here, false);
-        match far {
-            Some(Far::Switch { s, port }) => self.drop_frames(here, place_of(s, port)),
+        match &far {
+            Some(Far::Switch { s, port }) => self.drop_frames(here, place_of(*s, *port)),
             _ => 0,
         }
     }
@@ -322,9 +322,10 @@ impl WireSet {
         requires { here < length self.old.sides }
         ensures { self.new ≡ link_set is_up (side_at self.old here).far here self.old }
     {
+        let far = self.sides[here].far;
         self.sides[here].is_up = is_up;
-        if let Some(Far::Switch { s, port }) = self.sides[here].far {
-            self.sides[place_of(s, port)].is_up = is_up;
+        if let Some(Far::Switch { s, port }) = &far {
+            self.sides[place_of(*s, *port)].is_up = is_up;
         }
     }
 
