@@ -721,7 +721,7 @@ impl Fabric {
             return Err(DropCause::NoPort);
         }
         match self.table(to.s) {
-            Some(table) => Ok(u16::from(table.number()) * 16 + u16::from(to.port)),
+            Some(table) => Ok(u16::from(table.number()) * 16 + u16::from(to.port.as_u8())),
             None => Err(DropCause::NoTable),
         }
     }
