@@ -194,8 +194,8 @@ impl Traffic {
         let key = self.order[place].key;
         let moving = self.packets[key];
         let hop = next_hop(moving, view);
-        match place_after(&hop, view, moving.at) {
-            Some((at, entry)) => self.packets[key] = moving.moved_to(at, entry),
+        match &place_after(&hop, view, moving.at) {
+            Some((at, entry)) => self.packets[key] = moving.moved_to(*at, *entry),
             None => {
                 self.packets.remove(key);
                 self.order.remove(place);

@@ -56,7 +56,7 @@ returns-in-Some-clause-packets g c =
     (goes_on c.self.inside.most (deque_capacity c.self.inside.order) stored order c.args.packet c.unwrap-place.result c.index.result.now c.index-moving.result.now (c.in-Some.at, c.in-Some.entry)
     c.self.invariant found c.index.ensures c.index-moving.ensures).0 in
     let hops = hopped_on (g.V.HopView.table_at c.args.view.now) (g.V.HopView.host_at c.args.view.now) (g.V.HopView.next_at c.args.view.now) c.args.packet (shown stored order) c.index-moving.result.now c.next_hop-hop.result c.moving.inside.at (c.in-Some.at, c.in-Some.entry)
-    is c.next_hop-hop.ensures (ap (λ (p : PacketOf). p.at) c.moving.view_is) c.in-Some.ensures in
+    is c.next_hop-hop.ensures (ap (λ (p : PacketOf). p.at) c.moving.view_is) (sym c.in-Some.is ∙ c.place_after.ensures) in
     let shows : List PacketOf → TrafficOf = λ packets. record { packets = packets; most = c.self.inside.most } in
     rw (← c.self.view_is, c.moved_to.ensures) (ap shows (goes ∙ sym hops))
 
@@ -83,6 +83,6 @@ returns-in-None-clause-packets g c =
     (goes c.self.inside.most (deque_capacity c.self.inside.order) c.self.inside.packets c.remove.new.self c.self.inside.order.items c.args.packet c.unwrap-place.result c.index.result.now
     c.self.invariant found c.index.ensures c.remove.ensures.updates c.remove.ensures.len c.remove.ensures.capacity).0 in
     let hops = hopped_off (g.V.HopView.table_at c.args.view.now) (g.V.HopView.host_at c.args.view.now) (g.V.HopView.next_at c.args.view.now) c.args.packet (shown c.self.inside.packets c.self.inside.order.items) c.index-moving.result.now c.next_hop-hop.result c.moving.inside.at
-    is c.next_hop-hop.ensures (ap (λ (p : PacketOf). p.at) c.moving.view_is) c.in-None.ensures in
+    is c.next_hop-hop.ensures (ap (λ (p : PacketOf). p.at) c.moving.view_is) (sym c.in-None.is ∙ c.place_after.ensures) in
     let shows : List PacketOf → TrafficOf = λ packets. record { packets = packets; most = c.self.inside.most } in
     rw (← c.self.view_is, left) (ap shows (gone ∙ sym hops))
