@@ -57,7 +57,7 @@ fn address_in(fabric: &Fabric, host: &HostOn) -> u16
     ensures { result ≡ address_in fabric.now host.now }
 {
     match fabric.table(host.s) {
-        Some(table) => u16::from(table.number()) * 16 + u16::from(host.port),
+        Some(table) => u16::from(table.number()) * 16 + u16::from(host.port.as_u8()),
         None => 0,
     }
 }
