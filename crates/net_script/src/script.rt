@@ -7,7 +7,7 @@ ghost use Rattle.net_script.specs.Scripts.{IsScript, CanAddSwitch, CanAddLink, C
 ghost use Rattle.text_lines.specs.Names.{place_of};
 
 use crate::command::{Command, is_restart};
-use crate::setting::{Limits, Setting};
+use crate::setting::{DEFAULT_BLOCKS, DEFAULT_EVENTS, DEFAULT_TICKS, Limits, Setting};
 use an_base::memory::OutOfMemory;
 use an_base::place::Place;
 use an_base::text::Word;
@@ -72,9 +72,9 @@ impl Script {
             epoch: 0,
             pace: None,
             limits: Limits {
-                ticks: 4_096,
-                events: 2_000_000,
-                blocks: 65_536,
+                ticks: DEFAULT_TICKS,
+                events: DEFAULT_EVENTS,
+                blocks: DEFAULT_BLOCKS,
             },
             any_routes: false,
         }
