@@ -183,15 +183,15 @@ fn push_commands(text: &mut Vec<u8>, script: &Script) -> Result<(), OutOfMemory>
 {
     let commands = script.commands();
     'commands: for command in commands {
-        push_command(text, script, *command)?;
+        push_command(text, script, command)?;
     }
     Ok(())
 }
 
-fn push_command(text: &mut Vec<u8>, script: &Script, command: Command) -> Result<(), OutOfMemory>
-    requires { IsCommand script.now.wires command }
+fn push_command(text: &mut Vec<u8>, script: &Script, command: &Command) -> Result<(), OutOfMemory>
+    requires { IsCommand script.now.wires command.now }
     ensures { OnOk result (text.new.items ≡ text.old.items
-        ++ line_text (form_words (command_form script.now command))) }
+        ++ line_text (form_words (command_form script.now command.now))) }
 {
     push_time(text, command.time)?;
     let names = script.switch_names();
