@@ -15,7 +15,6 @@ use an_base::place::Place;
 use an_base::port::Port;
 use an_base::text::{Word, push_decimal};
 use net_graph::wiring::{HostOn, LinkAt, SwitchAt};
-use net_script::command::Command;
 use net_script::script::Script;
 use std::alloc::Global;
 
@@ -202,7 +201,7 @@ fn add_sends(script: &mut Script, count: u8, time: u32) -> Result<(), OutOfMemor
             host: u16::from(place),
             to: u16::from((place + 1) % count),
         };
-        script.add_command(Command { time, event })?;
+        script.add_command(time, event)?;
     }
     Ok(())
 }
@@ -217,20 +216,10 @@ fn add_failure(script: &mut Script, count: u8) -> Result<(), OutOfMemory>
     if count < 2 {
         return Ok(());
     }
-    script.add_command(Command {
-        time: 20,
-        event: Event::Fail {
-            s: Place(0),
-            port: Port(1),
-        },
-    })?;
-    script.add_command(Command {
-        time: 60,
-        event: Event::Repair {
-            s: Place(0),
-            port: Port(1),
-        },
-    })
+    let s = Place(0);
+    let port = Port(1);
+    script.add_command(20, Event::Fail { s, port })?;
+    script.add_command(60, Event::Repair { s, port })
 }
 
 // Makes of an empty script the one that is drawn from a seed.

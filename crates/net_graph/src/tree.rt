@@ -32,19 +32,19 @@ fn better(
     requires before { IsBest (network wiring.now) levels.now level x port best }
     ensures { IsBest (network wiring.now) levels.now level x (port + 1) result }
 {
-    let Some((y, _)) = wiring.link_end(x, port) else {
+    let Some((y, _)) = &wiring.link_end(x, port) else {
         return best;
     };
-    if level == 0 || !has_level(levels, level - 1, y) {
+    if level == 0 || !has_level(levels, level - 1, *y) {
         return best;
     }
-    let Some((b, b_port)) = best else {
-        return Some((y, port));
+    let Some((b, _)) = &best else {
+        return Some((*y, port));
     };
-    if wiring.uid(b) <= wiring.uid(y) {
-        Some((b, b_port))
+    if wiring.uid(*b) <= wiring.uid(*y) {
+        best
     } else {
-        Some((y, port))
+        Some((*y, port))
     }
 }
 
@@ -70,9 +70,9 @@ fn place_of(wiring: &Wiring, levels: &[Option<u8>], root: Place, x: Place, level
     ensures { IsPlace (network wiring.now) root x result }
 {
     let top = wiring.life(root);
-    match parent_of(wiring, levels, level, x) {
+    match &parent_of(wiring, levels, level, x) {
         None => Position::new(top, level, top, 0),
-        Some((parent, port)) => Position::new(top, level, wiring.life(parent), port.as_u8()),
+        Some((parent, port)) => Position::new(top, level, wiring.life(*parent), port.as_u8()),
     }
 }
 
@@ -81,13 +81,13 @@ fn push_link(wiring: &Wiring, links: &mut Links, x: Place, port: Port)
     requires { AreLinksBelow (network wiring.now) x port links.old }
     ensures { AreLinksBelow (network wiring.now) x (port + 1) links.new }
 {
-    let Some((y, q)) = wiring.link_end(x, port) else {
+    let Some((y, q)) = &wiring.link_end(x, port) else {
         return;
     };
-    if y == x {
+    if *y == x {
         return;
     }
-    links.push(PortLink::new(port.as_u8(), End::new(wiring.life(y), q.as_u8())));
+    links.push(PortLink::new(port.as_u8(), End::new(wiring.life(*y), q.as_u8())));
 }
 
 // The links of x to other switches, by rising port.

@@ -233,8 +233,8 @@ impl Wiring {
         ensures far { result ≡ far_of self.now.links s port }
         ensures range { IfSome result (IsFar (length self.now.switches) s port) }
     {
-        match self.far(s, port) {
-            Some(Far::Switch { s, port }) => Some((s, port)),
+        match &self.far(s, port) {
+            Some(Far::Switch { s, port }) => Some((*s, *port)),
             _ => None,
         }
     }

@@ -8,6 +8,7 @@ use Rattle.net_graph.specs.declared.wiring.HostOn.{HostOn}
 use Rattle.net_graph.specs.Wires.{Wires, IsWired, IsSwitch, IsLink, IsHost, uids, used_ports, a_end, b_end}
 use Rattle.net_graph.specs.Wires.{host_end}
 use Rattle.text_lines.specs.Words.{IsName}
+use Rattle.net_script.specs.declared.setting.TheConstants.{DEFAULT_TICKS, DEFAULT_EVENTS, DEFAULT_BLOCKS}
 use Rattle.net_script.specs.declared.setting.Setting.{Setting}
 use Rattle.net_script.specs.declared.setting.Setting.TheVariants.{Ticks, Events, Blocks, Epoch, Pace}
 use Rattle.net_script.specs.declared.command.Command.{Command}
@@ -78,7 +79,7 @@ empty_script =
       commands = [];
       epoch = 0;
       pace = None;
-      limits = record { ticks = 4096; events = 2000000; blocks = 65536 };
+      limits = record { ticks = DEFAULT_TICKS; events = DEFAULT_EVENTS; blocks = DEFAULT_BLOCKS };
       any_routes = false;
     }
 

@@ -370,7 +370,7 @@ fn read_link_change(
         (IsWrong draft.old (ChangesLink change time.now name.now port.now)) }
 {
     let command = link_command_in(&draft.script, change, time, name, port)?;
-    draft.script.add_command(command)?;
+    draft.script.add_command(command.time, command.event)?;
     Ok(())
 }
 
@@ -410,7 +410,7 @@ fn read_wire_change(
         (IsWrong draft.old (ChangesWire change time.now name.now port.now n.now)) }
 {
     let command = wire_command_in(&draft.script, change, time, name, port, n)?;
-    draft.script.add_command(command)?;
+    draft.script.add_command(command.time, command.event)?;
     Ok(())
 }
 
@@ -433,7 +433,7 @@ fn read_send(draft: &mut Draft, time: &[u8], host: &[u8], to: &[u8]) -> Result<(
         (IsWrong draft.old (Sends time.now host.now to.now)) }
 {
     let command = send_in(&draft.script, time, host, to)?;
-    draft.script.add_command(command)?;
+    draft.script.add_command(command.time, command.event)?;
     Ok(())
 }
 
@@ -456,6 +456,6 @@ fn read_restart(draft: &mut Draft, time: &[u8], name: &[u8]) -> Result<(), Scrip
         (IsWrong draft.old (Restarts time.now name.now)) }
 {
     let command = restart_in(&draft.script, time, name)?;
-    draft.script.add_command(command)?;
+    draft.script.add_command(command.time, command.event)?;
     Ok(())
 }

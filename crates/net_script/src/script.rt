@@ -7,7 +7,8 @@ ghost use Rattle.net_script.specs.Scripts.{IsScript, CanAddSwitch, CanAddLink, C
 ghost use Rattle.text_lines.specs.Names.{place_of};
 
 use crate::command::{Command, is_restart};
-use crate::setting::{Limits, Setting};
+use crate::setting::{DEFAULT_BLOCKS, DEFAULT_EVENTS, DEFAULT_TICKS, Limits, Setting};
+use an_base::event::Event;
 use an_base::memory::OutOfMemory;
 use an_base::place::Place;
 use an_base::text::Word;
@@ -72,9 +73,9 @@ impl Script {
             epoch: 0,
             pace: None,
             limits: Limits {
-                ticks: 4_096,
-                events: 2_000_000,
-                blocks: 65_536,
+                ticks: DEFAULT_TICKS,
+                events: DEFAULT_EVENTS,
+                blocks: DEFAULT_BLOCKS,
             },
             any_routes: false,
         }
@@ -212,13 +213,14 @@ impl Script {
         }
     }
 
-    /// Adds a command after the others. Where no memory is found nothing is added.
-    pub fn add_command(&mut self, command: Command) -> Result<(), OutOfMemory>
-        requires can { CanAddCommand self.old command }
-        ensures ok { OnOk result (self.new ≡ with_command self.old command) }
+    /// Adds the command of an event and the tick from which it is due, after the others. Where no memory
+    /// is found nothing is added.
+    pub fn add_command(&mut self, time: u32, event: Event) -> Result<(), OutOfMemory>
+        requires can { CanAddCommand self.old (record { time = time; event = event }) }
+        ensures ok { OnOk result (self.new ≡ with_command self.old (record { time = time; event = event })) }
         ensures err { OnErr result (self.new ≡ self.old) }
     {
-        self.commands.push(command)?;
+        self.commands.push(Command { time, event })?;
         Ok(())
     }
 

@@ -43,6 +43,15 @@ impl Setting {
     }
 }
 
+/// The greatest tick of a run, if no line says another.
+pub const DEFAULT_TICKS: u32 = 4_096;
+
+/// The most events of a run, if no line says another number.
+pub const DEFAULT_EVENTS: u32 = 2_000_000;
+
+/// The blocks of a run, if no line says another number.
+pub const DEFAULT_BLOCKS: u32 = 65_536;
+
 /// The limits of a run.
 #[derive(Clone, Copy, PartialEq, Eq)]
 pub struct Limits {

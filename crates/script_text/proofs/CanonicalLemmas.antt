@@ -22,6 +22,7 @@ use Rattle.net_script.specs.declared.command.WireChange.TheVariants as wire
 use Rattle.net_script.specs.declared.cause.ScriptCause.TheVariants.{NameTwice, LineTooLong, NotAscii}
 use Rattle.net_script.specs.declared.draft.Draft.{Draft}
 use Rattle.net_script.specs.declared.draft.Part.TheVariants.{Items, After}
+use Rattle.net_script.specs.declared.setting.TheConstants.{DEFAULT_TICKS, DEFAULT_EVENTS, DEFAULT_BLOCKS}
 use Rattle.net_script.specs.declared.setting.Setting.{Setting}
 use Rattle.net_script.specs.declared.setting.Setting.TheVariants.{Ticks, Events, Blocks, Epoch, Pace}
 use Rattle.net_script.specs.declared.setting.Came.{Came}
@@ -506,9 +507,9 @@ settings_reached s kept =
     let t5 : ScriptOf = record t4 { pace = s.pace } in
     let l = kept.limits in
     let e0 = kept.epoch in
-    let s1 = set_one begun Ticks s.limits.ticks 4096 empty_script refl refl refl (omega arith) l.ticks (let h = l.ticks in omega arith) refl in
-    let s2 = set_one s1.last Events s.limits.events 2000000 t1 s1.part s1.script (s1.others Events (λ e. absurd (cc))) l.events_least l.events_most (let h = l.events_most in omega arith) refl in
-    let s3 = set_one s2.last Blocks s.limits.blocks 65536 t2 s2.part s2.script (s2.others Blocks (λ e. absurd (cc)) ∙ s1.others Blocks (λ e. absurd (cc))) l.blocks_least l.blocks_most (let h = l.blocks_most in omega arith) refl in
+    let s1 = set_one begun Ticks s.limits.ticks DEFAULT_TICKS empty_script refl refl refl (omega arith) l.ticks (let h = l.ticks in omega arith) refl in
+    let s2 = set_one s1.last Events s.limits.events DEFAULT_EVENTS t1 s1.part s1.script (s1.others Events (λ e. absurd (cc))) l.events_least l.events_most (let h = l.events_most in omega arith) refl in
+    let s3 = set_one s2.last Blocks s.limits.blocks DEFAULT_BLOCKS t2 s2.part s2.script (s2.others Blocks (λ e. absurd (cc)) ∙ s1.others Blocks (λ e. absurd (cc))) l.blocks_least l.blocks_most (let h = l.blocks_most in omega arith) refl in
     let s4 = set_one s3.last Epoch s.epoch 0 t3 s3.part s3.script (s3.others Epoch (λ e. absurd (cc)) ∙ s2.others Epoch (λ e. absurd (cc)) ∙ s1.others Epoch (λ e. absurd (cc))) (omega arith) (omega arith) e0 refl in
     let s5 = set_pace s4.last s.pace t4 s4.part s4.script (s4.others Pace (λ e. absurd (cc)) ∙ s3.others Pace (λ e. absurd (cc)) ∙ s2.others Pace (λ e. absurd (cc)) ∙ s1.others Pace (λ e. absurd (cc))) kept.pace refl in
     let s6 = set_routes s5.last s.any_routes t5 s5.part s5.script (s5.routes ∙ s4.routes ∙ s3.routes ∙ s2.routes ∙ s1.routes) refl in

@@ -11,6 +11,7 @@ use Rattle.net_graph.specs.declared.wiring.HostOn.{HostOn}
 use Rattle.net_script.specs.declared.command.Command.{Command}
 use Rattle.net_script.specs.declared.command.LinkChange.TheVariants as link
 use Rattle.net_script.specs.declared.command.WireChange.TheVariants as wire
+use Rattle.net_script.specs.declared.setting.TheConstants.{DEFAULT_TICKS, DEFAULT_EVENTS, DEFAULT_BLOCKS}
 use Rattle.net_script.specs.declared.setting.Setting.{Setting}
 use Rattle.net_script.specs.declared.setting.Setting.TheVariants.{Ticks, Events, Blocks, Epoch, Pace}
 use Rattle.text_lines.specs.Words.{hex_text}
@@ -41,9 +42,9 @@ routes_form any = if any then AnyRoutes ∷ [] else []
 -- the settings that differ from the default, in order
 abbrev pub setting_forms : ScriptOf → List Form
 setting_forms script =
-    setting_form Ticks script.limits.ticks 4096
-    ++ (setting_form Events script.limits.events 2000000
-    ++ (setting_form Blocks script.limits.blocks 65536
+    setting_form Ticks script.limits.ticks DEFAULT_TICKS
+    ++ (setting_form Events script.limits.events DEFAULT_EVENTS
+    ++ (setting_form Blocks script.limits.blocks DEFAULT_BLOCKS
     ++ (setting_form Epoch script.epoch 0 ++ (pace_form script.pace ++ routes_form script.any_routes))))
 
 -- the number that a switch had last, where it is not 1

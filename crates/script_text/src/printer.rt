@@ -15,7 +15,7 @@ use itoa::Buffer;
 use net_graph::wiring::{HostOn, LinkAt, SwitchAt};
 use net_script::command::Command;
 use net_script::script::Script;
-use net_script::setting::Setting;
+use net_script::setting::{DEFAULT_BLOCKS, DEFAULT_EVENTS, DEFAULT_TICKS, Setting};
 use std::alloc::Global;
 use text_lines::names::Names;
 use text_lines::spelling::{identifier, push_line};
@@ -45,9 +45,9 @@ fn push_settings(text: &mut Vec<u8>, script: &Script) -> Result<(), OutOfMemory>
     ensures kept { IsScript script.now }
 {
     let limits = script.limits();
-    push_setting(text, Setting::Ticks, u64::from(limits.ticks), 4_096)?;
-    push_setting(text, Setting::Events, u64::from(limits.events), 2_000_000)?;
-    push_setting(text, Setting::Blocks, u64::from(limits.blocks), 65_536)?;
+    push_setting(text, Setting::Ticks, u64::from(limits.ticks), u64::from(DEFAULT_TICKS))?;
+    push_setting(text, Setting::Events, u64::from(limits.events), u64::from(DEFAULT_EVENTS))?;
+    push_setting(text, Setting::Blocks, u64::from(limits.blocks), u64::from(DEFAULT_BLOCKS))?;
     push_setting(text, Setting::Epoch, script.epoch(), 0)?;
     push_pace(text, script.pace())?;
     push_any_routes(text, script.any_routes())
@@ -183,15 +183,15 @@ fn push_commands(text: &mut Vec<u8>, script: &Script) -> Result<(), OutOfMemory>
 {
     let commands = script.commands();
     'commands: for command in commands {
-        push_command(text, script, *command)?;
+        push_command(text, script, command)?;
     }
     Ok(())
 }
 
-fn push_command(text: &mut Vec<u8>, script: &Script, command: Command) -> Result<(), OutOfMemory>
-    requires { IsCommand script.now.wires command }
+fn push_command(text: &mut Vec<u8>, script: &Script, command: &Command) -> Result<(), OutOfMemory>
+    requires { IsCommand script.now.wires command.now }
     ensures { OnOk result (text.new.items ≡ text.old.items
-        ++ line_text (form_words (command_form script.now command))) }
+        ++ line_text (form_words (command_form script.now command.now))) }
 {
     push_time(text, command.time)?;
     let names = script.switch_names();

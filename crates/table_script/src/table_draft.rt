@@ -45,7 +45,7 @@ fn height_of(at: &EntryAt) -> u32
     ensures height { result ≡ height_of at.now }
     ensures low { result < 65536 }
 {
-    u32::from(at.s.as_u8()) * 256 + u32::from(at.entry)
+    u32::from(at.s.as_u8()) * 256 + u32::from(at.entry.as_u8())
 }
 
 impl Model for TableDraft {

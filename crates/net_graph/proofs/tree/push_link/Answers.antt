@@ -7,4 +7,4 @@ use Rattle.net_graph.proofs.tree.push_link.Goals as goal
 pub returns : goal.returns
 returns c =
     rw (c.push.ensures, c.new-2.ensures, c.new.ensures, c.life.ensures, c.as_u8.ensures, c.as_u8-2.ensures)
-    (one_link (network c.args.wiring.now) c.args.x c.args.port c.in-Some.y c.in-Some.q c.args.links.now c.requires (eqb-false c.in-Some.y c.args.x (sym c.eq.ensures ∙ c.if-eq.false)) (sym c.in-Some.ensures.far))
+    (one_link (network c.args.wiring.now) c.args.x c.args.port c.in-Some.y c.in-Some.q c.args.links.now c.requires (eqb-false c.in-Some.y c.args.x (sym c.eq.ensures ∙ c.if-eq.false)) (sym c.link_end.ensures.far ∙ c.in-Some.is))
