@@ -45,9 +45,24 @@ fn push_settings(text: &mut Vec<u8>, script: &Script) -> Result<(), OutOfMemory>
     ensures kept { IsScript script.now }
 {
     let limits = script.limits();
-    push_setting(text, Setting::Ticks, u64::from(limits.ticks), u64::from(DEFAULT_TICKS))?;
-    push_setting(text, Setting::Events, u64::from(limits.events), u64::from(DEFAULT_EVENTS))?;
-    push_setting(text, Setting::Blocks, u64::from(limits.blocks), u64::from(DEFAULT_BLOCKS))?;
+    push_setting(
+        text,
+        Setting::Ticks,
+        u64::from(limits.ticks),
+        u64::from(DEFAULT_TICKS),
+    )?;
+    push_setting(
+        text,
+        Setting::Events,
+        u64::from(limits.events),
+        u64::from(DEFAULT_EVENTS),
+    )?;
+    push_setting(
+        text,
+        Setting::Blocks,
+        u64::from(limits.blocks),
+        u64::from(DEFAULT_BLOCKS),
+    )?;
     push_setting(text, Setting::Epoch, script.epoch(), 0)?;
     push_pace(text, script.pace())?;
     push_any_routes(text, script.any_routes())
