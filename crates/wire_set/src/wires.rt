@@ -185,7 +185,7 @@ impl WireSet {
         }
     }
 
-    /// Whether the link of a port, which has one or a host, is up.
+    /// Whether the link of a used port, to another port or to a host, is up.
     pub fn is_up(&self, s: Place, port: Port) -> bool
         requires { IsUsed self.now s port }
         ensures { result ≡ (side_at self.now (place s port)).is_up }
