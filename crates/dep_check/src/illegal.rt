@@ -1,3 +1,5 @@
+//! The least illegal exit. Exits by spot are tried first; single rows are gone over only if these do not pass.
+
 ghost use Rattle.std.specs.Prelude.{◌≡◌, ◌↔◌, ◌+◌, ℕ, List, Option, IsTrue, MatchOption, None, IfOk, length, true};
 ghost use Rattle.std.specs.Int.{bit_at};
 ghost use Rattle.std.specs.List.{list_all};
@@ -213,7 +215,7 @@ fn are_at_spots(rows: &[Row]) -> bool
     rows.iter().all(|row| is_at_spot(row))
 }
 
-// Whether no exit is illegal, where the table has those of the rows. It looks once at each row, and at none
+// Whether no exit is illegal, if the table has those of the rows. It looks once at each row, and at none
 // of their exits.
 fn are_legal(sides: &Sides<'_>, exits: &[u16], rows: &[Row]) -> bool
     ensures { (es : List EntryOf) (numbers : List ℕ) → result ≡ true
@@ -226,8 +228,8 @@ fn are_legal(sides: &Sides<'_>, exits: &[u16], rows: &[Row]) -> bool
     are_all_legal(sides, exits)
 }
 
-/// The least illegal exit of the rows, where these are the far sides of the spots, and the steps have the
-/// exits of all rows. Where there is one it looks once at each exit of the rows.
+/// The least illegal exit of the rows, if these are the far sides of the spots, and the steps have the
+/// exits of all rows. If there is one, it looks once at each exit of the rows.
 pub fn least_illegal(
     alloc: Global,
     graph: &Graph,

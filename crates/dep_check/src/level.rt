@@ -1,3 +1,5 @@
+//! Ranks, and least numbers of steps to a goal. Both are given in rounds, to the spots that the last round made due.
+
 ghost use Rattle.std.specs.Prelude.{◌≡◌, ◌<◌, ◌↔◌, ◌++◌, ℕ, List, Option, [], ◌∷◌, length, None, IsTrue};
 ghost use Rattle.std.specs.Prelude.{Contains, IfOk, OnOk, MatchBool};
 ghost use Rattle.dep_check.specs.declared.channel.Channel.{Channel};
@@ -25,7 +27,7 @@ pub enum Rule {
     Rank,
 }
 
-/// The level of a spot, where it has one.
+/// The level of a spot, if it has one.
 pub fn level_of(levels: &[Option<u16>], spot: Channel) -> Option<u16>
     requires { IsSpot spot }
     ensures { result ≡ level_at levels.now spot }
@@ -78,7 +80,7 @@ fn is_due(rule: Rule, steps: &Steps, levels: &[Option<u16>], spot: Channel) -> b
     }
 }
 
-// Adds a spot, where it gets a level next.
+// Adds a spot, if it gets a level next.
 fn add_due(
     rule: Rule,
     steps: &Steps,
@@ -99,7 +101,7 @@ fn add_due(
     Ok(())
 }
 
-// Adds the channel that leads to this one by what comes in at an entry, where it gets a level next.
+// Adds the channel that leads to this one by what comes in at an entry, if it gets a level next.
 fn add_before(
     rule: Rule,
     steps: &Steps,
@@ -255,7 +257,7 @@ fn all_levels(
     unreachable!()
 }
 
-/// The ranks of channels: 0 where one leads nowhere, else one more than the greatest that it leads
+/// The ranks of channels: 0 if one leads nowhere, else one more than the greatest that it leads
 /// to; none for those that lead for ever to others without one. It looks at each step a few times.
 pub fn ranks_of(alloc: Global, steps: &Steps) -> Result<Vec<Option<u16>>, OutOfMemory>
     requires { steps.now.to ≡ None }

@@ -1,3 +1,5 @@
+//! One graph over spots for two searches: channels that lead to channels, and packets on their way to one target.
+
 ghost use Rattle.std.specs.Prelude.{◌≡◌, ◌≢◌, ◌<◌, ◌↔◌, ℕ, true, length, Some, None, Contains, IsTrue, IfOk, IfSome};
 ghost use Rattle.std.specs.Int.{bit_at};
 ghost use Rattle.dep_check.specs.declared.channel.Channel.{Channel};

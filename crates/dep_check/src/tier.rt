@@ -1,3 +1,5 @@
+//! Tiers of channels: guessed by walks in depth, checked by a pass over all steps. A cycle stays within one.
+
 ghost use Rattle.std.specs.Prelude.{◌≡◌, ◌≤◌, ◌<◌, ◌↔◌, length, All, IfOk, IsTrue, None};
 ghost use Rattle.dep_check.specs.Tables.{IsSpot};
 ghost use Rattle.dep_check.specs.Tiers.{AreTiers, HasPeer, HasPeerBy, RisesFrom, SinksBy, tier_at};

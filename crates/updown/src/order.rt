@@ -1,3 +1,5 @@
+//! The order of places in which passes over a graph go, so that no length is needed before it is known.
+
 ghost use Rattle.std.specs.Prelude.{length, IfOk};
 ghost use Rattle.topo_graph.specs.Topology.{IsGraph};
 ghost use Rattle.updown.specs.Order.{AreHeights, IsDescent};
