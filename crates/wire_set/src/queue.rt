@@ -1,3 +1,5 @@
+//! Queues of slips. A slip is in one queue at most, so all queues are chains in one list of places.
+
 ghost use Rattle.std.specs.Prelude.{◌≡◌, ◌≢◌, ◌+◌, ◌-◌, ◌<◌, ◌≤◌, ◌++◌, ◌∷◌, [], ℕ, length, take, drop};
 ghost use Rattle.std.specs.Prelude.{replicate};
 ghost use Rattle.std.specs.Prelude.{None, Some, IfOk, slice_index_or, vec_capacity};
