@@ -1,3 +1,5 @@
+//! All dependencies, block by block: the routes to the 64 LIDs of a block are followed together.
+
 ghost use Rattle.std.specs.Prelude.{◌≡◌, ◌<◌, ◌≤◌, ◌*◌, ◌^◌, ◌↔◌, ◌⊎◌, ℕ, length, IfOk, IsTrue, MatchResult};
 ghost use Rattle.ib_cells.specs.Cells.{tables_of};
 ghost use Rattle.ib_routes.specs.Found.{SomeIsStopped};
@@ -114,7 +116,7 @@ fn add_waves(
 }
 
 /// Adds to a graph of the channels of a fabric each dependency that a route of the traffic makes, and no other. Answers
-/// whether a route stops at a place that is not its target. Where memory is wanted, nothing is added.
+/// whether a route stops at a place that is not its target. If memory is wanting, nothing is added.
 pub fn add_dependencies(
     alloc: Global,
     fabric: &Fabric,

@@ -1,3 +1,5 @@
+//! Where routes begin: which end ports send, to which LIDs, and from which switches.
+
 ghost use Rattle.std.specs.Prelude.{◌≡◌, ◌<◌, ◌+◌, ◌*◌, ◌^◌, ◌⊎◌, ◌↔◌, ℕ, Some, length, IfOk, IfSome, IsTrue, MatchOption};
 ghost use Rattle.std.specs.Int.{bit_at};
 ghost use Rattle.ib_net.specs.Fabric.{FabricOf, owner_of, start_of, switch_count};
