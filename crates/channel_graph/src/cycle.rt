@@ -77,7 +77,7 @@ fn exact_levels(alloc: Global, graph: &Graph, start: usize) -> Result<Vec<u32>, 
     Ok(levels)
 }
 
-// The same by guessed levels, if they serve.
+// The least shortest cycle from a node by guessed levels. None if there is none, or if they do not pass the checks.
 fn guessed_cycle(
     alloc: Global,
     graph: &Graph,

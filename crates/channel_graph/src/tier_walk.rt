@@ -49,7 +49,7 @@ fn look_on(graph: &Graph, marks: &mut [u32], visit: Visit) -> Option<usize>
 }
 
 impl Depths {
-    // Comes to a node.
+    // Comes to a node, which gets the next number and has no tier yet.
     fn come(&mut self, node: usize) -> Visit
         requires { node < 2 ^ 31 }
     {

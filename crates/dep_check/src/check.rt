@@ -55,7 +55,6 @@ impl Ranks {
     }
 }
 
-// Whether each channel has a rank.
 fn are_all_ranked(steps: &Steps, levels: &[Option<u16>]) -> bool
     ensures { MatchBool result
         ((spot : Channel) → IsSpot spot → IsLinked steps.now spot → level_at levels.now spot ≡ None → ⊥)
@@ -78,7 +77,7 @@ struct RankedSteps {
     levels: Vec<Option<u16>>,
 }
 
-// Those of rows, unless the rows let some channels lead round.
+// The ranked steps of rows, unless the rows let some channels lead round.
 fn ranked_by(
     alloc: Global,
     graph: &Graph,

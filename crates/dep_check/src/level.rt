@@ -63,7 +63,7 @@ fn has_next(steps: &Steps, levels: &[Option<u16>], spot: Channel, has: bool) -> 
     false
 }
 
-// Whether a spot gets a level.
+// Whether a spot without a level gets the next one.
 fn is_due(rule: Rule, steps: &Steps, levels: &[Option<u16>], spot: Channel) -> bool
     requires { IsSpot spot }
     ensures { MatchBool result (IsDue rule steps.now levels.now spot)
@@ -218,7 +218,6 @@ fn raise(
     Ok(raised)
 }
 
-// No levels.
 fn no_levels(alloc: Global) -> Result<Vec<Option<u16>>, OutOfMemory>
     ensures none { IfOk result (λ levels. (s : Channel) → level_at levels.items s ≡ None) }
     ensures count { IfOk result (λ levels. length levels.items ≡ 1651) }

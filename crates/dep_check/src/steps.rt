@@ -208,7 +208,7 @@ impl Steps {
         false
     }
 
-    // Whether packets get stuck at a spot.
+    // Whether packets get stuck at a spot: there is no exit, or one without a link.
     fn is_end(&self, to: u8, spot: Channel) -> bool
         requires { IsSpot spot }
         ensures { IsTrue result ↔ IsEnd self.now.wires.items self.now.exits.items to spot }

@@ -258,7 +258,6 @@ impl Core {
         self.report_up(sends)
     }
 
-    /// Whether the life is its own root.
     fn is_root(&self) -> bool
         ensures { result ≡ is_same self.now.position (self_root self.now.card.me) }
     {
@@ -266,7 +265,6 @@ impl Core {
         self.position == Position::new(me, 0, me, 0)
     }
 
-    /// The entries of the report.
     fn report(&self) -> Result<Entries, OutOfMemory>
         ensures { (log : Log) → HasHeard self.now.ports log → IfOk result (λ entries. entries ≡ report_of self.now.card.me (entry_of self.now ∷ flat_map (reported_on log) (claiming_among self.now.card.links log))) }
     {
@@ -275,7 +273,6 @@ impl Core {
         Ok(report.into_entries())
     }
 
-    /// Sends the report to the parent.
     fn report_up(&self, sends: &mut Sends) -> Result<(), OutOfMemory>
         ensures { (log : Log) → HasHeard self.now.ports log → OnOk result (sends.new ≡ sends.old ++ record { port = self.now.position.port; body = Stable (report_of self.now.card.me (entry_of self.now ∷ flat_map (reported_on log) (claiming_among self.now.card.links log))) } ∷ []) }
     {

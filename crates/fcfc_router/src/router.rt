@@ -48,7 +48,6 @@ impl Model for Router {
     ghost invariant = { λ r. IsIndex r.most (vec_capacity r.slots) r.slots.items r.tree };
 }
 
-// The set of these ports.
 fn set_of(ports: &[u8]) -> u16
     requires ports { ArePorts ports.now }
     requires rising { ExitsRise ports.now }

@@ -90,7 +90,6 @@ pub struct Board {
 }
 
 impl Board {
-    // The first packet of a channel.
     fn first(&self, channel: Channel) -> Option<u32>
         requires spot { IsSpot channel }
         requires queues { length self.now.queues.items ≡ 1651 }
@@ -275,7 +274,6 @@ fn empty_queue(
     }
 }
 
-// An empty queue for each spot.
 fn empty_queues(alloc: Global, tables: &Tables, places: usize) -> Result<Vec<Queue>, OutOfMemory>
     ensures { IfOk result (λ queues. AreEmptyQueues tables.now.wires.items places 1651 queues.items) }
 {

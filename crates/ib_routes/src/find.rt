@@ -21,7 +21,6 @@ use ib_net::fabric::Fabric;
 use ib_net::node::Side;
 use std::alloc::Global;
 
-// Takes all bits away.
 fn clear(words: &mut [u64])
     ensures { (switch bit : ℕ) → HasBit words.new switch bit → ⊥ }
 {
@@ -60,7 +59,7 @@ pub fn add_block(
     run(fabric, links, cells, block, seen, done, graph, stopped)
 }
 
-// The same of all blocks.
+// Adds the dependencies of all blocks.
 fn add_blocks(
     fabric: &Fabric,
     links: &[u64],
@@ -89,7 +88,7 @@ fn add_blocks(
     stopped
 }
 
-// The same in rooms of its own.
+// Adds the dependencies of all blocks, and makes the rooms for their bits.
 fn add_waves(
     alloc: Global,
     fabric: &Fabric,
@@ -156,7 +155,7 @@ pub fn find_base(channels: usize, side: Side) -> u32
     }
 }
 
-// Those of all ports.
+// The bases of all ports, by place.
 fn find_bases(alloc: Global, fabric: &Fabric) -> Result<Vec<u32>, OutOfMemory>
     ensures { IfOk result (λ bases. (length bases.items ≡ switch_count fabric.now * fabric.now.most)
         × AreBases fabric.now (switch_count fabric.now * fabric.now.most) bases.items) }

@@ -196,7 +196,7 @@ pub fn put_starts(
     }
 }
 
-// At first, before adapters and routers are counted.
+// The senders of a switch before adapters and routers are counted.
 fn first_sender(traffic: Traffic, switch: u32) -> Senders
     ensures { (fabric : FabricOf) → switch < switch_count fabric → AreSendersBelow fabric traffic 0 switch result }
 {
@@ -207,7 +207,7 @@ fn first_sender(traffic: Traffic, switch: u32) -> Senders
     }
 }
 
-// One port of an adapter or router more.
+// The senders of a switch with one more end port of an adapter or router.
 fn with_sender(senders: Senders, end: u32) -> Senders
     ensures { (fabric : FabricOf) (traffic : Traffic) (switch : ℕ) → start_of fabric (port.Host end) ≡ Some switch
         → AreSendersBelow fabric traffic end switch senders → AreSendersBelow fabric traffic (end + 1) switch result }

@@ -54,7 +54,7 @@ fn better(a: Best, b: Best) -> Best
     }
 }
 
-// The same if there may be no way.
+// The better of two best ways that there may be.
 fn better_of(a: Option<Best>, b: Option<Best>) -> Option<Best>
     ensures { IsBetterOf a b result }
 {

@@ -69,7 +69,6 @@ fn push_all(
     Ok(())
 }
 
-// The rows of all entries.
 fn rows_of(
     alloc: Global,
     graph: &Graph,

@@ -37,7 +37,6 @@ impl Distances {
         Distances { lives, lengths }
     }
 
-    // The place of a life.
     fn place(&self, life: Life) -> Option<u8>
         ensures { result ≡ place_in self.now.lives life }
     {

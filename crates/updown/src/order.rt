@@ -18,7 +18,6 @@ pub struct Height {
     pub place: u8,
 }
 
-// The heights of all places.
 fn heights_of(alloc: Global, graph: &Graph) -> Result<Vec<Height>, OutOfMemory>
     ensures heights { IfOk result (λ heights. AreHeights graph.now (length graph.now) heights.items) }
     ensures graph { IfOk result (λ _. IsGraph graph.now) }

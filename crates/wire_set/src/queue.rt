@@ -88,7 +88,6 @@ fn shortened(queue: Queue, second: u32) -> Queue
     }
 }
 
-// So many empty queues.
 fn empty_queues(alloc: Global, queues: usize) -> Result<Vec<Queue>, OutOfMemory>
     ensures { IfOk result (λ all. all.items ≡ replicate queues empty) }
 {
