@@ -1,3 +1,5 @@
+//! The bodies of an epoch: positions and answers make the tree, reports go up it, and the topology comes down it.
+
 ghost use Rattle.std.specs.Prelude.{◌≡◌, ◌≤◌, length, IfOk};
 ghost use Rattle.an_base.specs.declared.limits.TheConstants.{MOST_LEVEL};
 

@@ -1,3 +1,5 @@
+//! What reports and topologies tell of each life. Of two entries of one life a report keeps the lesser.
+
 ghost use Rattle.std.specs.Prelude.{◌≡◌, ◌<◌, ◌≤◌, [], ◌∷◌, ◌++◌, length, All, IfOk, OnOk, OnErr};
 ghost use Rattle.an_base.specs.declared.limits.TheConstants.{MOST_SWITCHES};
 
@@ -139,7 +141,7 @@ impl Entries {
         self.items
     }
 
-    /// Adds an entry at the end. Its life is above those before it. Where no memory is found
+    /// Adds an entry at the end. Its life is above those before it. If no memory is found,
     /// nothing is added.
     pub fn push(&mut self, entry: Entry) -> Result<(), OutOfMemory>
         requires room { length self.old < MOST_SWITCHES }

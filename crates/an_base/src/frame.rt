@@ -1,3 +1,5 @@
+//! What goes over a wire: numbered bodies of sessions, acknowledgements of them, and probes with their replies.
+
 ghost use Rattle.std.specs.Prelude.{◌≡◌, ◌≤◌};
 
 use crate::body::Body;

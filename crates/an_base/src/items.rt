@@ -1,3 +1,5 @@
+//! A vector without its capacity: contracts see its items alone.
+
 ghost use Rattle.std.specs.Prelude.{◌≡◌, ◌==◌, ◌∷◌, ◌++◌, [], length, OnOk, OnErr};
 
 use crate::memory::OutOfMemory;

@@ -1,3 +1,5 @@
+//! Who speaks, and over which link. A switch that restarts is a new life, with a new number of its boot.
+
 ghost use Rattle.std.specs.Prelude.{◌≡◌, ◌≤◌, ◌<◌, ◌^◌};
 ghost use Rattle.an_base.specs.declared.limits.TheConstants.{LAST_PORT};
 

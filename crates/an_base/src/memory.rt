@@ -1,3 +1,5 @@
+//! The one error of want of memory, into which both of std's turn by `?`.
+
 use std::alloc::{AllocError, AllocFailed};
 
 /// No memory was found. It may be the answer of any call that takes memory, whatever its arguments.

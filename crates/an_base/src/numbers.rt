@@ -1,3 +1,5 @@
+//! The numbers that a root gives to the members of its topology, by which packets are addressed.
+
 ghost use Rattle.std.specs.Prelude.{◌≡◌, length, IfOk};
 
 use crate::memory::OutOfMemory;

@@ -1,3 +1,5 @@
+//! How code names a switch of a script: by a type of its own, so that no place is taken for a port.
+
 ghost use Rattle.std.specs.Prelude.{◌≡◌};
 
 use std::marker::Model;

@@ -1,3 +1,5 @@
+//! Ports, what a switch takes to be at each, and what it shows of itself.
+
 ghost use Rattle.std.specs.Prelude.{◌≡◌, ◌-◌, ◌≤◌, Some, None, length, slice_get, slice_set};
 ghost use Rattle.std.specs.Prelude.{replicate};
 ghost use Rattle.an_base.specs.declared.port.PortState.TheVariants.{Dead};
@@ -90,12 +92,12 @@ pub enum Sample {
     Switch,
 }
 
-/// The state of a port, with the other end where it is known.
+/// The state of a port, with the other end if it is known.
 #[derive(Clone, Copy, PartialEq, Eq)]
 pub struct PortView {
     /// The state.
     pub state: PortState,
-    /// The other end, where it is known.
+    /// The other end, if it is known.
     pub peer: Option<End>,
 }
 

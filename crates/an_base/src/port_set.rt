@@ -1,3 +1,5 @@
+//! How code goes over a set of ports in a word: it takes the lowest one out until none is left.
+
 ghost use Rattle.std.specs.Prelude.{◌≡◌, ◌≢◌, ◌<◌, ◌≤◌, ℕ};
 ghost use Rattle.std.specs.Int.{bit_at};
 ghost use Rattle.an_base.specs.Rows.{IsWithout};

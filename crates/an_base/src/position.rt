@@ -1,10 +1,12 @@
+//! A place in the spanning tree. A life takes the least one, of its own as a root and those that its links offer.
+
 ghost use Rattle.std.specs.Prelude.{◌≡◌, ◌≤◌};
 ghost use Rattle.an_base.specs.declared.limits.TheConstants.{LAST_PORT, MOST_LEVEL};
 
 use crate::life::Life;
 use std::marker::Model;
 
-/// Where a life stands in its spanning tree. Positions are ordered by root, level, parent and port.
+/// Where a life stands in its tree. Positions are ordered by root, level, parent and port.
 #[derive(Clone, Copy, PartialEq, Eq, PartialOrd, Ord)]
 pub struct Position {
     /// The root of the tree.

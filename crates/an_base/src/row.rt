@@ -1,3 +1,5 @@
+//! Rows of routing tables, and their exits. Exits are one word of bits, of which a list is made to go over them.
+
 ghost use Rattle.std.specs.Prelude.{◌≡◌, ◌==◌, ◌<◌, ◌≤◌, [], ◌∷◌, ◌++◌, length, All};
 ghost use Rattle.an_base.specs.Rows.{HasPortsAlone, ports_of};
 ghost use Rattle.an_base.specs.declared.limits.TheConstants.{LAST_PORT, PORTS};

@@ -1,3 +1,5 @@
+//! What texts are made of: bytes, words, and numbers in decimal.
+
 ghost use Rattle.std.specs.Prelude.{◌≡◌, ◌++◌, IfOk, OnOk, OnErr};
 ghost use Rattle.std.specs.Fmt.{decimal};
 

@@ -1,3 +1,5 @@
+//! Tree links downward. A position tells only the way to the parent, so children are found from the far side.
+
 ghost use Rattle.std.specs.Prelude.{◌≡◌, ◌↔◌, ◌<◌, length, IfOk, IsTrue};
 ghost use Rattle.topo_graph.specs.Topology.{IsGraph};
 ghost use Rattle.broadcast_flood.specs.Tree.{AreChildPorts, IsDown};

@@ -1,3 +1,5 @@
+//! The hops of broadcasts. Those downward are the same for all who send, and are made once.
+
 ghost use Rattle.std.specs.Prelude.{◌≡◌, ◌↔◌, ◌<◌, ◌++◌};
 ghost use Rattle.std.specs.Prelude.{Any, length, map, IfOk, IfSome, IsNone, OnOk};
 ghost use Rattle.topo_graph.specs.Topology.{IsGraph, IsTree, life_at};

@@ -1,3 +1,5 @@
+//! A broadcast is a list of these.
+
 use an_base::life::Life;
 
 /// One hop of a broadcast: a member sends the packet on by one of its ports.

@@ -1,3 +1,5 @@
+//! What holds of broadcasts, alone and together with the rows of tables. No function here has code.
+
 ghost use Rattle.std.specs.Prelude.{◌≡◌, ◌<◌, ℕ, suc, List, Bool, length};
 ghost use Rattle.an_base.specs.Values.{EntryOf, LifeId};
 ghost use Rattle.topo_graph.specs.Topology.{IsGraph, IsTree};

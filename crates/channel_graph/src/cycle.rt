@@ -1,3 +1,5 @@
+//! The least cycle, along levels that fall to its start: guessed ones if they pass their checks, else exact ones.
+
 ghost use Rattle.std.specs.Prelude.{◌≡◌, ◌<◌, ◌≤◌, ◌⊎◌, ◌^◌, IfOk, IfSome, MatchOption, ℕ};
 ghost use Rattle.std.specs.Ordering.{nat_cmp};
 ghost use Rattle.channel_graph.specs.Graph.{IsNode, LeadsTo, value_at};
@@ -10,7 +12,7 @@ use crate::table::{filled, first_fall, first_within, has_peer, value_of};
 use an_base::memory::OutOfMemory;
 use std::alloc::Global;
 
-// The least level of the nodes to which one leads, or u32::MAX where it leads nowhere.
+// The least level of the nodes to which one leads, or u32::MAX if it leads nowhere.
 fn least_level_ahead(graph: &Graph, levels: &[u32], node: usize) -> u32
     ensures low { (next : ℕ) → LeadsTo graph.now node next → result ≤ value_at levels.now next }
     ensures has { (result ≡ 4294967295) ⊎ HasBelow graph.now levels.now node result }
@@ -23,8 +25,8 @@ fn least_level_ahead(graph: &Graph, levels: &[u32], node: usize) -> u32
     least
 }
 
-// The least shortest cycle from a node, by levels that no step lowers by more than one. None where
-// there is none, or where some levels are less than the distances.
+// The least shortest cycle from a node, by levels that no step lowers by more than one. None if
+// there is none, or if some levels are less than the distances.
 fn cycle_by(
     alloc: Global,
     graph: &Graph,
@@ -75,7 +77,7 @@ fn exact_levels(alloc: Global, graph: &Graph, start: usize) -> Result<Vec<u32>, 
     Ok(levels)
 }
 
-// The same by guessed levels, if they serve.
+// The least shortest cycle from a node by guessed levels. None if there is none, or if they do not pass the checks.
 fn guessed_cycle(
     alloc: Global,
     graph: &Graph,
@@ -106,7 +108,7 @@ fn cycle_from(alloc: Global, graph: &Graph, start: usize) -> Result<Option<Vec<u
     cycle_by(alloc, graph, &levels, start)
 }
 
-/// The least cycle, where there is one, by tiers that no step lowers. It searches once from each node
+/// The least cycle, if there is one, by tiers that no step lowers. It searches once from each node
 /// that leads to its own tier, up to the least one on a cycle.
 pub fn least_cycle(
     alloc: Global,

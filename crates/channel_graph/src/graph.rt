@@ -1,3 +1,5 @@
+//! A graph in rows of bits. A node leads only to nodes from its base on, at most 4,096 of them, so rows can be short.
+
 ghost use Rattle.std.specs.Prelude.{◌≡◌, ◌<◌, ◌≤◌, ◌+◌, ◌*◌, ◌^◌, ◌⊎◌, ◌↔◌, ℕ, length, slice_index, IfOk, IfSome};
 ghost use Rattle.std.specs.Prelude.{IsTrue, MatchOption, replicate};
 ghost use Rattle.channel_graph.specs.Graph.{AreWithin, HasNoNext, IsNext, LeadsTo, word_at};

@@ -1,10 +1,12 @@
+//! What a verdict means, and that a graph has one. No function here has code.
+
 ghost use Rattle.std.specs.Prelude.{◌≡◌, ℕ, List};
 ghost use Rattle.std.specs.Ordering.{nat_cmp};
 ghost use Rattle.channel_graph.specs.Graph.{Fall, GraphOf, LeadsTo};
 ghost use Rattle.channel_graph.specs.Cycles.{HasNoCycle, IsLeastCycle};
 ghost use Rattle.channel_graph.specs.Verdict.{Passes};
 
-/// Ranks suffice: where any numbers fall along each step, none lead round.
+/// Ranks suffice: if any numbers fall along each step, no steps lead round.
 pub fn ranks_suffice()
     ensures { (graph : GraphOf) (ranks : List ℕ) → Fall graph ranks → HasNoCycle (LeadsTo graph) }
 {}

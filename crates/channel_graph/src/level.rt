@@ -1,3 +1,6 @@
+//! Guessed levels towards a start. A walk in breadth finds distances from it. Going back over the nodes that it
+//! reached lowers the levels of those on a shortest cycle.
+
 ghost use Rattle.std.specs.Prelude.{◌<◌, ◌^◌};
 
 use crate::graph::Graph;
@@ -10,7 +13,7 @@ use std::alloc::Global;
 struct Walked {
     // How many nodes it came to.
     count: usize,
-    // The length of the shortest cycles from the start, 0 where it found none.
+    // The length of the shortest cycles from the start, 0 if it found none.
     length: u32,
 }
 
@@ -41,7 +44,7 @@ fn reach(
 }
 
 // Walks in breadth from a start until it comes back there. Puts how far nodes are from it, which is
-// u32::MAX where no steps have led, and the nodes in the order in which it came to them.
+// u32::MAX if no steps have led there, and the nodes in the order in which it came to them.
 fn walk(graph: &Graph, start: usize, distances: &mut [u32], reached: &mut [u32]) -> Walked
     requires { start < 2 ^ 31 }
 {

@@ -1,9 +1,11 @@
+//! Guessed ranks, by walks in depth with a path on the heap. A node gets its rank after all to which it leads.
+
 use crate::graph::Graph;
 use crate::table::{filled, put, value_of};
 use an_base::memory::OutOfMemory;
 use std::alloc::Global;
 
-// What stands for a rank where no walk has come to the node, and where one is on its way from it.
+// What stands for a rank: FRESH until a walk comes to the node, OPEN while the node is on its path.
 const FRESH: u32 = u32::MAX;
 
 const OPEN: u32 = u32::MAX - 1;
@@ -89,7 +91,7 @@ fn walk(
     Ok(true)
 }
 
-/// The ranks of all nodes, if no steps lead round, by walks in depth from all nodes; None where a
+/// The ranks of all nodes, if no steps lead round, by walks in depth from all nodes; None if a
 /// step was found that leads back. No contract speaks of it: what is made of it is checked. It looks
 /// once or twice at each step.
 pub fn guess_ranks(alloc: Global, graph: &Graph) -> Result<Option<Vec<u32>>, OutOfMemory> {

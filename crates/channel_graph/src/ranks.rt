@@ -1,3 +1,5 @@
+//! The checks of ranks, whoever made them: a guess of this crate, or a caller who claims them.
+
 ghost use Rattle.std.specs.Prelude.{◌≡◌, ◌<◌, ◌↔◌, length, slice_get, IsTrue, MatchOption};
 ghost use Rattle.channel_graph.specs.Graph.{Fall, FallFrom, IsFirstRise};
 ghost use Rattle.channel_graph.specs.Search.{IsRanked, IsRiseFrom};
@@ -57,7 +59,7 @@ fn rise_from(graph: &Graph, ranks: &[u32], node: usize) -> Option<usize>
 }
 
 /// The first step along which ranks do not fall, by the node from which it leads, then by the one to
-/// which; None where they fall along each step. Where a list has no rank, it counts as 0. It looks
+/// which; None if they fall along each step. If a list has no rank, it counts as 0. It looks
 /// once at each step.
 pub fn first_rise(graph: &Graph, ranks: &[u32]) -> Option<Step>
     ensures { MatchOption result (Fall graph.now ranks.now)

@@ -1,3 +1,5 @@
+//! The slow way to ranks, for when a guess does not pass its check.
+
 ghost use Rattle.std.specs.Prelude.{IfOk};
 ghost use Rattle.channel_graph.specs.Cycles.{HasNoCycle};
 ghost use Rattle.channel_graph.specs.Graph.{LeadsTo};

@@ -1,3 +1,5 @@
+//! Numbers of nodes, as ranks, tiers and levels are, and searches for steps by the numbers at their ends.
+
 ghost use Rattle.std.specs.Prelude.{◌≡◌, ◌<◌, ◌↔◌, ◌^◌, IsTrue, IfOk, IfSome, replicate, MatchOption};
 ghost use Rattle.channel_graph.specs.Graph.{value_at};
 ghost use Rattle.channel_graph.specs.Search.{FallsTo, HasNoneWithin, HasPeer, Holds, HoldsFrom, IsFirstWithin};
@@ -13,7 +15,7 @@ pub fn filled(alloc: Global, count: usize, value: u32) -> Result<Vec<u32>, OutOf
     Ok(vec![in alloc; value; count]?)
 }
 
-/// What a table has for a node, 0 where it has nothing.
+/// What a table has for a node, 0 if it has nothing.
 #[inline]
 pub fn value_of(table: &[u32], node: usize) -> u32
     ensures { result ≡ value_at table.now node }

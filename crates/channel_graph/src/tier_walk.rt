@@ -1,3 +1,5 @@
+//! Guessed tiers, from the greatest down: a component is left after all to which it leads, so no step lowers one.
+
 ghost use Rattle.std.specs.Prelude.{◌<◌, ◌^◌, IfSome};
 
 use crate::graph::Graph;
@@ -47,7 +49,7 @@ fn look_on(graph: &Graph, marks: &mut [u32], visit: Visit) -> Option<usize>
 }
 
 impl Depths {
-    // Comes to a node.
+    // Comes to a node, which gets the next number and has no tier yet.
     fn come(&mut self, node: usize) -> Visit
         requires { node < 2 ^ 31 }
     {
@@ -63,8 +65,8 @@ impl Depths {
         }
     }
 
-    // Leaves a node: where it leads to none that the walks came to before, it and all since have a
-    // tier of their own.
+    // Leaves a node. If it leads to none without a tier that the walks came to before it, it and all
+    // since have a tier of their own.
     fn leave(&mut self, visit: Visit) {
         if value_of(&self.marks, visit.node) != visit.number {
             return;

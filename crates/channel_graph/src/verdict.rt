@@ -1,3 +1,5 @@
+//! The verdict on a graph: a guess, its check, and the slow way only if the check fails.
+
 ghost use Rattle.std.specs.Prelude.{◌≡◌, IfOk, IfSome};
 ghost use Rattle.channel_graph.specs.Search.{Holds};
 ghost use Rattle.channel_graph.specs.Verdict.{IsVerdict, Passes};
@@ -15,7 +17,7 @@ use std::alloc::Global;
 /// Whether some steps of a graph lead round.
 #[derive(Drop)]
 pub enum Verdict {
-    /// None do. Each node has a rank: 0 where it leads nowhere, else one more than the greatest of
+    /// None do. Each node has a rank: 0 if it leads nowhere, else one more than the greatest of
     /// those to which it leads.
     Ranks {
         /// The ranks of the nodes, in their order.

@@ -37,6 +37,7 @@ unknown me = record {
 abbrev pub is_same_end : EndId → EndId → Bool
 is_same_end one other = is_eq (end_cmp one other)
 
+-- whether an end is known, and is this one
 abbrev pub is_end : Option EndId → EndId → Bool
 is_end None end = false
 is_end (Some one) end = is_same_end one end

@@ -1,3 +1,5 @@
+//! What is known of a far end, without how it became known, which `far` keeps.
+
 use an_base::life::End;
 
 /// What is known of the switch at the far end of a link.

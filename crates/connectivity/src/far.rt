@@ -1,3 +1,5 @@
+//! How a far end becomes known and is lost again: each step judges one probe by the first reply to it.
+
 ghost use Rattle.std.specs.Prelude.{◌≡◌, ◌≢◌, ◌<◌, ◌^◌, false};
 ghost use Rattle.connectivity.specs.Connections.{unknown, probed, replied, judged, forgotten, is_end, asked, met, held_by, doubted};
 ghost use Rattle.connectivity.specs.declared.conn.Conn.TheVariants.{Who};
@@ -76,7 +78,7 @@ impl Connectivity {
         self.nonce
     }
 
-    /// A reply came from this end with this number. It counts where it is the first to the last probe.
+    /// A reply came from this end with this number. It counts if it is the first to the last probe.
     pub fn on_reply(&mut self, from: End, nonce: u64)
         ensures { self.new ≡ replied from nonce self.old }
     {

@@ -1,3 +1,5 @@
+//! The check: it ranks the channels, which a cycle alone prevents, then looks for a pair and for an exit to refuse.
+
 ghost use Rattle.std.specs.Prelude.{◌≡◌, ◌<◌, length, Some, None, IfOk, IfErr, MatchBool};
 ghost use Rattle.dep_check.specs.declared.channel.Channel.{Channel};
 ghost use Rattle.dep_check.specs.Channels.{far_at};
@@ -40,8 +42,8 @@ impl Model for Ranks {
 impl Ranks {
     ghost use Rattle.dep_check.specs.Tables.{rank_at};
 
-    /// The rank of the channel at a port of the switch that has a number: 0 where it leads nowhere,
-    /// else one more than the greatest rank that it leads to. None exactly where this is no channel.
+    /// The rank of the channel at a port of the switch that has a number: 0 if it leads nowhere,
+    /// else one more than the greatest rank that it leads to. None exactly if this is no channel.
     /// It takes no memory.
     pub fn rank(&self, at: u8, port: u8) -> Option<u16>
         ensures { result ≡ rank_at self.now (record { at = at; port = port }) }
@@ -53,7 +55,6 @@ impl Ranks {
     }
 }
 
-// Whether each channel has a rank.
 fn are_all_ranked(steps: &Steps, levels: &[Option<u16>]) -> bool
     ensures { MatchBool result
         ((spot : Channel) → IsSpot spot → IsLinked steps.now spot → level_at levels.now spot ≡ None → ⊥)
@@ -76,7 +77,7 @@ struct RankedSteps {
     levels: Vec<Option<u16>>,
 }
 
-// Those of rows, unless the rows let some channels lead round.
+// The ranked steps of rows, unless the rows let some channels lead round.
 fn ranked_by(
     alloc: Global,
     graph: &Graph,

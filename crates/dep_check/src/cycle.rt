@@ -1,3 +1,5 @@
+//! The least cycle. It starts at the least channel that leads back to itself, and follows levels that fall to it.
+
 ghost use Rattle.std.specs.Prelude.{◌≡◌, ◌<◌, ◌+◌, IfOk, MatchOption, IfSome, Some, None, ◌∷◌};
 ghost use Rattle.channel_graph.specs.Cycles.{HasNoCycle, IsLeastCycle};
 ghost use Rattle.dep_check.specs.Channels.{channel_cmp};
@@ -30,7 +32,7 @@ fn next_at(steps: &Steps, levels: &[Option<u16>], channel: Channel, level: u16) 
     None
 }
 
-// The lesser of the best so far and of the level where the step by an exit leads.
+// The lesser of the best so far and of the level of the channel to which the step by an exit leads.
 fn lesser(
     steps: &Steps,
     levels: &[Option<u16>],
@@ -93,7 +95,7 @@ fn cycle_from(
     Ok(Channels::of(channels))
 }
 
-/// The least cycle, where there is one. It looks at each step a few times, but for each channel that
+/// The least cycle, if there is one. It looks at each step a few times, but for each channel that
 /// leads to its own tier up to the least one on a cycle, which as the tiers are made is that one alone.
 pub fn least_cycle(alloc: Global, steps: &Steps) -> Result<Option<Channels>, OutOfMemory>
     requires { steps.now.to ≡ None }

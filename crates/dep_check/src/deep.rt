@@ -1,3 +1,5 @@
+//! Walks in depth, with their path on the heap. `tier` makes them along the steps, then back from what was left last.
+
 ghost use Rattle.std.specs.Prelude.{◌≡◌, ◌<◌, length, All, IfOk, IfSome, None, OnOk};
 ghost use Rattle.dep_check.specs.Deep.{AreVisits, HasVisited, IsLonger};
 ghost use Rattle.dep_check.specs.Tables.{IsSpot};
@@ -15,7 +17,7 @@ use std::alloc::Global;
 pub struct Visit {
     /// The spot.
     pub spot: Channel,
-    /// Whether the walk leaves it, having come to all that is behind it.
+    /// Whether the walk leaves it, having come to all to which it leads.
     pub leaves: bool,
 }
 
@@ -34,7 +36,7 @@ fn come_to(path: &mut Vec<Visit>, spot: Option<Channel>) -> Result<(), OutOfMemo
     Ok(())
 }
 
-// Comes to where the step by an exit leads, if it is one of some exits.
+// Comes to the spot to which the step by an exit leads, if it is one of some exits.
 fn come_by(
     steps: &Steps,
     path: &mut Vec<Visit>,
@@ -79,7 +81,7 @@ fn come_to_before(steps: &Steps, path: &mut Vec<Visit>, spot: Channel) -> Result
     Ok(())
 }
 
-// The one or the other.
+// Comes to all channels that lead to a spot, if it walks back, or else to all that steps from it lead to.
 fn come_to_all(
     steps: &Steps,
     back: bool,
@@ -97,7 +99,7 @@ fn come_to_all(
     come_to_next(steps, path, spot)
 }
 
-// Makes a visit: leaves the spot, or comes to all that is behind it, if it was not seen, and will then
+// Makes a visit: leaves the spot; or, if it was not seen, comes to all to which it leads, and will then
 // leave it.
 fn make_visit(
     steps: &Steps,

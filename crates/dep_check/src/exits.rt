@@ -1,3 +1,5 @@
+//! The exits of rows, one set of ports for each spot. Rows for one spot are joined; rows for none are left out.
+
 ghost use Rattle.std.specs.Prelude.{◌≡◌, ◌<◌, ℕ, List, Option, None, length, IfOk, ◌+◌};
 ghost use Rattle.an_base.specs.Rows.{RowOf};
 ghost use Rattle.dep_check.specs.Ports.{HasOnlyPorts};

@@ -1,3 +1,5 @@
+//! The least pair that rows do not join. The walks towards one target share what they have seen.
+
 ghost use Rattle.std.specs.Prelude.{◌≡◌, ◌<◌, ◌+◌, ℕ, List, Option, [], length, IfOk, OnOk, MatchBool, MatchOption};
 ghost use Rattle.an_base.specs.Rows.{RowOf};
 ghost use Rattle.dep_check.specs.declared.channel.Channel.{Channel};
@@ -32,15 +34,15 @@ pub struct Gap {
     pub entry: u8,
 }
 
-/// Two numbers.
+// The numbers of two switches.
 #[derive(Clone, Copy)]
 struct Pair {
     from: u8,
     to: u8,
 }
 
-// Whether packets may get stuck that start at the switch that has a number, if it is another one. No
-// packets get stuck at what was seen before, and else at none of what is seen now.
+// Whether packets may get stuck that start at the switch that has a number, if it is another one. At what
+// was seen before none get stuck; if the answer is no, at what is seen now none do either.
 fn is_stuck_from(
     steps: &Steps,
     numbers: &Numbers,

@@ -1,3 +1,5 @@
+//! The least illegal exit. Exits by spot are tried first; single rows are gone over only if these do not pass.
+
 ghost use Rattle.std.specs.Prelude.{◌≡◌, ◌↔◌, ◌+◌, ℕ, List, Option, IsTrue, MatchOption, None, IfOk, length, true};
 ghost use Rattle.std.specs.Int.{bit_at};
 ghost use Rattle.std.specs.List.{list_all};
@@ -46,7 +48,7 @@ fn leads_up(graph: &Graph, place: u8, port: u8) -> bool
     }
 }
 
-// The same of a port of the switch that has a number.
+// Whether a port of the switch that has a number leads up.
 fn leads_up_at(graph: &Graph, numbers: &Numbers, spot: Channel) -> bool
     ensures { IsTrue result ↔ LeadsUpAt graph.now numbers.now spot }
 {
@@ -56,7 +58,7 @@ fn leads_up_at(graph: &Graph, numbers: &Numbers, spot: Channel) -> bool
     }
 }
 
-// The same of each spot.
+// Whether each spot leads up, by place.
 fn all_up(alloc: Global, graph: &Graph, numbers: &Numbers) -> Result<Vec<bool>, OutOfMemory>
     ensures { IfOk result (λ up. AreUpBelow graph.now numbers.now 1651 up.items) }
 {
@@ -88,7 +90,6 @@ impl Sides<'_> {
         self.wires.get(place).copied().flatten().is_none()
     }
 
-    // Whether a port of a switch leads up.
     fn is_up(&self, at: u8, port: u8) -> bool
         ensures { result ≡ up_at self.now.up.now (record { at = at; port = port }) }
     {
@@ -136,7 +137,6 @@ fn lesser(best: Option<RowExit>, next: Option<RowExit>) -> Option<RowExit>
     }
 }
 
-// The first illegal exit of a row.
 fn first_illegal(sides: &Sides<'_>, row: &Row) -> Option<RowExit>
     ensures { (es : List EntryOf) (numbers : List ℕ) → AreSides es numbers sides.now.wires.now sides.now.up.now
         → FirstBad es numbers row.now result }
@@ -186,7 +186,6 @@ fn are_legal_at(sides: &Sides<'_>, spot: Channel, exits: u16) -> bool
     true
 }
 
-// Whether no exit of a table is illegal.
 fn are_all_legal(sides: &Sides<'_>, exits: &[u16]) -> bool
     ensures { result ≡ true → AreLegalBy sides.now.wires.now sides.now.up.now exits.now }
 {
@@ -206,14 +205,13 @@ fn is_at_spot(row: &Row) -> bool
     row.at < 127 && row.entry < 13
 }
 
-// The same of each row.
 fn are_at_spots(rows: &[Row]) -> bool
     ensures { result ≡ list_all is_at_spot rows.now }
 {
     rows.iter().all(|row| is_at_spot(row))
 }
 
-// Whether no exit is illegal, where the table has those of the rows. It looks once at each row, and at none
+// Whether no exit is illegal, if the table has those of the rows. It looks once at each row, and at none
 // of their exits.
 fn are_legal(sides: &Sides<'_>, exits: &[u16], rows: &[Row]) -> bool
     ensures { (es : List EntryOf) (numbers : List ℕ) → result ≡ true
@@ -226,8 +224,8 @@ fn are_legal(sides: &Sides<'_>, exits: &[u16], rows: &[Row]) -> bool
     are_all_legal(sides, exits)
 }
 
-/// The least illegal exit of the rows, where these are the far sides of the spots, and the steps have the
-/// exits of all rows. Where there is one it looks once at each exit of the rows.
+/// The least illegal exit of the rows, if these are the far sides of the spots, and the steps have the
+/// exits of all rows. If there is one, it looks once at each exit of the rows.
 pub fn least_illegal(
     alloc: Global,
     graph: &Graph,

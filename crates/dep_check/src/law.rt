@@ -1,3 +1,5 @@
+//! What it means that rows pass, and which rows always do. No function here has code.
+
 ghost use Rattle.std.specs.Prelude.{◌≡◌, ◌⊎◌, ◌≤◌, ℕ, suc, List, Option, Some, Bool, length};
 ghost use Rattle.an_base.specs.Values.{EntryOf};
 ghost use Rattle.an_base.specs.Rows.{RowOf};
@@ -14,7 +16,7 @@ ghost use Rattle.dep_check.specs.declared.channel.Channel.{Channel};
 ghost use Rattle.dep_check.specs.declared.refusal.CheckRefusal.{CheckRefusal};
 ghost use Rattle.dep_check.specs.declared.refusal.CheckRefusal.TheVariants.{OutOfMemory};
 
-/// The rows of the tables of all members are never refused: where the positions are the tree of the
+/// The rows of the tables of all members are never refused, if the positions are the tree of the
 /// links, for any distinct numbers, whether packets take any legal route or shortest ones alone.
 pub fn tables_are_never_refused()
     ensures no_cycle { (entries : List EntryOf) (numbers : List ℕ) (any : Bool) (rows : List RowOf)
@@ -47,8 +49,8 @@ pub fn one_answer()
         → rank_at ranks channel ≡ rank_at others channel }
 {}
 
-/// Rows that pass, from wherever they are, bring each packet from one switch to another to its target.
-/// Where a following goes on for more than so many links, the row that it begins with has an exit
+/// Rows that pass bring each packet from one switch to another to its target, wherever it has come to.
+/// If a following goes on for more than so many links, the row that it begins with has an exit
 /// whose channel has at least that rank; so each following of the rows ends. A following from one
 /// switch to another that cannot go on is at its target; and from wherever one is, some following
 /// goes on to there.

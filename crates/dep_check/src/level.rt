@@ -1,3 +1,5 @@
+//! Ranks, and least numbers of steps to a goal. Both are given in rounds, to the spots that the last round made due.
+
 ghost use Rattle.std.specs.Prelude.{◌≡◌, ◌<◌, ◌↔◌, ◌++◌, ℕ, List, Option, [], ◌∷◌, length, None, IsTrue};
 ghost use Rattle.std.specs.Prelude.{Contains, IfOk, OnOk, MatchBool};
 ghost use Rattle.dep_check.specs.declared.channel.Channel.{Channel};
@@ -25,7 +27,7 @@ pub enum Rule {
     Rank,
 }
 
-/// The level of a spot, where it has one.
+/// The level of a spot, if it has one.
 pub fn level_of(levels: &[Option<u16>], spot: Channel) -> Option<u16>
     requires { IsSpot spot }
     ensures { result ≡ level_at levels.now spot }
@@ -61,7 +63,7 @@ fn has_next(steps: &Steps, levels: &[Option<u16>], spot: Channel, has: bool) -> 
     false
 }
 
-// Whether a spot gets a level.
+// Whether a spot without a level gets the next one.
 fn is_due(rule: Rule, steps: &Steps, levels: &[Option<u16>], spot: Channel) -> bool
     requires { IsSpot spot }
     ensures { MatchBool result (IsDue rule steps.now levels.now spot)
@@ -78,7 +80,7 @@ fn is_due(rule: Rule, steps: &Steps, levels: &[Option<u16>], spot: Channel) -> b
     }
 }
 
-// Adds a spot, where it gets a level next.
+// Adds a spot, if it gets a level next.
 fn add_due(
     rule: Rule,
     steps: &Steps,
@@ -99,7 +101,7 @@ fn add_due(
     Ok(())
 }
 
-// Adds the channel that leads to this one by what comes in at an entry, where it gets a level next.
+// Adds the channel that leads to this one by what comes in at an entry, if it gets a level next.
 fn add_before(
     rule: Rule,
     steps: &Steps,
@@ -216,7 +218,6 @@ fn raise(
     Ok(raised)
 }
 
-// No levels.
 fn no_levels(alloc: Global) -> Result<Vec<Option<u16>>, OutOfMemory>
     ensures none { IfOk result (λ levels. (s : Channel) → level_at levels.items s ≡ None) }
     ensures count { IfOk result (λ levels. length levels.items ≡ 1651) }
@@ -255,7 +256,7 @@ fn all_levels(
     unreachable!()
 }
 
-/// The ranks of channels: 0 where one leads nowhere, else one more than the greatest that it leads
+/// The ranks of channels: 0 if one leads nowhere, else one more than the greatest that it leads
 /// to; none for those that lead for ever to others without one. It looks at each step a few times.
 pub fn ranks_of(alloc: Global, steps: &Steps) -> Result<Vec<Option<u16>>, OutOfMemory>
     requires { steps.now.to ≡ None }

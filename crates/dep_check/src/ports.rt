@@ -1,3 +1,5 @@
+//! Questions to sets of ports, and unions, beside `an_base::port_set`. Port 0, the switch itself, may be in one.
+
 ghost use Rattle.std.specs.Prelude.{◌≡◌, ◌<◌, ◌⊎◌, ◌↔◌, ℕ};
 ghost use Rattle.std.specs.Int.{bit_at};
 ghost use Rattle.dep_check.specs.Ports.{HasOnlyPorts};

@@ -1,3 +1,5 @@
+//! What the check answers if rows do not pass: in each case the least thing that shows it.
+
 ghost use Rattle.std.specs.Prelude.{◌≡◌};
 ghost use Rattle.dep_check.specs.declared.refusal.CheckRefusal.TheVariants.{OutOfMemory};
 

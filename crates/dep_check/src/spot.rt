@@ -1,3 +1,5 @@
+//! Spots and their places in tables, by number and then by port. So the first spot that is found is the least.
+
 ghost use Rattle.std.specs.Prelude.{◌≡◌, ◌<◌};
 ghost use Rattle.dep_check.specs.Tables.{IsSpot, place_of};
 

@@ -1,3 +1,5 @@
+//! One graph over spots for two searches: channels that lead to channels, and packets on their way to one target.
+
 ghost use Rattle.std.specs.Prelude.{◌≡◌, ◌≢◌, ◌<◌, ◌↔◌, ℕ, true, length, Some, None, Contains, IsTrue, IfOk, IfSome};
 ghost use Rattle.std.specs.Int.{bit_at};
 ghost use Rattle.dep_check.specs.declared.channel.Channel.{Channel};
@@ -206,7 +208,7 @@ impl Steps {
         false
     }
 
-    // Whether packets get stuck at a spot.
+    // Whether packets get stuck at a spot: there is no exit, or one without a link.
     fn is_end(&self, to: u8, spot: Channel) -> bool
         requires { IsSpot spot }
         ensures { IsTrue result ↔ IsEnd self.now.wires.items self.now.exits.items to spot }

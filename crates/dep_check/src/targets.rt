@@ -1,3 +1,5 @@
+//! Rows are parted by target once, so that steps turn to a target by copying one table.
+
 ghost use Rattle.std.specs.Prelude.{◌≡◌, ◌<◌, ◌+◌, ◌↔◌, ℕ, List, Option, length, Contains, IfOk, IsTrue, Some};
 ghost use Rattle.an_base.specs.Numbers.{AreNumbers};
 ghost use Rattle.an_base.specs.Rows.{RowOf};

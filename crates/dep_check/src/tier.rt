@@ -1,3 +1,5 @@
+//! Tiers of channels: guessed by walks in depth, checked by a pass over all steps. A cycle stays within one.
+
 ghost use Rattle.std.specs.Prelude.{◌≡◌, ◌≤◌, ◌<◌, ◌↔◌, length, All, IfOk, IsTrue, None};
 ghost use Rattle.dep_check.specs.Tables.{IsSpot};
 ghost use Rattle.dep_check.specs.Tiers.{AreTiers, HasPeer, HasPeerBy, RisesFrom, SinksBy, tier_at};
@@ -11,7 +13,7 @@ use an_base::memory::OutOfMemory;
 use an_base::port_set::{lowest, without};
 use std::alloc::Global;
 
-// The tier of a spot.
+// The tier of a spot, 0 in an empty table, by which all spots have one tier.
 fn tier_of(tiers: &[usize], spot: Channel) -> usize
     requires { IsSpot spot }
     ensures { result ≡ tier_at tiers.now spot }
@@ -19,7 +21,6 @@ fn tier_of(tiers: &[usize], spot: Channel) -> usize
     tiers.get(place_of(spot)).copied().unwrap_or(0)
 }
 
-// Gives a tier to these spots.
 fn give_tier(tiers: &mut Vec<usize>, spots: &[Channel], tier: usize)
     requires count { length tiers.old.items ≡ 1651 }
     requires spots { All IsSpot spots.now }

@@ -1,3 +1,5 @@
+//! What steps lead to from a spot, by walks whose order does not count, unlike those of `deep`.
+
 ghost use Rattle.std.specs.Prelude.{◌≡◌, ◌<◌, ◌↔◌, [], length, true, false, Contains, IfOk, IsTrue, OnOk};
 ghost use Rattle.dep_check.specs.declared.channel.Channel.{Channel};
 ghost use Rattle.dep_check.specs.Tables.{IsSpot};
@@ -27,7 +29,7 @@ pub fn is_seen(seen: &[bool], spot: Channel) -> bool
     seen.get(place_of(spot)).copied().unwrap_or(false)
 }
 
-// Adds a spot to those that are seen, and where it was none to those that are still to be looked at.
+// Adds a spot to those that are seen, and if it was none, to those that are still to be looked at.
 fn see(seen: &mut Vec<bool>, ahead: &mut Vec<Channel>, spot: Channel) -> Result<(), OutOfMemory>
     requires count { length seen.old.items ≡ 1651 }
     requires spot { IsSpot spot }
@@ -42,7 +44,7 @@ fn see(seen: &mut Vec<bool>, ahead: &mut Vec<Channel>, spot: Channel) -> Result<
     Ok(())
 }
 
-// The same of where the step by an exit leads. Answers whether there is one.
+// The same of the spot to which the step by an exit leads. Answers whether there is one.
 fn see_exit(
     steps: &Steps,
     seen: &mut Vec<bool>,
@@ -90,7 +92,7 @@ fn see_next(
     Ok(clear)
 }
 
-// Whether packets get stuck at a spot, where they do not if it is clear.
+// Whether packets get stuck at a spot. If it is clear they do not.
 fn is_stuck_at(steps: &Steps, spot: Channel, clear: bool) -> bool
     requires spot { IsSpot spot }
     requires clear { clear ≡ true → IsStuck steps.now spot → ⊥ }
@@ -104,7 +106,7 @@ fn is_stuck_at(steps: &Steps, spot: Channel, clear: bool) -> bool
 
 /// Adds to the spots that are seen all to which steps lead from one, and tells whether packets get
 /// stuck at one that it added. It looks once at each step from a spot that it adds. The room ahead holds the
-/// spots that it has still to look at: none before and behind a walk, so that one room serves many.
+/// spots that it has still to look at: none before and after a walk, so that one room serves many.
 pub fn walk(
     steps: &Steps,
     seen: &mut Vec<bool>,

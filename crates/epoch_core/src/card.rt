@@ -1,3 +1,5 @@
+//! The part of a core that no body changes: entries for reports are made from it.
+
 ghost use Rattle.std.specs.Prelude.{◌≡◌, ◌≤◌};
 ghost use Rattle.an_base.specs.declared.limits.TheConstants.{MOST_NUMBER};
 

@@ -1,3 +1,5 @@
+//! The core of one epoch. A body is noted first; then position, stability and finish follow from what is noted.
+
 ghost use Rattle.std.specs.Prelude.{◌≡◌, ◌≤◌, ℕ, [], ◌∷◌, ◌++◌, map, OnOk, IfOk, None, Some, option_copied};
 ghost use Rattle.std.specs.List.{list_any, flat_map};
 ghost use Rattle.std.specs.Ordering.{is_eq};
@@ -129,10 +131,9 @@ impl Core {
     }
 
     /// Accepts a body on a port, 0 to 12, and sends what it calls for: the position on each link,
-    /// where it changed; then an answer, where the body is a position; then the report to the parent,
-    /// where the life is stable, was not before and is no root; then the topology to the links that
-    /// claim, where the life has finished now. After want of memory the core is only good to be
-    /// dropped.
+    /// if it changed; then an answer, if the body is a position; then the report to the parent, if the
+    /// life is stable, was not before and is no root; then the topology to the links that claim, if
+    /// the life has finished now. After want of memory the core is only good to be dropped.
     pub fn accept(&mut self, port: u8, body: Body, sends: &mut Sends) -> Result<(), OutOfMemory>
         requires port { port ≤ LAST_PORT }
         requires room { self.old.version ≤ MOST_VERSION }
@@ -176,7 +177,7 @@ impl Core {
         self.is_stable
     }
 
-    /// The topology with which the life has finished, none exactly where it has not.
+    /// The topology with which the life has finished, none exactly if it has not.
     pub fn finish(&self) -> Option<&TopoBody>
         ensures { (log : Log) → StandsFor self.now log → option_copied result ≡ finish self.now.card log }
     {
@@ -190,7 +191,7 @@ impl Core {
         self.epoch
     }
 
-    /// Notes the offer of a position, follows it, and answers it.
+    /// Notes the offer of a position, and that its port has not reported since; follows it, and answers it.
     fn accept_position(
         &mut self,
         port: u8,
@@ -224,7 +225,7 @@ impl Core {
         self.finish_with(topo, sends)
     }
 
-    /// Takes the position that the offers give, and tells it where it changed.
+    /// Takes the position that the offers give, and tells it if it changed.
     fn reposition(&mut self, sends: &mut Sends) -> Result<(), OutOfMemory>
         requires { self.old.version ≤ MOST_VERSION }
         ensures core { OnOk result (self.new ≡ repositioned self.old) }
@@ -257,7 +258,6 @@ impl Core {
         self.report_up(sends)
     }
 
-    /// Whether the life is its own root.
     fn is_root(&self) -> bool
         ensures { result ≡ is_same self.now.position (self_root self.now.card.me) }
     {
@@ -265,7 +265,6 @@ impl Core {
         self.position == Position::new(me, 0, me, 0)
     }
 
-    /// The entries of the report.
     fn report(&self) -> Result<Entries, OutOfMemory>
         ensures { (log : Log) → HasHeard self.now.ports log → IfOk result (λ entries. entries ≡ report_of self.now.card.me (entry_of self.now ∷ flat_map (reported_on log) (claiming_among self.now.card.links log))) }
     {
@@ -274,7 +273,6 @@ impl Core {
         Ok(report.into_entries())
     }
 
-    /// Sends the report to the parent.
     fn report_up(&self, sends: &mut Sends) -> Result<(), OutOfMemory>
         ensures { (log : Log) → HasHeard self.now.ports log → OnOk result (sends.new ≡ sends.old ++ record { port = self.now.position.port; body = Stable (report_of self.now.card.me (entry_of self.now ∷ flat_map (reported_on log) (claiming_among self.now.card.links log))) } ∷ []) }
     {

@@ -1,3 +1,5 @@
+//! What holds of one epoch at one life, as a function of the bodies accepted. No function here has code.
+
 ghost use Rattle.std.specs.Prelude.{◌≡◌, ◌+◌, ◌≤◌, ℕ, suc, [], ◌∷◌, ◌++◌, if◌then◌else◌, length, reverse, Option, None, Some, false};
 ghost use Rattle.an_base.specs.Values.{TopoOf};
 ghost use Rattle.an_base.specs.Order.{PortsRise};
@@ -16,7 +18,7 @@ pub fn version_is_at_most_one_more()
     ensures { (card : CardOf) (log : Log) → version card log ≤ 1 + length log }
 {}
 
-/// Where the offers on each port only get less along the log, the position never gets greater.
+/// If the offers on each port only get less along the log, the position never gets greater.
 pub fn positions_only_get_less()
     ensures { (card : CardOf) (later log : Log) → OnlyLowers (later ++ log)
         → IsAtMost (position card (later ++ log)) (position card log) }

@@ -1,3 +1,5 @@
+//! What one epoch keeps of each port: a few flags, the version last answered, and the last report.
+
 ghost use Rattle.std.specs.Prelude.{◌≡◌, ◌≤◌, ◌&&◌, ◌||◌, not, [], ◌∷◌, ◌++◌, map, OnOk, IfOk, option_copied};
 ghost use Rattle.std.specs.List.{list_all, flat_map};
 ghost use Rattle.an_base.specs.declared.limits.TheConstants.{LAST_PORT};

@@ -1,3 +1,5 @@
+//! What a core wants to be sent. Sessions number these bodies and make frames of them.
+
 use an_base::body::Body;
 use an_base::items::Items;
 use std::marker::Model;

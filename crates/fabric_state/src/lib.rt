@@ -7,9 +7,9 @@
 //! `switch_core` for what goes between it and a switch. Its contract: a `Fabric` is a fabric, each call makes
 //! of it what the definition of the event says and answers what is told of the event, and each question is
 //! answered by its definition: which events may come next, which end has come, what a switch or the driver is to
-//! do next. No call after the beginning takes
-//! memory. As the code is written, and by no clause, none looks at all switches, frames or packets, but for the end:
-//! where a network is quiet it looks at the links, and where a switch is spent it looks for the first one.
+//! do next. No call after the beginning takes memory. As the code is written, and by no clause, none looks at all
+//! switches, frames or packets, but for the end: if a network is quiet it looks at the links, and if a switch is
+//! spent it looks for the first one.
 #![tactic(auto)]
 
 pub mod ending;

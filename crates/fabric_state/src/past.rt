@@ -1,3 +1,5 @@
+//! What a fabric keeps of the events that came: counts alone.
+
 ghost use Rattle.std.specs.Prelude.{◌≡◌, ◌+◌, ◌<◌, ◌^◌};
 
 /// How many commands are done, and how many events there were: since the last tick, and in all.

@@ -1,3 +1,5 @@
+//! The part of a fabric that no event changes.
+
 ghost use Rattle.std.specs.Prelude.{◌≡◌, ◌<◌, length, slice_index_or, IfOk};
 ghost use Rattle.net_graph.specs.Wires.{uid_of};
 ghost use Rattle.net_script.specs.Scripts.{IsScript};
@@ -14,7 +16,7 @@ use std::alloc::Global;
 use std::marker::Model;
 use std::snapshot::Snapshot;
 
-/// What a run reads of its script, which stays the same. It is a copy: a fabric borrows nothing, since threads share
+/// What a run reads of its script. It is a copy: a fabric borrows nothing, since threads share
 /// the book that has it.
 #[derive(Drop)]
 pub struct Plan {

@@ -1,3 +1,5 @@
+//! How a fabric reads ports: what their hardware says, what their switches show, and which have frames.
+
 ghost use Rattle.std.specs.Prelude.{◌≡◌, ◌&&◌, ◌≤◌, nat_lt, map, find};
 ghost use Rattle.port_monitor.specs.Histories.{externals};
 ghost use Rattle.wire_set.specs.WireState.{has_frame_on, place, side_at};

@@ -1,3 +1,5 @@
+//! How a fabric lends its parts to the hop of a packet, which asks by `HopView`.
+
 use crate::plan::Plan;
 use crate::ports::{is_host, switch_behind};
 use crate::stations::Stations;

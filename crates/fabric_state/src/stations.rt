@@ -1,3 +1,5 @@
+//! The places of all switches, with a tally that each change here brings up to date, so that nobody counts them.
+
 ghost use Rattle.std.specs.Prelude.{◌≡◌, ◌+◌, ◌-◌, ◌<◌, ◌≤◌, ◌^◌, nat_le, nat_lt, true, false, length, map, slice_index_or, Some, IfOk, option_copied};
 ghost use Rattle.std.specs.List.{list_any, range_with_len};
 ghost use Rattle.std.specs.Option.{option_map, option_map_or};
@@ -162,7 +164,7 @@ impl Stations {
         }
     }
 
-    /// The epoch of the table in use at a switch, 0 where there is none. It answers for all values.
+    /// The epoch of the table in use at a switch, 0 if there is none. It answers for all values.
     pub fn epoch_in_use(&self, s: Place) -> u64
         ensures { result ≡ option_map_or (λ used. used.epoch) (station_in self.now s).table 0 }
     {
@@ -284,7 +286,7 @@ impl Stations {
         self.tally.full -= 1;
     }
 
-    /// A switch shows this now. Where it has joined another epoch its table goes out of use.
+    /// A switch shows this now. If it has joined another epoch, its table goes out of use.
     pub fn show(&mut self, s: Place, note: &Note, spent: bool)
         requires within { s < length self.old.items }
         ensures { self.new ≡ with_station_in s (showing note.now spent (station_in self.old s)) self.old }
@@ -294,7 +296,7 @@ impl Stations {
         station.show(note, spent);
     }
 
-    /// The same where of its ports this one alone, 1 to 12, can be shown as another than before.
+    /// The same if of its ports this one alone, 1 to 12, can be shown as another than before.
     pub fn show_port(&mut self, s: Place, port: Port, note: &Note, spent: bool)
         requires within { s < length self.old.items }
         requires least { 1 ≤ port }

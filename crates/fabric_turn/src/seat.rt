@@ -1,3 +1,5 @@
+//! A caller's side of a turnstile: its number and those that it may give. What it has seen stands in contracts alone.
+
 ghost use Rattle.std.specs.Prelude.{◌≡◌};
 ghost use Rattle.fabric_turn.specs.declared.view.View.{View};
 ghost use Rattle.fabric_turn.specs.Calls.{IsAtRest};

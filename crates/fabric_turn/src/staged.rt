@@ -1,3 +1,5 @@
+//! What a value has to promise so that callers can take turns at it.
+
 ghost use Rattle.std.specs.Prelude.{◌≡◌, ℕ, List, ◌++◌};
 ghost use Rattle.fabric_turn.specs.History.{AppendsAtMostOne, NoneOf};
 

@@ -1,3 +1,5 @@
+//! The ticket lock. What is proved rests on its tickets; the mutex before them only spares callers a busy wait.
+
 ghost use Rattle.std.specs.Prelude.{◌≡◌, ℕ, ◌<◌, ◌≤◌, List, [], ◌∷◌, ◌++◌, IfOk};
 ghost use mathlib.Core.Option.{some};
 ghost use lib.ListN.{get_elem?};
@@ -24,7 +26,7 @@ const TICKETS: usize = 0;
 // The word that has the number of turns passed on, which is the ticket that is served.
 const SERVING: usize = 1;
 
-/// A value behind a ticket lock. Callers share it by reference, and each call goes through a
+/// A value in a ticket lock. Callers share it by reference, and each call goes through a
 /// `Seat` of this turnstile.
 ///
 /// Two words count the tickets drawn and the turns passed on, both modulo 2^64, and a slot has the
@@ -42,7 +44,7 @@ impl<B: Staged> Turnstile<B> {
 
     /// A turnstile round `book`, and its first seat. The seat has the caller number 0, may give the
     /// numbers 1 to `callers - 1`, and has seen an empty history. `callers` is at least 1, and
-    /// `book` stands for the empty history. Where memory runs out `book` is dropped.
+    /// `book` stands for the empty history. If memory runs out, `book` is dropped.
     pub fn new(alloc: Global, book: B, callers: u32) -> Result<(Turnstile<B>, Seat<B>), OutOfMemory>
         requires callers { 0 < callers }
         requires empty { B.history book ≡ [] }
@@ -106,7 +108,7 @@ impl<B: Staged> Turnstile<B> {
     /// seat is one of this turnstile, and the ask is fit for what the seat has seen.
     ///
     /// Afterwards the seat has seen more: what it had seen before, then entries of other callers,
-    /// and then the call's own entry where it appended one. The reply is that of the value as it
+    /// and then the call's own entry if it appended one. The reply is that of the value as it
     /// stood just before that entry. The seat's `mine` gains the entry and is all that the history
     /// so far has of this caller; the other parts of the seat stay as they were.
     ///

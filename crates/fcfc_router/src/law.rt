@@ -1,10 +1,12 @@
+//! What holds of the grants of a router, whoever asks. No function here has code.
+
 ghost use Rattle.std.specs.Prelude.{◌≡◌, ◌≢◌, ◌+◌, ◌≤◌, ℕ, List, [], ◌∷◌, ◌++◌, Option, Some};
 ghost use Rattle.fcfc_router.specs.declared.router.Grant.{Grant};
 ghost use Rattle.fcfc_router.specs.Router.{RequestOf, CanGo, Gets, IsGranted};
 ghost use Rattle.fcfc_router.specs.Calls.{Call, Leads, WaitsSince, asked, granted, waits};
 ghost use Rattle.fcfc_router.specs.Calls.Call.{Ask, Grants};
 
-/// Nobody is passed over: where one asked, has not been granted since, and a packet that asked after it
+/// Nobody is passed over: if one asked, has not been granted since, and a packet that asked after it
 /// is granted, no port that the first one named is free at that call.
 pub fn nobody_is_passed_over()
     ensures { (most free : ℕ) (before between : List Call) (request : RequestOf) (grant : Grant)
@@ -14,7 +16,7 @@ pub fn nobody_is_passed_over()
         → CanGo free request → ⊥ }
 {}
 
-/// A packet is granted as often as it asked, but for once where it still waits.
+/// A packet is granted as often as it asked, but for once if it still waits.
 pub fn granted_as_often_as_asked()
     ensures { (most packet : ℕ) (calls : List Call) (end : List RequestOf) → Leads most [] calls end
         → (asked packet calls ≡ granted packet calls + waits packet end) × (waits packet end ≤ 1) }

@@ -1,3 +1,5 @@
+//! Requests in the order of asking. A granted one leaves a gap; gaps are closed together, when places run short.
+
 ghost use Rattle.std.specs.Prelude.{◌≡◌, ◌≢◌, ◌<◌, ◌≤◌, ◌/◌, ◌↔◌, [], ◌∷◌, ◌++◌, count_by, length};
 ghost use Rattle.std.specs.Prelude.{vec_capacity, IfOk, IsTrue};
 ghost use Rattle.an_base.specs.Rows.{ArePorts, ExitsRise};
@@ -19,7 +21,7 @@ pub struct Grant {
     pub port: u8,
 }
 
-// A place for a request: the packet and the set of its ports, which is empty where nobody waits there.
+// A place for a request: the packet and the set of its ports, which is empty if nobody waits there.
 #[derive(Clone, Copy)]
 struct Slot {
     packet: u32,
@@ -46,7 +48,6 @@ impl Model for Router {
     ghost invariant = { λ r. IsIndex r.most (vec_capacity r.slots) r.slots.items r.tree };
 }
 
-// The set of these ports.
 fn set_of(ports: &[u8]) -> u16
     requires ports { ArePorts ports.now }
     requires rising { ExitsRise ports.now }
@@ -68,7 +69,7 @@ fn lowest_of(set: u16) -> u8
     set.trailing_zeros() as u8
 }
 
-// The set of ports at a place, which is empty behind the last one.
+// The set of ports at a place, which is empty after the last one.
 fn set_at(slots: &[Slot], place: usize) -> u16
     ensures { result ≡ set_at slots.now place }
 {
@@ -109,8 +110,8 @@ fn close_gaps(slots: &mut Vec<Slot>, tree: &mut PortTree)
     }
 }
 
-// Sees to it that a place is left for one more request: the first one where nobody waits. Gaps are closed
-// before the tree keeps more places, where there are enough of them, and at the latest when all are used.
+// Sees to it that a place is left for one more request: the first one if nobody waits. Gaps are closed
+// before the tree keeps more places, if there are enough of them, and at the latest when all are used.
 fn make_room(slots: &mut Vec<Slot>, tree: &mut PortTree)
     requires sets { HasSets slots.old.items tree.old }
     requires used { length slots.old.items ≤ length tree.old }
@@ -175,7 +176,7 @@ impl Router {
     }
 
     /// The oldest request that names a free port, with the lowest free port that it names: bit `p` of
-    /// `free` says that port `p` is free. That request goes. None exactly where no request names a free
+    /// `free` says that port `p` is free. That request goes. None exactly if no request names a free
     /// port, and then nothing changes. It takes no memory.
     pub fn grant(&mut self, free: u16) -> Option<Grant>
         ensures granted { IsGranted free self.old.waiting self.new.waiting result }

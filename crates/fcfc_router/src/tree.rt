@@ -1,3 +1,5 @@
+//! How the first of many requests that names a free port is found, without looking at those before it.
+
 ghost use Rattle.std.specs.Prelude.{◌≡◌, ◌<◌, ◌≤◌, ◌+◌, ◌*◌, ◌++◌, ◌^◌, ℕ, drop, length, replicate};
 ghost use Rattle.std.specs.Prelude.{slice_index, slice_set, vec_capacity, All, IfOk, IsTrue, MatchOption};
 ghost use Rattle.std.specs.Int.{IsPowerOfTwo};
@@ -9,7 +11,7 @@ use std::marker::Model;
 
 /// A set of ports at each of so many places, a power of two. Over each half, quarter and so on of the
 /// places stands the union of its sets, so that the first place with one of some ports is found in as
-/// many steps as there are halvings. Only as many places are kept as were needed; those behind them
+/// many steps as there are halvings. Only as many places are kept as were needed; those after them
 /// have no port. Contracts see it as the list of all sets.
 #[derive(Drop)]
 pub struct PortTree {
@@ -31,7 +33,7 @@ impl Model for PortTree {
     ghost invariant = { λ t. IsGrown t.kept t.places (vec_capacity t.unions) t.unions.items };
 }
 
-// The one of the two nodes below a node that has one of these ports: the second where the first has none.
+// The one of the two nodes below a node that has one of these ports: the second if the first has none.
 fn half_with(unions: &[u16], node: usize, ports: u16) -> usize
     requires { 2 * node + 1 < length unions.now }
     ensures { IsHalf unions.now ports node result }
@@ -123,7 +125,7 @@ impl PortTree {
         self.places
     }
 
-    /// How many places are kept: behind them none has a port.
+    /// How many places are kept: after them none has a port.
     pub fn kept(&self) -> usize
         ensures within { result ≤ length self.now }
         ensures behind { (place : ℕ) → result ≤ place → slice_index self.now place ≡ 0 }
@@ -153,7 +155,7 @@ impl PortTree {
         write(&mut self.unions, self.kept, place, set);
     }
 
-    /// The first place whose set has one of these ports; none exactly where no set has.
+    /// The first place whose set has one of these ports; none exactly if no set has.
     pub fn first(&self, ports: u16) -> Option<usize>
         ensures { MatchOption result (HasNone ports self.now) (IsFirst ports self.now) }
     {

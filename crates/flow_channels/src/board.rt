@@ -1,3 +1,5 @@
+//! Packets in channels and at routers. A move into or out of a channel tells what its first packet then does.
+
 ghost use Rattle.std.specs.Prelude.{◌≡◌, ◌<◌, ◌≤◌, ◌++◌, ◌∷◌, [], length, slice_get};
 ghost use Rattle.std.specs.Prelude.{slice_index_or, IfOk, IsTrue, MatchOption, Some, ◌↔◌};
 ghost use Rattle.dep_check.specs.Tables.{IsSpot, place_of, wire_at, WiresAreWithin};
@@ -79,7 +81,7 @@ impl Ahead {
 pub struct Board {
     /// The packets that entered.
     pub packets: Vec<Packet>,
-    /// For each packet that waits the entry at which it came in, 0 where it starts.
+    /// For each packet that waits the entry at which it came in, 0 if it starts there.
     pub entries: Vec<u8>,
     /// The packets in the channel of each spot.
     pub queues: Vec<Queue>,
@@ -88,7 +90,6 @@ pub struct Board {
 }
 
 impl Board {
-    // The first packet of a channel.
     fn first(&self, channel: Channel) -> Option<u32>
         requires spot { IsSpot channel }
         requires queues { length self.now.queues.items ≡ 1651 }
@@ -171,7 +172,7 @@ impl Board {
         self.first_asks(tables, channel)
     }
 
-    /// A packet comes last in a channel, and asks where it is the first there.
+    /// A packet comes last in a channel, and asks if it is the first there.
     pub fn come_into(&mut self, tables: &Tables, channel: Channel, slot: u32) -> Ahead
         requires kept { IsKept tables.now self.old }
         requires spot { IsSpot channel }
@@ -190,7 +191,7 @@ impl Board {
         self.ahead(tables, channel)
     }
 
-    /// The first packet of a channel, where it is at its target.
+    /// The first packet of a channel, if it is at its target.
     pub fn arrived_in(&self, tables: &Tables, channel: Channel) -> Option<Packet>
         requires kept { IsKept tables.now self.now }
         requires spot { IsSpot channel }
@@ -255,7 +256,7 @@ impl Board {
     }
 }
 
-// An empty queue for a spot, with room where a link is.
+// An empty queue for a spot, with room if a link is there.
 fn empty_queue(
     alloc: Global,
     tables: &Tables,
@@ -273,7 +274,6 @@ fn empty_queue(
     }
 }
 
-// An empty queue for each spot.
 fn empty_queues(alloc: Global, tables: &Tables, places: usize) -> Result<Vec<Queue>, OutOfMemory>
     ensures { IfOk result (λ queues. AreEmptyQueues tables.now.wires.items places 1651 queues.items) }
 {

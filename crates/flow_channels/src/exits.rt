@@ -1,3 +1,5 @@
+//! Exits by spot and number. Of a topology, a member's entries share two lists: of what may go up, and of the rest.
+
 ghost use Rattle.std.specs.Prelude.{◌≡◌, ◌<◌, ◌↔◌, ◌++◌, ◌∷◌, ℕ, [], All, Contains, IfOk, List, length};
 ghost use Rattle.std.specs.Prelude.{if◌then◌else◌};
 ghost use Rattle.std.specs.Int.{bit_at};

@@ -1,3 +1,5 @@
+//! The flow itself: packets enter, and each turn is an arrival if there is one, else a departure.
+
 ghost use Rattle.std.specs.Prelude.{◌≡◌, ◌+◌, ◌≤◌, ◌↔◌, List, [], ◌∷◌, ◌++◌, length, IfOk, IfSome, IfNone, IsNone};
 ghost use Rattle.std.specs.Prelude.{MatchOption};
 ghost use Rattle.an_base.specs.Rows.{RowOf};
@@ -67,7 +69,7 @@ fn arrive(tables: &Tables, board: &mut Board, watch: &mut Watch) -> Option<Went>
     })
 }
 
-// The packet that is let go at the least number goes out, where nobody arrives.
+// The packet that is let go at the least number goes out, if nobody arrives.
 fn depart(tables: &Tables, board: &mut Board, watch: &mut Watch) -> Option<Went>
     requires running { IsRunning tables.now board.old }
     requires watched { IsWatched tables.now (flow_of board.old) watch.old }
@@ -144,7 +146,7 @@ impl Flow {
     }
 
     /// Makes the next move: the first packet of the least channel, by number and port, that is at its
-    /// target arrives; else the packet that is let go at the least number goes out. None exactly where no
+    /// target arrives; else the packet that is let go at the least number goes out. None exactly if no
     /// packet is left, and then nothing changes. It takes no memory.
     pub fn turn(&mut self) -> Option<Went>
         ensures turned { (layout : LayoutOf) → IsOver layout self.old

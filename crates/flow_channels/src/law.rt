@@ -1,3 +1,5 @@
+//! What holds of flows, above all over rows that pass. No function here has code.
+
 ghost use Rattle.std.specs.Prelude.{◌≡◌, ◌≢◌, ◌+◌, ◌≤◌, ℕ, List, [], Option, Some, length};
 ghost use Rattle.an_base.specs.Values.{EntryOf};
 ghost use Rattle.an_base.specs.Rows.{RowOf};
@@ -69,7 +71,7 @@ pub fn turns_end()
 {}
 
 /// No packet goes out more often than one above the greatest rank: over all that enters and all turns,
-/// where the rows pass; and in the turns from any sound flow.
+/// if the rows pass; and in the turns from any sound flow.
 pub fn hops_are_few()
     ensures all { (entries : List EntryOf) (numbers : List ℕ) (rows : List RowOf) (ranks : List (Option ℕ))
         (most limit : ℕ) (acts : List Act) (flow : FlowOf) (packet : ℕ)

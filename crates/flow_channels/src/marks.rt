@@ -1,3 +1,5 @@
+//! A set of small numbers. One word tells which of the others have bits, so the least number is found at once.
+
 ghost use Rattle.std.specs.Prelude.{◌≡◌, ◌<◌, MatchOption, replicate, slice_set};
 ghost use Rattle.fcfc_router.specs.Tree.{HasNone, IsFirst};
 
@@ -58,7 +60,7 @@ impl SpotMarks {
         }
     }
 
-    /// The least place; none exactly where there is no place.
+    /// The least place; none exactly if there is no place.
     pub fn first(&self) -> Option<usize>
         ensures { MatchOption result (HasNone 1 self.now) (IsFirst 1 self.now) }
     {

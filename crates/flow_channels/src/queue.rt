@@ -1,3 +1,5 @@
+//! The queue of a channel. Its room is taken beforehand, so that no move needs memory.
+
 ghost use Rattle.std.specs.Prelude.{◌≡◌, ◌<◌, [], ◌∷◌, ◌++◌, length, drop, slice_get, IfOk};
 
 use an_base::memory::OutOfMemory;

@@ -1,3 +1,5 @@
+//! The part of a flow that no move changes, apart so that each move can read it while it changes the rest.
+
 ghost use Rattle.std.specs.Prelude.{◌≡◌, List, length, IfOk};
 ghost use Rattle.an_base.specs.Numbers.{AreNumbers};
 ghost use Rattle.an_base.specs.Rows.{RowOf};
@@ -15,7 +17,7 @@ use dep_check::wires::wires_of;
 use std::alloc::Global;
 use topo_graph::graph::Graph;
 
-/// What never changes.
+/// The links and exits of a topology, and the bounds of a flow over it.
 #[derive(Drop)]
 pub struct Tables {
     /// The far side of each spot.

@@ -1,3 +1,5 @@
+//! What a turn looks at instead of all channels and switches. All moves of the board go through it, so it stays true.
+
 ghost use Rattle.std.specs.Prelude.{◌≡◌, ◌<◌, ◌≤◌, ◌++◌, ◌∷◌, [], length, slice_index};
 ghost use Rattle.std.specs.Prelude.{IfOk, IsNone, MatchOption};
 ghost use Rattle.dep_check.specs.Tables.{IsSpot};
@@ -18,7 +20,7 @@ use dep_check::spot::{place_of, spot_at};
 use fcfc_router::router::Grant;
 use std::alloc::Global;
 
-/// Where something may happen next.
+/// Which channels and switches may make the next move.
 #[derive(Drop)]
 pub struct Watch {
     /// The places of the channels whose first packet is at its target: 1 for each.
@@ -53,7 +55,7 @@ fn with_port(set: u16, port: u8, is_in: bool) -> u16
     set & !bit
 }
 
-// Sees to whether a channel has room, behind something that came or went in it.
+// Sees to whether a channel has room, after something came or went in it.
 fn see_room(free: &mut Vec<u16>, tables: &Tables, board: &Board, channel: Channel)
     requires kept { IsKept tables.now board.now }
     requires spot { IsSpot channel }
@@ -66,7 +68,7 @@ fn see_room(free: &mut Vec<u16>, tables: &Tables, board: &Board, channel: Channe
     free[at] = with_port(free[at], channel.port, has_room);
 }
 
-// Sees to whether the first packet of a channel is at its target, behind something that came or went
+// Sees to whether the first packet of a channel is at its target, after something came or went
 // in it.
 fn see_first(
     arriving: &mut SpotMarks,
@@ -103,7 +105,7 @@ impl Watch {
         })
     }
 
-    // Sees to what may happen behind something that came or went in a channel.
+    // Sees to what may happen after something came or went in a channel.
     fn see(&mut self, tables: &Tables, board: &Board, channel: Channel, ahead: Ahead)
         requires kept { IsKept tables.now board.now }
         requires spot { IsSpot channel }
@@ -151,7 +153,7 @@ impl Watch {
         }
     }
 
-    // A packet comes last in a channel, and asks where it is the first there.
+    // A packet comes last in a channel, and asks if it is the first there.
     fn come_into(&mut self, tables: &Tables, board: &mut Board, channel: Channel, slot: u32)
         requires kept { IsKept tables.now board.old }
         requires watched { IsWatched tables.now (flow_of board.old) self.old }

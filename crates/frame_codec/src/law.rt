@@ -1,3 +1,5 @@
+//! What spellings come to: each is of one frame, and is read back. No function here has code.
+
 ghost use Rattle.std.specs.Prelude.{◌≡◌, ◌<◌, ◌≤◌, ◌++◌, List, ℕ, All, Some, length, []};
 ghost use Rattle.an_base.specs.declared.frame.Frame.{Frame};
 ghost use Rattle.frame_region.specs.declared.buffer.TheConstants.{MOST_FRAME};

@@ -1,3 +1,5 @@
+//! The check of a topology's numbers, in one pass with a table of those that came.
+
 ghost use Rattle.std.specs.Prelude.{◌≡◌};
 ghost use Rattle.frame_codec.specs.Reading.{are_numbers};
 

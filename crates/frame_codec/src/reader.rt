@@ -1,3 +1,5 @@
+//! Reading from the left, part by part. Each part refuses what no frame has there, so only the end is left to check.
+
 ghost use Rattle.std.specs.Prelude.{◌≡◌, ◌==◌, ◌≤◌, None, ◌<◌, ◌^◌, ◌+◌, ◌++◌, List, ℕ, length, IfOk};
 ghost use Rattle.an_base.specs.declared.limits.TheConstants.{LAST_PORT, MOST_NUMBER};
 ghost use Rattle.frame_codec.specs.Frames.{IsWithin};
@@ -20,7 +22,7 @@ use an_base::position::Position;
 use std::alloc::Global;
 use std::marker::Model;
 
-// An entry, in whose place others are read.
+// An entry over which others are read.
 fn no_entry() -> Entry {
     let life = Life::new(0, 1);
     Entry {
@@ -219,7 +221,7 @@ impl<'a> Reader<'a> {
         self.links(&mut entry.links)
     }
 
-    // Sets an entry to the next one, whose life is above this one, where there is one.
+    // Sets an entry to the next one, whose life is above this one, if there is one.
     #[tactic(auto, unfolding(crate::specs::Reading::entry_above_at))]
     fn entry_above(&mut self, above: Option<Life>, entry: &mut Entry) -> Result<(), DecodeRefusal>
         ensures { ReadsAs (λ _. entry.new) (entry_above_at above) result self.old self.new }

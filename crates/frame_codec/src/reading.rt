@@ -1,3 +1,5 @@
+//! Bytes that are one frame and nothing more, and why bytes are none.
+
 ghost use Rattle.std.specs.Prelude.{◌≡◌, IfOk, Err};
 ghost use Rattle.frame_codec.specs.Spelling.{spelling};
 ghost use Rattle.frame_codec.specs.Frames.{IsFrame, IsNoFrame};

@@ -1,3 +1,5 @@
+//! Frames as bytes. Kinds and counts stand before what they tell of, and numbers begin with their highest byte.
+
 ghost use Rattle.std.specs.Prelude.{◌≡◌, ◌≤◌, ◌<◌, ◌^◌, ◌+◌, ◌*◌, [], ◌∷◌, ◌++◌, length, All};
 ghost use Rattle.std.specs.List.{flat_map};
 ghost use Rattle.frame_codec.specs.Spelling.{number_bytes, life_bytes, end_bytes, truth_bytes};

@@ -1,3 +1,5 @@
+//! That pieces lose nothing of the bytes. No function here has code.
+
 ghost use Rattle.std.specs.Prelude.{◌≡◌, ℕ, List};
 ghost use Rattle.std.specs.List.{flat_map, range_with_len};
 ghost use Rattle.frame_region.specs.Regions.{piece_of};

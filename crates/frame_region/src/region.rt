@@ -1,3 +1,5 @@
+//! Chains of blocks, of which the free ones make one. A new region writes none of them.
+
 ghost use Rattle.std.specs.Prelude.{◌≡◌, ◌≢◌, min, ◌+◌, ◌-◌, ◌*◌, ◌<◌, ◌≤◌, ◌++◌, ℕ, length, take, replicate};
 ghost use Rattle.std.specs.Prelude.{None, IfOk, IfErr, OnOk, OnErr, IsSome, slice_index_or, vec_capacity};
 ghost use Rattle.frame_region.specs.declared.buffer.TheConstants.{MOST_FRAME};
@@ -19,7 +21,7 @@ pub const BLOCK: usize = 64;
 pub const MOST_BLOCKS: u32 = 1_048_576;
 
 /// What names bytes that were put in a region, 1 to 22,591 of them. It cannot be copied. The bytes
-/// that it names stay until it is given back; where it is dropped, until the region is dropped.
+/// that it names stay until it is given back; if it is dropped, until the region is dropped.
 #[derive(Drop)]
 pub struct Slip {
     first: u32,
@@ -52,10 +54,10 @@ pub struct NoRoom {
     pub free: u32,
 }
 
-/// Blocks of 64 bytes, the memory for all of which is taken at once; what belongs to a block is not
-/// there before that block, or one of a higher number, is first used. Each names the next block of its
-/// chain, which is that of the next number as long as it names none, and the first block of a chain has
-/// the length of the byte string in it.
+/// Blocks of 64 bytes, in memory that is taken at once. Each names the next block of its chain; as long
+/// as it names none, that is the block of the next number. The first block of a chain has the length of
+/// the byte string in it. What belongs to a block is first written when that block, or one of a higher
+/// number, is first used.
 #[derive(Drop)]
 pub struct Region {
     bytes: Vec<u8>,
@@ -235,7 +237,7 @@ impl Region {
     }
 
     /// Puts bytes, 1 to 22,591, without taking memory. They need a block for each 64 of them. There is
-    /// no room exactly where fewer blocks are free, and then nothing changes.
+    /// no room exactly if fewer blocks are free, and then nothing changes.
     pub fn put(&mut self, bytes: &[u8]) -> Result<Slip, NoRoom>
         requires least { 1 ≤ length bytes.now }
         requires most { length bytes.now ≤ MOST_FRAME }

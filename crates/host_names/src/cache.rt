@@ -1,3 +1,5 @@
+//! The cache of one host: who was heard last stands first, and gives way last.
+
 ghost use Rattle.std.specs.Prelude.{◌≡◌, ◌≤◌, [], ◌∷◌, All, find, IfOk, List};
 ghost use Rattle.std.specs.Option.{ForSome};
 ghost use Rattle.host_names.specs.Caches.{ArrivalOf, choice_by, choice_of, is_from, kept_of, with_arrival};
@@ -81,7 +83,7 @@ impl Cache {
     }
 
     /// A packet from this sender arrives from this address at this tick, which is at least that of
-    /// each arrival before. The sender is now the latest, with this address and tick; where it is new
+    /// each arrival before. The sender is now the latest, with this address and tick; if it is new
     /// and 16 are kept, the one that was heard longest ago goes. It takes no memory.
     pub fn arrived(&mut self, uid: u64, address: u16, now: u32)
         requires { All (λ arrival. arrival.tick ≤ now) self.old }
@@ -89,7 +91,7 @@ impl Cache {
             ≡ with_arrival (record { uid = uid; address = address; tick = now }) self.old }
         ensures ticks { All (λ arrival. arrival.tick ≤ now) self.new }
 
-        // Where it was what is kept after a list of arrivals, it is now what is kept after one more.
+        // If it was what is kept after a list of arrivals, it is now what is kept after one more.
         ensures after { (arrivals : List ArrivalOf) → self.old ≡ kept_of arrivals
             → self.new ≡ kept_of (record { uid = uid; address = address; tick = now } ∷ arrivals) }
     {

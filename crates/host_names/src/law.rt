@@ -1,3 +1,5 @@
+//! What a cache keeps after any arrivals. No function here has code.
+
 ghost use Rattle.std.specs.Prelude.{◌≡◌, ◌≢◌, ◌⊎◌, ◌≤◌, ℕ};
 ghost use Rattle.std.specs.Prelude.{List, ◌∷◌, Some, AllPairs, Contains, find, length};
 ghost use Rattle.host_names.specs.Caches.{after_arrivals, ArrivalOf, is_from, kept_of, with_arrival};
@@ -20,7 +22,7 @@ pub fn senders_are_kept_once()
     ensures most { (arrivals : List ArrivalOf) → length (kept_of arrivals) ≤ PLACES }
 {}
 
-/// Of a sender the last arrival is kept, and of one that was heard none is kept only where 16 others are.
+/// Of a sender the last arrival is kept, and of one that was heard none is kept only if 16 others are.
 pub fn the_last_arrival_is_kept()
     ensures last { (arrivals : List ArrivalOf) (arrival : ArrivalOf) → Contains (kept_of arrivals) arrival
         → find (is_from arrival.uid) arrivals ≡ Some arrival }

@@ -1,3 +1,5 @@
+//! What a packet carries. Its address is 16 times the number of a switch plus a port there.
+
 ghost use Rattle.std.specs.Prelude.{◌≡◌, ◌/◌, ◌%◌, ◌<◌, ◌^◌, Some};
 ghost use Rattle.host_traffic.specs.Packets.{moved_to, row_entry};
 

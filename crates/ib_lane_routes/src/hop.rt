@@ -1,3 +1,5 @@
+//! One hop of a route with a service level: the table gives the port, and both ports with the level give the lane.
+
 ghost use Rattle.std.specs.Prelude.{◌≡◌, ◌<◌, ◌+◌, ◌*◌, ◌^◌};
 ghost use Rattle.ib_cells.specs.Cells.{TablesOf, tables_of};
 ghost use Rattle.ib_rows.specs.Lanes.{lanes_of};

@@ -1,3 +1,5 @@
+//! Departures, the places of a wave on lanes. By which port one goes follows from the LID.
+
 ghost use Rattle.std.specs.Prelude.{◌≡◌, ◌<◌, ◌≤◌, ◌*◌, ◌^◌};
 ghost use Rattle.ib_lane_waves.specs.LaneSteps.{departure_place};
 

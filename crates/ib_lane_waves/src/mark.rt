@@ -1,3 +1,5 @@
+//! The words of the places of a wave, a bit for each LID of a block.
+
 ghost use Rattle.std.specs.Prelude.{◌≡◌, ◌<◌, ◌⊎◌, ◌↔◌, ℕ, length, replicate};
 ghost use Rattle.ib_routes.specs.Waves.{HasBit};
 

@@ -1,3 +1,5 @@
+//! One wave on lanes: routes to the LIDs of a block go on together from departure to departure, until no step is new.
+
 ghost use Rattle.std.specs.Prelude.{◌≡◌, ◌<◌, ◌≤◌, ◌+◌, ◌-◌, ◌*◌, ◌^◌, ◌⊎◌, ◌↔◌, ℕ, length, MatchOption};
 ghost use Rattle.std.specs.Int.{bit_at};
 ghost use Rattle.ib_cells.specs.Cells.{tables_of};

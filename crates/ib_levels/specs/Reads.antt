@@ -15,7 +15,7 @@ pub record GaveLevels (fabric : FabricOf) (old new : Seen) (found : LevelRows) :
   pub end : IsAtEnd new
   pub text : IsLevelsText fabric bytes (told_levels found)
 
--- there is a place for each end port and each LID that has an owner
+-- there is a place for each end port and each LID that has an owner, and the switches are counted
 pub record HasRows (fabric : FabricOf) (found : LevelRows) : Type 0 where
   pub ends : found.ends ≡ length fabric.cables
   pub switches : found.switches ≡ switch_count fabric

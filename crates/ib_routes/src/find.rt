@@ -1,3 +1,5 @@
+//! All dependencies, block by block: the routes to the 64 LIDs of a block are followed together.
+
 ghost use Rattle.std.specs.Prelude.{◌≡◌, ◌<◌, ◌≤◌, ◌*◌, ◌^◌, ◌↔◌, ◌⊎◌, ℕ, length, IfOk, IsTrue, MatchResult};
 ghost use Rattle.ib_cells.specs.Cells.{tables_of};
 ghost use Rattle.ib_routes.specs.Found.{SomeIsStopped};
@@ -19,7 +21,6 @@ use ib_net::fabric::Fabric;
 use ib_net::node::Side;
 use std::alloc::Global;
 
-// Takes all bits away.
 fn clear(words: &mut [u64])
     ensures { (switch bit : ℕ) → HasBit words.new switch bit → ⊥ }
 {
@@ -58,7 +59,7 @@ pub fn add_block(
     run(fabric, links, cells, block, seen, done, graph, stopped)
 }
 
-// The same of all blocks.
+// Adds the dependencies of all blocks.
 fn add_blocks(
     fabric: &Fabric,
     links: &[u64],
@@ -87,7 +88,7 @@ fn add_blocks(
     stopped
 }
 
-// The same in rooms of its own.
+// Adds the dependencies of all blocks, and makes the rooms for their bits.
 fn add_waves(
     alloc: Global,
     fabric: &Fabric,
@@ -114,7 +115,7 @@ fn add_waves(
 }
 
 /// Adds to a graph of the channels of a fabric each dependency that a route of the traffic makes, and no other. Answers
-/// whether a route stops at a place that is not its target. Where memory is wanted, nothing is added.
+/// whether a route stops at a place that is not its target. If memory is wanting, nothing is added.
 pub fn add_dependencies(
     alloc: Global,
     fabric: &Fabric,
@@ -154,7 +155,7 @@ pub fn find_base(channels: usize, side: Side) -> u32
     }
 }
 
-// Those of all ports.
+// The bases of all ports, by place.
 fn find_bases(alloc: Global, fabric: &Fabric) -> Result<Vec<u32>, OutOfMemory>
     ensures { IfOk result (λ bases. (length bases.items ≡ switch_count fabric.now * fabric.now.most)
         × AreBases fabric.now (switch_count fabric.now * fabric.now.most) bases.items) }

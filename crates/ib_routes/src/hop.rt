@@ -1,3 +1,5 @@
+//! One hop of a route, which waves, traces and witnesses share, and how a route ends.
+
 ghost use Rattle.std.specs.Prelude.{◌≡◌, ◌<◌, ◌≤◌, ◌+◌, ◌*◌, ◌^◌, length};
 ghost use Rattle.ib_cells.specs.Cells.{tables_of};
 ghost use Rattle.ib_net.specs.Fabric.{owner_of, side_of, LeadsWithin, switch_count};

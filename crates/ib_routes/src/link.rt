@@ -1,3 +1,5 @@
+//! Which ports lead to switches, as bits, since a wave asks for it at each hop.
+
 ghost use Rattle.std.specs.Prelude.{◌≡◌, ◌<◌, ◌≤◌, ◌+◌, ◌*◌, ◌/◌, ◌%◌, ◌^◌, ◌↔◌, ℕ, length, IfOk, IfSome, IsTrue, MatchOption};
 ghost use Rattle.std.specs.Int.{bit_at};
 ghost use Rattle.ib_cells.specs.Cells.{tables_of};
@@ -40,7 +42,7 @@ fn links_word(fabric: &Fabric, place: usize) -> u64
     word
 }
 
-/// Which ports lead to switches: few bytes, that are near where the sides are not.
+/// Which ports lead to switches: a bit for each port, four words for each switch, so that a cache can keep them.
 pub fn find_links(alloc: Global, fabric: &Fabric) -> Result<Vec<u64>, OutOfMemory>
     ensures { IfOk result (λ links. AreLinks fabric.now links.items) }
 {

@@ -1,3 +1,5 @@
+//! Where routes begin: which end ports send, to which LIDs, and from which switches.
+
 ghost use Rattle.std.specs.Prelude.{◌≡◌, ◌<◌, ◌+◌, ◌*◌, ◌^◌, ◌⊎◌, ◌↔◌, ℕ, Some, length, IfOk, IfSome, IsTrue, MatchOption};
 ghost use Rattle.std.specs.Int.{bit_at};
 ghost use Rattle.ib_net.specs.Fabric.{FabricOf, owner_of, start_of, switch_count};
@@ -194,7 +196,7 @@ pub fn put_starts(
     }
 }
 
-// At first, before adapters and routers are counted.
+// The senders of a switch before adapters and routers are counted.
 fn first_sender(traffic: Traffic, switch: u32) -> Senders
     ensures { (fabric : FabricOf) → switch < switch_count fabric → AreSendersBelow fabric traffic 0 switch result }
 {
@@ -205,7 +207,7 @@ fn first_sender(traffic: Traffic, switch: u32) -> Senders
     }
 }
 
-// One port of an adapter or router more.
+// The senders of a switch with one more end port of an adapter or router.
 fn with_sender(senders: Senders, end: u32) -> Senders
     ensures { (fabric : FabricOf) (traffic : Traffic) (switch : ℕ) → start_of fabric (port.Host end) ≡ Some switch
         → AreSendersBelow fabric traffic end switch senders → AreSendersBelow fabric traffic (end + 1) switch result }

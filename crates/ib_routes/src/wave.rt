@@ -1,3 +1,5 @@
+//! One wave: routes to the LIDs of a block go on together from switch to switch, until no hop is new.
+
 ghost use Rattle.std.specs.Prelude.{◌≡◌, ◌<◌, ◌⊎◌, ◌↔◌, ℕ, length, MatchOption};
 ghost use Rattle.std.specs.Int.{bit_at};
 ghost use Rattle.ib_routes.specs.declared.traffic.Traffic.{Traffic};
@@ -24,7 +26,7 @@ fn mark(words: &mut [u64], switch: usize, bit: usize)
     words[switch] = words[switch] | 1u64 << bit;
 }
 
-// Takes the hop of a switch for a LID of the block. Answers whether it stops, or one has before. Where it goes on, the
+// Takes the hop of a switch for a LID of the block. Answers whether it stops, or one has before. If it goes on, the
 // switch to which it leads is ahead: a hint, on which nothing rests.
 #[inline]
 fn take(

@@ -1,3 +1,5 @@
+//! All components with their trees. Roots come by rising identifier, and each takes its component out of the rest.
+
 ghost use Rattle.std.specs.Prelude.{◌≡◌, ◌<◌, ℕ, length, IfOk, None, Some};
 ghost use Rattle.net_graph.specs.Levels.{level_at};
 ghost use Rattle.net_graph.specs.Forest.{IsForest};
@@ -11,7 +13,7 @@ use an_base::entry::Entries;
 use an_base::memory::OutOfMemory;
 use std::alloc::Global;
 
-// A mark for each switch.
+// A mark for each switch. It stays while the switch is in no component that was found.
 fn all_marked(alloc: Global, count: u8) -> Result<Vec<Option<u8>>, OutOfMemory>
     ensures count { IfOk result (λ marks. length marks.items ≡ count) }
     ensures marked { IfOk result (λ marks. (x : ℕ) → x < count → level_at marks.items x ≡ Some 0) }
@@ -38,8 +40,8 @@ fn take_out(marks: &mut Vec<Option<u8>>, levels: &[Option<u8>])
 
 /// The components of the links by rising root, each with the tree of shortest walks to its least
 /// life. Each switch is in one of them, in its first boot, and proposes the number that it had last.
-/// A host's port leads nowhere, and a link of a switch to itself is no link of its entry. Where no
-/// memory is found the answer is `OutOfMemory`.
+/// A host's port leads nowhere, and a link of a switch to itself is no link of its entry. If no
+/// memory is found, the answer is `OutOfMemory`.
 pub fn trees(alloc: Global, wiring: &Wiring) -> Result<Vec<Entries>, OutOfMemory>
     ensures { IfOk result (λ forest. IsForest wiring.now forest.items) }
 {

@@ -1,3 +1,5 @@
+//! What follows from the definitions of links and forests. No function here has code.
+
 ghost use Rattle.std.specs.Prelude.{◌≡◌, ◌↔◌, ℕ, List, Some, Any};
 ghost use Rattle.an_base.specs.Values.{EntryOf};
 ghost use Rattle.net_graph.specs.declared.wiring.Far.{Far};

@@ -1,3 +1,5 @@
+//! Distances to a root, level by level: each pass over the switches gives the next one, until a pass gives none.
+
 ghost use Rattle.std.specs.Prelude.{◌≡◌, ℕ, ◌+◌, ◌<◌, ◌≤◌, ◌↔◌, length, Some, None, IsTrue, IsSome, is_some, count_by, IfOk, slice_set};
 ghost use Rattle.std.specs.Bool.{OnTrue, OnFalse};
 ghost use Rattle.net_graph.specs.Wires.{IsWired, network};
@@ -9,7 +11,7 @@ use an_base::place::Place;
 use an_base::port::Port;
 use std::alloc::Global;
 
-/// The level of x, where it has one.
+/// The level of x, if it has one.
 pub fn level_of(levels: &[Option<u8>], x: Place) -> Option<u8>
     ensures { result ≡ level_at levels.now x }
 {
@@ -90,7 +92,7 @@ fn no_levels(alloc: Global, count: u8) -> Result<Vec<Option<u8>>, OutOfMemory>
     Ok(levels)
 }
 
-/// The distance of each switch to the root, where there is a walk to it.
+/// The distance of each switch to the root, if there is a walk to it.
 pub fn distances_to(
     alloc: Global,
     wiring: &Wiring,

@@ -1,3 +1,5 @@
+//! How code goes over switches by rising identifier, though they stand by place: it searches the next one each time.
+
 ghost use Rattle.std.specs.Prelude.{◌≡◌, ℕ, ◌+◌, ◌<◌, ◌≤◌, ◌↔◌, length, Some, None, IsTrue, is_some};
 ghost use Rattle.net_graph.specs.Levels.{level_at};
 ghost use Rattle.net_graph.specs.Next.{IsLeft, IsNextOf};

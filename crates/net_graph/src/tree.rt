@@ -1,3 +1,5 @@
+//! The entries of one component, by rising identifier: of each switch its place in the tree and its links.
+
 ghost use Rattle.std.specs.Prelude.{◌≡◌, ◌≢◌, ℕ, ◌+◌, ◌-◌, ◌<◌, ◌≤◌, ◌↔◌, length, Some, None, IsTrue, IfSome, IfNone, IfOk};
 ghost use Rattle.an_base.specs.Tree.{IsPlace};
 ghost use Rattle.net_graph.specs.Wires.{IsWired, network};

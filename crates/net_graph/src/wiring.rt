@@ -1,3 +1,5 @@
+//! The wiring. Beside links and hosts, as they were added, it keeps a table of far sides to look ports up in.
+
 ghost use Rattle.std.specs.Prelude.{◌≡◌, ◌≢◌, ◌<◌, ◌≤◌, ◌^◌, ◌↔◌, [], ◌∷◌, ◌++◌, length, Any, Contains, IfSome, MatchOption, IsTrue, OnOk, OnErr};
 ghost use Rattle.an_base.specs.declared.limits.TheConstants.{MOST_NUMBER, MOST_SWITCHES};
 ghost use Rattle.net_graph.specs.Wires.{a_end, b_end, far_at, far_of, had_of, host_end, IsAtFarSide, IsFar, IsHost, IsLink, IsSwitch, IsWired, IsWithin, network, uid_of, uids, used_ports};
@@ -239,7 +241,7 @@ impl Wiring {
         }
     }
 
-    /// Adds a switch without links and hosts, at the next place. Where no memory is found nothing is
+    /// Adds a switch without links and hosts, at the next place. If no memory is found, nothing is
     /// added.
     pub fn add_switch(&mut self, switch: SwitchAt) -> Result<(), OutOfMemory>
         requires room { length self.old.switches < MOST_SWITCHES }
@@ -259,7 +261,7 @@ impl Wiring {
         Ok(())
     }
 
-    /// Adds a link between two different ports that are not used. Where no memory is found nothing
+    /// Adds a link between two different ports that are not used. If no memory is found, nothing
     /// is added.
     pub fn add_link(&mut self, link: LinkAt) -> Result<(), OutOfMemory>
         requires link { IsLink (length self.old.switches) link }
@@ -283,7 +285,7 @@ impl Wiring {
         Ok(())
     }
 
-    /// Adds a host on a port that is not used, at the next place. Where no memory is found nothing is
+    /// Adds a host on a port that is not used, at the next place. If no memory is found, nothing is
     /// added.
     pub fn add_host(&mut self, host: HostOn) -> Result<(), OutOfMemory>
         requires room { length self.old.hosts < 1000 }

@@ -1,3 +1,5 @@
+//! What holds of a session, whatever wires do to its frames. No function here has code.
+
 ghost use Rattle.std.specs.Prelude.{◌≤◌, List};
 ghost use Rattle.ordered_link.specs.Receiving.{last};
 ghost use Rattle.ordered_link.specs.Session.{Event, IsFrontOf, run, start};

@@ -1,3 +1,5 @@
+//! The receiving end of a session. The eight numbers from the wanted one on have a place each, for early bodies.
+
 ghost use Rattle.std.specs.Prelude.{◌≡◌, ◌+◌, ◌%◌, ◌<◌, None};
 ghost use Rattle.ordered_link.specs.Receiving.{Receiving, IsLeftOf, come, follow, last, untouched, verdict};
 
@@ -111,7 +113,7 @@ impl Receiver {
         }
     }
 
-    /// The held body that is wanted, which is now accepted; none exactly where it is not held, and
+    /// The held body that is wanted, which is now accepted; none exactly if it is not held, and
     /// then nothing changes.
     pub fn next(&mut self) -> Option<Body>
         ensures { (r : Receiving) → IsLeftOf self.old r → IsLeftOf self.new (follow r) × (result ≡ r.held (last r + 1)) }

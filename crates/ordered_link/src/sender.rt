@@ -1,3 +1,5 @@
+//! The sending end of a session. One queue has outstanding bodies, then those that wait; a place tells a number.
+
 ghost use Rattle.std.specs.Prelude.{◌≡◌, ◌+◌, ◌-◌, ◌<◌, ◌≤◌, ◌^◌, ℕ, length, OnErr, IfOk, IfSome, IfNone, nat_lt, Some, slice_get, slice_index_or, drop};
 ghost use Rattle.ordered_link.specs.Sending.{Sending, IsDue, IsOut, IsKeptOf, acknowledge, forget, next_to_send, push, send_again, send_next, sent_by_ack, sent_by_push, unused};
 
@@ -66,7 +68,7 @@ impl Sender {
         Ok(self.more(now))
     }
 
-    /// The number of the first waiting body, which is sent at this tick; none exactly where eight are
+    /// The number of the first waiting body, which is sent at this tick; none exactly if eight are
     /// outstanding or none waits, and then nothing changes.
     pub fn more(&mut self, now: u64) -> Option<u32>
         ensures sent { (s : Sending) → IsKeptOf self.old s → IsKeptOf self.new (send_next now s) × (result ≡ next_to_send s) }
@@ -80,9 +82,9 @@ impl Sender {
         Some(self.acked + self.outstanding as u32)
     }
 
-    /// An acknowledgement of all bodies up to `n` comes at this tick. It counts where `n` is the number
+    /// An acknowledgement of all bodies up to `n` comes at this tick. It counts if `n` is the number
     /// of an outstanding body: then these bodies are acknowledged, and the first waiting one is sent,
-    /// with the number that is answered. None exactly where it does not count or none waits.
+    /// with the number that is answered. None exactly if it does not count or none waits.
     pub fn on_ack(&mut self, n: u32, now: u64) -> Option<u32>
         ensures sent { (s : Sending) → IsKeptOf self.old s → IsKeptOf self.new (acknowledge n now s) × (result ≡ sent_by_ack n s) }
         ensures out { IfSome result (IsOut self.new) }
@@ -95,7 +97,7 @@ impl Sender {
     }
 
     /// The lowest number of an outstanding body that was last sent at least four ticks ago; none
-    /// exactly where there is none.
+    /// exactly if there is none.
     pub fn due(&self, now: u64) -> Option<u32>
         ensures out { IfSome result (IsOut self.now) }
         ensures due { IfSome result (λ k. (s : Sending) → IsKeptOf self.now s → IsDue s now k) }

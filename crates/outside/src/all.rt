@@ -1,3 +1,5 @@
+//! Reading a source to its end, and writing all of some bytes, however few one call gives or takes.
+
 ghost use Rattle.std.specs.Prelude.{◌+◌, ◌<◌, ◌≤◌, length, IfOk, OnOk, OnErr, IfErr};
 ghost use Rattle.outside.specs.Told.{Gave, GaveAtMost, IsAtEnd, Gains, GainsFront, IsNoLess, Failed};
 ghost use Rattle.outside.specs.Stops.{OnFault, IfOver};
@@ -59,7 +61,7 @@ pub fn read_all<S: Source>(alloc: Global, source: &mut S, limit: usize) -> Resul
     }
 }
 
-/// Writes all of the bytes, in order. Where a write fails, a front of them was written.
+/// Writes all of the bytes, in order. If a write fails, a front of them was written.
 #[tactic(auto, using(crate::proofs::ToldLemmas::with_back_none, crate::proofs::ToldLemmas::with_back_twice, crate::proofs::ToldLemmas::Rose_later))]
 pub fn write_all<K: Sink>(sink: &mut K, bytes: &[u8]) -> Result<(), WriteFault>
     ensures all { OnOk result (Gains (K.seen sink.old) (K.seen sink.new) bytes.now) }

@@ -1,3 +1,5 @@
+//! A source and a sink of which contracts tell every answer, for tests: a list says which calls are to fail.
+
 ghost use Rattle.std.specs.Prelude.{◌≡◌, ◌==◌, ◌<◌, ◌≤◌, [], length, take, IfOk};
 ghost use Rattle.std.specs.List.{list_any};
 ghost use Rattle.outside.specs.Told.{Gave, Gains, Ends, IsNoLess, OnlyFailed};
@@ -26,7 +28,7 @@ fn copy_front(buf: &mut [u8], bytes: &[u8], n: usize)
     buf[..n].copy_from_slice(&bytes[..n]);
 }
 
-/// A source over bytes in memory. The calls whose numbers, from 1, are listed fail, and no other.
+/// A source over bytes in memory. Of its calls, numbered from 1, exactly those that are listed fail.
 /// Contracts see the bytes that are left, the list, the numbers of calls and of faults, which stay
 /// once they are 2^64 - 1, and the most bytes that one read gives.
 #[derive(Drop)]
@@ -96,8 +98,8 @@ impl Source for MemorySource {
     }
 }
 
-/// A sink in memory, with room for so many bytes. The calls whose numbers, from 1, are listed fail,
-/// those that find no room, and no other. Contracts see what was written, the room that is left, the
+/// A sink in memory, with room for so many bytes. Of its calls, numbered from 1, exactly
+/// those fail that are listed, or that find no room. Contracts see what was written, the room that is left, the
 /// list, and the numbers of calls and of faults, which stay once they are 2^64 - 1.
 #[derive(Drop)]
 pub struct MemorySink {

@@ -1,3 +1,5 @@
+//! All that code asks of where its bytes go. One write may take fewer bytes than it is given, or fail.
+
 ghost use Rattle.std.specs.Prelude.{◌<◌, ◌≤◌, length, take};
 ghost use Rattle.outside.specs.Told.{Seen, Gains, IsNoLess, OnlyFailed};
 ghost use Rattle.outside.specs.Answers.{IfTaken, OnNotTaken};
@@ -13,7 +15,7 @@ pub enum Took {
 
 /// Where bytes go to.
 pub trait Sink {
-    /// What is seen of it: the bytes that were written, where they are told, and how many faults
+    /// What is seen of it: the bytes that were written, if they are told, and how many faults
     /// there were.
     ghost seen: { Self → Seen };
 

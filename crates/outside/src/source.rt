@@ -1,3 +1,5 @@
+//! All that code asks of where its bytes come from. One read may give fewer bytes than there is room for, or fail.
+
 ghost use Rattle.std.specs.Prelude.{◌<◌, ◌≤◌, length, take};
 ghost use Rattle.outside.specs.Told.{Seen, Gave, Ends, IsNoLess, OnlyFailed};
 ghost use Rattle.outside.specs.Answers.{IfPart, OnEnd, OnFailed};
@@ -15,7 +17,7 @@ pub enum Got {
 
 /// Where bytes come from.
 pub trait Source {
-    /// What is seen of it: the bytes that are left, where they are told, and how many faults there
+    /// What is seen of it: the bytes that are left, if they are told, and how many faults there
     /// were.
     ghost seen: { Self → Seen };
 

@@ -1,3 +1,5 @@
+//! Sources over std's readers and sinks over its writers. One type serves both, since only faults are told.
+
 ghost use Rattle.std.specs.Prelude.{◌≡◌};
 ghost use Rattle.outside.specs.Standard.{seen_standard};
 

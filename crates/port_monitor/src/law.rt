@@ -1,3 +1,5 @@
+//! What holds of a port's peer, whichever samples and replies come. No function here has code.
+
 ghost use Rattle.std.specs.Prelude.{◌≡◌, ◌≢◌, ◌∷◌, ℕ, Some, replicate, take};
 ghost use Rattle.an_base.specs.Values.{EndId};
 ghost use Rattle.an_base.specs.declared.port.Sample.{Sample};

@@ -1,3 +1,5 @@
+//! The ports of one switch by their numbers, the links at the good ones, and the replies to probes.
+
 ghost use Rattle.std.specs.Prelude.{◌≡◌, ◌-◌, ◌<◌, ◌≤◌, ◌^◌, ℕ, [], ◌∷◌, ◌++◌, Some, slice_get, length, All};
 ghost use Rattle.an_base.specs.declared.limits.TheConstants.{LAST_PORT};
 ghost use Rattle.port_monitor.specs.Ports.{link_to, links_from, peer_of, probe_of, reply_to, state_of};
@@ -63,7 +65,7 @@ impl Monitor {
         self.ports[usize::from(port - 1)].sample(sample)
     }
 
-    /// A probe came to a port from this end: the reply, none exactly where the port is dead, checking or
+    /// A probe came to a port from this end: the reply, none exactly if the port is dead, checking or
     /// a host's. Nothing changes.
     pub fn on_probe(&self, port: u8, from: End, nonce: u64) -> Option<Frame>
         requires least { 1 ≤ port }
@@ -82,7 +84,7 @@ impl Monitor {
         }
     }
 
-    /// A reply to a probe of a port came from this end. It counts where it is the first to the last
+    /// A reply to a probe of a port came from this end. It counts if it is the first to the last
     /// probe.
     pub fn on_reply(&mut self, port: u8, from: End, nonce: u64)
         requires least { 1 ≤ port }
@@ -111,7 +113,7 @@ impl Monitor {
         self.ports[usize::from(port - 1)].state()
     }
 
-    /// The end at the other side of a port, none exactly where the state is neither that of a loop nor
+    /// The end at the other side of a port, none exactly if the state is neither that of a loop nor
     /// that of a good link.
     pub fn peer(&self, port: u8) -> Option<End>
         requires least { 1 ≤ port }
@@ -141,7 +143,7 @@ fn links_of(ports: &[Port; 12]) -> Links
     links
 }
 
-// Adds the link at a port, where it has a peer.
+// Adds the link at a port, if it has a peer.
 fn push_link(links: &mut Links, port: u8, peer: Option<End>)
     requires least { 1 ≤ port }
     requires most { port ≤ LAST_PORT }

@@ -1,3 +1,5 @@
+//! One port at its clocks. A sample moves its phase; in the phase of a switch, each clock asks who is there.
+
 ghost use Rattle.std.specs.Prelude.{◌≡◌, ◌<◌, ◌^◌};
 ghost use Rattle.port_monitor.specs.Ports.{unsampled, sampled, probe_of, replied_to, state_of, peer_of, speaks, fallen, kept_up, entered, good_peer_by};
 
@@ -93,7 +95,7 @@ impl Port {
         }
     }
 
-    /// The far end; none exactly where the state is neither that of a loop nor that of a good link.
+    /// The far end; none exactly if the state is neither that of a loop nor that of a good link.
     pub fn peer(&self) -> Option<End>
         ensures { result ≡ peer_of self.now }
     {
@@ -106,7 +108,7 @@ impl Port {
         }
     }
 
-    /// The far end of a good link; none exactly where the state is another one.
+    /// The far end of a good link; none exactly if the state is another one.
     pub fn good_peer(&self) -> Option<End>
         ensures { result ≡ good_peer_by self.now.phase self.now.far.conn }
     {

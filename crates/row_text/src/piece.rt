@@ -61,7 +61,7 @@ pub fn push_life(
     Ok(())
 }
 
-// The place of a number.
+// The place of a number in a list of numbers, if it is one of them.
 fn place_in(numbers: &[u8], number: u8) -> Option<usize>
     ensures place { result ≡ position (λ other. other == number) numbers.now }
     ensures range { IfSome result (λ place. place < length numbers.now) }

@@ -1,3 +1,5 @@
+//! What holds of one switch, whatever comes to it. No function here has code.
+
 ghost use Rattle.std.specs.Prelude.{◌≡◌, ◌≢◌, ◌⊎◌, ◌+◌, ◌<◌, ◌≤◌, ℕ, List, [], ◌∷◌, All, None, Some, false};
 ghost use Rattle.an_base.specs.declared.limits.TheConstants.{LAST_PORT, MOST_NUMBER};
 ghost use Rattle.an_base.specs.Values.{EndId};
@@ -46,7 +48,7 @@ pub fn a_frame_of_a_lower_epoch_changes_nothing()
 
 /// A switch joins an epoch with its present good links, and all sessions begin anew: nothing was
 /// accepted, nothing came and nothing is acknowledged, and what was pushed is what joining adds, on
-/// each good link the position of a root and nothing else. Where the epoch is greater than that of a
+/// each good link the position of a root and nothing else. If the epoch is greater than that of a
 /// session before, no frame of that session changes anything, and nothing goes out by one.
 pub fn a_join_begins_all_sessions_anew()
     ensures epoch { (epoch : ℕ) (s : SwitchOf) → (joins epoch s).switch.epoch ≡ epoch }
@@ -80,9 +82,9 @@ pub fn an_uncounted_frame_changes_nothing()
         → framed port (Ack epoch from to n) s ≡ still s }
 {}
 
-/// A switch is sound, which bounds its numbers by how many clocks and frames came and how many frames with a
-/// body came in its epoch, from its start on: each clock, each frame and each load of a number of 1 to 126
-/// keeps it so.
+/// A switch is sound from its start on: each clock, each frame and each load of a number of 1 to 126 keeps it
+/// so. That bounds its numbers by how many clocks and frames came, and by how many frames with a body came in
+/// its epoch.
 pub fn a_switch_stays_sound()
     ensures start { (x : StartOf) → 1 ≤ x.had → x.had ≤ MOST_NUMBER → IsSoundBy 0 0 (started_as x) }
     ensures more { (works carried later most : ℕ) (s : SwitchOf) → works ≤ later → carried ≤ most

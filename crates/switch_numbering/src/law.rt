@@ -1,3 +1,5 @@
+//! What follows from how numbers are given. No function here has code.
+
 ghost use Rattle.std.specs.Prelude.{ℕ, List, ◌≤◌, length, All};
 ghost use Rattle.an_base.specs.Values.{EntryOf};
 ghost use Rattle.an_base.specs.Numbers.{AreNumbers};

@@ -1,3 +1,5 @@
+//! Which numbers are free is found from all entries first, so that no life gets what a greater one alone proposes.
+
 ghost use Rattle.std.specs.Prelude.{◌≡◌, IfOk};
 ghost use Rattle.switch_numbering.specs.Numbering.{is_proposed, free, proposals, numbering};
 

@@ -1,3 +1,5 @@
+//! Best ways from one member to all others, in three passes along the order of places: one climbs, and two fall.
+
 ghost use Rattle.std.specs.Prelude.{◌≡◌, ◌≢◌, ◌<◌, ◌≤◌, ℕ, List, Bool, None, true, false, length, replicate, IfOk};
 ghost use Rattle.an_base.specs.Values.{EntryOf};
 ghost use Rattle.topo_graph.specs.Topology.{IsGraph};
@@ -23,7 +25,7 @@ pub struct Best {
     pub ports: u16,
 }
 
-/// Which ways are sought. Each link costs 1, and where any way will do nothing.
+/// Which ways are sought. Each link costs 1, or nothing if any way will do.
 #[derive(Clone, Copy)]
 pub struct Search {
     /// The place where they begin.
@@ -36,7 +38,7 @@ pub struct Search {
     pub down: bool,
 }
 
-// The better of two, and where they cost the same what both have.
+// The better of two, or what both have if they cost the same.
 fn better(a: Best, b: Best) -> Best
     ensures { IsBetter a b result }
 {
@@ -52,7 +54,7 @@ fn better(a: Best, b: Best) -> Best
     }
 }
 
-// The same where there may be no way.
+// The better of two best ways that there may be.
 fn better_of(a: Option<Best>, b: Option<Best>) -> Option<Best>
     ensures { IsBetterOf a b result }
 {
@@ -149,7 +151,7 @@ fn climb_to(
     better_of(no_link(from, y), over)
 }
 
-// The best ways to y that lead downward alone, or behind links upward.
+// The best ways to y that lead downward alone, or after links upward.
 fn fall_to(
     graph: &Graph,
     links: &Links,
@@ -196,7 +198,7 @@ fn first_of(order: &[Height], place: u8) -> usize
     i
 }
 
-// The position behind the last one of a place.
+// The position after the last one of a place.
 fn behind_last(order: &[Height], place: u8) -> usize
     ensures within { result ≤ length order.now }
     ensures behind { (k : ℕ) → result ≤ k → k < length order.now → place_at order.now k ≢ place }
@@ -247,7 +249,7 @@ fn climbs_of(
 }
 
 // The best ways that may lead downward, from the highest place to the lowest (those downward alone from where they
-// begin), and where they may lead upward first from those that lead upward alone.
+// begin). If they may lead upward first, they go on from those that lead upward alone.
 fn falls_of(
     alloc: Global,
     graph: &Graph,

@@ -1,3 +1,5 @@
+//! How packets pass a member: the entries by which they may come in, whether they may then go up, and their exits.
+
 ghost use Rattle.std.specs.Prelude.{◌≡◌, ◌↔◌, ◌≤◌, IsTrue};
 ghost use Rattle.table_build.specs.Bests.{HasPort};
 ghost use Rattle.table_build.specs.Exits.{ArePortsBelow, is_entry, IsEntry, IsExitOf, may_go_up};

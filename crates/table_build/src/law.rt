@@ -1,3 +1,5 @@
+//! What the tables are, and what becomes of packets that follow them. No function here has code.
+
 ghost use Rattle.std.specs.Prelude.{◌≡◌, ◌≢◌, ◌+◌, ◌-◌, ◌*◌, ◌<◌, ◌≤◌, ◌++◌, ℕ, suc, List, [], Bool, true};
 ghost use Rattle.std.specs.Prelude.{false, Some, Any, length, slice_index};
 ghost use Rattle.an_base.specs.Values.{EntryOf, LifeId, TopoOf};
@@ -9,13 +11,13 @@ ghost use Rattle.table_build.specs.Laws.{ChannelWalk, Follows, IsShortest};
 ghost use Rattle.table_build.specs.Tables.{exits_of, IsTable, IsTableOf, TableOf};
 ghost use Rattle.table_build.specs.Made.{table_of};
 
-/// Where the positions are the tree of the links, a legal route joins every two members.
+/// If the positions are the tree of the links, a legal route joins every two members.
 pub fn members_are_joined()
     ensures { (es : List EntryOf) (x y : ℕ) → IsGraph es → IsTree es → x < length es → y < length es
         → (n : ℕ) × HasLegal es x y n }
 {}
 
-/// Where a way leads to another member, its shortest one begins at an exit.
+/// If a way leads to another member, its shortest one begins at an exit.
 pub fn a_shortest_way_has_an_exit()
     ensures { (es : List EntryOf) (any up : Bool) (x y n : ℕ) → x ≢ y → IsShortest es up x y n
         → (p : ℕ) × Begins es any up x y p }
@@ -62,8 +64,8 @@ pub fn following_goes_on()
 {}
 
 /// So what follows exits from entry 0 of a member towards another one reaches it. Wherever it is, it
-/// goes on to there, and where it has no exit it has come to it; it goes along a legal route, over at
-/// most 2 (n - 1) links, and where exits begin shortest routes over as many as a shortest one has.
+/// goes on to there, and if it has no exit it has come to it. It goes along a legal route, over at
+/// most 2 (n - 1) links; if exits begin shortest routes, over as many as a shortest one has.
 pub fn following_reaches()
     ensures reached { (es : List EntryOf) (any : Bool) (y x z out : ℕ) (ps : List ℕ) → IsGraph es → IsTree es
         → x < length es → y < length es → Follows es any y x 0 ps z out

@@ -1,3 +1,5 @@
+//! The links of each member, parted by which end is up, so that a pass goes over one kind of them alone.
+
 ghost use Rattle.std.specs.Prelude.{◌≡◌, ◌+◌, ◌<◌, [], length, IfOk, OnOk};
 ghost use Rattle.table_build.specs.Links.{AreLinks, AreLinksBelow};
 

@@ -1,3 +1,5 @@
+//! What all members' tables are made from, so that whoever makes them all works it out once.
+
 ghost use Rattle.std.specs.Prelude.{◌≡◌, length, IfOk};
 ghost use Rattle.an_base.specs.Numbers.{AreNumbers};
 ghost use Rattle.table_build.specs.Routing.{ArePlaces, IsRouting, place_at};

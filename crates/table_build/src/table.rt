@@ -1,3 +1,5 @@
+//! The table of one member. Its rows rise, so a binary search finds exits.
+
 ghost use Rattle.std.specs.Prelude.{◌≡◌, ◌<◌, ◌≤◌, ◌++◌, [], Any, length, map, IfOk, OnOk};
 ghost use Rattle.an_base.specs.declared.limits.TheConstants.{MOST_NUMBER};
 ghost use Rattle.table_build.specs.Routing.{IsRouting, row_of};
@@ -67,7 +69,6 @@ fn push_all(
     Ok(())
 }
 
-// The rows of all entries.
 fn rows_of(
     alloc: Global,
     graph: &Graph,
@@ -108,7 +109,7 @@ impl Model for Table {
 impl Table {
     /// The table of a member of the graph, with one number for each entry of the graph: a row for
     /// each entry, 0 and the ports with a link, and each number of another member, with the ports
-    /// that begin a shortest legal route there, or where `any` holds a legal route of any length.
+    /// that begin a shortest legal route there, or if `any` holds a legal route of any length.
     pub fn build(
         alloc: Global,
         graph: &Graph,
@@ -154,7 +155,7 @@ impl Table {
         self.number
     }
 
-    /// The exits for what comes in at an entry and goes to a number, rising. There are none where
+    /// The exits for what comes in at an entry and goes to a number, rising. There are none if
     /// the table has no such row.
     pub fn exits(&self, entry: u8, number: u8) -> Exits
         ensures { result ≡ exits_of self.now entry number }

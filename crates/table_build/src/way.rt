@@ -1,3 +1,5 @@
+//! The exits towards each other member, before they become rows: the entries of a member share them.
+
 ghost use Rattle.std.specs.Prelude.{◌≡◌, ◌≢◌, ◌<◌, ℕ, [], length, slice_index, IfOk, OnOk, MatchOption};
 ghost use Rattle.an_base.specs.Numbers.{AreNumbers};
 ghost use Rattle.topo_graph.specs.Topology.{IsGraph};
@@ -59,7 +61,7 @@ fn way_to(
     })
 }
 
-// Adds to none the exits towards all other members, by rising number.
+// Adds to none the exits towards all other members, by rising number, 1 to 126.
 fn push_ways(
     ways: &mut Vec<Way>,
     graph: &Graph,

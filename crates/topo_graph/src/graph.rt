@@ -1,3 +1,5 @@
+//! The graph of a topology. Its links are worked out once, into a table of far sides. Lesser places are lesser lives.
+
 ghost use Rattle.std.specs.Prelude.{◌≡◌, ◌↔◌, ◌<◌, ◌≤◌, length, ℕ, Any, IsTrue, IsSome, IfOk, IfSome};
 ghost use Rattle.std.specs.Prelude.{MatchOption};
 ghost use Rattle.an_base.specs.Values.{EndId};
@@ -49,7 +51,7 @@ fn names(links: &[PortLink], port: u8, end: End) -> bool
     links.iter().any(|l| l.port() == port && l.peer() == end)
 }
 
-// The far place and port of a link that the entry at x names, where the far entry names it too.
+// The far place and port of a link that the entry at x names, if the far entry names it too.
 fn far_end(entries: &[Entry], x: u8, link: &PortLink) -> Option<(u8, u8)>
     requires rising { LivesRise entries.now }
     requires most { length entries.now ≤ MOST_SWITCHES }
@@ -204,7 +206,7 @@ impl Graph {
         cell(&self.rows, x, port)
     }
 
-    /// The other end of the link at this port of this life, None exactly where the graph has no link
+    /// The other end of the link at this port of this life, None exactly if the graph has no link
     /// there.
     pub fn far(&self, life: Life, port: u8) -> Option<End>
         ensures { MatchOption result
@@ -230,7 +232,7 @@ impl Graph {
         place.level < next
     }
 
-    // The parent of the entry at x, where it is at the port of its position, one level nearer.
+    // The parent of the entry at x, if it is at the port of its position, one level nearer.
     fn parent_of(&self, x: u8, place: &Position) -> Option<u8>
         ensures parent { MatchOption result
             ((y : ℕ) → ¬ IsParent self.now x y place.now)

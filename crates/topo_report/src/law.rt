@@ -1,9 +1,11 @@
+//! What holds of reports: neither the order of merging counts, nor how often. No function here has code.
+
 ghost use Rattle.std.specs.Prelude.{◌≡◌, ◌++◌, List, Contains};
 ghost use Rattle.an_base.specs.Values.{LifeId, EntryOf};
 ghost use Rattle.topo_report.specs.Report.{report_of, IsReport, AreLives, Covers, HaveSameMembers};
 
 /// The report of entries is their report: its lives rise, it has the least entry of each life, and
-/// only where it keeps 125 other lives a greater one has no place.
+/// only if it keeps 125 other lives a greater one has no place.
 pub fn report_is_report()
     ensures { (me : LifeId) (entries : List EntryOf) → IsReport me entries (report_of me entries) }
 {}

@@ -1,3 +1,5 @@
+//! The report of a life. Lists by rising life are merged in one pass, in which the greatest lives may find no room.
+
 ghost use Rattle.std.specs.Prelude.{◌≡◌, ◌≤◌, [], ◌∷◌, ◌++◌, length, MatchOption, OnOk, OnErr, IfOk};
 ghost use Rattle.an_base.specs.Order.{LivesRise};
 ghost use Rattle.an_base.specs.declared.limits.TheConstants.{MOST_SWITCHES};
@@ -109,7 +111,7 @@ impl Report {
     }
 
     /// Takes in other entries: of each life the least entry stays, and of more than 126 lives the
-    /// life for which the report was made and the 125 least others. Where no memory is found the
+    /// life for which the report was made and the 125 least others. If no memory is found, the
     /// report is unchanged.
     pub fn merge(&mut self, other: &Entries) -> Result<(), OutOfMemory>
         ensures ok { OnOk result (self.new

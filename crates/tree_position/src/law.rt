@@ -1,3 +1,5 @@
+//! What follows from the definition of the least place. No function here has code.
+
 ghost use Rattle.std.specs.Prelude.{List, ◌∷◌};
 ghost use Rattle.an_base.specs.Values.{Place};
 ghost use Rattle.tree_position.specs.Position.{least, IsLeast};

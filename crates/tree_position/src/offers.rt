@@ -1,3 +1,5 @@
+//! What the neighbours of a life offer, and the position that follows. Of each link only the last offer counts.
+
 ghost use Rattle.std.specs.Prelude.{◌≡◌, ◌≤◌, length, None, replicate, option_to_list};
 ghost use Rattle.an_base.specs.declared.limits.TheConstants.{LAST_PORT};
 ghost use Rattle.tree_position.specs.Position.{position_of, noted, candidate, least};

@@ -1,3 +1,5 @@
+//! Lengths by life: the distances keep the graph's lives, so that no caller needs places.
+
 ghost use Rattle.std.specs.Prelude.{◌≡◌, ◌≤◌, length};
 ghost use Rattle.an_base.specs.declared.limits.TheConstants.{MOST_SWITCHES};
 ghost use Rattle.updown.specs.Distances.{down_of, place_in, up_of};
@@ -6,8 +8,8 @@ use crate::length::Lengths;
 use an_base::life::Life;
 use std::marker::Model;
 
-/// How far it is from each life of a graph to one of them, by legal routes and by routes with
-/// downward links alone.
+/// How far it is from each life of a graph to one life, the same for all, by legal routes and by routes
+/// with downward links alone.
 #[derive(Drop)]
 pub struct Distances {
     lives: Vec<Life>,
@@ -35,7 +37,6 @@ impl Distances {
         Distances { lives, lengths }
     }
 
-    // The place of a life.
     fn place(&self, life: Life) -> Option<u8>
         ensures { result ≡ place_in self.now.lives life }
     {
@@ -47,14 +48,14 @@ impl Distances {
         None
     }
 
-    /// The least length of a legal route from a life, None exactly where there is none.
+    /// The least length of a legal route from a life, None exactly if there is none.
     pub fn up(&self, life: Life) -> Option<u8>
         ensures { result ≡ up_of self.now life }
     {
         self.lengths.up(self.place(life)?)
     }
 
-    /// The least length of a route from a life with downward links alone, None exactly where there
+    /// The least length of a route from a life with downward links alone, None exactly if there
     /// is none.
     pub fn down(&self, life: Life) -> Option<u8>
         ensures { result ≡ down_of self.now life }

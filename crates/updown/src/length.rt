@@ -1,3 +1,5 @@
+//! Lengths to one place, in two passes: downward routes from the lowest place up, then legal ones from the top down.
+
 ghost use Rattle.std.specs.Prelude.{◌≡◌, ℕ, Some, None, length, IfOk};
 ghost use Rattle.topo_graph.specs.Topology.{IsGraph};
 ghost use Rattle.updown.specs.Order.{IsDescent};
@@ -12,7 +14,7 @@ use std::alloc::Global;
 use std::marker::Model;
 use topo_graph::graph::Graph;
 
-// The lesser of two lengths, where there are both.
+// The lesser of two lengths, if there are both.
 fn lesser(a: Option<u8>, b: Option<u8>) -> Option<u8>
     ensures { result ≡ lesser_of a b }
 {
@@ -23,8 +25,8 @@ fn lesser(a: Option<u8>, b: Option<u8>) -> Option<u8>
     }
 }
 
-// What is left to go behind the far end of a port: by any legal route behind an upward link,
-// downward alone behind a downward one.
+// What is left to go from the far end of a port: by any legal route after an upward link,
+// downward alone after a downward one.
 fn behind(graph: &Graph, up: &[Option<u8>], down: &[Option<u8>], x: u8, port: u8) -> Option<u8>
     ensures behind { result ≡ behind_of graph.now up.now down.now x port }
     ensures graph { IsGraph graph.now }
@@ -34,7 +36,7 @@ fn behind(graph: &Graph, up: &[Option<u8>], down: &[Option<u8>], x: u8, port: u8
     lengths.get(usize::from(y)).copied().flatten()
 }
 
-// The least that is left behind any port of x.
+// The least that is left to go after any port of x.
 fn least_behind(graph: &Graph, up: &[Option<u8>], down: &[Option<u8>], x: u8) -> Option<u8>
     requires { IsGraph graph.now }
     ensures { IsLeast (λ n. (p : ℕ) × (behind_of graph.now up.now down.now x p ≡ Some n)) result }
@@ -46,7 +48,7 @@ fn least_behind(graph: &Graph, up: &[Option<u8>], down: &[Option<u8>], x: u8) ->
     best
 }
 
-// The length of a shortest way from x, from what is left behind its ports.
+// The length of a shortest way from x, from what is left to go after its ports.
 fn length_from(graph: &Graph, up: &[Option<u8>], down: &[Option<u8>], to: u8, x: u8) -> Option<u8>
     requires graph { IsGraph graph.now }
     requires up_most { AreAtMost up.now 250 }

@@ -1,3 +1,5 @@
+//! The order of places in which passes over a graph go, so that no length is needed before it is known.
+
 ghost use Rattle.std.specs.Prelude.{length, IfOk};
 ghost use Rattle.topo_graph.specs.Topology.{IsGraph};
 ghost use Rattle.updown.specs.Order.{AreHeights, IsDescent};
@@ -16,7 +18,6 @@ pub struct Height {
     pub place: u8,
 }
 
-// The heights of all places.
 fn heights_of(alloc: Global, graph: &Graph) -> Result<Vec<Height>, OutOfMemory>
     ensures heights { IfOk result (λ heights. AreHeights graph.now (length graph.now) heights.items) }
     ensures graph { IfOk result (λ _. IsGraph graph.now) }

@@ -1,3 +1,5 @@
+//! The call that makes distances: the order of the places, the lengths along it, and the lives.
+
 ghost use Rattle.std.specs.Prelude.{◌≡◌, ◌≤◌, Any, map, length, IfOk};
 ghost use Rattle.an_base.specs.declared.limits.TheConstants.{MOST_SWITCHES};
 ghost use Rattle.updown.specs.Distances.{AreDistances};

@@ -1,3 +1,5 @@
+//! Which end of a link is up, and which routes are legal.
+
 ghost use Rattle.std.specs.Prelude.{◌≡◌, ◌↔◌, ◌<◌, ℕ, Some, length, IsTrue, Any};
 ghost use Rattle.an_base.specs.Order.{life_cmp};
 ghost use Rattle.topo_graph.specs.Topology.{far_of, life_at, place_of};

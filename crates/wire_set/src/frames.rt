@@ -1,3 +1,5 @@
+//! Queues of frames: a region has the bytes, and queues the slips. A frame keeps its blocks when it changes queues.
+
 ghost use Rattle.std.specs.Prelude.{◌≡◌, ◌+◌, ◌<◌, ◌≤◌, [], length, replicate, IfOk, IfErr, OnOk, OnErr};
 ghost use Rattle.frame_region.specs.Sizes.{blocks_of};
 ghost use Rattle.frame_region.specs.declared.buffer.TheConstants.{MOST_FRAME};
@@ -60,7 +62,7 @@ impl Frames {
         self.queues.len(q)
     }
 
-    /// Puts a frame at the end of a queue. There is no room exactly where fewer blocks are free than it
+    /// Puts a frame at the end of a queue. There is no room exactly if fewer blocks are free than it
     /// needs, and then nothing changes.
     pub fn put(&mut self, q: usize, bytes: &[u8]) -> Result<(), NoRoom>
         requires q { q < length self.old.queues }

@@ -1,3 +1,5 @@
+//! What links and blocks keep, whatever happens to the wires. No function here has code.
+
 ghost use Rattle.std.specs.Prelude.{◌≡◌, ◌<◌, ◌≤◌, ℕ, List, length};
 ghost use Rattle.net_graph.specs.Wires.{Wires, IsWired, far_at};
 ghost use Rattle.wire_set.specs.Frames.{BlocksAddUp};

@@ -1,3 +1,5 @@
+//! Queues of slips. A slip is in one queue at most, so all queues are chains in one list of places.
+
 ghost use Rattle.std.specs.Prelude.{◌≡◌, ◌≢◌, ◌+◌, ◌-◌, ◌<◌, ◌≤◌, ◌++◌, ◌∷◌, [], ℕ, length, take, drop};
 ghost use Rattle.std.specs.Prelude.{replicate};
 ghost use Rattle.std.specs.Prelude.{None, Some, IfOk, slice_index_or, vec_capacity};
@@ -86,7 +88,6 @@ fn shortened(queue: Queue, second: u32) -> Queue
     }
 }
 
-// So many empty queues.
 fn empty_queues(alloc: Global, queues: usize) -> Result<Vec<Queue>, OutOfMemory>
     ensures { IfOk result (λ all. all.items ≡ replicate queues empty) }
 {

@@ -1,3 +1,5 @@
+//! One port and the wire into it, and what a wire answers if a frame is put on it or taken.
+
 ghost use Rattle.std.specs.Prelude.{◌≡◌};
 ghost use Rattle.wire_set.specs.WireState.{is_link};
 
@@ -51,7 +53,7 @@ pub enum Put {
 pub struct Taken {
     /// Whether it was the second frame of the wire.
     pub second: bool,
-    /// What became of its copy; none exactly where no copy was told.
+    /// What became of its copy; none exactly if no copy was told.
     pub copied: Option<Put>,
 }
 

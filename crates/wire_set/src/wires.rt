@@ -1,3 +1,5 @@
+//! The wires. Each is kept at the port into which it leads, and what a switch has in hand at its port 0.
+
 ghost use Rattle.std.specs.Prelude.{◌≡◌, ◌+◌, ◌*◌, ◌<◌, ◌≤◌, ◌/◌, ◌%◌, ℕ, true, [], length, map, IfOk};
 ghost use Rattle.std.specs.Prelude.{◌^◌, ◌-◌};
 ghost use Rattle.std.specs.List.{range_with_len};
@@ -124,9 +126,9 @@ impl WireSet {
     }
 
     /// Takes a frame from the wire into a switch at a port that has a link of two switch ports, and sets
-    /// the buffer to its bytes, without taking memory. It is the second frame where an exchange was told
+    /// the buffer to its bytes, without taking memory. It is the second frame if an exchange was told
     /// and there are two, else the first. The switch, which held none, holds it with its blocks until
-    /// `release`. Then, where a copy was told, one is put at the wire's end.
+    /// `release`. Then, if a copy was told, one is put at the wire's end.
     pub fn take(&mut self, s: Place, port: Port, out: &mut FrameBuf) -> Taken
         requires link { HasLink self.old s port }
         requires some { 1 ≤ length (wire_at self.old (place s port)) }
@@ -185,7 +187,7 @@ impl WireSet {
         }
     }
 
-    /// Whether the link of a port, which has one or a host, is up.
+    /// Whether the link of a used port, to another port or to a host, is up.
     pub fn is_up(&self, s: Place, port: Port) -> bool
         requires { IsUsed self.now s port }
         ensures { result ≡ (side_at self.now (place s port)).is_up }
@@ -298,7 +300,7 @@ impl WireSet {
         true
     }
 
-    // Puts a copy of a frame that was taken at the end of its wire, where one was told.
+    // Puts a copy of a frame that was taken at the end of its wire, if one was told.
     fn copy(&mut self, wire: usize, bytes: &[u8]) -> Option<Put>
         requires link { is_link (side_at self.old wire).far ≡ true }
         requires least { 1 ≤ length bytes.now }
