@@ -26,6 +26,7 @@ placed place lines = map (λ line. record { event = place; line = line }) lines
 abbrev pub placed_lines : WorldOf → Event → List PlacedLine
 placed_lines world event = placed (step world event).fabric.events (lines_of world event)
 
+-- the rows of the table in use after a load, which may be none; no other event gives a list of rows
 abbrev pub loaded_rows : WorldOf → Event → List (List RowOf)
 loaded_rows world (Load place) = rows_behind (step world (Load place)).fabric (Load place) ∷ []
 loaded_rows world event = []
@@ -35,6 +36,7 @@ pub record AccountOf : Type 0 where
   pub lines : List PlacedLine
   pub rows : List (List RowOf)
 
+-- the account of a caller after this history, which is lawful
 abbrev pub account_of : ScriptOf → ℕ → List Event → AccountOf
 account_of script caller history = record {
   lines = gathered placed_lines caller (begun script) history;

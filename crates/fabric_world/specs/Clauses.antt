@@ -50,6 +50,7 @@ pub record IsTopology (life : LifeId) (topo : TopoOf) : Type 0 where
   pub numbers : topo.numbers ≡ numbering topo.entries
   pub different : AreNumbers topo.numbers
 
+-- whatever a life has finished an epoch with is a topology
 abbrev pub AreTopologies : ScriptOf → List Event → Type 0
 AreTopologies script history = (life : LifeId) (epoch : ℕ) (topo : TopoOf)
     → FinishedAt script history life epoch topo → IsTopology life topo
@@ -72,8 +73,10 @@ pub record AreJoined (entries : List EntryOf) (any : Bool) : Type 0 where
   pub least : (to from entry links : ℕ) (ports : List ℕ) → any ≡ false
       → Follows entries any to from 0 ports to entry → IsShortest entries true from to links
       → length ports ≡ links
+  -- no channel leads back to itself, by one step or more
   pub no_cycle : (steps : ℕ) (channel : ℕ × ℕ) → ChannelWalk entries any (suc steps) channel channel → ⊥
 
+-- of whatever a life has finished an epoch with, all members are joined
 abbrev pub AreAllJoined : ScriptOf → List Event → Type 0
 AreAllJoined script history = (life : LifeId) (epoch : ℕ) (topo : TopoOf)
     → FinishedAt script history life epoch topo → AreJoined topo.entries script.any_routes
@@ -109,7 +112,7 @@ pub record HoldsAt (script : ScriptOf) (history : List Event) : Type 0 where
   pub older : NoneIsOlder script history
   pub traces : AreTraced script history
 
--- and at each moment of it
+-- and at each moment of it: after each of its beginnings
 abbrev pub HoldsAtEachMoment : ScriptOf → List Event → Type 0
 HoldsAtEachMoment script history =
     (before later : List Event) → history ≡ before ++ later → HoldsAt script before
@@ -166,6 +169,7 @@ pub record IsFinishedAsItself (world : WorldOf) (place : ℕ) : Type 0 where
   pub topology : IsTopology (world.switches place).life topo
   pub loaded : UsesTableOf world place topo
 
+-- each component has finished as itself
 abbrev pub AreFinished : WorldOf → Type 0
 AreFinished world = (place : ℕ) → place < count world.fabric → IsFinishedAsItself world place
 
