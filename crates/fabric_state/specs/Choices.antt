@@ -32,7 +32,7 @@ abbrev pub frame_work : Option ℕ → Work
 frame_work None = work.Nothing why.Idle
 frame_work (Some port) = work.Frame port
 
--- the first of these that is so; the second number is the port from which the switch last took
+-- what is so first decides; the second number is the port from which the switch last took
 abbrev pub next_work : FabricOf → ℕ → ℕ → Work
 next_work fabric place last =
     if is_some_spent fabric then work.Nothing why.Spent
@@ -63,7 +63,7 @@ command_or_move None fabric = move_or_tick (first_packet fabric.packets) fabric
 command_or_move (Some event) fabric =
     if is_restart event then move_or_tick (first_packet fabric.packets) fabric else drive.Did event
 
--- an end ends it; if only what is in hand may still be handled, the driver waits
+-- an end that has come is told; if only what is in hand may still be handled, the driver waits
 abbrev pub drive_by : Option Ending → FabricOf → Drive
 drive_by (Some end) fabric = drive.Ended end
 drive_by None fabric = if is_barred fabric then drive.Waits else command_or_move (due_command fabric) fabric

@@ -24,7 +24,8 @@ pub record QueueFits (script : ScriptOf) (queue : ℕ) (frames : List (List ℕ)
   pub bytes : All (λ frame. 1 ≤ length frame) frames
   pub linked : 0 < length frames → IsWireOrHand script queue
 
--- a queue for each wire and each hand; the blocks that are free and those in use are all of the script's
+-- a queue for each port, 0 to 12, of each switch; the blocks that are free and those in use are all of the
+-- script's
 pub record AreFramesSound (script : ScriptOf) (frames : FramesOf) : Type 0 where
   pub queues : length frames.queues ≡ 13 * length script.wires.switches
   pub limit : frames.limit ≡ script.limits.blocks

@@ -69,8 +69,8 @@ finish_lines place before after =
     if not (has_joined before after) && is_some (finish_of before) then []
     else finish_line place after.epoch (finish_of after)
 
--- What a switch had in hand was handled: ports that changed, by rising port; bytes that are no frame; the
--- epoch; and frames that were lost.
+-- What a switch had in hand was handled: the ports whose state changed, by rising port; bytes that are no
+-- frame; the epoch; and the frames that were lost.
 abbrev pub handle_lines : ℕ → Step → WorldOf → List Line
 handle_lines place step world =
     flat_map (port_line place (note_of (world.switches place)) (note_of step.switch)) externals

@@ -39,7 +39,7 @@ pub record Hopped : Type 0 where
 abbrev pub no_topo : TopoOf
 no_topo = record { entries = []; numbers = [] }
 
--- the hop of a packet by this exit, in the world before it; `no_topo` if the life has finished nothing
+-- the hop of a packet by this exit, in the world before it; `no_topo` if the life has not finished its epoch
 abbrev pub hopped_at : WorldOf → PacketOf → ℕ → Hopped
 hopped_at world packet exit = record {
   place = packet.at;

@@ -108,7 +108,8 @@ abbrev pub IsTold : ScriptOf → List Event → List Event → Option PlacedLine
 IsTold script history events told =
     option_to_list told ≡ flat_map (placed_lines (world_after script history)) events
 
--- What is replied to the worker of a place, and the history afterwards: its next work, whose event has come.
+-- What is replied to the worker of a place, and the history afterwards: its next work, whose event, if it has
+-- one, has come.
 pub record TakesWork (script : ScriptOf) (history : List Event) (place : ℕ) (job : Work) (out : List ℕ)
     (told : Option PlacedLine) (after : List Event) : Type 0 where
   pub work_is : job ≡ next_work (world_after script history).fabric place (last_taken place history)
