@@ -99,6 +99,7 @@ begun epoch switch =
       load_due = is_some (finish (card_of switch.life switch.number (good_links switch)) []);
     }
 
+-- the epoch is joined, and what the life adds before any body was accepted is pushed
 abbrev pub joins : ℕ → SwitchOf → Step
 joins epoch switch = all_pushed (adds (begun epoch switch).card []) (begun epoch switch)
 
@@ -122,6 +123,7 @@ all_added card port (body ∷ bodies) log =
 abbrev pub finishes_by : CardOf → Log → Log → Bool
 finishes_by card before log = not (is_some (finish card before)) && is_some (finish card log)
 
+-- a life that finishes by these bodies is to load a table
 abbrev pub accepts : ℕ → List Body → SwitchOf → SwitchOf
 accepts port bodies switch =
     record switch {
@@ -137,6 +139,7 @@ receives port number body switch =
       receivings = at_port port (received number body (switch.receivings port)) switch.receivings;
     })
 
+-- the acknowledgement, if one is due, is of all that were accepted, by this body too
 abbrev pub acks : ℕ → EndId → ℕ → Body → SwitchOf → List Sent
 acks port peer number body switch =
     if is_acknowledged (verdict number body (switch.receivings port))
@@ -178,6 +181,7 @@ acknowledges port peer number switch =
     (sent_by_ack number (switch.sendings port)))
     switch
 
+-- one of another epoch, or of a number that is not outstanding, is nothing
 abbrev pub on_ack : ℕ → EndId → ℕ → ℕ → SwitchOf → Step
 on_ack port peer epoch number switch =
     if epoch == switch.epoch && is_outstanding number (switch.sendings port)
@@ -251,6 +255,7 @@ abbrev pub is_change_due : SwitchOf → SwitchOf → Bool
 is_change_due before switch =
     not before.joined || not (are_same_links (good_links before) (good_links switch))
 
+-- 2^64 - 1
 abbrev pub last_epoch : ℕ
 last_epoch = 18446744073709551615
 
@@ -258,18 +263,20 @@ last_epoch = 18446744073709551615
 abbrev pub is_spent_by : SwitchOf → SwitchOf → Bool
 is_spent_by before switch = is_change_due before switch && (switch.epoch == last_epoch)
 
--- behind the probes, the next epoch is joined, or what is due is sent again
+-- after the probes, the next epoch is joined, or what is due is sent again
 abbrev pub goes_on : SwitchOf → SwitchOf → Step
 goes_on before switch =
     if is_change_due before switch
     then joins (suc switch.epoch) switch
     else all_resent switch.card.links switch
 
+-- if no epoch is left for a change, nothing goes out, and the epochs are spent
 abbrev pub clocked_to : SwitchOf → SwitchOf → Step
 clocked_to before switch =
     if is_spent_by before switch then still (record switch { spent = true })
     else after (record { switch = switch; frames = probes switch }) (goes_on before switch)
 
+-- a clock comes at this tick, with what the hardware says of each external port, by rising port
 abbrev pub clocked : ℕ → List Sample → SwitchOf → Step
 clocked now samples switch = clocked_to switch (sampled_by now samples switch)
 
