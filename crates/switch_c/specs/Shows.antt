@@ -93,7 +93,7 @@ pub record IsRowShown (row : RowOf) (shown : RowShown) : Type 0 where
 abbrev pub row_at : Instance → ℕ → Option RowOf
 row_at instance place = option_map_or (λ it. slice_get it.table.rows place) instance.loaded None
 
--- it is told of that row; no row is at the place, and nothing is told
+-- it is told of that row; if there is none, nothing is told
 pub record AsksRow (place : ℕ) (shown told : RowShown) (instance : Instance) (status : Status) : Type 0 where
   pub none : row_at instance place ≡ None → (status ≡ NoMore) × (told ≡ shown)
   pub some : (row : RowOf) → row_at instance place ≡ Some row → (status ≡ Done) × IsRowShown row told
@@ -113,7 +113,7 @@ pub record IsMemberShown (switch : SwitchOf) (place : ℕ) (shown : MemberShown)
   pub boot : shown.boot ≡ entry.life.boot
   pub number : number_at switch place ≡ Some shown.number
 
--- it is told of that member; no member is at the place, and nothing is told
+-- it is told of that member; if there is none, nothing is told
 pub record AsksMember (place : ℕ) (shown told : MemberShown) (instance : Instance) (status : Status)
     : Type 0 where
   pub none : (switch : SwitchOf) → StandsFor instance.switch switch → entry_at switch place ≡ None

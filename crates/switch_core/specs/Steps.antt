@@ -139,7 +139,7 @@ receives port number body switch =
       receivings = at_port port (received number body (switch.receivings port)) switch.receivings;
     })
 
--- the acknowledgement, if one is due, is of all that were accepted, by this body too
+-- the acknowledgement, if one goes out, is of all that were accepted, those by this body among them
 abbrev pub acks : ℕ → EndId → ℕ → Body → SwitchOf → List Sent
 acks port peer number body switch =
     if is_acknowledged (verdict number body (switch.receivings port))
