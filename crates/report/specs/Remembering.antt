@@ -27,6 +27,7 @@ delivery_in (other ∷ lines) = None
 abbrev pub nothing_sent : Traced
 nothing_sent = record { host = 0; source = None }
 
+-- what is kept of the packet at a place, from 0: that of the number one above it
 abbrev pub traced_at : List Traced → ℕ → Traced
 traced_at packets place = slice_index_or packets place nothing_sent
 
@@ -35,6 +36,7 @@ traced_at packets place = slice_index_or packets place nothing_sent
 abbrev pub source_with : List Traced → (place address : ℕ) → ℕ
 source_with packets place address = unwrap_or (traced_at packets place).source address
 
+-- and this is kept of it, so that a later address changes nothing
 abbrev pub with_source : List Traced → (place address : ℕ) → List Traced
 with_source packets place address = slice_set packets place (record {
   host = (traced_at packets place).host;
@@ -74,10 +76,11 @@ arrival_in script fabric packets place = record {
 abbrev pub CameUntil : ℕ → List (List ArrivalOf) → Type 0
 CameUntil tick caches = (host : ℕ) → All (λ arrival. arrival.tick ≤ tick) (cache_at caches host)
 
--- the hosts that sent the packets of a history, and where those come from that have moved
+-- from where the packet at a place comes, if it has moved
 abbrev pub source_at : List Traced → ℕ → Option ℕ
 source_at packets place = option_and_then (λ packet. packet.source) (slice_get packets place)
 
+-- the hosts that sent the packets of a history, by rising number, and where those come from that have moved
 pub record AreTraced (script : ScriptOf) (history : List Event) (packets : List Traced) : Type 0 where
   pub hosts : map (λ packet. packet.host) packets ≡ senders history
   pub sources : (place : ℕ) → source_at packets place
