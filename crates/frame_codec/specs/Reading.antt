@@ -60,9 +60,11 @@ ReadsAs view at (Ok value) old new = at old ≡ Some (view value, new)
 ReadsAs view at (Err NotAFrame) old new = at old ≡ None
 ReadsAs view at (Err OutOfMemory) old new = ⊤
 
+-- the same, of the value as it is
 abbrev pub Reads : {A : Type 0} → At A → Result A DecodeRefusal → List ℕ → List ℕ → Type 0
 Reads at result old new = ReadsAs (λ value. value) at result old new
 
+-- a byte; and a number of so many bytes, the highest first
 abbrev pub byte_at : At ℕ
 byte_at [] = None
 byte_at (byte ∷ rest) = Some (byte, rest)
@@ -79,9 +81,11 @@ within_at least most = tested (λ byte. not (nat_lt byte least) && not (nat_lt m
 abbrev pub counted_at : At ℕ
 counted_at = tested (λ number. not (nat_lt number 1)) (number_at 4)
 
+-- a byte that is 0 or 1
 abbrev pub truth_at : At Bool
 truth_at = made (λ byte. byte == 1) (within_at 0 1)
 
+-- Each `_of` below makes a value of its parts, and each `_at` reads it: in the order in which it is spelled.
 abbrev pub life_of : ℕ × ℕ → LifeId
 life_of parts = record { uid = parts.0; boot = parts.1 }
 
@@ -147,6 +151,7 @@ is_new before number =
     not (nat_lt number 1) && not (nat_lt MOST_NUMBER number)
     && not (list_any (λ other. other == number) before)
 
+-- so of each number of a list in turn
 unfoldable pub are_new : List ℕ → List ℕ → Bool
 are_new before [] = true
 are_new before (number ∷ numbers) = is_new before number && are_new (before ++ number ∷ []) numbers
