@@ -39,6 +39,7 @@ pub record OffersLess (old new : PosOf) : Type 0 where
   pub offer : IsTrue (is_le (ordering_then (life_cmp new.root old.root) (nat_cmp new.level old.level)))
   pub gives : old.level < MOST_LEVEL → new.level < MOST_LEVEL
 
+-- None: no position was told before; only positions offer
 abbrev pub Lowers : Option PosOf → Body → Type 0
 Lowers None body = ⊤
 Lowers (Some old) (Pos new) = OffersLess old new

@@ -45,6 +45,7 @@ repositioned core = record core {
   version = if is_moved core then suc core.version else core.version;
 }
 
+-- the new position on each link, if it is another
 abbrev pub told_by : CoreOf → List OnPort
 told_by core = if is_moved core then positions_of (suc core.version) (best_of core) core.card.links else []
 
@@ -83,6 +84,7 @@ abbrev pub unless_finished : Option TopoOf → List OnPort → List OnPort
 unless_finished None down = down
 unless_finished (Some topo) down = []
 
+-- what had not finished does, with the report of whatever log is kept; it goes to the links that claim
 pub record FinishesAsRoot (old new : CoreOf) (before after : List OnPort) : Type 0 where
   pub rest : new ≡ record old { finish = new.finish }
   pub finish : (log : Log) → HasHeard old.ports log → new.finish ≡ finish_or old log

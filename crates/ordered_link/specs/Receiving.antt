@@ -26,6 +26,7 @@ last receiving = length receiving.accepted
 abbrev pub has_come : ℕ → Receiving → Bool
 has_come number receiving = nat_le number (last receiving) || is_some (receiving.held number)
 
+-- a body is accepted next; and this body, or none, is held of a number
 abbrev pub accept : Body → Receiving → Receiving
 accept body receiving = record receiving { accepted = receiving.accepted ++ body ∷ [] }
 
@@ -42,6 +43,7 @@ come number body receiving =
     else if nat_le number (last receiving + 8) then hold number (Some body) receiving
     else receiving
 
+-- what it is answered: the number of the last accepted body, or the wanted number and its own
 abbrev pub verdict : ℕ → Body → Receiving → Verdict
 verdict number body receiving =
     if has_come number receiving then Repeat (last receiving)
@@ -68,6 +70,7 @@ after_verdict (Held wanted got) receiving = receiving
 after_verdict (Repeat last) receiving = receiving
 after_verdict (Ahead wanted got) receiving = receiving
 
+-- a body with this number comes, and the held ones that follow it are accepted as well
 abbrev pub received : ℕ → Body → Receiving → Receiving
 received number body receiving = after_verdict (verdict number body receiving) (come number body receiving)
 
@@ -87,6 +90,7 @@ pub record ReceiverOf : Type 0 where
   pub last : ℕ
   pub places : List (Option Early)
 
+-- a held body, with its number
 abbrev pub early : ℕ → Option Body → Option Early
 early number None = None
 early number (Some body) = Some (record { k = number; body = body })
