@@ -63,6 +63,7 @@ pub record AgreesAt (script : ScriptOf) (before later : List Event) : Type 0 whe
   pub stay : ports_shown (world_after script (before ++ later)).fabric
       ≡ ports_shown (world_after script before).fabric
 
+-- so at each moment of a history that is more than 512 ticks after that tick
 abbrev pub PortsSettle : ScriptOf → List Event → Type 0
 PortsSettle script history = (before later : List Event) → history ≡ before ++ later
     → last_told script history + 512 < (world_after script before).fabric.tick
@@ -76,6 +77,7 @@ pub record SettlesAt (script : ScriptOf) (last : ℕ) (before : List Event) : Ty
       → last + 1024 ≤ (world_after script before).fabric.tick
       → is_settled (world_after script before).fabric ≡ true
 
+-- so at each moment of a history at which all commands are done
 abbrev pub MomentsSettle : ScriptOf → List Event → Type 0
 MomentsSettle script history = (before later : List Event) → history ≡ before ++ later
     → are_all_done (world_after script before).fabric ≡ true

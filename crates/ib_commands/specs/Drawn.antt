@@ -19,7 +19,7 @@ use Rattle.ib_commands.specs.Judged.{IsEndOf, IsLoop, step_of}
 use Rattle.ib_commands.specs.Names.{names_for}
 use Rattle.ib_commands.specs.Words.{traffic_word}
 
--- a channel as an arrow, to the switch to which it leads
+-- a channel as an arrow, to the switch to which it leads; there is none if it leads to no switch
 abbrev pub arrow_over : FabricOf → LoopChannel → Side → List Arrow
 arrow_over fabric one (To next entry) =
     record { step = step_of fabric one; to = guid_of fabric (Switch next); entry = entry } ∷ []

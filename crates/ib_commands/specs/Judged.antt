@@ -79,7 +79,7 @@ losses_of lost =
       looping = lost.looping.count;
     }
 
--- the least route that is lost by a cause
+-- the least route that is lost by a cause, as an answer tells it
 abbrev pub lost_route : FabricOf → Cause → LostRoute → Lost
 lost_route fabric cause route =
     record {
@@ -89,9 +89,11 @@ lost_route fabric cause route =
       at = guid_of fabric (Switch route.at);
     }
 
+-- none if no route is lost by it
 abbrev pub lost_by : FabricOf → Cause → Loss → List Lost
 lost_by fabric cause loss = option_to_list (option_map (lost_route fabric cause) loss.least)
 
+-- those of all causes, in this order
 abbrev pub lost_of : FabricOf → Counted → List Lost
 lost_of fabric lost =
     lost_by fabric Missing lost.missing ++ lost_by fabric Dead lost.dead ++ lost_by fabric Wrong lost.wrong

@@ -14,6 +14,7 @@ use Rattle.ib_routes.specs.declared.hop.Cause.TheVariants.{Missing, Dead, Wrong}
 use Rattle.ib_net.specs.Fabric.{FabricOf, switch_count, side_of, owner_of, start_of}
 use Rattle.ib_cells.specs.Cells.{TablesOf}
 
+-- whether the owner of a LID is this end port of an adapter or router, and whether it is this switch
 abbrev pub is_host : Option EndPort → ℕ → Bool
 is_host (Some (Host end)) other = end == other
 is_host (Some (Switch switch)) other = false
@@ -76,6 +77,7 @@ WalksBy hop_at zero start at = start ≡ at
 WalksBy hop_at (suc hops) start at =
     (before port : ℕ) × WalksBy hop_at hops start before × (hop_at before ≡ On port at)
 
+-- by the tables, with what goes to a LID
 abbrev pub ComesBy : FabricOf → TablesOf → ℕ → ℕ → ℕ → ℕ → Type 0
 ComesBy fabric tables lid = WalksBy (λ at. hop fabric tables at lid)
 
@@ -105,6 +107,7 @@ IsStop (On port next) = ⊥
 IsStop Arrive = ⊥
 IsStop (Stop cause) = Unit {0}
 
+-- the route of an end port to a LID stops at some switch
 abbrev pub IsStopped : FabricOf → TablesOf → Traffic → ℕ → EndPort → Type 0
 IsStopped fabric tables traffic lid source =
     (at : ℕ) × ComesTo fabric tables traffic lid source at × IsStop (hop fabric tables at lid)

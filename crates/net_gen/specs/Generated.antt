@@ -58,10 +58,12 @@ pub record DrawnOf : Type 0 where
 abbrev pub from_on : ℕ → ℕ → List ℕ
 from_on first end = range_with_len first (end - first) ++ range_with_len 0 first
 
+-- None: no switch before it has a free port, and it is not linked
 abbrev pub with_link_to : List LinkAt → Option ℕ → ℕ → List LinkAt
 with_link_to links None place = links
 with_link_to links (Some before) place = with_link links before place
 
+-- the switch at this place is linked, by the next draw
 abbrev pub grown : DrawnOf → ℕ → DrawnOf
 grown so_far place =
     let seed : ℕ = next_seed so_far.seed in
@@ -108,6 +110,7 @@ failure count =
     then record { time = 20; event = event.Fail 0 1 } ∷ record { time = 60; event = event.Repair 0 1 } ∷ []
     else []
 
+-- they send twice: before the failure, and after the repair
 abbrev pub commands_of : ℕ → List Command
 commands_of count = sends_at count 10 ++ failure count ++ sends_at count 80
 
