@@ -28,6 +28,7 @@ with_entered numbers flow sent =
 abbrev pub entered_flow : List ℕ → List Sent → FlowOf
 entered_flow numbers sends = fold (with_entered numbers) empty_flow sends
 
+-- the flow of a component before its first turn: all packets have entered that enter it
 abbrev pub start_of : ScriptOf → List EntryOf → FlowOf
 start_of script entries =
     entered_flow (numbers_in script.wires.switches entries)

@@ -122,6 +122,7 @@ pub record Joins (old new : Direction) : Type 0 where
   pub no_carry : (each : ℕ) → IsTrue (new.carry each) → ⊥
   pub ack : (each : ℕ) → IsTrue (new.ack each) → (new.epoch ≤ old.far_epoch) × (each ≡ 0)
 
+-- what may happen in this direction; `base` is the tick from which on what goes out is not lost
 pub data Step (base : ℕ) (old new : Direction) : Type 0 where
   ticks : Ticks old new → Step base old new
   pushes : (body : Body) → Sends base (push body old.now old.sending) (sent_by_push body old.sending) old new
@@ -139,6 +140,7 @@ pub data Step (base : ℕ) (old new : Direction) : Type 0 where
   far_joins : FarJoins old new → Step base old new
   joins : Joins old new → Step base old new
 
+-- steps one after another
 pub data Run (base : ℕ) : Direction → Direction → Type 0 where
   rest : (old : Direction) → Run base old old
   then_step : (first old new : Direction) → Run base first old → Step base old new → Run base first new

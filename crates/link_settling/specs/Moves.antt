@@ -64,6 +64,7 @@ pub record WorksFrom (had has port now : ℕ) (sending : Sending) (receiving : R
       → Moves now sending (carried_by port step.frames) (step.switch.sendings port)
   pub filled : IsFilledBut had sending → IsFilledBut has (step.switch.sendings port)
 
+-- so of the session as the switch has it before the step
 abbrev pub Works : ℕ → ℕ → ℕ → SwitchOf → Step → Type 0
 Works had has port switch step =
     WorksFrom had has port switch.tick (switch.sendings port) (switch.receivings port) step
@@ -80,6 +81,7 @@ from_of (Ack epoch from to number) = from
 from_of (Probe from nonce) = from
 from_of (Reply from to nonce) = from
 
+-- it says that it is from this life and from the port by which it goes out
 abbrev pub IsFrom : LifeId → Sent → Type 0
 IsFrom life sent = from_of sent.frame ≡ record { life = life; port = sent.port }
 

@@ -55,6 +55,7 @@ pub record IsBetter (one other better : Best) : Type 0 where
       ↔ (((one.cost ≤ other.cost) × HasPort one.ports port)
       ⊎ ((other.cost ≤ one.cost) × HasPort other.ports port))
 
+-- so of two that may be none
 abbrev pub IsBetterOf : Option Best → Option Best → Option Best → Type 0
 IsBetterOf None other result = result ≡ other
 IsBetterOf (Some one) None result = result ≡ Some one
@@ -116,6 +117,7 @@ pub record BestsOf : Type 0 where
   pub up : List (Option Best)
   pub down : List (Option Best)
 
+-- so from a member at a place
 pub record AreBestFrom (entries : List EntryOf) (any : Bool) (place : ℕ) (bests : BestsOf) : Type 0 where
   pub up : AreBestTo entries any true true place bests.up
   pub down : AreBestTo entries any false true place bests.down
