@@ -31,9 +31,11 @@ with_node_in game epoch life node other other_epoch =
     if epoch == other_epoch then with_node (slice other_epoch game) life node other
     else game.nodes other other_epoch
 
+-- a life is in this epoch then
 abbrev pub with_present : Game → LifeId → ℕ → LifeId → ℕ
 with_present game life epoch other = if is_eq (life_cmp life other) then epoch else game.present other
 
+-- a life loaded in this epoch, and all else stays
 abbrev pub with_loaded : Game → LifeId → ℕ → LifeId → ℕ → Bool
 with_loaded game life epoch other other_epoch =
     if is_eq (life_cmp life other) then (if epoch == other_epoch then true else game.loaded other other_epoch)

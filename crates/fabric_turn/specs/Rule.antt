@@ -120,6 +120,7 @@ module _ {S E D : Type 0} (history : S → List E) (start_of : S → D) (owner :
       pub sight : HasSeen log view.seen view.heard view.number view.mine
       pub open sight use {saw, rest, prefix, heard_rest, heard_prefix}
 
+    -- what is so of the words, the views and the value of a turn lock
     pub record IsKept (state : State S (View E D)) : Type 0 where
       -- tickets drawn and turns passed on, counted without bound, and the history
       pub drawn : ℕ

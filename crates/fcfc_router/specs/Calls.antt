@@ -19,7 +19,7 @@ pub data Call : Type 0 where
   Ask : (request : RequestOf) → Call
   Grants : (free : ℕ) → (answer : Option Grant) → Call
 
--- the calls lead from those who wait before to those who wait behind
+-- the calls lead from those who wait before them to those who wait after them
 abbrev pub Leads : ℕ → List RequestOf → List Call → List RequestOf → Type 0
 Leads most old [] new = old ≡ new
 Leads most old (Ask request ∷ calls) new =

@@ -27,8 +27,8 @@ pub record TrafficOf : Type 0 where
 abbrev pub row_entry : PacketOf → ℕ
 row_entry packet = if packet.is_new then 0 else packet.entry
 
--- At the switch of its address it is delivered to the host at the port of its address, which is the one that
--- it is for.
+-- At the switch of its address it is delivered to the host at the port of its address, if that is the one
+-- that it is for.
 abbrev pub delivered_to : ℕ → Option (ℕ × ℕ) → PacketOf → Hop
 delivered_to port None packet = hop.Dropped cause.NoHost
 delivered_to port (Some host) packet =
@@ -79,6 +79,7 @@ abbrev pub moved_to : Option (ℕ × ℕ) → PacketOf → PacketOf
 moved_to None packet = packet
 moved_to (Some far) packet = record packet { at = far.0; entry = far.1; is_new = false }
 
+-- and so the packet of a number, among those under way
 abbrev pub moved : ℕ → Option (ℕ × ℕ) → List PacketOf → List PacketOf
 moved number far packets =
     map (λ packet. if packet.packet == number then moved_to far packet else packet) packets
@@ -89,6 +90,7 @@ after_hop (hop.Went exit) next number packets = moved number (next exit) packets
 after_hop (hop.Delivered exit host) next number packets = without number packets
 after_hop (hop.Dropped why) next number packets = without number packets
 
+-- the packets under way after the hop of one of them; None: there is no such packet
 abbrev pub hopped_in :
     (ℕ → Option TableOf) → (ℕ → ℕ → Option (ℕ × ℕ)) → (ℕ → ℕ → Option (ℕ × ℕ)) → ℕ → Option PacketOf
     → List PacketOf → List PacketOf

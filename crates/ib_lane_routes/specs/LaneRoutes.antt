@@ -103,6 +103,7 @@ IsLaneStop Arrive = ⊥
 IsLaneStop (Stop cause) = Unit {0}
 IsLaneStop Discard = Unit {0}
 
+-- the route of an end port to a LID with a level stops, or is discarded, at some switch
 abbrev pub IsLaneStopped :
     FabricOf → TablesOf → LanesOf → Traffic → LevelsOf → ℕ → EndPort → ℕ → Type 0
 IsLaneStopped fabric tables lanes traffic levels lid source level =

@@ -110,5 +110,6 @@ pub record AreNamesBy (name : ℕ → Option (List ℕ)) (guids : List ℕ) (nam
   pub asked : (guid : ℕ) → Contains guids guid → lookup (nat_eq guid) names ≡ name guid
   pub others : (guid : ℕ) → ¬ Contains guids guid → lookup (nat_eq guid) names ≡ None
 
+-- so by this text
 abbrev pub AreNamesOf : List ℕ → List ℕ → List (ℕ × List ℕ) → Type 0
 AreNamesOf bytes = AreNamesBy (name_of bytes)

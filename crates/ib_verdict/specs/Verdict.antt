@@ -36,6 +36,7 @@ pub record HasRanks (fabric : FabricOf) (tables : TablesOf) (traffic : Traffic) 
   pub no_cycle : HasNoCycle (DependsOn fabric tables traffic)
   pub ranked : AreRanks (IsChannel fabric) (DependsOn fabric tables traffic) (rank_in fabric ranks)
 
+-- no rank of a channel is greater than this
 abbrev pub AreAtMost : FabricOf → List ℕ → ℕ → Type 0
 AreAtMost fabric ranks most = (channel : Channel) (rank : ℕ) → rank_in fabric ranks channel ≡ Some rank → rank ≤ most
 
@@ -57,6 +58,7 @@ pub record Passes (fabric : FabricOf) (tables : TablesOf) (traffic : Traffic) (r
   pub ranked : HasRanks fabric tables traffic ranks
   pub arrived : AllArrive fabric tables traffic
 
+-- so by a verdict that is ranks; of one that is a loop nothing is said
 abbrev pub PassesBy : FabricOf → TablesOf → Traffic → Verdict → Type 0
 PassesBy fabric tables traffic (Ranks ranks) = Passes fabric tables traffic ranks.items
 PassesBy fabric tables traffic (Cycle channels) = Unit {0}

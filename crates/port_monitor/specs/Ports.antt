@@ -51,7 +51,7 @@ sampled sample.Down port = fallen port
 sampled sample.Host port = kept_up port.phase true port
 sampled sample.Switch port = kept_up port.phase false port
 
--- whether a switch is asked, and asks
+-- whether a switch is taken to be at the other end: the port then asks who it is, and answers
 abbrev pub speaks : Phase → Bool
 speaks Dead = false
 speaks Checking = false

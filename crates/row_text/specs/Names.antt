@@ -22,7 +22,7 @@ life_text script life =
     switch_name script.switch_names script.wires.switches life.uid
     ++ (if life.boot == 1 then [] else (codes "." ++ decimal life.boot))
 
--- the member at a place, and the member that has a number, are printed so
+-- the member at a place, and the member that has a number, are printed so; nothing, if there is none
 abbrev pub member_text : ScriptOf → List EntryOf → Option ℕ → List ℕ
 member_text script entries None = []
 member_text script entries (Some place) = life_text script (life_at entries place)
