@@ -8,7 +8,8 @@ pub record PortViewOf : Type 0 where
   pub state : PortState
   pub peer : Option EndId
 
--- what a switch shows of itself
+-- what a switch shows of itself: its life and its epoch, its external ports by rising port, whether it is to
+-- load a table, and whether some body that it pushed is not acknowledged
 pub record NoteOf : Type 0 where
   pub life : LifeId
   pub epoch : ℕ

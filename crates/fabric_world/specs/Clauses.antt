@@ -90,7 +90,8 @@ AreOwnTables script history = (place : ℕ) (table : TableFor) → place < lengt
     × IsTableOf topo.entries topo.numbers script.any_routes (switch_after script history place).life
     table.table
 
--- A switch loaded the table of a topology at a moment of a history.
+-- A load of a switch that has finished with a topology, at a moment of a history. It need not be lawful
+-- there.
 pub record IsLoadOf (script : ScriptOf) (history before : List Event) (place : ℕ) (later : List Event)
     (topo : TopoOf) : Type 0 where
   pub parts : history ≡ before ++ Load place ∷ later

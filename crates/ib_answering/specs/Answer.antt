@@ -88,7 +88,8 @@ pub data IsStop (old new : Sources) (status : Status) : Type 0 where
   no_tables : AreNoTables old new status → IsStop old new status
   wanting : status ≡ OutOfMemory → IsStop old new status
 
--- the statuses that a command gives; of a file of its own that it refuses too
+-- the statuses with which a command may end that has read both sources; with `RanksRefused` it refuses a file
+-- of its own
 abbrev pub IsEnding : Status → Type 0
 IsEnding Ok = Unit {0}
 IsEnding RoutesLost = Unit {0}
