@@ -70,8 +70,9 @@ abbrev pub is_some_under_way : (Frame → Bool) → WorldOf → LinkOf → Bool
 is_some_under_way test world link =
     list_any (is_such test) (under_way_to world.fabric link.far_place link.far_port)
 
--- A frame is the probe of this number from an end, or the reply to it. It is the body of this number in the
--- session of an epoch from one end to another, or the acknowledgement of this number there.
+-- Whether a frame is the probe of this number from an end, and whether it is the reply to that. Whether it is
+-- the body of this number in a session of an epoch, and whether it is the acknowledgement of this number
+-- there.
 abbrev pub is_probe : EndId → ℕ → Frame → Bool
 is_probe from nonce (Probe sender number) = is_same_end sender from && (number == nonce)
 is_probe from nonce other = false

@@ -85,7 +85,8 @@ counted_at = tested (λ number. not (nat_lt number 1)) (number_at 4)
 abbrev pub truth_at : At Bool
 truth_at = made (λ byte. byte == 1) (within_at 0 1)
 
--- Each `_of` below makes a value of its parts, and each `_at` reads it: in the order in which it is spelled.
+-- `life_of` makes a life of its parts, and `life_at` reads it, in the order in which it is spelled; so it is
+-- with each kind of value below
 abbrev pub life_of : ℕ × ℕ → LifeId
 life_of parts = record { uid = parts.0; boot = parts.1 }
 

@@ -40,7 +40,8 @@ AreSent fabric traffic levels gates count block top words =
     (gate level bit : ℕ) → gate < count → level < top → bit < 64
     → (HasBit words (gate * top + level) bit ↔ IsSentFrom fabric traffic levels gates gate (64 * block + bit) level)
 
--- an end port before that of a place has the same gate, and sends to the LID of a bit with the same levels
+-- an end port before that of a place has this gate, and sends to the LID of a bit with the same levels as
+-- that
 pub record StandsAlready (fabric : FabricOf) (levels : LevelsOf) (targets block : ℕ) (gates : List (Option ℕ))
     (owned : List ℕ) (place gate bit : ℕ)
     : Type 0 where

@@ -52,7 +52,7 @@ IsLesserOf fabric end switch found =
     ((found ≡ Some (Host end)) × (guid_of fabric (Host end) ≤ guid_of fabric (Switch switch)))
     ⊎ ((found ≡ Some (Switch switch)) × (guid_of fabric (Switch switch) ≤ guid_of fabric (Host end)))
 
--- the same if there is only one of them, which it then is, or neither
+-- and so if one of the two, or neither, is given
 abbrev pub IsLesser : FabricOf → Option ℕ → Option ℕ → Option EndPort → Type 0
 IsLesser fabric None None found = found ≡ None
 IsLesser fabric (Some end) None found = found ≡ Some (Host end)

@@ -43,7 +43,8 @@ come number body receiving =
     else if nat_le number (last receiving + 8) then hold number (Some body) receiving
     else receiving
 
--- what it is answered: the number of the last accepted body, or the wanted number and its own
+-- what is answered to it: that it is accepted; of a repeat the number of the last accepted body; or the
+-- wanted number and its own
 abbrev pub verdict : ℕ → Body → Receiving → Verdict
 verdict number body receiving =
     if has_come number receiving then Repeat (last receiving)
@@ -70,7 +71,7 @@ after_verdict (Held wanted got) receiving = receiving
 after_verdict (Repeat last) receiving = receiving
 after_verdict (Ahead wanted got) receiving = receiving
 
--- a body with this number comes, and the held ones that follow it are accepted as well
+-- a body with this number comes; if it is accepted, so are the held ones that follow it
 abbrev pub received : ℕ → Body → Receiving → Receiving
 received number body receiving = after_verdict (verdict number body receiving) (come number body receiving)
 
