@@ -3,7 +3,7 @@ use Rattle.std.specs.Prelude.{ℕ, Bool, List, Option}
 use Rattle.an_base.specs.Values.{LifeId, EndId}
 use Rattle.an_base.specs.declared.port.PortState.{PortState}
 
--- the state of a port, and the other end where it is known
+-- the state of a port, and the other end if it is known
 pub record PortViewOf : Type 0 where
   pub state : PortState
   pub peer : Option EndId

@@ -36,7 +36,7 @@ pub record IsGenCutOff (seed count : ℕ) (old new : Seen) : Type 0 where
   pub gains : GainsFront old new text
   pub failed : Failed old new
 
--- The cause of a status, and what out gained: the text, a front of it where out failed, and nothing where
+-- The cause of a status, and what out gained: the text, a front of it if out failed, and nothing if
 -- memory was wanting.
 pub data IsGenCause (seed count : ℕ) (old new : Seen) (status : Status) : Type 0 where
   given : status ≡ Ok → (text : List ℕ) → IsGenerated seed count text → Gains old new text

@@ -89,7 +89,7 @@ abbrev pub asked : Option EndId → ConnectivityOf → ConnectivityOf
 asked None known = record known { candidate = None; streak = 0 }
 asked (Some from) known = asked_by from (streak_of from known) known
 
--- the peer is lost where another end answered, or nobody did twice in a row
+-- the peer is lost if another end answered, or nobody did twice in a row
 abbrev pub held_by : EndId → Option EndId → ConnectivityOf → ConnectivityOf
 held_by peer None known =
     if known.missed then doubted known else record known { skeptic = cleared known.skeptic; missed = true }

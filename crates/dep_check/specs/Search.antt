@@ -98,7 +98,7 @@ pub record ComesIn (steps : Steps) (first second : Channel) (entry : ℕ) : Type
   pub has : has_at steps.exits.items (record { at = second.at; port = entry }) second.port ≡ true
   pub link : IsLinked steps second
 
--- A spot without a level gets one: where some step leads to a level, or, a channel, where all do.
+-- A spot without a level gets one: if some step leads to a level, or, a channel, if all do.
 abbrev pub IsDue : Rule → Steps → List (Option ℕ) → Channel → Type 0
 IsDue (Nearest goal) steps levels spot = HasNext steps levels spot true
 IsDue Rank steps levels spot = IsLinked steps spot × (HasNext steps levels spot false → ⊥)

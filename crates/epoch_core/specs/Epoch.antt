@@ -135,7 +135,7 @@ positions_of version place links = map (pos_at version place) links
 abbrev pub positions : CardOf → Log → List OnPort
 positions card log = positions_of (version card log) (position card log) card.links
 
--- the position, where it changed
+-- the position, if it changed
 abbrev pub told : CardOf → OnPort → Log → List OnPort
 told card item log = if has_moved card item log then positions card (item ∷ log) else []
 

@@ -75,7 +75,7 @@ topology_by core log =
     topology_of
     (report_of core.card.me (entry_of core ∷ flat_map (reported_on log) (claiming_among core.card.links log)))
 
--- a finish stays, and where there is none it becomes the report and its numbering, which goes to the links
+-- a finish stays, and if there is none it becomes the report and its numbering, which goes to the links
 -- that claim
 abbrev pub finish_or : CoreOf → Log → Option TopoOf
 finish_or core log = or_else core.finish (Some (topology_by core log))

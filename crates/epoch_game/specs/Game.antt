@@ -79,7 +79,7 @@ pub record MayJoin (game : Game) (life : LifeId) (epoch : ℕ) : Type 0 where
   pub known : (epoch ≡ game.present life + 1) ⊎ HasSent game epoch
 
 -- The moves: a life joins a greater epoch and leaves its present one; a life accepts in its present epoch, on
--- a port, the next body of what another sent on the far one, where each names the other, even if that
+-- a port, the next body of what another sent on the far one, if each names the other, even if that
 -- one has left; a life that has finished loads in its present epoch, once.
 pub data Play (lives : List LifeId) (game : Game) : Game → Type 0 where
   none : Play lives game game

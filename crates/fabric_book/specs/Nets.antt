@@ -34,7 +34,7 @@ with_step event net = record net { events = net.events ++ event ∷ [] }
 abbrev pub with_events : List Event → NetOf → NetOf
 with_events events net = record net { events = net.events ++ events }
 
--- what is told of an event where it is the driver's: a tick, a hop, or a command that is no restart
+-- what is told of an event if it is the driver's: a tick, a hop, or a command that is no restart
 abbrev pub driver_line : WorldOf → Event → List Line
 driver_line world event = if owner_of event == 0 then lines_of world event else []
 

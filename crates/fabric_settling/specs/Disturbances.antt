@@ -63,13 +63,13 @@ disturbs test world event = is_lawful world.fabric event && (is_of_script event 
 abbrev pub loses_as_told : WorldOf → Event → Bool
 loses_as_told world event = is_lawful world.fabric event && loses is_told world event
 
--- the tick of the last event that is such a one, or this tick where none is
+-- the tick of the last event that is such a one, or this tick if none is
 abbrev pub since : (WorldOf → Event → Bool) → ℕ → WorldOf → List Event → ℕ
 since test last world [] = last
 since test last world (event ∷ events) =
     since test (if test world event then world.fabric.tick else last) (step world event) events
 
--- the tick of the last disturbance in a history, and that of the last told loss; 0 where there was none
+-- the tick of the last disturbance in a history, and that of the last told loss; 0 if there was none
 abbrev pub last_disturbance : (Loss → Bool) → ScriptOf → List Event → ℕ
 last_disturbance test script history = since (disturbs test) 0 (begun script) history
 

@@ -124,7 +124,7 @@ view world link = record {
 abbrev pub is_session : WorldOf → LinkOf → Bool
 is_session world link = is_end (peer_among (here world link).card.links link.port) (end_there world link)
 
--- what the far end received counts in its session with this end, where it is not in a lower epoch
+-- what the far end received counts in its session with this end, if it is not in a lower epoch
 abbrev pub is_received_here : WorldOf → LinkOf → Bool
 is_received_here world link =
     is_session world (turned link) && not (nat_lt (there world link).epoch (here world link).epoch)

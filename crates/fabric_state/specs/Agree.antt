@@ -58,7 +58,7 @@ is_idle fabric =
     not (is_some_packet fabric) && not (is_some_clock_due fabric) && not (is_some_load_due fabric)
     && are_wires_empty fabric
 
--- And no body waits or is unacknowledged. A frame that is in hand is on no wire: this is asked where no hand
+-- And no body waits or is unacknowledged. A frame that is in hand is on no wire: this is asked if no hand
 -- is full.
 abbrev pub is_quiet : FabricOf → Bool
 is_quiet fabric = is_idle fabric && not (is_some_unacked fabric)

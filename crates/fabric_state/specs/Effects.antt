@@ -66,7 +66,7 @@ abbrev pub all_put_out : ℕ → List BytesOut → WiresOf → WiresOf
 all_put_out place [] wires = wires
 all_put_out place (out ∷ more) wires = all_put_out place more (put_out place out wires)
 
--- a table goes out of use where another epoch was joined
+-- a table goes out of use if another epoch was joined
 abbrev pub kept_table : Bool → Option TableFor → Option TableFor
 kept_table stays table = if stays then table else None
 
@@ -136,7 +136,7 @@ noise_out place port bytes wires =
 abbrev pub address_of : TableOf → ℕ → ℕ
 address_of table port = table.number * 16 + port
 
--- A host sends a packet to another one: it has an address where the port of the first shows a host and the
+-- A host sends a packet to another one: it has an address if the port of the first shows a host and the
 -- switch of the other has a table in use.
 abbrev pub address_for : FabricOf → HostOn → HostOn → Result ℕ DropCause
 address_for fabric from to =
@@ -144,7 +144,7 @@ address_for fabric from to =
     then option_map_or (λ table. Ok (address_of table to.port)) (table_at fabric to.s) (Err cause.NoTable)
     else Err cause.NoPort
 
--- it is under way where it has an address
+-- it is under way if it has an address
 abbrev pub packet_to : ℕ → HostOn → HostOn → ℕ → PacketOf
 packet_to number from to address = record {
   packet = number;

@@ -36,7 +36,7 @@ is_same_event one other = is_eq (slice_cmp nat_cmp (event_code one) (event_code 
 abbrev pub is_command : FabricOf → Event → Bool
 is_command fabric event = option_map_or (is_same_event event) (due_command fabric) false
 
--- there were events enough since the last tick, where the script sets a pace
+-- there were events enough since the last tick, if the script sets a pace
 abbrev pub is_paced : Option ℕ → ℕ → Bool
 is_paced None since = false
 is_paced (Some pace) since = nat_le pace since

@@ -11,7 +11,7 @@ use Rattle.fabric_world.specs.Histories.{owner_of}
 use Rattle.fabric_world.specs.Lines.{lines_of, rows_behind}
 use Rattle.fabric_world.specs.World.{WorldOf, begun, step}
 
--- what the events of a caller give, among lawful events in turn, where each gives this in the world before it
+-- what the events of a caller give, among lawful events in turn, if each gives this in the world before it
 abbrev pub gathered : {A : Type 0} → (WorldOf → Event → List A) → ℕ → WorldOf → List Event → List A
 gathered give caller world [] = []
 gathered give caller world (event ∷ events) =

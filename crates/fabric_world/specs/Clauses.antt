@@ -179,7 +179,7 @@ abbrev pub IfSettled : ScriptOf → List Event → Type 0
 IfSettled script history =
     end_of script history ≡ Some ending.Settled → AreFinished (world_after script history)
 
--- All that is claimed of a history: what holds at each moment, and what has finished where it ends settled.
+-- All that is claimed of a history: what holds at each moment, and what has finished if it ends settled.
 pub record HoldsThroughout (script : ScriptOf) (history : List Event) : Type 0 where
   pub moments : HoldsAtEachMoment script history
   pub settled : IfSettled script history

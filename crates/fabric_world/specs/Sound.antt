@@ -17,7 +17,7 @@ use Rattle.fabric_state.specs.Lawful.{is_lawful}
 use Rattle.fabric_world.specs.World.{WorldOf, table_for}
 
 -- What a switch has in hand is of this tick: a clock, or a frame that came in by an external port of a
--- switch that is not spent and had its clock; and where it had, its last tick is this one.
+-- switch that is not spent and had its clock; and if it had, its last tick is this one.
 abbrev pub HandFits : ℕ → ℕ → SwitchOf → Hand → Type 0
 HandFits tick clock switch hand.Empty = clock ≡ tick + 1 → switch.tick ≡ tick
 HandFits tick clock switch (hand.Clock now samples) = (now ≡ tick) × (clock ≡ tick + 1)

@@ -103,7 +103,7 @@ HasBytes (work.Restart life) fabric place out = Unit {0}
 HasBytes (work.Clock now samples) fabric place out = Unit {0}
 HasBytes (work.Nothing reason) fabric place out = Unit {0}
 
--- all that is told of what comes after a history, where at most one event does
+-- all that is told of what comes after a history, if at most one event does
 abbrev pub IsTold : ScriptOf → List Event → List Event → Option PlacedLine → Type 0
 IsTold script history events told =
     option_to_list told ≡ flat_map (placed_lines (world_after script history)) events

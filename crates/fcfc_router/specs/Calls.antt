@@ -27,7 +27,7 @@ Leads most old (Ask request ∷ calls) new =
 Leads most old (Grants free answer ∷ calls) new =
     (next : List RequestOf) × IsGranted free old next answer × Leads most next calls new
 
--- 1 where the two are one packet
+-- 1 if the two are one packet
 abbrev pub counts : ℕ → ℕ → ℕ
 counts one other = if one == other then 1 else 0
 

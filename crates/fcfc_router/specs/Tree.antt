@@ -19,7 +19,7 @@ abbrev pub IsUnion : List ℕ → ℕ → Type 0
 IsUnion unions node =
     slice_index unions node ≡ bit_or (slice_index unions (2 * node)) (slice_index unions (2 * node + 1))
 
--- the first of the two nodes below a node where it has one of these ports, else the second
+-- the first of the two nodes below a node if it has one of these ports, else the second
 abbrev pub IsHalf : List ℕ → ℕ → ℕ → ℕ → Type 0
 IsHalf unions ports node half =
     ((half ≡ 2 * node) × (bit_and (slice_index unions (2 * node)) ports ≢ 0))

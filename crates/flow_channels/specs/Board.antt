@@ -124,7 +124,7 @@ pub record AreIdleRouters (wires : List (Option Channel)) (most end : ℕ) (rout
   pub most_is : HaveMost wires most end routers
 
 -- there is a queue for each spot, a router for each number, and an entry for each packet; what is in
--- them entered; and each has room, a queue where its spot has a far side and a router where its number has
+-- them entered; and each has room, a queue if its spot has a far side and a router if its number has
 -- a link
 pub record IsKept (tables : Tables) (board : Board) : Type 0 where
   pub within : WiresAreWithin tables.wires.items

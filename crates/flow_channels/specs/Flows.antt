@@ -10,7 +10,7 @@ pub record PacketOf : Type 0 where
   pub packet : ℕ
   pub to : ℕ
 
--- a packet that waits at a switch to go on, and the entry at which it came in; 0 where it starts there
+-- a packet that waits at a switch to go on, and the entry at which it came in; 0 if it starts there
 pub record WaitOf : Type 0 where
   pub packet : PacketOf
   pub entry : ℕ
@@ -72,7 +72,7 @@ abbrev pub leaves_by : LayoutOf → Option Channel → FlowOf → FlowOf
 leaves_by layout None flow = flow
 leaves_by layout (Some channel) flow = leaves layout channel flow
 
--- a packet comes last in a channel, and asks where it is the first there
+-- a packet comes last in a channel, and asks if it is the first there
 abbrev pub comes_into : LayoutOf → Channel → PacketOf → FlowOf → FlowOf
 comes_into layout channel packet flow =
     if length (queue_at flow channel) == 0

@@ -17,7 +17,7 @@ pub record IsOnWay (layout : LayoutOf) (to : ℕ) (came : Channel) : Type 0 wher
   pub steps : ℕ
   pub walk : Walk (GoesOn layout.far layout.rows to) steps (spot from 0) came
 
--- who waits is the first packet of the channel that brought it, and where none did, it starts there
+-- who waits is the first packet of the channel that brought it, and if none did, it starts there
 abbrev pub IsFirst : FlowOf → Channel → PacketOf → Type 0
 IsFirst flow channel packet = (rest : List PacketOf) × (queue_at flow channel ≡ packet ∷ rest)
 

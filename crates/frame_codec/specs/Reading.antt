@@ -54,7 +54,7 @@ list_at one next known (suc more) bytes = do
   others ← list_at one next (next first.0) more first.1
   Some (first.0 ∷ others.0, others.1)
 
--- what a call read from the bytes old, as view sees it, where it left the bytes new
+-- what a call read from the bytes old, as view sees it, if it left the bytes new
 abbrev pub ReadsAs : {A B : Type 0} → (A → B) → At B → Result A DecodeRefusal → List ℕ → List ℕ → Type 0
 ReadsAs view at (Ok value) old new = at old ≡ Some (view value, new)
 ReadsAs view at (Err NotAFrame) old new = at old ≡ None
@@ -128,7 +128,7 @@ entry_of parts = record { life = parts.0.0.0; position = parts.0.0.1; proposed =
 unfoldable pub entry_at : At EntryOf
 entry_at = made entry_of (both (both (both life_at position_at) (within_at 1 MOST_NUMBER)) links_at)
 
--- whether the life is above this one, where there is one
+-- whether the life is above this one, if there is one
 abbrev pub is_above : Option LifeId → LifeId → Bool
 is_above None life = true
 is_above (Some above) life = is_lt (life_cmp above life)

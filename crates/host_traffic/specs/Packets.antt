@@ -47,7 +47,7 @@ hop_by (Some table) host next packet =
     then delivered_to (packet.address % 16) (host (packet.address % 16)) packet
     else goes_by (exits_of table (row_entry packet) (packet.address / 16)) next
 
--- the same, where these are read from a network by the place of a switch
+-- the same, if these are read from a network by the place of a switch
 abbrev pub hop_in :
     (ℕ → Option TableOf) → (ℕ → ℕ → Option (ℕ × ℕ)) → (ℕ → ℕ → Option (ℕ × ℕ)) → PacketOf → Hop
 hop_in table host next packet = hop_by (table packet.at) (host packet.at) (next packet.at) packet

@@ -122,7 +122,7 @@ pub record IsCutOff (gives : Gives) (old new : Sources) (out out' : Seen) : Type
   pub gains : GainsFront out out' written
   pub failed : Failed out out'
 
--- The cause of a status, and what out gained: the text, a front of it where out failed, and else nothing.
+-- The cause of a status, and what out gained: the text, a front of it if out failed, and else nothing.
 pub data IsCause (gives : Gives) (old new : Sources) (out out' : Seen) (status : Status) : Type 0 where
   written : IsWritten gives old new out out' status → IsCause gives old new out out' status
   cut : status ≡ WriteFault → IsCutOff gives old new out out' → IsCause gives old new out out' status

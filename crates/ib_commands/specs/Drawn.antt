@@ -43,7 +43,7 @@ pub record IsPictureOf (traffic : Traffic) (text : List ℕ) (fabric : FabricOf)
   pub arrows : picture.arrows.items ≡ arrows_of fabric loop
   pub names : picture.names.items ≡ names_for text (switches_of picture.arrows.items)
 
--- the picture of the least credit loop, or of none where there is none
+-- the picture of the least credit loop, or of none if there is none
 pub record IsDrawn (traffic : Traffic) (text : List ℕ) (fabric : FabricOf) (found : Tables) (status : Status)
     (written : List ℕ)
     : Type 0 where

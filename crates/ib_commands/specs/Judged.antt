@@ -53,7 +53,7 @@ pub record IsRead (fabric : FabricOf) (found : Tables) (read : Read) : Type 0 wh
 abbrev pub routes_of : Counts → Routes
 routes_of counts = record { routes = counts.routes; arrived = counts.arrived; hops = counts.hops }
 
--- the least credit loop, or no channels where there is none
+-- the least credit loop, or no channels if there is none
 abbrev pub IsLoop : FabricOf → TablesOf → Traffic → List LoopChannel → Type 0
 IsLoop fabric tables traffic [] = HasNoCycle (DependsOn fabric tables traffic)
 IsLoop fabric tables traffic (one ∷ rest) = CycleIs fabric tables traffic (one ∷ rest)

@@ -71,7 +71,7 @@ pub record Sends (fabric : FabricOf) (traffic : Traffic) (lid : ℕ) (source : E
   pub is_target : IsTarget fabric traffic owner
   pub other : source ≢ owner
 
--- from one switch to another by so many hops, where each switch hops as told
+-- from one switch to another by so many hops, if each switch hops as told
 abbrev pub WalksBy : (ℕ → Hop) → ℕ → ℕ → ℕ → Type 0
 WalksBy hop_at zero start at = start ≡ at
 WalksBy hop_at (suc hops) start at =
@@ -112,7 +112,7 @@ abbrev pub IsStopped : FabricOf → TablesOf → Traffic → ℕ → EndPort →
 IsStopped fabric tables traffic lid source =
     (at : ℕ) × ComesTo fabric tables traffic lid source at × IsStop (hop fabric tables at lid)
 
--- a channel depends on another where some route takes the one and then the other
+-- a channel depends on another if some route takes the one and then the other
 abbrev pub DependsOn : FabricOf → TablesOf → Traffic → Channel → Channel → Type 0
 DependsOn fabric tables traffic channel next =
     (lid : ℕ) × (source : EndPort) × Takes fabric tables traffic lid source channel next

@@ -53,7 +53,7 @@ abbrev pub IsPlaced : LevelRowsOf → EndPort → Type 0
 IsPlaced told (port.Host end) = end < told.ends
 IsPlaced told (port.Switch switch) = switch < told.switches
 
--- the levels of a LID in a block: none where there is no block
+-- the levels of a LID in a block: none if there is no block
 abbrev pub word_in : Option (List ℕ) → ℕ → ℕ
 word_in None lid = 0
 word_in (Some levels) lid = slice_index levels (lid % 64)

@@ -63,7 +63,7 @@ abbrev pub PassesBy : FabricOf → TablesOf → Traffic → Verdict → Type 0
 PassesBy fabric tables traffic (Ranks ranks) = Passes fabric tables traffic ranks.items
 PassesBy fabric tables traffic (Cycle channels) = Unit {0}
 
--- the port of a place, where switches have at most so many
+-- the port of a place, if switches have at most so many
 abbrev pub spot_at : ℕ → ℕ → Spot
 spot_at most place = record { switch = place / most; port = place % most + 1 }
 

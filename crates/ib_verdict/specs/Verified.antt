@@ -12,7 +12,7 @@ use Rattle.ib_verdict.specs.declared.verify.Rise.{Rise}
 use Rattle.ib_verdict.specs.declared.verify.Verified.{Verified}
 use Rattle.ib_verdict.specs.Verdict.{AllArrive, channel_cmp}
 
--- the rank that a list has for a channel, by its number, 0 where it has none
+-- the rank that a list has for a channel, by its number, 0 if it has none
 abbrev pub told_rank : FabricOf → List ℕ → Channel → ℕ
 told_rank fabric ranks channel = value_at ranks (number fabric channel)
 

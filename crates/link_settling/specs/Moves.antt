@@ -12,7 +12,7 @@ use Rattle.link_settling.specs.Directions.{last_sent}
 use Rattle.switch_core.specs.Switch.{SwitchOf}
 use Rattle.switch_core.specs.Steps.{Sent, Step, peer_among}
 
--- the number of the body in a frame, where it has one
+-- the number of the body in a frame, if it has one
 abbrev pub number_of : Frame → List ℕ
 number_of (Carry carry) = carry.number ∷ []
 number_of (Ack epoch from to number) = []
@@ -40,7 +40,7 @@ pub data Moves (now : ℕ) : Sending → List ℕ → Sending → Type 0 where
       → Moves now (send_again number now old) numbers new → Moves now old (number ∷ numbers) new
 
 -- at most eight bodies are outstanding, all of them pushed; and, but for so many that may go out next, eight
--- are where some body waits
+-- are if some body waits
 pub record IsFilledBut (room : ℕ) (sending : Sending) : Type 0 where
   pub within : highest sending ≤ length sending.pushed
   pub window : length sending.sent ≤ 8

@@ -73,7 +73,7 @@ grown so_far place =
       seed = seed;
     }
 
--- two switches are drawn of so many, and linked where they are different
+-- two switches are drawn of so many, and linked if they are different
 abbrev pub joined : ℕ → DrawnOf → DrawnOf
 joined count so_far =
     let seed : ℕ = next_seed so_far.seed in
@@ -103,7 +103,7 @@ send_of count time place = record { time = time; event = event.Send place ((plac
 abbrev pub sends_at : ℕ → ℕ → List Command
 sends_at count time = map (send_of count time) (range_with_len 0 count)
 
--- the first link of the tree goes down and comes up again, where there is one
+-- the first link of the tree goes down and comes up again, if there is one
 abbrev pub failure : ℕ → List Command
 failure count =
     if nat_lt 1 count

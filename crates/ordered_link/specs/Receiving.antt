@@ -52,7 +52,7 @@ verdict number body receiving =
     else if nat_le number (last receiving + 8) then Held (last receiving + 1) number
     else Ahead (last receiving + 1) number
 
--- the wanted body, where it is held, is accepted
+-- the wanted body, if it is held, is accepted
 abbrev pub follow_with : Option Body → Receiving → Receiving
 follow_with None receiving = receiving
 follow_with (Some body) receiving = hold (last receiving + 1) None (accept body receiving)
@@ -79,7 +79,7 @@ received number body receiving = after_verdict (verdict number body receiving) (
 abbrev pub accepted_by : ℕ → Body → Receiving → List Body
 accepted_by number body receiving = drop (last receiving) (received number body receiving).accepted
 
--- all that were accepted up to now are acknowledged, but where the body is too far ahead
+-- all that were accepted up to now are acknowledged, unless the body is too far ahead
 abbrev pub is_acknowledged : Verdict → Bool
 is_acknowledged (Accepted body) = true
 is_acknowledged (Held wanted got) = true

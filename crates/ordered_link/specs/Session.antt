@@ -36,7 +36,7 @@ pub data Event : Type 0 where
   Answer : Event
   Ack_comes : (which : ℕ) → (now : ℕ) → Event
 
--- the body with this number goes out, where one does
+-- the body with this number goes out, if one does
 abbrev pub numbered : ℕ → Option Body → List Numbered
 numbered number None = []
 numbered number (Some body) = record { number = number; body = body } ∷ []

@@ -30,7 +30,7 @@ abbrev pub moments : List Event → List Moment
 moments history = moments_behind [] history
 
 -- What is told of a history so far: a beginning, and what is told at each moment; and the whole text, which
--- has the last line where an end has come.
+-- has the last line if an end has come.
 unfoldable pub told_so_far : List ℕ → (Moment → List ℕ) → List Event → List ℕ
 told_so_far first told history = first ++ flat_map told (moments history)
 

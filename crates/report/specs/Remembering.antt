@@ -43,7 +43,7 @@ with_source packets place address = slice_set packets place (record {
   source = Some (source_with packets place address);
 })
 
--- what a host keeps, and what all keep where something arrives at one
+-- what a host keeps, and what all keep if something arrives at one
 abbrev pub cache_at : List (List ArrivalOf) → ℕ → List ArrivalOf
 cache_at caches host = slice_index_or caches host []
 

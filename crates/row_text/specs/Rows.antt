@@ -16,7 +16,7 @@ use Rattle.row_text.specs.Names.{life_text}
 abbrev pub slashed : ℕ → List ℕ
 slashed port = codes "/" ++ decimal port
 
--- the exits joined by `/`, or `-` where there are none
+-- the exits joined by `/`, or `-` if there are none
 unfoldable pub exits_text : List ℕ → List ℕ
 exits_text [] = codes "-"
 exits_text (port ∷ ports) = decimal port ++ flat_map slashed ports

@@ -29,7 +29,7 @@ forms_text = forms_text_by form_words
 abbrev pub setting_form : Setting → (number default : ℕ) → List Form
 setting_form setting number default = if number == default then [] else Number setting (decimal number) ∷ []
 
--- the pace, where there is one
+-- the pace, if there is one
 abbrev pub pace_form : Option ℕ → List Form
 pace_form None = []
 pace_form (Some number) = Number Pace (decimal number) ∷ []
@@ -46,7 +46,7 @@ setting_forms script =
     ++ (setting_form Blocks script.limits.blocks 65536
     ++ (setting_form Epoch script.epoch 0 ++ (pace_form script.pace ++ routes_form script.any_routes))))
 
--- the number that a switch had last, where it is not 1
+-- the number that a switch had last, if it is not 1
 abbrev pub had_word : ℕ → Option (List ℕ)
 had_word number = if number == 1 then None else Some (decimal number)
 

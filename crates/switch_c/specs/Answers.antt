@@ -7,7 +7,7 @@ use Rattle.switch_c.specs.declared.instance.Instance.{Instance}
 use Rattle.switch_c.specs.Codes.{code_of}
 use Rattle.switch_c.specs.Calls.{IsStarted, is_in_range}
 
--- a handle is marked by a number that is not 0 exactly where it holds a switch
+-- a handle is marked by a number that is not 0 exactly if it holds a switch
 abbrev pub IsHandle : ℕ → Option Instance → Type 0
 IsHandle held instance = is_some instance ≡ not (held == 0)
 

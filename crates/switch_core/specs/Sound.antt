@@ -50,7 +50,7 @@ pub record IsSoundBy (works carried : ℕ) (switch : SwitchOf) : Type 0 where
   pub one_link : (port : ℕ) → length (links_at port switch.card.links) ≤ 1
   pub links : switch.spent ≡ false → switch.card.links ≡ good_links switch
   pub unjoined : switch.joined ≡ false → switch.spent ≡ false → (port : ℕ) → good_peer switch port ≡ None
-  -- where a load is due it has finished
+  -- if a load is due it has finished
   pub due : switch.load_due ≡ true → is_some (finish_of switch) ≡ true
   -- a probe went out for each clock at most, and eight bodies at most are outstanding at a port
   pub probes : (port : ℕ) → (port_of switch port).far.nonce ≤ works

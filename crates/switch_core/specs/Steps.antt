@@ -68,7 +68,7 @@ sends_on port peer sending items switch =
       frames = map (carried_to switch port peer) items;
     }
 
--- A body is pushed in the session of its port, and goes out at once where the window lets it. A port without
+-- A body is pushed in the session of its port, and goes out at once if the window lets it. A port without
 -- a link has no session
 abbrev pub pushed_to : Option EndId → OnPort → SwitchOf → Step
 pushed_to None item switch = still switch
@@ -161,7 +161,7 @@ on_carry port carry switch =
     else if carry.epoch == switch.epoch then answers_body port carry.from carry.number carry.body switch
     else still switch
 
--- the first waiting body of a session goes out, where the window lets it, so many times
+-- the first waiting body of a session goes out, if the window lets it, so many times
 abbrev pub sends_next : ℕ → EndId → SwitchOf → Step
 sends_next port peer switch =
     sends_on port peer (send_next switch.tick (switch.sendings port))
@@ -189,7 +189,7 @@ on_ack port peer epoch number switch =
     (fills 7 port peer (acknowledges port peer number switch).switch)
     else still switch
 
--- a probe is answered where the port speaks
+-- a probe is answered if the port speaks
 abbrev pub answer_out : ℕ → Option Frame → List Sent
 answer_out port None = []
 answer_out port (Some frame) = record { port = port; frame = frame } ∷ []

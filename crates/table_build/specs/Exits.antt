@@ -9,7 +9,7 @@ use Rattle.updown.specs.Routes.{is_up_end, LegalRoute, DownRoute}
 use Rattle.table_build.specs.declared.best.Best.{Best}
 use Rattle.table_build.specs.Bests.{HasPort}
 
--- the ports lead from a place to the target along a legal route or, where they may not go up, along downward
+-- the ports lead from a place to the target along a legal route or, if they may not go up, along downward
 -- links alone
 abbrev pub LeadsTo : List EntryOf → Bool → ℕ → List ℕ → ℕ → Type 0
 LeadsTo entries true place ports target = LegalRoute entries place ports target
@@ -51,7 +51,7 @@ IsEntry entries place entry = (entry ≡ 0) ⊎ ((far : ℕ × ℕ) × (far_of e
 abbrev pub is_entry : List EntryOf → ℕ → ℕ → Bool
 is_entry entries place entry = (entry == 0) || is_some (far_of entries place entry)
 
--- whether it may go on upward: where it starts there, and where this is the up end of the link that brought
+-- whether it may go on upward: if it starts there, or if this is the up end of the link that brought
 -- it
 abbrev pub may_go_up : List EntryOf → ℕ → ℕ → Bool
 may_go_up entries place entry =

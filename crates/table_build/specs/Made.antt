@@ -14,8 +14,8 @@ use Rattle.table_build.specs.Tables.{TableOf}
 abbrev pub exit_ports : List ℕ
 exit_ports = range_with_len 1 12
 
--- Whether so many links lead from a place to the target, along a legal route or, where the way may not go up,
--- along downward links alone. A link upward is passed only where the way may go up.
+-- Whether so many links lead from a place to the target, along a legal route or, if the way may not go up,
+-- along downward links alone. A link upward is passed only if the way may go up.
 abbrev pub leads_in : List EntryOf → ℕ → ℕ → Bool → ℕ → Bool
 leads_in entries target zero up place = place == target
 leads_in entries target (suc links) up place =

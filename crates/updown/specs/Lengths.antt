@@ -41,7 +41,7 @@ behind_of entries up down place port =
 abbrev pub AreAtMost : List (Option ℕ) → ℕ → Type 0
 AreAtMost lengths most = (place count : ℕ) → length_at lengths place ≡ Some count → count ≤ most
 
--- the lesser of two lengths, where there are both
+-- the lesser of two lengths, if there are both
 abbrev pub lesser_of : Option ℕ → Option ℕ → Option ℕ
 lesser_of None other = other
 lesser_of (Some one) None = Some one
