@@ -21,7 +21,7 @@ pub record AreGenWords (words : List (List ℕ)) (seed count : ℕ) : Type 0 whe
   pub count_range : is_number_in 1 100 count_word ≡ true
   pub count_is : count ≡ number_value count_word
 
--- The text is that of the script, and behind it the line on how its run on one thread ends; so it is a
+-- The text is that of the script, and after it the line on how its run on one thread ends; so it is a
 -- network file of the script.
 pub record IsGenerated (seed count : ℕ) (text : List ℕ) : Type 0 where
   pub line : List ℕ

@@ -40,7 +40,7 @@ pub record IsTreeBut (places : ℕ) (unions : List ℕ) (end : ℕ) : Type 0 whe
   pub count : length unions ≡ 2 * places
   pub each : (node : ℕ) → 1 ≤ node → node < places → node ≢ end → IsUnion unions node
 
--- the sets of all places: those behind the kept ones are empty
+-- the sets of all places: those after the kept ones are empty
 abbrev pub all_sets : ℕ → ℕ → List ℕ → List ℕ
 all_sets kept places unions = drop kept unions ++ replicate (places - kept) 0
 

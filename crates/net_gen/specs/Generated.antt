@@ -1,5 +1,5 @@
 -- The script made from a seed: a tree of switches with more links, a host at each switch, and packets before
--- and behind a failure and its repair. Switches and hosts stand for their places, from 0.
+-- and after a failure and its repair. Switches and hosts stand for their places, from 0.
 
 use Rattle.std.specs.Prelude.{◌+◌, ◌-◌, ◌==◌, ◌%◌, ◌^◌, ℕ, zero, suc, not, Bool, List, [], ◌∷◌, ◌++◌, map, find, nat_lt, Option, Some, None, is_some, codes, fold, if◌then◌else◌}
 use Rattle.std.specs.Fmt.{decimal}

@@ -28,7 +28,7 @@ use Rattle.row_text.specs.Names.{life_text}
 use Rattle.row_text.specs.Rows.{row_form}
 use Rattle.row_text.specs.TableForms.{table_text}
 
--- each word behind a space
+-- each word after a space
 abbrev pub spaced_word : List ℕ → List ℕ
 spaced_word word = codes " " ++ word
 
@@ -99,7 +99,7 @@ abbrev pub deliver_words : ScriptOf → Option ℕ → List (List ℕ)
 deliver_words script None = []
 deliver_words script (Some host) = codes "deliver" ∷ host_text script host ∷ []
 
--- the words of what is told of a packet, by the lives behind the event
+-- the words of what is told of a packet, by the lives after the event
 abbrev pub packet_words : ScriptOf → List LifeId → Line → List (List ℕ)
 packet_words script lives (line.Packet packet from to address) =
     codes "packet" ∷ decimal packet ∷ host_text script from ∷ codes "to" ∷ host_text script to

@@ -20,7 +20,7 @@ pub record Moment : Type 0 where
   pub before : List Event
   pub event : Event
 
--- the moments of what comes behind some events, and those of a history
+-- the moments of what comes after some events, and those of a history
 abbrev pub moments_behind : List Event → List Event → List Moment
 moments_behind before [] = []
 moments_behind before (event ∷ events) =

@@ -104,7 +104,7 @@ pub record KeepBeliefs (script : ScriptOf) (history : List Event) (own : ScriptO
   pub count : length packets ≡ length (beliefs_of script history)
   pub known_are : known ≡ count_by (λ belief. is_known belief.choice) (beliefs_of script history)
 
--- An event comes to what is kept: it is lawful, it stands at this place, the fabric is that behind it, and
+-- An event comes to what is kept: it is lawful, it stands at this place, the fabric is that after it, and
 -- this is told of it.
 pub record Meets (script : ScriptOf) (before : List Event) (event : Event) (fabric : FabricOf) (place : ℕ)
     (lines : List Line) (own : ScriptOf) (packets : List Traced) (caches : List (List ArrivalOf)) (known : ℕ)

@@ -12,7 +12,7 @@ use Rattle.row_text.specs.Names.{life_text}
 
 -- Routing tables as lines of the forms from which tables are read.
 
--- a port behind a slash
+-- a port after a slash
 abbrev pub slashed : ℕ → List ℕ
 slashed port = codes "/" ++ decimal port
 

@@ -110,6 +110,6 @@ forms_of script =
 unfoldable pub canonical_text : ScriptOf → List ℕ
 canonical_text script = lines_text (header_words ∷ map form_words (forms_of script))
 
--- numbers, each behind a space, which a private function alone cites
+-- numbers, each after a space, which a private function alone cites
 abbrev pub spaced_numbers : List ℕ → List ℕ
 spaced_numbers numbers = flat_map (λ word. 32 ∷ word) (map decimal numbers)

@@ -11,7 +11,7 @@ use Rattle.table_build.specs.declared.link.Link.{Link}
 use Rattle.table_build.specs.Links.{link_at}
 
 -- The ports lead from a place over links to the target, upward only if `up` and downward only if
--- `down`; behind a link downward none leads upward.
+-- `down`; after a link downward none leads upward.
 abbrev pub Goes : List EntryOf → Bool → Bool → ℕ → List ℕ → ℕ → Type 0
 Goes entries up down place [] target = place ≡ target
 Goes entries up down place (port ∷ ports) target =

@@ -57,7 +57,7 @@ abbrev pub may_go_up : List EntryOf → ℕ → ℕ → Bool
 may_go_up entries place entry =
     (entry == 0) || option_map_or (λ far. is_up_end entries place far.0) (far_of entries place entry) false
 
--- whether a port is an exit, from what is left behind it and from the least of the whole way
+-- whether a port is an exit, from what is left after it and from the least of the whole way
 abbrev pub is_next : Option ℕ → ℕ → Bool
 is_next None left = false
 is_next (Some whole) left = whole == (left + 1)

@@ -33,7 +33,7 @@ abbrev pub shortest : List EntryOf → ℕ → Bool → ℕ → Option ℕ
 shortest entries target up place =
     find (λ links. leads_in entries target links up place) (range_with_len 0 (2 * length entries))
 
--- the same behind a port: any legal route behind an upward link, downward links alone behind a downward one
+-- the same after a port: any legal route after an upward link, downward links alone after a downward one
 abbrev pub left_behind : List EntryOf → ℕ → Bool → ℕ → ℕ × ℕ → Option ℕ
 left_behind entries target up place far =
     if is_up_end entries far.0 place
