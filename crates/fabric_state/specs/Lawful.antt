@@ -68,7 +68,7 @@ abbrev pub is_handle : Event → Bool
 is_handle (Handle place) = true
 is_handle event = false
 
--- Where a switch is spent, or there is too little room, only what is in hand may still be handled.
+-- If a switch is spent, or there is too little room, only what is in hand may still be handled.
 abbrev pub is_barred : FabricOf → Bool
 is_barred fabric = is_some_spent fabric || nat_lt (room fabric) 2
 

@@ -1,5 +1,5 @@
 -- What the text of a topology calls its nodes: a switch by its GUID, an end port of an adapter or router by
--- that of the port. A name is any bytes, as they stand. Where several lines name a node, the first counts.
+-- that of the port. A name is any bytes, as they stand. If several lines name a node, the first counts.
 use Rattle.std.specs.Prelude.{◌≡◌, ◌++◌, ◌∷◌, [], ℕ, List, Option, Some, None, codes, nat_eq}
 use Rattle.std.specs.Prelude.{option_to_list, Contains}
 use Rattle.std.specs.Map.{lookup}

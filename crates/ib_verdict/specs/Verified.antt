@@ -49,7 +49,7 @@ pub record IsFirstRise (fabric : FabricOf) (tables : TablesOf) (traffic : Traffi
       rise.witness.source
 
 -- The ranks fall along each dependency, so that there is no credit loop, or the first along which they do not is
--- told; and whether a route is stopped. Where the ranks fall and none is, all arrive.
+-- told; and whether a route is stopped. If the ranks fall and none is, all arrive.
 pub record IsVerified (fabric : FabricOf) (tables : TablesOf) (traffic : Traffic) (ranks : List ℕ) (found : Verified)
     : Type 0 where
   pub rise : MatchOption found.rise (Fall fabric tables traffic ranks) (IsFirstRise fabric tables traffic ranks)

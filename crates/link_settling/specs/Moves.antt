@@ -53,7 +53,7 @@ IsFilled sending = IsFilledBut 0 sending
 abbrev pub AreFilled : SwitchOf → Type 0
 AreFilled switch = (port : ℕ) → IsFilled (switch.sendings port)
 
--- What a step does in the session of a port, of which this was sent before and this is received then. Where
+-- What a step does in the session of a port, of which this was sent before and this is received then. If
 -- the window was filled but for so many (had), what goes out is permitted, and the window is filled but for
 -- so many (has); of another window nothing is said.
 pub record WorksFrom (had has port now : ℕ) (sending : Sending) (receiving : Receiving) (step : Step)

@@ -27,7 +27,7 @@ abbrev pub IsBack : List ℕ → List ℕ → Type 0
 IsBack bytes back = (front : List ℕ) × (bytes ≡ front ++ back)
 
 -- The bytes are those of a script, with the lines without words after its `end`, and then those of a
--- journal. Where no line is `end`, there are none of a journal.
+-- journal. If no line is `end`, there are none of a journal.
 pub record IsDivision (bytes script journal : List ℕ) : Type 0 where
   pub parts : bytes ≡ script ++ journal
   pub behind : lines_of journal ≡ behind_end (lines_of bytes)

@@ -19,7 +19,7 @@ pub record Becomes (Does : Instance → Status → Type 0) (new : Option Instanc
   pub told : number ≡ code_of status
   pub does : Does instance status
 
--- A call on the switch that a handle holds. Where it holds none that is told, and it holds none still.
+-- A call on the switch that a handle holds. If it holds none that is told, and it holds none still.
 pub record Calls (Does : Instance → Instance → Status → Type 0) (old new : Option Instance) (number : ℕ)
     : Type 0 where
   pub none : old ≡ None → (new ≡ None) × (number ≡ code_of NotStarted)
