@@ -174,7 +174,7 @@ pub record IsFinishedAsItself (world : WorldOf) (place : ℕ) : Type 0 where
 abbrev pub AreFinished : WorldOf → Type 0
 AreFinished world = (place : ℕ) → place < count world.fabric → IsFinishedAsItself world place
 
--- a history that ends settled
+-- if a history ends settled, each component has finished as itself
 abbrev pub IfSettled : ScriptOf → List Event → Type 0
 IfSettled script history =
     end_of script history ≡ Some ending.Settled → AreFinished (world_after script history)
