@@ -13,7 +13,7 @@ use Rattle.fabric_state.specs.declared.line.Line.TheVariants as line
 use Rattle.fabric_world.specs.Lines.{lines_of}
 use Rattle.fabric_world.specs.World.{WorldOf, begun, step, world_after}
 
--- the event is a command of the script
+-- the event is of a kind that only commands of the script are
 abbrev pub is_of_script : Event → Bool
 is_of_script Tick = false
 is_of_script (Clock place) = false

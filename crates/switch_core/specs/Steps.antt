@@ -247,7 +247,8 @@ all_resent [] switch = still switch
 all_resent (link ∷ links) switch =
     after (resends_on link switch) (all_resent links (resends_on link switch).switch)
 
--- a change is due at the first clock, and at a clock that changes the list of good links
+-- a change is due at a clock of a life that has not joined its epoch, and at a clock that changes the list of
+-- good links
 abbrev pub are_same_links : List PeerAt → List PeerAt → Bool
 are_same_links links others = is_eq (slice_cmp link_cmp links others)
 
