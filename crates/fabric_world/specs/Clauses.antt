@@ -127,7 +127,7 @@ pub record AreLinked (world : WorldOf) (one other : ℕ) : Type 0 where
   pub there : good_peer (world.switches one) one_port ≡ Some (end_at (world.switches other) other_port)
   pub back : good_peer (world.switches other) other_port ≡ Some (end_at (world.switches one) one_port)
 
--- the component of a place
+-- the component of a place: itself, and each place that is linked to one of it
 pub data IsWith (world : WorldOf) (place : ℕ) : ℕ → Type 0 where
   itself : IsWith world place place
   next : (one other : ℕ) → IsWith world place one → AreLinked world one other → IsWith world place other

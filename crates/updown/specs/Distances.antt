@@ -7,7 +7,7 @@ use Rattle.an_base.specs.Order.{life_cmp}
 use Rattle.updown.specs.Routes.{HasLegalFrom, HasDownFrom, IsLeast}
 use Rattle.updown.specs.Lengths.{LengthsOf, length_at}
 
--- lives, and for the place of each the lengths to one of them
+-- lives, and for the place of each the lengths of routes from there to one life, which is not told here
 pub record DistancesOf : Type 0 where
   pub lives : List LifeId
   pub lengths : LengthsOf
