@@ -20,7 +20,8 @@ pub record EndId : Type 0 where
   pub life : LifeId
   pub port : ℕ
 
--- where a life stands in its tree
+-- where a life stands in its tree: the root, how many links away that is, the parent, and the own port to it;
+-- a root is its own parent, by port 0
 pub record Place : Type 0 where
   pub root : LifeId
   pub level : ℕ

@@ -72,7 +72,7 @@ pub record IsCutOff (limit : ℕ) (gives : Gives) (source source' out out' : See
   pub gains : GainsFront out out' text
   pub failed : Failed out out'
 
--- The cause of a status, and what out gained: the text, a front of it where out failed, and else nothing.
+-- The cause of a status, and what out gained: the text, a front of it if out failed, and else nothing.
 pub data IsCause (limit : ℕ) (gives : Gives) (refuses : Refuses) (source source' out out' : Seen)
     (status : Status) : Type 0 where
   given : IsGiven limit gives source source' out out' status

@@ -30,6 +30,7 @@ pub record LeadsDown (entries : List EntryOf) (channel next : ℕ × ℕ) : Type
   pub arrives : far_of entries channel.0 channel.1 ≡ Some (next.0, entry)
   pub second : IsDown entries next.0 next.1
 
+-- a broadcast leads from a channel to another in one of these three ways
 abbrev pub LeadsByBroadcast : List EntryOf → (ℕ × ℕ) → (ℕ × ℕ) → Type 0
 LeadsByBroadcast entries channel next =
     LeadsUp entries channel next ⊎ (TurnsDown entries channel next ⊎ LeadsDown entries channel next)

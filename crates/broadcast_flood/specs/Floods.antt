@@ -62,7 +62,7 @@ arrivals entries member [] = 0
 arrivals entries member (hop ∷ hops) =
     is_at member (far_of entries hop.place hop.port) + arrivals entries member hops
 
--- how many copies a member gets: one where the walk up ends there, and one from each hop down that arrives
+-- how many copies a member gets: one if the walk up ends there, and one from each hop down that arrives
 -- there
 abbrev pub copies : List EntryOf → ℕ → List HopOf → ℕ → ℕ
 copies entries top downs member = (if member == top then 1 else 0) + arrivals entries member downs

@@ -37,7 +37,7 @@ pub record IsNext (graph : GraphOf) (node from next : ℕ) : Type 0 where
 abbrev pub HasNoNext : GraphOf → ℕ → ℕ → Type 0
 HasNoNext graph node from = (other : ℕ) → from ≤ other → LeadsTo graph node other → ⊥
 
--- what a list has for a node, 0 where it has nothing
+-- what a list has for a node, 0 if it has nothing
 abbrev pub value_at : List ℕ → ℕ → ℕ
 value_at values node = slice_index_or values node 0
 

@@ -46,6 +46,7 @@ pub record IsFirstWithin (graph : GraphOf) (table : List ℕ) (node least most n
       (other : ℕ) → LeadsTo graph node other → least ≤ value_at table other → value_at table other ≤ most
       → next ≤ other
 
+-- it leads to none with such a value
 abbrev pub HasNoneWithin : GraphOf → List ℕ → ℕ → ℕ → ℕ → Type 0
 HasNoneWithin graph table node least most =
     (other : ℕ) → LeadsTo graph node other → least ≤ value_at table other → value_at table other ≤ most → ⊥

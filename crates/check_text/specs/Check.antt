@@ -16,7 +16,7 @@ use Rattle.row_text.specs.Names.{name_of}
 
 -- What comes of checking tables.
 
--- the number of a member, where these are the numbers of all switches
+-- the number of a member, if these are the numbers of all switches
 abbrev pub number_of : List SwitchAt → List ℕ → EntryOf → ℕ
 number_of switches numbers entry =
     slice_index_or numbers (unwrap_or (position (λ switch. switch.uid == entry.life.uid) switches) 0) 0
@@ -143,7 +143,7 @@ abbrev pub IsJudged : ScriptOf → TablesOf → Bool → List ℕ → Type 0
 IsJudged script tables true text = AllPass script tables text
 IsJudged script tables false text = OneIsRefused script tables text
 
--- what comes of judging the tables of a component: where they pass, the text gains their ranks; where they do
+-- what comes of judging the tables of a component: if they pass, the text gains their ranks; if they do
 -- not, it becomes the line of why
 abbrev pub Judges : ScriptOf → TablesOf → List EntryOf → Bool → (old new : List ℕ) → Type 0
 Judges script tables entries true old new =

@@ -21,7 +21,7 @@ pub record AreGenWords (words : List (List ℕ)) (seed count : ℕ) : Type 0 whe
   pub count_range : is_number_in 1 100 count_word ≡ true
   pub count_is : count ≡ number_value count_word
 
--- The text is that of the script, and behind it the line on how its run on one thread ends; so it is a
+-- The text is that of the script, and after it the line on how its run on one thread ends; so it is a
 -- network file of the script.
 pub record IsGenerated (seed count : ℕ) (text : List ℕ) : Type 0 where
   pub line : List ℕ
@@ -36,7 +36,7 @@ pub record IsGenCutOff (seed count : ℕ) (old new : Seen) : Type 0 where
   pub gains : GainsFront old new text
   pub failed : Failed old new
 
--- The cause of a status, and what out gained: the text, a front of it where out failed, and nothing where
+-- The cause of a status, and what out gained: the text, a front of it if out failed, and nothing if
 -- memory was wanting.
 pub data IsGenCause (seed count : ℕ) (old new : Seen) (status : Status) : Type 0 where
   given : status ≡ Ok → (text : List ℕ) → IsGenerated seed count text → Gains old new text

@@ -18,7 +18,7 @@ pub record IsLateRun (status : Status) (text bytes : List ℕ) : Type 0 where
 abbrev pub gives_late_run : Gives
 gives_late_run bytes status text = IsLateRun status text bytes
 
--- behind a script stands a legal journal, which had no time to settle, and this is its report
+-- after a script stands a legal journal, which had no time to settle, and this is its report
 pub record IsLateReplay (status : Status) (text bytes : List ℕ) : Type 0 where
   pub is_replay : IsReplayedOf status text bytes
   pub late : ¬ HasTime is_replay.script is_replay.journal

@@ -1,4 +1,4 @@
--- The command `names`: what hosts believe in a journal that stands behind its script.
+-- The command `names`: what hosts believe in a journal that stands after its script.
 
 use Rattle.std.specs.Prelude.{◌≡◌, ℕ, List}
 use Rattle.an_base.specs.declared.event.Event.{Event}
@@ -8,7 +8,7 @@ use Rattle.answering.specs.declared.status.Status.TheVariants.{Ok}
 use Rattle.answering.specs.Answer.{Gives}
 use Rattle.commands.specs.Replay.{IsJournaled}
 
--- behind a script stands a legal journal, and this is what hosts believe in it
+-- after a script stands a legal journal, and this is what hosts believe in it
 pub record AreNamesOf (text bytes : List ℕ) : Type 0 where
   pub script : ScriptOf
   pub journal : List Event

@@ -1,4 +1,4 @@
--- The command `replay`: the report of a journal that stands behind its script.
+-- The command `replay`: the report of a journal that stands after its script.
 
 use Rattle.std.specs.Prelude.{◌⊎◌, ℕ, List}
 use Rattle.an_base.specs.declared.event.Event.{Event}
@@ -15,7 +15,7 @@ use Rattle.answering.specs.declared.status.Status.TheVariants.{JournalRefused, O
 use Rattle.answering.specs.Answer.{Gives, IfRefused, Refuses}
 use Rattle.commands.specs.Reported.{IsReported}
 
--- the bytes are the text of a script, and behind it these
+-- the bytes are the text of a script, and after it these
 pub record IsScriptWith (bytes : List ℕ) (script : ScriptOf) (behind : List ℕ) : Type 0 where
   pub first : List ℕ
   pub division : IsDivision bytes first behind
@@ -27,7 +27,7 @@ pub record IsJournaled (bytes : List ℕ) (script : ScriptOf) (journal : List Ev
   pub input : IsScriptWith bytes script behind
   pub is_journal : IsJournal script behind journal
 
--- behind a script stands a legal journal, and this is its report
+-- after a script stands a legal journal, and this is its report
 pub record IsReplayedOf (status : Status) (text bytes : List ℕ) : Type 0 where
   pub script : ScriptOf
   pub journal : List Event
@@ -45,7 +45,7 @@ pub record IsNoScript (bytes : List ℕ) (status : Status) : Type 0 where
   pub division : IsDivision bytes first behind
   pub fault : IfRefused status (IsFault first)
 
--- behind a script stands no legal journal
+-- after a script stands no legal journal
 pub record IsUnreplayed (bytes : List ℕ) (line : ℕ) (why : JournalCause) : Type 0 where
   pub script : ScriptOf
   pub behind : List ℕ
@@ -57,7 +57,7 @@ abbrev pub IfJournalRefused : Status → (ℕ → JournalCause → Type 0) → T
 IfJournalRefused (JournalRefused line why) Holds = Holds line why
 IfJournalRefused status Holds = ⊥
 
--- it refuses what has no script, and a script without a legal journal behind it
+-- it refuses what has no script, and a script without a legal journal after it
 abbrev pub refuses_journal : Refuses
 refuses_journal bytes status = IsNoScript bytes status ⊎ IfJournalRefused status (IsUnreplayed bytes)
 

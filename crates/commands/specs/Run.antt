@@ -19,7 +19,7 @@ pub record IsToldRun (script : ScriptOf) (told : Told) : Type 0 where
   pub claims : HoldsAndSettles script told.run.journal
   pub accounts : AreAccounts script told.run.journal told.accounts.items
 
--- The text is that of a legal journal and, behind it, its report; all that is claimed of a history holds of
+-- The text is that of a legal journal and, after it, its report; all that is claimed of a history holds of
 -- the journal, and the status is that of its end.
 pub record IsRun (script : ScriptOf) (status : Status) (text : List ℕ) : Type 0 where
   pub journal : List Event

@@ -23,7 +23,7 @@ IsRunAnswer old new answer = IsAnswer input_limit gives_run refuses_script old n
 abbrev pub IsNamesAnswer : Streams → Streams → ℕ → Type 0
 IsNamesAnswer old new answer = IsAnswer input_limit gives_names refuses_journal old new answer
 
--- the answer to words: that of the command that they name, and the usage line where they name none
+-- the answer to words: that of the command that they name, and the usage line if they name none
 pub record IsAnswerTo (words : List (List ℕ)) (old new : Streams) (answer : ℕ) : Type 0 where
   pub expect : words ≡ codes "expect" ∷ [] → IsExpectAnswer old new answer
   pub check : words ≡ codes "check" ∷ [] → IsCheckAnswer old new answer

@@ -46,10 +46,11 @@ is_end (Some one) end = is_same_end one end
 abbrev pub probed : ConnectivityOf → ConnectivityOf
 probed known = record known { nonce = known.nonce + 1; answer = None }
 
--- a reply counts where it is the first to the last probe
+-- a reply counts if it is the first to the last probe
 abbrev pub counts : ℕ → ConnectivityOf → Bool
 counts nonce known = (nonce == known.nonce) && (nat_lt 0 nonce && not (is_some known.answer))
 
+-- a reply came from this end, with this number
 abbrev pub replied : EndId → ℕ → ConnectivityOf → ConnectivityOf
 replied from nonce known = if counts nonce known then record known { answer = Some from } else known
 
@@ -83,11 +84,12 @@ asked_by from streak known =
     }
     else record known { candidate = Some from; streak = streak }
 
+-- None: nobody answered the last probe, and the count of those in a row begins anew
 abbrev pub asked : Option EndId → ConnectivityOf → ConnectivityOf
 asked None known = record known { candidate = None; streak = 0 }
 asked (Some from) known = asked_by from (streak_of from known) known
 
--- the peer is lost where another end answered, or nobody did twice in a row
+-- the peer is lost if another end answered, or nobody did twice in a row
 abbrev pub held_by : EndId → Option EndId → ConnectivityOf → ConnectivityOf
 held_by peer None known =
     if known.missed then doubted known else record known { skeptic = cleared known.skeptic; missed = true }
@@ -105,7 +107,7 @@ judged_as (Good peer) known = held_by peer known.answer known
 abbrev pub judged : ConnectivityOf → ConnectivityOf
 judged known = judged_as known.conn known
 
--- while the peer is not known, fewer probes in a row were answered than are asked for
+-- while the peer is not known, fewer probes in a row were answered than are asked for; and else at most 128
 abbrev pub IsFew : Conn → ℕ → ℕ → Type 0
 IsFew Who streak hold = streak < hold
 IsFew (Loop peer) streak hold = streak ≤ 128

@@ -38,7 +38,7 @@ abbrev pub HasExit : List RowOf → ℕ → ℕ → ℕ → ℕ → Type 0
 HasExit rows at entry to exit =
     Any (λ row. (row.at ≡ at) × (row.entry ≡ entry) × (row.to ≡ to) × Contains row.exits exit) rows
 
--- A channel leads to the next where some row, at the switch and for the entry at which the first arrives, has
+-- A channel leads to the next if some row, at the switch and for the entry at which the first arrives, has
 -- the port of the second, whatever the row's number.
 pub record LeadsTo (far : Channel → Option Channel) (rows : List RowOf) (channel next : Channel)
     : Type 0 where

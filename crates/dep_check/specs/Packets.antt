@@ -50,6 +50,7 @@ four_cmp one other =
     ordering_then (nat_cmp one.0 other.0) (ordering_then (nat_cmp one.1 other.1)
     (ordering_then (nat_cmp one.2 other.2) (nat_cmp one.3 other.3)))
 
+-- the first is not after the second
 abbrev pub IsUpTo : ℕ × ℕ × ℕ × ℕ → ℕ × ℕ × ℕ × ℕ → Type 0
 IsUpTo one other = IsTrue (is_le (four_cmp one other))
 

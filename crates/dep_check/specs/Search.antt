@@ -32,6 +32,7 @@ pub record GoesBy (wires : List (Option Channel)) (exits : List ℕ) (to : ℕ) 
   pub has : has_at exits spot exit ≡ true
   pub link : wire_at wires (record { at = spot.at; port = exit }) ≡ Some after
 
+-- without a target the steps are dependencies of channels; with one, those of what goes to it
 abbrev pub IsStepOf : List (Option Channel) → List ℕ → Option ℕ → Channel → ℕ → Channel → Type 0
 IsStepOf wires exits None spot exit after = Depends wires exits spot exit after
 IsStepOf wires exits (Some to) spot exit after = GoesBy wires exits to spot exit after
@@ -68,6 +69,7 @@ pub record IsEnd (wires : List (Option Channel)) (exits : List ℕ) (to : ℕ) (
       ⊎ ((exit : ℕ) × (exit < 13) × (has_at exits spot exit ≡ true)
       × (wire_at wires (record { at = spot.at; port = exit }) ≡ None))
 
+-- without a target there is none
 abbrev pub IsEndOf : List (Option Channel) → List ℕ → Option ℕ → Channel → Type 0
 IsEndOf wires exits None spot = ⊥
 IsEndOf wires exits (Some to) spot = IsEnd wires exits to spot
@@ -96,7 +98,7 @@ pub record ComesIn (steps : Steps) (first second : Channel) (entry : ℕ) : Type
   pub has : has_at steps.exits.items (record { at = second.at; port = entry }) second.port ≡ true
   pub link : IsLinked steps second
 
--- A spot without a level gets one: where some step leads to a level, or, a channel, where all do.
+-- A spot without a level gets one: if some step leads to a level, or, a channel, if all do.
 abbrev pub IsDue : Rule → Steps → List (Option ℕ) → Channel → Type 0
 IsDue (Nearest goal) steps levels spot = HasNext steps levels spot true
 IsDue Rank steps levels spot = IsLinked steps spot × (HasNext steps levels spot false → ⊥)
@@ -203,6 +205,7 @@ pub record IsLeastBehind (steps : Steps) (levels : List (Option ℕ)) (spot : Ch
       (exit : ℕ) (after : Channel) (other : ℕ) → exit < end → IsStep steps spot exit after
       → level_at levels after ≡ Some other → level ≤ other
 
+-- None: no such step leads to one that has a level
 abbrev pub LeastBehind : Steps → List (Option ℕ) → Channel → ℕ → Option ℕ → Type 0
 LeastBehind steps levels spot end None =
     (exit : ℕ) (after : Channel) (other : ℕ) → exit < end → IsStep steps spot exit after

@@ -11,6 +11,7 @@ pub record IsTableBelow (rows : List RowOf) (numbers : List ℕ) (end number : �
   pub exits : Contains numbers number → AreExitsBelow rows (Some number) end table
   pub none : (Contains numbers number → ⊥) → length table ≡ 0
 
+-- the table of a number, empty if there is none
 abbrev pub table_of : List (Vec ℕ Global) → ℕ → List ℕ
 table_of tables number = slice_index_or (map (λ (table : Vec ℕ Global). table.items) tables) number []
 

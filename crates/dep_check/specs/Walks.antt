@@ -37,7 +37,7 @@ Leads steps start spot = (distance : ℕ) × Walk (Step steps) distance start sp
 abbrev pub LeadsToEnd : Steps → Channel → Type 0
 LeadsToEnd steps start = (end : Channel) × IsSpot end × Leads steps start end × IsStuck steps end
 
--- a spot was looked at: all that its steps lead to is seen, and where packets get stuck there, it is told
+-- a spot was looked at: all that its steps lead to is seen, and if packets get stuck there, it is told
 pub record IsLookedAt (steps : Steps) (seen : List Bool) (stuck : Bool) (spot : Channel) : Type 0 where
   pub next : (after : Channel) → Step steps spot after → seen_at seen after ≡ true
   pub told : IsStuck steps spot → stuck ≡ true

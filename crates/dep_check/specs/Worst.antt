@@ -43,7 +43,8 @@ IsBadExit wires up at came_down exit =
 abbrev pub is_at_spot : RowOf → Bool
 is_at_spot row = is_spot (record { at = row.at; port = row.entry })
 
--- by the tables of the sides no exit of a table of exits is illegal
+-- by the tables of the sides no exit of a table of exits is illegal; what comes in at a port that leads up
+-- came down
 abbrev pub AreLegalBy : List (Option Channel) → List Bool → List ℕ → Type 0
 AreLegalBy wires up exits =
     (spot : Channel) (port : ℕ) → IsSpot spot → port < 13 → has_at exits spot port ≡ true

@@ -40,12 +40,13 @@ abbrev pub version : CardOf → Log → ℕ
 version card [] = 1
 version card (item ∷ log) = if has_moved card item log then suc (version card log) else version card log
 
--- whether the last answer on a link names the version, and a link that claims has reported since its last
--- position
+-- this version is the one that is named, if one is
 abbrev pub names : Option ℕ → ℕ → Bool
 names None version = false
 names (Some told) version = (told == version)
 
+-- whether the last answer on a link names the version, and a link that claims has reported since its last
+-- position
 abbrev pub is_settled : ℕ → Log → PeerAt → Bool
 is_settled version log link =
     names (answered (on_port link.port log)) version
@@ -55,6 +56,7 @@ is_settled version log link =
 abbrev pub is_stable : CardOf → Log → Bool
 is_stable card log = list_all (is_settled (version card log) log) card.links
 
+-- the position is that of a life that is its own root
 abbrev pub is_root : CardOf → Log → Bool
 is_root card log = is_same (position card log) (self_root card.me)
 
@@ -133,11 +135,11 @@ positions_of version place links = map (pos_at version place) links
 abbrev pub positions : CardOf → Log → List OnPort
 positions card log = positions_of (version card log) (position card log) card.links
 
--- the position, where it changed
+-- the position, if it changed
 abbrev pub told : CardOf → OnPort → Log → List OnPort
 told card item log = if has_moved card item log then positions card (item ∷ log) else []
 
--- the answer to a position, on its port
+-- the answer to a position, on its port; nothing else is answered
 abbrev pub answer_to : ℕ → Place → Body → List OnPort
 answer_to port place (Pos pos) =
     record {
@@ -148,20 +150,22 @@ answer_to port place (Answer answer) = []
 answer_to port place (Stable entries) = []
 answer_to port place (Topo topo) = []
 
+-- by the position that the life has now
 abbrev pub answers : CardOf → OnPort → Log → List OnPort
 answers card item log = answer_to item.port (position card (item ∷ log)) item.body
 
--- the report to the parent, where the life is stable, was not before and is no root
+-- the report to the parent
 abbrev pub stable_to_parent : CardOf → Log → List OnPort
 stable_to_parent card log = record { port = (position card log).port; body = Stable (report card log) } ∷ []
 
+-- to the parent, if the life is stable now, was not before and is no root
 abbrev pub sent_up : CardOf → OnPort → Log → List OnPort
 sent_up card item log =
     if is_stable card (item ∷ log) && not (is_stable card log) && not (is_root card (item ∷ log))
     then stable_to_parent card (item ∷ log)
     else []
 
--- the topology on each claiming link, rising, where the life has finished and had not before
+-- a topology on a link, and on each claiming link, rising
 abbrev pub passed_on : TopoOf → PeerAt → OnPort
 passed_on topo link = record { port = link.port; body = Topo topo }
 
@@ -169,6 +173,7 @@ abbrev pub topo_down : CardOf → Log → Option TopoOf → List OnPort
 topo_down card log None = []
 topo_down card log (Some topo) = map (passed_on topo) (claiming card log)
 
+-- the topology goes out if the life has finished now, and had not before
 abbrev pub sent_down : CardOf → OnPort → Log → List OnPort
 sent_down card item log =
     if is_some (finish card log) then [] else topo_down card (item ∷ log) (finish card (item ∷ log))

@@ -33,12 +33,13 @@ pub record IsSteady (card : CardOf) (item : OnPort) (log : Log) : Type 0 where
 abbrev pub IsAtMost : Place → Place → Type 0
 IsAtMost one other = IsTrue (is_le (position_cmp one other))
 
--- a later position told on a port offers no more than the one before: by root and then by level, and where
+-- a later position told on a port offers no more than the one before: by root and then by level, and if
 -- that one gave a place it gives one
 pub record OffersLess (old new : PosOf) : Type 0 where
   pub offer : IsTrue (is_le (ordering_then (life_cmp new.root old.root) (nat_cmp new.level old.level)))
   pub gives : old.level < MOST_LEVEL → new.level < MOST_LEVEL
 
+-- None: no position was told before; only positions offer
 abbrev pub Lowers : Option PosOf → Body → Type 0
 Lowers None body = ⊤
 Lowers (Some old) (Pos new) = OffersLess old new

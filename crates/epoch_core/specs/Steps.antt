@@ -45,6 +45,7 @@ repositioned core = record core {
   version = if is_moved core then suc core.version else core.version;
 }
 
+-- the new position on each link, if it is another
 abbrev pub told_by : CoreOf → List OnPort
 told_by core = if is_moved core then positions_of (suc core.version) (best_of core) core.card.links else []
 
@@ -74,7 +75,7 @@ topology_by core log =
     topology_of
     (report_of core.card.me (entry_of core ∷ flat_map (reported_on log) (claiming_among core.card.links log)))
 
--- a finish stays, and where there is none it becomes the report and its numbering, which goes to the links
+-- a finish stays, and if there is none it becomes the report and its numbering, which goes to the links
 -- that claim
 abbrev pub finish_or : CoreOf → Log → Option TopoOf
 finish_or core log = or_else core.finish (Some (topology_by core log))
@@ -83,6 +84,7 @@ abbrev pub unless_finished : Option TopoOf → List OnPort → List OnPort
 unless_finished None down = down
 unless_finished (Some topo) down = []
 
+-- what had not finished does, with the report of whatever log is kept; it goes to the links that claim
 pub record FinishesAsRoot (old new : CoreOf) (before after : List OnPort) : Type 0 where
   pub rest : new ≡ record old { finish = new.finish }
   pub finish : (log : Log) → HasHeard old.ports log → new.finish ≡ finish_or old log

@@ -30,7 +30,7 @@ pub record AcceptedAll (state : Slice) (life : LifeId) : Type 0 where
 abbrev pub IsDelivered : Slice → LifeId → Type 0
 IsDelivered state life = (other : LifeId) → Reached state life other → AcceptedAll state other
 
--- What holds of the lives that are reached from one where nothing is under way among them:
+-- What holds of the lives that are reached from one if nothing is under way among them:
 pub record HasEnded (lives : List LifeId) (state : Slice) (life : LifeId) : Type 0 where
   -- one of them is stable with itself as root, so each is in its place in the tree of shortest walks to it,
   -- and is stable

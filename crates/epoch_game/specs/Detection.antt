@@ -86,7 +86,7 @@ pub record IsMemberEntry (state : Slice) (from : LifeId) (entry : EntryOf) : Typ
   pub joined : state life ≡ Some node
   pub is : entry ≡ own_entry node.card node.log
 
--- What holds where a life was stable at some moment with itself as root:
+-- What holds if a life was stable at some moment with itself as root:
 pub record IsDetected (lives : List LifeId) (state : Slice) (root_life : LifeId) : Type 0 where
   -- each life that is reached from it has joined, and each of its links is named at both ends
   pub joined : (life : LifeId) → Reached state root_life life → IsJoined state life

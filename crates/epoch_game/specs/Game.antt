@@ -31,9 +31,11 @@ with_node_in game epoch life node other other_epoch =
     if epoch == other_epoch then with_node (slice other_epoch game) life node other
     else game.nodes other other_epoch
 
+-- a life is in this epoch then
 abbrev pub with_present : Game → LifeId → ℕ → LifeId → ℕ
 with_present game life epoch other = if is_eq (life_cmp life other) then epoch else game.present other
 
+-- a life loaded in this epoch, and all else stays
 abbrev pub with_loaded : Game → LifeId → ℕ → LifeId → ℕ → Bool
 with_loaded game life epoch other other_epoch =
     if is_eq (life_cmp life other) then (if epoch == other_epoch then true else game.loaded other other_epoch)
@@ -77,7 +79,7 @@ pub record MayJoin (game : Game) (life : LifeId) (epoch : ℕ) : Type 0 where
   pub known : (epoch ≡ game.present life + 1) ⊎ HasSent game epoch
 
 -- The moves: a life joins a greater epoch and leaves its present one; a life accepts in its present epoch, on
--- a port, the next body of what another sent on the far one, where each names the other, even if that
+-- a port, the next body of what another sent on the far one, if each names the other, even if that
 -- one has left; a life that has finished loads in its present epoch, once.
 pub data Play (lives : List LifeId) (game : Game) : Game → Type 0 where
   none : Play lives game game

@@ -66,7 +66,7 @@ pub record NobodyLeaves (state : Slice) : Type 0 where
   pub upward : (root_life life : LifeId) (node : Node) (last : Log) → life ≢ root_life
       → HadLast state root_life life node last
       → is_stable node.card last ≡ false → IsUnstableAbove state root_life (position node.card last).level
-  -- where some life has left a root, some one of them was never stable in its last version with it
+  -- if some life has left a root, some one of them was never stable in its last version with it
   pub never_stable : (root_life life : LifeId) → HasLeft state root_life life → LeftUnstable state root_life
   -- whoever had as root a life that was once stable with itself as root has that root still, and is stable
   pub stays : (root_life life : LifeId) (node : Node) (moment : Log) → WasStableRoot state root_life

@@ -54,7 +54,7 @@ pub record IsCardOf (life : LifeId) (card : CardOf) : Type 0 where
   pub others : All (λ link. link.peer.life ≢ life) card.links
 
 -- The lives and moves of an epoch: one of the lives joins with a card of its own, or accepts on a port the
--- next body of what another sent on the far one, where each names the other. A life that leaves only makes no
+-- next body of what another sent on the far one, if each names the other. A life that leaves only makes no
 -- more moves.
 pub data Run (lives : List LifeId) (state : Slice) : Slice → Type 0 where
   none : Run lives state state

@@ -8,11 +8,12 @@ use Rattle.fabric_state.specs.declared.line.PlacedLine.{PlacedLine}
 use Rattle.fabric_world.specs.Accounts.{AccountOf, account_of}
 use Rattle.fabric_book.specs.declared.account.Account.{Account}
 
--- it has what is told, unless memory was wanting
+-- it has what is told
 pub record HasAccount (told : AccountOf) (account : Account) : Type 0 where
   pub lines_are : account.lines.items ≡ told.lines
   pub rows_are : map (λ rows. rows.items) account.rows.items ≡ told.rows
 
+-- so it is, unless memory was wanting
 abbrev pub IsAccount : AccountOf → Account → Type 0
 IsAccount told account = account.failed ≡ false → HasAccount told account
 

@@ -30,11 +30,12 @@ abbrev pub HasSamples : Work → FabricOf → ℕ → Type 0
 HasSamples (work.Clock now samples) fabric place = samples ≡ samples_of fabric place
 HasSamples other fabric place = Unit {0}
 
--- what the driver makes: a tick, a hop, or a command that is no restart
+-- a command that is due, and no restart
 pub record IsPlainCommand (fabric : FabricOf) (event : Event) : Type 0 where
   pub command : is_command fabric event ≡ true
   pub other : is_restart event ≡ false
 
+-- what the driver makes: a tick, a hop, or such a command
 abbrev pub IsDrivers : FabricOf → Event → Type 0
 IsDrivers fabric Tick = Unit {0}
 IsDrivers fabric (Move packet) = Unit {0}

@@ -34,7 +34,7 @@ with_step event net = record net { events = net.events ++ event ∷ [] }
 abbrev pub with_events : List Event → NetOf → NetOf
 with_events events net = record net { events = net.events ++ events }
 
--- what is told of an event where it is the driver's: a tick, a hop, or a command that is no restart
+-- what is told of an event if it is the driver's: a tick, a hop, or a command that is no restart
 abbrev pub driver_line : WorldOf → Event → List Line
 driver_line world event = if owner_of event == 0 then lines_of world event else []
 
@@ -49,6 +49,7 @@ pub record PowerOf : Type 0 where
   pub had : ℕ
   pub any : Bool
 
+-- that of the switch at a place, and of all in the order of the script
 abbrev pub power_of : ScriptOf → ℕ → PowerOf
 power_of script place =
     record { epoch = script.epoch; had = had_of script.wires place; any = script.any_routes }
@@ -56,6 +57,7 @@ power_of script place =
 abbrev pub all_powers : ScriptOf → List PowerOf
 all_powers script = map (power_of script) (range_with_len 0 (length script.wires.switches))
 
+-- with a life: all that this life is started with
 abbrev pub start_with : PowerOf → LifeId → StartOf
 start_with power life = record { life = life; epoch = power.epoch; had = power.had; any = power.any }
 

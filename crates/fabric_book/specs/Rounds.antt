@@ -32,7 +32,7 @@ pub record GoesOn (before after : NetOf) : Type 0 where
 abbrev pub IsIdleAt : NetOf → ℕ → Type 0
 IsIdleAt net place = worker_event (world_of (history_of net)) place (last_taken place net.events) ≡ []
 
--- nor has one of the workers before a place, where nothing came since
+-- nor has one of the workers before a place, if nothing came since
 abbrev pub AreIdleBefore : ℕ → NetOf → NetOf → Type 0
 AreIdleBefore limit before after =
     after.events ≡ before.events → (place : ℕ) → place < limit → IsIdleAt after place

@@ -10,7 +10,7 @@ use Rattle.fabric_state.specs.declared.line.Line.{Line}
 use Rattle.fabric_state.specs.declared.line.Line.TheVariants as line
 use Rattle.fabric_world.specs.Lines.{finish_lines, join_lines, no_frame_lines, port_line, spent_lines}
 
--- a line where something is so
+-- a line if something is so
 abbrev pub line_if : Bool → Line → List Line
 line_if so one = if so then one ∷ [] else []
 

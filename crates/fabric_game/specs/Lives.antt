@@ -22,7 +22,7 @@ lives_below script (suc place) =
 abbrev pub all_lives : ScriptOf → List LifeId
 all_lives script = lives_below script (length script.wires.switches)
 
--- the number that the switch with an identifier had last, 1 where there is none
+-- the number that the switch with an identifier had last, 1 if there is none
 abbrev pub had_by : List SwitchAt → ℕ → ℕ
 had_by [] uid = 1
 had_by (switch ∷ switches) uid = if switch.uid == uid then switch.had else had_by switches uid

@@ -13,7 +13,7 @@ use Rattle.fabric_state.specs.declared.line.Line.TheVariants as line
 use Rattle.fabric_world.specs.Lines.{lines_of}
 use Rattle.fabric_world.specs.World.{WorldOf, begun, step, world_after}
 
--- the event is a command of the script
+-- the event is of a kind that only commands of the script are
 abbrev pub is_of_script : Event → Bool
 is_of_script Tick = false
 is_of_script (Clock place) = false
@@ -63,13 +63,13 @@ disturbs test world event = is_lawful world.fabric event && (is_of_script event 
 abbrev pub loses_as_told : WorldOf → Event → Bool
 loses_as_told world event = is_lawful world.fabric event && loses is_told world event
 
--- the tick of the last event that is such a one, or this tick where none is
+-- the tick of the last event that is such a one, or this tick if none is
 abbrev pub since : (WorldOf → Event → Bool) → ℕ → WorldOf → List Event → ℕ
 since test last world [] = last
 since test last world (event ∷ events) =
     since test (if test world event then world.fabric.tick else last) (step world event) events
 
--- the tick of the last disturbance in a history, and that of the last told loss; 0 where there was none
+-- the tick of the last disturbance in a history, and that of the last told loss; 0 if there was none
 abbrev pub last_disturbance : (Loss → Bool) → ScriptOf → List Event → ℕ
 last_disturbance test script history = since (disturbs test) 0 (begun script) history
 

@@ -38,7 +38,7 @@ PortsAreFinal script history =
     last_disturbance is_either script history + 259 ≤ (world_after script history).fabric.tick
     → AreFinal script history
 
--- And three ticks later, where nothing is left to do, each body that was pushed is acknowledged.
+-- And three ticks later, if nothing is left to do, each body that was pushed is acknowledged.
 abbrev pub BodiesAreThrough : ScriptOf → List Event → Type 0
 BodiesAreThrough script history =
     last_disturbance is_either script history + 262 ≤ (world_after script history).fabric.tick
@@ -63,12 +63,13 @@ pub record AgreesAt (script : ScriptOf) (before later : List Event) : Type 0 whe
   pub stay : ports_shown (world_after script (before ++ later)).fabric
       ≡ ports_shown (world_after script before).fabric
 
+-- so at each moment of a history that is more than 512 ticks after that tick
 abbrev pub PortsSettle : ScriptOf → List Event → Type 0
 PortsSettle script history = (before later : List Event) → history ≡ before ++ later
     → last_told script history + 512 < (world_after script before).fabric.tick
     → AgreesAt script before later
 
--- At a moment at which all commands are done the clock is at most 1,024 ticks after that tick; and where it
+-- At a moment at which all commands are done the clock is at most 1,024 ticks after that tick; and if it
 -- is so late and nothing is left to do, so that a tick would come next, the network is settled.
 pub record SettlesAt (script : ScriptOf) (last : ℕ) (before : List Event) : Type 0 where
   pub within : (world_after script before).fabric.tick ≤ last + 1024
@@ -76,6 +77,7 @@ pub record SettlesAt (script : ScriptOf) (last : ℕ) (before : List Event) : Ty
       → last + 1024 ≤ (world_after script before).fabric.tick
       → is_settled (world_after script before).fabric ≡ true
 
+-- so at each moment of a history at which all commands are done
 abbrev pub MomentsSettle : ScriptOf → List Event → Type 0
 MomentsSettle script history = (before later : List Event) → history ≡ before ++ later
     → are_all_done (world_after script before).fabric ≡ true
@@ -86,7 +88,7 @@ pub record IsLimitLate (script : ScriptOf) (history : List Event) : Type 0 where
   pub commands : All (λ (command : Command). command.time + 1024 ≤ script.limits.ticks) script.commands
   pub losses : last_loss script history + 1024 ≤ script.limits.ticks
 
--- A history settles: its ports do, and each moment does; and where the limit on ticks is late enough it does
+-- A history settles: its ports do, and each moment does; and if the limit on ticks is late enough it does
 -- not end unsettled.
 pub record Settles (script : ScriptOf) (history : List Event) : Type 0 where
   pub moments : MomentsSettle script history

@@ -36,6 +36,7 @@ abbrev pub turned : LinkOf → LinkOf
 turned link =
     record { place = link.far_place; port = link.far_port; far_place = link.place; far_port = link.port }
 
+-- the switch at the near end of a link, and that at the far one; and these two ends, by their lives
 abbrev pub here : WorldOf → LinkOf → SwitchOf
 here world link = world.switches link.place
 
@@ -60,14 +61,18 @@ under_way_to fabric at port =
     wire_at fabric.wires (place at port)
     ++ (if came_by port (station fabric at).hand then hand_of fabric.wires at else [])
 
--- some bytes of these are a frame of such a kind
+-- bytes are a frame of such a kind
 abbrev pub is_such : (Frame → Bool) → List ℕ → Bool
 is_such test bytes = option_map_or test (frame_of bytes) false
 
+-- some of those under way to the far end are
 abbrev pub is_some_under_way : (Frame → Bool) → WorldOf → LinkOf → Bool
 is_some_under_way test world link =
     list_any (is_such test) (under_way_to world.fabric link.far_place link.far_port)
 
+-- Whether a frame is the probe of this number from an end, and whether it is the reply to that. Whether it is
+-- the body of this number in a session of an epoch, and whether it is the acknowledgement of this number
+-- there.
 abbrev pub is_probe : EndId → ℕ → Frame → Bool
 is_probe from nonce (Probe sender number) = is_same_end sender from && (number == nonce)
 is_probe from nonce other = false
@@ -88,12 +93,13 @@ is_ack epoch from to number (Ack of sender asked acked) =
     (of == epoch) && is_same_end sender from && is_same_end asked to && (acked == number)
 is_ack epoch from to number other = false
 
--- a switch has handled its clock of this tick: it is not due, nor in hand
+-- what is in hand is a clock
 abbrev pub is_clock : Hand → Bool
 is_clock hand.Empty = false
 is_clock (hand.Clock now samples) = true
 is_clock (hand.Frame port) = false
 
+-- a switch has handled its clock of this tick: it is not due, nor in hand
 abbrev pub has_clocked : FabricOf → ℕ → Bool
 has_clocked fabric place = not (clock_due_at fabric place) && not (is_clock (station fabric place).hand)
 
@@ -118,7 +124,7 @@ view world link = record {
 abbrev pub is_session : WorldOf → LinkOf → Bool
 is_session world link = is_end (peer_among (here world link).card.links link.port) (end_there world link)
 
--- what the far end received counts in its session with this end, where it is not in a lower epoch
+-- what the far end received counts in its session with this end, if it is not in a lower epoch
 abbrev pub is_received_here : WorldOf → LinkOf → Bool
 is_received_here world link =
     is_session world (turned link) && not (nat_lt (there world link).epoch (here world link).epoch)

@@ -46,6 +46,7 @@ host_agrees fabric host =
     then is_host (port_shown fabric host.s host.port).state
     else is_dead (port_shown fabric host.s host.port).state
 
+-- each link and each host's link agrees with the states that are shown
 abbrev pub agrees : FabricOf → Bool
 agrees fabric =
     list_all (link_agrees fabric) fabric.script.wires.links
@@ -57,7 +58,7 @@ is_idle fabric =
     not (is_some_packet fabric) && not (is_some_clock_due fabric) && not (is_some_load_due fabric)
     && are_wires_empty fabric
 
--- And no body waits or is unacknowledged. A frame that is in hand is on no wire: this is asked where no hand
+-- And no body waits or is unacknowledged. A frame that is in hand is on no wire: this is asked if no hand
 -- is full.
 abbrev pub is_quiet : FabricOf → Bool
 is_quiet fabric = is_idle fabric && not (is_some_unacked fabric)
@@ -84,5 +85,6 @@ ending_by None fabric =
     else if is_unsettled fabric then Some ending.Unsettled
     else None
 
+-- the end that has come; none comes while a hand is full
 unfoldable pub ending_of : FabricOf → Option Ending
 ending_of fabric = if nat_lt 0 (full_hands fabric) then None else ending_by (first_spent fabric) fabric

@@ -23,6 +23,7 @@ use Rattle.fabric_state.specs.Lawful.{is_command, is_barred, is_tick_due}
 abbrev pub port_above : FabricOf → ℕ → ℕ → Option ℕ
 port_above fabric place last = find (λ port. nat_lt last port && has_frame fabric place port) externals
 
+-- the second number is the port from which the switch last took
 abbrev pub next_port : FabricOf → ℕ → ℕ → Option ℕ
 next_port fabric place last = option_or (port_above fabric place last) (port_above fabric place 0)
 
@@ -31,6 +32,7 @@ abbrev pub frame_work : Option ℕ → Work
 frame_work None = work.Nothing why.Idle
 frame_work (Some port) = work.Frame port
 
+-- what is so first decides; the second number is the port from which the switch last took
 abbrev pub next_work : FabricOf → ℕ → ℕ → Work
 next_work fabric place last =
     if is_some_spent fabric then work.Nothing why.Spent
@@ -50,15 +52,18 @@ abbrev pub tick_or_wait : Bool → Drive
 tick_or_wait true = drive.Did Tick
 tick_or_wait false = drive.Waits
 
+-- the packet of the least number moves before a tick comes
 abbrev pub move_or_tick : Option ℕ → FabricOf → Drive
 move_or_tick (Some packet) fabric = drive.Did (Move packet)
 move_or_tick None fabric = tick_or_wait (is_tick_due fabric)
 
+-- a command that is due comes first, but a restart is left to the worker of its switch
 abbrev pub command_or_move : Option Event → FabricOf → Drive
 command_or_move None fabric = move_or_tick (first_packet fabric.packets) fabric
 command_or_move (Some event) fabric =
     if is_restart event then move_or_tick (first_packet fabric.packets) fabric else drive.Did event
 
+-- an end that has come is told; if only what is in hand may still be handled, the driver waits
 abbrev pub drive_by : Option Ending → FabricOf → Drive
 drive_by (Some end) fabric = drive.Ended end
 drive_by None fabric = if is_barred fabric then drive.Waits else command_or_move (due_command fabric) fabric

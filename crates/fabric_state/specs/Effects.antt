@@ -54,7 +54,8 @@ released hand.Empty place wires = wires
 released (hand.Clock now samples) place wires = wires
 released (hand.Frame port) place wires = release_from (port_place place 0) wires
 
--- Frames are put in turn on the wires out of a switch. A port without a link of two switch ports has none.
+-- A frame is put on the wire out of a switch, or several in turn. A port without a link of two switch ports
+-- has none.
 abbrev pub put_out : ℕ → BytesOut → WiresOf → WiresOf
 put_out place out wires =
     if is_link (side_at wires (port_place place out.port)).far
@@ -65,7 +66,7 @@ abbrev pub all_put_out : ℕ → List BytesOut → WiresOf → WiresOf
 all_put_out place [] wires = wires
 all_put_out place (out ∷ more) wires = all_put_out place more (put_out place out wires)
 
--- a table goes out of use where another epoch was joined
+-- a table goes out of use if another epoch was joined
 abbrev pub kept_table : Bool → Option TableFor → Option TableFor
 kept_table stays table = if stays then table else None
 
@@ -135,7 +136,7 @@ noise_out place port bytes wires =
 abbrev pub address_of : TableOf → ℕ → ℕ
 address_of table port = table.number * 16 + port
 
--- A host sends a packet to another one: it has an address where the port of the first shows a host and the
+-- A host sends a packet to another one: it has an address if the port of the first shows a host and the
 -- switch of the other has a table in use.
 abbrev pub address_for : FabricOf → HostOn → HostOn → Result ℕ DropCause
 address_for fabric from to =
@@ -143,7 +144,7 @@ address_for fabric from to =
     then option_map_or (λ table. Ok (address_of table to.port)) (table_at fabric to.s) (Err cause.NoTable)
     else Err cause.NoPort
 
--- it is under way where it has an address
+-- it is under way if it has an address
 abbrev pub packet_to : ℕ → HostOn → HostOn → ℕ → PacketOf
 packet_to number from to address = record {
   packet = number;
@@ -161,6 +162,7 @@ admitted_as number from to (Err why) = []
 abbrev pub admitted : FabricOf → HostOn → HostOn → List PacketOf
 admitted fabric from to = admitted_as (fabric.sent + 1) from to (address_for fabric from to)
 
+-- the packet has the next number, which is used up also if it has no address
 abbrev pub after_send : ℕ → ℕ → FabricOf → FabricOf
 after_send from to fabric = done_command (record fabric {
   packets = fabric.packets ++ admitted fabric (host_on fabric from) (host_on fabric to);
@@ -186,6 +188,7 @@ after_command event fabric = fabric
 abbrev pub hop_of : FabricOf → PacketOf → Hop
 hop_of fabric packet = hop_in (table_at fabric) (host_at fabric) (next_at fabric) packet
 
+-- the packets under way after the hop of the one of this number; as before, if there is none
 abbrev pub hopped : ℕ → Option PacketOf → FabricOf → List PacketOf
 hopped number packet fabric =
     hopped_in (table_at fabric) (host_at fabric) (next_at fabric) number packet fabric.packets

@@ -50,7 +50,7 @@ pub record FabricOf : Type 0 where
   pub since : ℕ
   pub events : ℕ
 
--- a port that shows nothing, and the place of no switch
+-- a port that shows nothing; and the life, the note and the station of a place of no switch
 abbrev pub no_view : PortViewOf
 no_view = record { state = state.Dead; peer = None }
 
@@ -63,13 +63,14 @@ no_note = record { life = no_life; epoch = 0; ports = []; load_due = false; unac
 abbrev pub vacant : StationOf
 vacant = record { hand = hand.Empty; clock = 0; table = None; note = no_note; spent = false }
 
+-- what stands at a place, and `vacant` past the last
 abbrev pub station : FabricOf → ℕ → StationOf
 station fabric place = slice_index_or fabric.stations place vacant
 
 abbrev pub with_station : ℕ → StationOf → FabricOf → FabricOf
 with_station place new fabric = record fabric { stations = slice_set fabric.stations place new }
 
--- the places of the switches
+-- how many switches there are, whether this is the place of one, and all their places
 abbrev pub count : FabricOf → ℕ
 count fabric = length fabric.script.wires.switches
 
@@ -107,15 +108,17 @@ sample_behind (Some (HostAt host)) = sample.Host
 abbrev pub sample_of : Side → Sample
 sample_of side = if side.is_up then sample_behind side.far else sample.Down
 
+-- of the external ports of a switch, by rising port
 abbrev pub samples_of : FabricOf → ℕ → List Sample
 samples_of fabric place = map (λ port. sample_of (side_of_port fabric place port)) externals
 
--- what is in hand
+-- nothing is in hand
 abbrev pub is_empty : Hand → Bool
 is_empty hand.Empty = true
 is_empty (hand.Clock now samples) = false
 is_empty (hand.Frame port) = false
 
+-- the switch at a place has something in hand
 abbrev pub is_full_at : FabricOf → ℕ → Bool
 is_full_at fabric place = not (is_empty (station fabric place).hand)
 
@@ -123,13 +126,14 @@ is_full_at fabric place = not (is_empty (station fabric place).hand)
 abbrev pub held_bytes : FabricOf → ℕ → List ℕ
 held_bytes fabric place = slice_index_or (hand_of fabric.wires place) 0 []
 
--- how many hands are full, and how many more events there is room for
+-- how many hands are full
 abbrev pub full_among : List StationOf → ℕ
 full_among stations = count_by (λ at. not (is_empty at.hand)) stations
 
 abbrev pub full_hands : FabricOf → ℕ
 full_hands fabric = full_among fabric.stations
 
+-- how many more events the script allows, less one for each full hand, which is still to be handled
 abbrev pub room : FabricOf → ℕ
 room fabric = fabric.script.limits.events - fabric.events - full_hands fabric
 
@@ -146,23 +150,26 @@ clock_due_at fabric place = is_clock_due fabric (station fabric place)
 abbrev pub load_due_at : FabricOf → ℕ → Bool
 load_due_at fabric place = (station fabric place).note.load_due
 
--- whether the wire into a port of a switch has a frame, and whether any wire has
+-- the wire into a port of a switch has a frame
 abbrev pub has_frame : FabricOf → ℕ → ℕ → Bool
 has_frame fabric place port = has_frame_on fabric.wires (port_place place port)
 
+-- the wire into some external port of a switch has one
 abbrev pub has_frame_for : FabricOf → ℕ → Bool
 has_frame_for fabric place = list_any (has_frame fabric place) externals
 
 abbrev pub are_wires_empty : FabricOf → Bool
 are_wires_empty fabric = not (list_any (has_frame_for fabric) (places fabric))
 
--- the next command, and its event where it is due
+-- the next command of the script, if one is left
 abbrev pub next_command : FabricOf → Option Command
 next_command fabric = slice_get fabric.script.commands fabric.done
 
+-- it is due at its time and after it
 abbrev pub if_due : ℕ → Command → Option Event
 if_due now command = if nat_le command.time now then Some command.event else None
 
+-- the event of the next command, if that is due
 abbrev pub due_command : FabricOf → Option Event
 due_command fabric = option_and_then (if_due fabric.tick) (next_command fabric)
 
@@ -190,18 +197,21 @@ is_some_packet fabric = nat_lt 0 (length fabric.packets)
 abbrev pub table_at : FabricOf → ℕ → Option TableOf
 table_at fabric place = option_map (λ table. table.table) (station fabric place).table
 
--- the host, by its place and identifier, that a port reaches: the port shows a host and its link is up
+-- the place of no host
 abbrev pub no_host : HostOn
 no_host = record { uid = 0; s = 0; port = 0 }
 
+-- the host at a place of the script, from 0
 abbrev pub host_on : FabricOf → ℕ → HostOn
 host_on fabric host = slice_index_or fabric.script.wires.hosts host no_host
 
+-- the host at the far end of a link, up or down, by its place and identifier
 abbrev pub host_behind : FabricOf → Option Far → Option (ℕ × ℕ)
 host_behind fabric None = None
 host_behind fabric (Some (Switch place port)) = None
 host_behind fabric (Some (HostAt host)) = Some (host, (host_on fabric host).uid)
 
+-- the host, by its place and identifier, that a port reaches: the port shows a host and its link is up
 abbrev pub host_at : FabricOf → ℕ → ℕ → Option (ℕ × ℕ)
 host_at fabric place port =
     if is_up fabric place port && is_host (port_shown fabric place port).state
@@ -214,6 +224,7 @@ switch_behind None = None
 switch_behind (Some (Switch place port)) = Some (place, port)
 switch_behind (Some (HostAt host)) = None
 
+-- the same, if the link is up
 abbrev pub next_at : FabricOf → ℕ → ℕ → Option (ℕ × ℕ)
 next_at fabric place port =
     if is_up fabric place port then switch_behind (side_of_port fabric place port).far else None

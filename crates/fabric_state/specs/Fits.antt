@@ -11,6 +11,7 @@ use Rattle.fabric_state.specs.declared.hand.Hand.{Hand}
 use Rattle.fabric_state.specs.declared.hand.Hand.TheVariants as hand
 use Rattle.fabric_state.specs.Fabric.{FabricOf, station, count, full_hands}
 
+-- the wires that a network of this script begins with
 abbrev pub wires_at_first : ScriptOf → WiresOf
 wires_at_first script = wire_state.start script.wires script.limits.blocks
 
@@ -23,12 +24,15 @@ pub record QueueFits (script : ScriptOf) (queue : ℕ) (frames : List (List ℕ)
   pub bytes : All (λ frame. 1 ≤ length frame) frames
   pub linked : 0 < length frames → IsWireOrHand script queue
 
+-- a queue for each port, 0 to 12, of each switch; the blocks that are free and those in use are all of the
+-- script's
 pub record AreFramesSound (script : ScriptOf) (frames : FramesOf) : Type 0 where
   pub queues : length frames.queues ≡ 13 * length script.wires.switches
   pub limit : frames.limit ≡ script.limits.blocks
   pub blocks : frames.free + occupied frames ≡ frames.limit
   pub each : (queue : ℕ) → QueueFits script queue (frames_at frames queue)
 
+-- a side for each port, 0 to 12, of each switch
 pub record AreWiresSound (script : ScriptOf) (wires : WiresOf) : Type 0 where
   pub sides : length wires.sides ≡ 13 * length script.wires.switches
   pub agree : LinksAgree wires
@@ -68,6 +72,7 @@ IsHandPort hand.Empty = Unit {0}
 IsHandPort (hand.Clock now samples) = Unit {0}
 IsHandPort (hand.Frame port) = (1 ≤ port) × (port ≤ 12)
 
+-- both are so of the hand of the switch at a place
 pub record HandFitsAt (fabric : FabricOf) (place : ℕ) : Type 0 where
   pub port : IsHandPort (station fabric place).hand
   pub holds : HoldsFor (station fabric place).hand (hand_of fabric.wires place)

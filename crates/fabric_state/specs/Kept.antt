@@ -27,7 +27,7 @@ pub record IsPlanOf (script : ScriptOf) (switches : List SwitchAt) (links : List
   pub pace_is : pace ≡ script.pace
   pub limits_are : limits ≡ script.limits
 
--- the fabric of which these are parts, where no packet is under way and nothing has come yet
+-- the fabric of which these are parts, if no packet is under way and nothing has come yet
 abbrev pub fabric_of_parts : ScriptOf → WiresOf → StationsOf → FabricOf
 fabric_of_parts script wires stations = record {
   script = script;

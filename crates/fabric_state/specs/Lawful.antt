@@ -36,7 +36,7 @@ is_same_event one other = is_eq (slice_cmp nat_cmp (event_code one) (event_code 
 abbrev pub is_command : FabricOf → Event → Bool
 is_command fabric event = option_map_or (is_same_event event) (due_command fabric) false
 
--- there were events enough since the last tick, where the script sets a pace
+-- there were events enough since the last tick, if the script sets a pace
 abbrev pub is_paced : Option ℕ → ℕ → Bool
 is_paced None since = false
 is_paced (Some pace) since = nat_le pace since
@@ -68,7 +68,7 @@ abbrev pub is_handle : Event → Bool
 is_handle (Handle place) = true
 is_handle event = false
 
--- Where a switch is spent, or there is too little room, only what is in hand may still be handled.
+-- If a switch is spent, or there is too little room, only what is in hand may still be handled.
 abbrev pub is_barred : FabricOf → Bool
 is_barred fabric = is_some_spent fabric || nat_lt (room fabric) 2
 

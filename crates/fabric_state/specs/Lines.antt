@@ -64,6 +64,7 @@ hop_line packet place epoch entry (hop.Delivered exit host) =
     line.Moved packet place epoch entry exit (Some host)
 hop_line packet place epoch entry (hop.Dropped why) = line.Fell packet place why
 
+-- the epoch of the table in use at a place, and 0 if there is none
 abbrev pub epoch_in_use : FabricOf → ℕ → ℕ
 epoch_in_use fabric place = option_map_or (λ table. table.epoch) (station fabric place).table 0
 

@@ -30,7 +30,7 @@ tickets_at Idle = 0
 tickets_at (Waits ticket) = 1
 tickets_at (Serves ticket) = 1
 
--- so many numbers, and 0 where the seat was joined into another
+-- so many numbers, and 0 if the seat was joined into another
 abbrev pub numbers_at : Stage → ℕ → ℕ
 numbers_at Spent count = 0
 numbers_at Idle count = count
@@ -108,7 +108,7 @@ module _ {S E D : Type 0} (history : S → List E) (start_of : S → D) (owner :
       pub heard_rest : List E
       pub heard_prefix : heard ++ heard_rest ≡ log
 
-    -- What is so of the view at an index, where it is not spent. `log` is the history, and `place` says of
+    -- What is so of the view at an index, if it is not spent. `log` is the history, and `place` says of
     -- each caller's number which view has it, and in what role.
     pub record IsSeated (log : List E) (place : ℕ → ℕ × ℕ) (index : ℕ) (view : View E D) : Type 0 where
       pub begun : view.start ≡ Some start
@@ -120,6 +120,7 @@ module _ {S E D : Type 0} (history : S → List E) (start_of : S → D) (owner :
       pub sight : HasSeen log view.seen view.heard view.number view.mine
       pub open sight use {saw, rest, prefix, heard_rest, heard_prefix}
 
+    -- what is so of the words, the views and the value of a turn lock
     pub record IsKept (state : State S (View E D)) : Type 0 where
       -- tickets drawn and turns passed on, counted without bound, and the history
       pub drawn : ℕ

@@ -11,7 +11,7 @@ use Rattle.fabric_world.specs.Histories.{owner_of}
 use Rattle.fabric_world.specs.Lines.{lines_of, rows_behind}
 use Rattle.fabric_world.specs.World.{WorldOf, begun, step}
 
--- what the events of a caller give, among lawful events in turn, where each gives this in the world before it
+-- what the events of a caller give, among lawful events in turn, if each gives this in the world before it
 abbrev pub gathered : {A : Type 0} → (WorldOf → Event → List A) → ℕ → WorldOf → List Event → List A
 gathered give caller world [] = []
 gathered give caller world (event ∷ events) =
@@ -26,6 +26,7 @@ placed place lines = map (λ line. record { event = place; line = line }) lines
 abbrev pub placed_lines : WorldOf → Event → List PlacedLine
 placed_lines world event = placed (step world event).fabric.events (lines_of world event)
 
+-- the rows of the table in use after a load, which may be none; no other event gives a list of rows
 abbrev pub loaded_rows : WorldOf → Event → List (List RowOf)
 loaded_rows world (Load place) = rows_behind (step world (Load place)).fabric (Load place) ∷ []
 loaded_rows world event = []
@@ -35,6 +36,7 @@ pub record AccountOf : Type 0 where
   pub lines : List PlacedLine
   pub rows : List (List RowOf)
 
+-- the account of a caller after this history, which is lawful
 abbrev pub account_of : ScriptOf → ℕ → List Event → AccountOf
 account_of script caller history = record {
   lines = gathered placed_lines caller (begun script) history;

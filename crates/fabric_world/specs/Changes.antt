@@ -9,11 +9,11 @@ use Rattle.fabric_world.specs.Histories.{IsFirstFault}
 abbrev pub with_added : ℕ → Event → List Event → List Event
 with_added count event history = take count history ++ event ∷ drop count history
 
--- the one behind the first so many is left out
+-- the one after the first so many is left out
 abbrev pub with_left_out : ℕ → List Event → List Event
 with_left_out count history = take count history ++ drop (suc count) history
 
--- The first so many events are lawful, and the one behind them is not.
+-- The first so many events are lawful, and the one after them is not.
 pub record IsRefusedAfter (count : ℕ) (script : ScriptOf) (history : List Event) : Type 0 where
   pub event : Event
   pub after : List Event

@@ -50,6 +50,7 @@ pub record IsTopology (life : LifeId) (topo : TopoOf) : Type 0 where
   pub numbers : topo.numbers ≡ numbering topo.entries
   pub different : AreNumbers topo.numbers
 
+-- whatever a life has finished an epoch with is a topology
 abbrev pub AreTopologies : ScriptOf → List Event → Type 0
 AreTopologies script history = (life : LifeId) (epoch : ℕ) (topo : TopoOf)
     → FinishedAt script history life epoch topo → IsTopology life topo
@@ -72,8 +73,10 @@ pub record AreJoined (entries : List EntryOf) (any : Bool) : Type 0 where
   pub least : (to from entry links : ℕ) (ports : List ℕ) → any ≡ false
       → Follows entries any to from 0 ports to entry → IsShortest entries true from to links
       → length ports ≡ links
+  -- no channel leads back to itself, by one step or more
   pub no_cycle : (steps : ℕ) (channel : ℕ × ℕ) → ChannelWalk entries any (suc steps) channel channel → ⊥
 
+-- of whatever a life has finished an epoch with, all members are joined
 abbrev pub AreAllJoined : ScriptOf → List Event → Type 0
 AreAllJoined script history = (life : LifeId) (epoch : ℕ) (topo : TopoOf)
     → FinishedAt script history life epoch topo → AreJoined topo.entries script.any_routes
@@ -87,7 +90,8 @@ AreOwnTables script history = (place : ℕ) (table : TableFor) → place < lengt
     × IsTableOf topo.entries topo.numbers script.any_routes (switch_after script history place).life
     table.table
 
--- A switch loaded the table of a topology at a moment of a history.
+-- A load of a switch that has finished with a topology, at a moment of a history. It need not be lawful
+-- there.
 pub record IsLoadOf (script : ScriptOf) (history before : List Event) (place : ℕ) (later : List Event)
     (topo : TopoOf) : Type 0 where
   pub parts : history ≡ before ++ Load place ∷ later
@@ -109,7 +113,7 @@ pub record HoldsAt (script : ScriptOf) (history : List Event) : Type 0 where
   pub older : NoneIsOlder script history
   pub traces : AreTraced script history
 
--- and at each moment of it
+-- and at each moment of it: after each of its beginnings
 abbrev pub HoldsAtEachMoment : ScriptOf → List Event → Type 0
 HoldsAtEachMoment script history =
     (before later : List Event) → history ≡ before ++ later → HoldsAt script before
@@ -123,7 +127,7 @@ pub record AreLinked (world : WorldOf) (one other : ℕ) : Type 0 where
   pub there : good_peer (world.switches one) one_port ≡ Some (end_at (world.switches other) other_port)
   pub back : good_peer (world.switches other) other_port ≡ Some (end_at (world.switches one) one_port)
 
--- the component of a place
+-- the component of a place: itself, and each place that is linked to one of it
 pub data IsWith (world : WorldOf) (place : ℕ) : ℕ → Type 0 where
   itself : IsWith world place place
   next : (one other : ℕ) → IsWith world place one → AreLinked world one other → IsWith world place other
@@ -166,15 +170,16 @@ pub record IsFinishedAsItself (world : WorldOf) (place : ℕ) : Type 0 where
   pub topology : IsTopology (world.switches place).life topo
   pub loaded : UsesTableOf world place topo
 
+-- each component has finished as itself
 abbrev pub AreFinished : WorldOf → Type 0
 AreFinished world = (place : ℕ) → place < count world.fabric → IsFinishedAsItself world place
 
--- a history that ends settled
+-- if a history ends settled, each component has finished as itself
 abbrev pub IfSettled : ScriptOf → List Event → Type 0
 IfSettled script history =
     end_of script history ≡ Some ending.Settled → AreFinished (world_after script history)
 
--- All that is claimed of a history: what holds at each moment, and what has finished where it ends settled.
+-- All that is claimed of a history: what holds at each moment, and what has finished if it ends settled.
 pub record HoldsThroughout (script : ScriptOf) (history : List Event) : Type 0 where
   pub moments : HoldsAtEachMoment script history
   pub settled : IfSettled script history

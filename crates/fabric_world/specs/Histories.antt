@@ -17,6 +17,7 @@ pub record HistoryOf : Type 0 where
   pub script : ScriptOf
   pub events : List Event
 
+-- its world, its fabric, and the same history with one event more
 abbrev pub world_of : HistoryOf → WorldOf
 world_of history = world_after history.script history.events
 
@@ -31,6 +32,7 @@ abbrev pub AreLawful : WorldOf → List Event → Type 0
 AreLawful world [] = Unit {0}
 AreLawful world (event ∷ events) = (is_lawful world.fabric event ≡ true) × AreLawful (step world event) events
 
+-- each event is lawful, from the beginning of the network on
 abbrev pub IsLawful : ScriptOf → List Event → Type 0
 IsLawful script history = AreLawful (begun script) history
 
@@ -50,10 +52,11 @@ pub record IsFirstFault (script : ScriptOf) (history before : List Event) (event
   pub lawful : IsLawful script before
   pub fault : is_lawful (world_after script before).fabric event ≡ false
 
--- the switch at a place, and the table in use there
+-- the switch at a place after a history
 abbrev pub switch_after : ScriptOf → List Event → ℕ → SwitchOf
 switch_after script history place = (world_after script history).switches place
 
+-- the table in use at a place after a history
 abbrev pub in_use : ScriptOf → List Event → ℕ → Option TableFor
 in_use script history place = (station (world_after script history).fabric place).table
 

@@ -26,10 +26,11 @@ use Rattle.fabric_world.specs.World.{WorldOf, handled, step}
 use Rattle.std.specs.Option.{option_map_or}
 use Rattle.an_base.specs.Rows.{RowOf}
 
--- the ports whose state changed, rising
+-- what a note shows of a port
 abbrev pub shown_in : NoteOf → ℕ → PortViewOf
 shown_in note port = slice_index_or note.ports (port - 1) no_view
 
+-- a port whose state changed, and no port that shows only another end
 abbrev pub port_line : ℕ → NoteOf → NoteOf → ℕ → List Line
 port_line place before after port =
     if state_code (shown_in before port).state == state_code (shown_in after port).state then []
@@ -42,13 +43,14 @@ no_frame_lines place (hand.Clock now samples) bytes = []
 no_frame_lines place (hand.Frame port) bytes =
     if is_some (frame_of bytes) then [] else line.NoFrame place port ∷ []
 
--- an epoch was joined; no epoch is left; the epoch was finished
+-- an epoch was joined
 abbrev pub has_joined : SwitchOf → SwitchOf → Bool
 has_joined before after = not (after.epoch == before.epoch)
 
 abbrev pub join_lines : ℕ → SwitchOf → SwitchOf → List Line
 join_lines place before after = if has_joined before after then line.Join place after.epoch ∷ [] else []
 
+-- no epoch is left for a change that is due
 abbrev pub spent_lines : ℕ → SwitchOf → List Line
 spent_lines place after = if after.spent then line.Spent place ∷ [] else []
 
@@ -56,16 +58,19 @@ spent_lines place after = if after.spent then line.Spent place ∷ [] else []
 abbrev pub root_of : TopoOf → LifeId
 root_of topo = (entry_at topo.entries 0).position.root
 
+-- an epoch was finished with a topology; None: it is not finished
 abbrev pub finish_line : ℕ → ℕ → Option TopoOf → List Line
 finish_line place epoch None = []
 finish_line place epoch (Some topo) = line.Finish place epoch (root_of topo) (length topo.entries) ∷ []
 
+-- the present epoch is finished now, and was not before
 abbrev pub finish_lines : ℕ → SwitchOf → SwitchOf → List Line
 finish_lines place before after =
     if not (has_joined before after) && is_some (finish_of before) then []
     else finish_line place after.epoch (finish_of after)
 
--- what a switch had in hand was handled
+-- What a switch had in hand was handled: the ports whose state changed, by rising port; bytes that are no
+-- frame; the epoch; and the frames that were lost.
 abbrev pub handle_lines : ℕ → Step → WorldOf → List Line
 handle_lines place step world =
     flat_map (port_line place (note_of (world.switches place)) (note_of step.switch)) externals
@@ -97,7 +102,7 @@ abbrev pub all_lines : WorldOf → List Event → List Line
 all_lines world [] = []
 all_lines world (event ∷ events) = lines_of world event ++ all_lines (step world event) events
 
--- the rows of the table that is in use behind a load, and of no other event
+-- the rows of the table that is in use after a load, and of no other event
 abbrev pub rows_behind : FabricOf → Event → List RowOf
 rows_behind fabric (Load place) = option_map_or (λ table. table.rows) (table_at fabric place) []
 rows_behind fabric event = []

@@ -12,7 +12,7 @@ use Rattle.fabric_world.specs.World.{WorldOf, world_after}
 use Rattle.fabric_world.specs.Histories.{last_taken}
 use Rattle.fabric_state.specs.Choices.{next_work, event_of_work, next_drive}
 
--- The next event of the worker of a switch, if it has one: it handles what is in hand, else loads where a
+-- The next event of the worker of a switch, if it has one: it handles what is in hand, else loads if a
 -- load is due, else takes.
 abbrev pub worker_event : WorldOf → ℕ → ℕ → List Event
 worker_event world place last =

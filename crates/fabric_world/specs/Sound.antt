@@ -17,7 +17,7 @@ use Rattle.fabric_state.specs.Lawful.{is_lawful}
 use Rattle.fabric_world.specs.World.{WorldOf, table_for}
 
 -- What a switch has in hand is of this tick: a clock, or a frame that came in by an external port of a
--- switch that is not spent and had its clock; and where it had, its last tick is this one.
+-- switch that is not spent and had its clock; and if it had, its last tick is this one.
 abbrev pub HandFits : ℕ → ℕ → SwitchOf → Hand → Type 0
 HandFits tick clock switch hand.Empty = clock ≡ tick + 1 → switch.tick ≡ tick
 HandFits tick clock switch (hand.Clock now samples) = (now ≡ tick) × (clock ≡ tick + 1)
@@ -36,6 +36,7 @@ pub record IsPlaceSound (script : ScriptOf) (tick place : ℕ) (at : StationOf)
   pub clock : at.clock ≤ tick + 1
   pub fits : HandFits tick at.clock switch at.hand
 
+-- the place of a switch in the world is sound, and all of them are
 abbrev pub IsSoundAt : ScriptOf → WorldOf → ℕ → Type 0
 IsSoundAt script world place =
     IsPlaceSound script world.fabric.tick place (station world.fabric place) (world.switches place)
@@ -44,7 +45,7 @@ abbrev pub ArePlacesSound : ScriptOf → WorldOf → Type 0
 ArePlacesSound script world =
     (place : ℕ) → place < length script.wires.switches → IsSoundAt script world place
 
--- how many of these commands restart the switch at a place
+-- whether an event restarts the switch at a place, and how many of these commands do
 abbrev pub is_restart_at : ℕ → Event → Bool
 is_restart_at place (Restart other) = place == other
 is_restart_at place event = false
@@ -63,6 +64,7 @@ pub record IsTableInUse (switch : SwitchOf) (used : TableFor) : Type 0 where
   pub finished : finish_of switch ≡ Some topo
   pub table : used ≡ table_for topo switch
 
+-- the table in use at a place, if there is one, is such a table
 abbrev pub HasTable : WorldOf → ℕ → Type 0
 HasTable world place = IfSome (station world.fabric place).table (IsTableInUse (world.switches place))
 
@@ -83,10 +85,11 @@ pub record HasNext (fabric : FabricOf) : Type 0 where
 abbrev pub AllMayCome : FabricOf → List Event → Type 0
 AllMayCome fabric events = All (λ event. is_lawful fabric event ≡ true) events
 
--- a topology has as many numbers as entries, each of 1 to 126
+-- a number of a switch
 abbrev pub IsNumber : ℕ → Type 0
 IsNumber number = (1 ≤ number) × (number ≤ 126)
 
+-- a topology has as many numbers as entries, each of 1 to 126
 pub record TopoFits (topo : TopoOf) : Type 0 where
   pub within : All IsNumber topo.numbers
   pub as_many : length topo.numbers ≡ length topo.entries

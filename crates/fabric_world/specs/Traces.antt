@@ -39,6 +39,7 @@ pub record Hopped : Type 0 where
 abbrev pub no_topo : TopoOf
 no_topo = record { entries = []; numbers = [] }
 
+-- the hop of a packet by this exit, in the world before it; `no_topo` if the life has not finished its epoch
 abbrev pub hopped_at : WorldOf → PacketOf → ℕ → Hopped
 hopped_at world packet exit = record {
   place = packet.at;
@@ -55,6 +56,7 @@ hopped_by (hop.Went exit) world packet = hopped_at world packet exit ∷ []
 hopped_by (hop.Delivered exit host) world packet = []
 hopped_by (hop.Dropped why) world packet = []
 
+-- None: no packet, and no hop
 abbrev pub hopped_of : Option PacketOf → WorldOf → List Hopped
 hopped_of None world = []
 hopped_of (Some packet) world = hopped_by (hop_of world.fabric packet) world packet
@@ -72,13 +74,15 @@ trace_from number world (event ∷ events) =
     (if is_lawful world.fabric event then event_hop number world event else [])
     ++ trace_from number (step world event) events
 
+-- from the beginning of the network on
 unfoldable pub trace_of : ScriptOf → List Event → ℕ → List Hopped
 trace_of script history number = trace_from number (begun script) history
 
--- what is told of a hop, and whether a line tells of a hop of this packet to another switch
+-- what is told of a hop
 abbrev pub moved_line : ℕ → Hopped → Line
 moved_line number hop = line.Moved number hop.place hop.epoch hop.entry hop.exit None
 
+-- whether a line tells of a hop of this packet to another switch
 abbrev pub tells_of_hop : ℕ → Line → Bool
 tells_of_hop number (line.Moved packet place epoch entry exit None) = packet == number
 tells_of_hop number other = false

@@ -103,12 +103,13 @@ HasBytes (work.Restart life) fabric place out = Unit {0}
 HasBytes (work.Clock now samples) fabric place out = Unit {0}
 HasBytes (work.Nothing reason) fabric place out = Unit {0}
 
--- all that is told of what comes after a history, where at most one event does
+-- all that is told of what comes after a history, if at most one event does
 abbrev pub IsTold : ScriptOf → List Event → List Event → Option PlacedLine → Type 0
 IsTold script history events told =
     option_to_list told ≡ flat_map (placed_lines (world_after script history)) events
 
--- what is replied, and the history afterwards
+-- What is replied to the worker of a place, and the history afterwards: its next work, whose event, if it has
+-- one, has come.
 pub record TakesWork (script : ScriptOf) (history : List Event) (place : ℕ) (job : Work) (out : List ℕ)
     (told : Option PlacedLine) (after : List Event) : Type 0 where
   pub work_is : job ≡ next_work (world_after script history).fabric place (last_taken place history)
@@ -121,6 +122,7 @@ abbrev pub AreTold : FabricOf → ℕ → List BytesOut → List (Option Line) �
 AreTold fabric place frames puts =
     flat_map option_to_list puts ≡ lost_lines place frames (wires_at_hand fabric place)
 
+-- What was done is handed back, with what became of each frame, and it has been handled.
 pub record PutsFrames (script : ScriptOf) (history : List Event) (place : ℕ) (given back : Parcel)
     (after : List Event) : Type 0 where
   pub same : back.done ≡ given.done
@@ -128,7 +130,8 @@ pub record PutsFrames (script : ScriptOf) (history : List Event) (place : ℕ) (
   pub event : after ≡ history ++ Handle place ∷ []
   pub number_is : back.event ≡ (world_after script after).fabric.events
 
--- a table is in use, or its sheet is handed back
+-- The table is in use. If a switch is spent, or there is too little room, the sheet is handed back, and
+-- nothing has come.
 pub record Loads (script : ScriptOf) (history : List Event) (place : ℕ) (answer : Reply)
     (after : List Event) : Type 0 where
   pub told : PlacedLine
@@ -140,12 +143,14 @@ abbrev pub LoadsOrNot : Bool → Box Sheet → Reply → ℕ → ScriptOf → Li
 LoadsOrNot false sheet answer place script history after = Loads script history place answer after
 LoadsOrNot true sheet answer place script history after = (answer ≡ reply.NotNow sheet) × (after ≡ history)
 
+-- the next thing of the driver, whose event, if it has one, has come
 pub record Drives (script : ScriptOf) (history : List Event) (did : Drive) (told : Option PlacedLine)
     (after : List Event) : Type 0 where
   pub drive_is : did ≡ next_drive (world_after script history).fabric
   pub event : after ≡ history ++ event_of_drive did
   pub told_is : IsTold script history (event_of_drive did) told
 
+-- each ask gets the reply of its kind, and no other kind answers it
 abbrev pub AnswersTake : ScriptOf → List Event → ℕ → Reply → List Event → Type 0
 AnswersTake script history place (reply.Take letter) after =
     TakesWork script history place letter.value.work letter.value.buffer letter.value.told after
@@ -161,6 +166,7 @@ AnswersDrive script history (reply.Drive slip) after =
     Drives script history slip.value.drive slip.value.told after
 AnswersDrive script history other after = ⊥
 
+-- what answers an ask, between the history before it and the one after it
 abbrev pub AnswersAsk : ScriptOf → List Event → Ask → Reply → List Event → Type 0
 AnswersAsk script history (ask.Take place letter) answer after =
     AnswersTake script history place answer after

@@ -39,6 +39,7 @@ start_of script place boot = record {
   any = script.any_routes;
 }
 
+-- the switch at a place as it starts that life
 abbrev pub started_at : ScriptOf → ℕ → ℕ → SwitchOf
 started_at script place boot = started_as (start_of script place boot)
 
@@ -53,6 +54,7 @@ first_station script place = record {
   spent = false;
 }
 
+-- the world of a script before any event
 abbrev pub begun : ScriptOf → WorldOf
 begun script = record {
   fabric = record {
@@ -95,6 +97,7 @@ stepped place step world = record {
 abbrev pub table_for : TopoOf → SwitchOf → TableFor
 table_for topo switch = record { epoch = switch.epoch; table = table_of topo switch.any switch.life }
 
+-- the table of this topology is loaded; None: nothing changes
 abbrev pub loads_with : Option TopoOf → ℕ → WorldOf → WorldOf
 loads_with None place world = world
 loads_with (Some topo) place world = record {
@@ -109,12 +112,14 @@ loads_with (Some topo) place world = record {
 abbrev pub next_life : ℕ → WorldOf → SwitchOf
 next_life place world = started_at world.fabric.script place ((world.switches place).life.boot + 1)
 
+-- the switch at a place begins its next life
 abbrev pub restarts : ℕ → WorldOf → WorldOf
 restarts place world = record {
   fabric = after_restart place (note_of (next_life place world)) world.fabric;
   switches = at_port place (next_life place world) world.switches;
 }
 
+-- only the fabric changes
 abbrev pub in_fabric : (FabricOf → FabricOf) → WorldOf → WorldOf
 in_fabric change world = record world { fabric = change world.fabric }
 
@@ -147,5 +152,6 @@ abbrev pub after_all : List Event → WorldOf → WorldOf
 after_all [] world = world
 after_all (event ∷ events) world = after_all events (step world event)
 
+-- after a history, from the beginning of the network on
 unfoldable pub world_after : ScriptOf → List Event → WorldOf
 world_after script history = after_all history (begun script)

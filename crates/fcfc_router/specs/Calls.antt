@@ -19,7 +19,7 @@ pub data Call : Type 0 where
   Ask : (request : RequestOf) → Call
   Grants : (free : ℕ) → (answer : Option Grant) → Call
 
--- the calls lead from those who wait before to those who wait behind
+-- the calls lead from those who wait before them to those who wait after them
 abbrev pub Leads : ℕ → List RequestOf → List Call → List RequestOf → Type 0
 Leads most old [] new = old ≡ new
 Leads most old (Ask request ∷ calls) new =
@@ -27,7 +27,7 @@ Leads most old (Ask request ∷ calls) new =
 Leads most old (Grants free answer ∷ calls) new =
     (next : List RequestOf) × IsGranted free old next answer × Leads most next calls new
 
--- 1 where the two are one packet
+-- 1 if the two are one packet
 abbrev pub counts : ℕ → ℕ → ℕ
 counts one other = if one == other then 1 else 0
 

@@ -42,7 +42,7 @@ pub record Grants (free : ℕ) (old new : List RequestOf) (grant : Grant) : Type
   pub passed : NoneCanGo free older
   pub gets : Gets free request grant
 
--- what is granted: nothing exactly where no request names a free port, and then nothing changes
+-- what is granted: nothing exactly if no request names a free port, and then nothing changes
 abbrev pub IsGranted : ℕ → List RequestOf → List RequestOf → Option Grant → Type 0
 IsGranted free old new None = (new ≡ old) × NoneCanGo free old
 IsGranted free old new (Some grant) = Grants free old new grant

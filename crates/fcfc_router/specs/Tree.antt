@@ -19,7 +19,7 @@ abbrev pub IsUnion : List ℕ → ℕ → Type 0
 IsUnion unions node =
     slice_index unions node ≡ bit_or (slice_index unions (2 * node)) (slice_index unions (2 * node + 1))
 
--- the first of the two nodes below a node where it has one of these ports, else the second
+-- the first of the two nodes below a node if it has one of these ports, else the second
 abbrev pub IsHalf : List ℕ → ℕ → ℕ → ℕ → Type 0
 IsHalf unions ports node half =
     ((half ≡ 2 * node) × (bit_and (slice_index unions (2 * node)) ports ≢ 0))
@@ -40,7 +40,7 @@ pub record IsTreeBut (places : ℕ) (unions : List ℕ) (end : ℕ) : Type 0 whe
   pub count : length unions ≡ 2 * places
   pub each : (node : ℕ) → 1 ≤ node → node < places → node ≢ end → IsUnion unions node
 
--- the sets of all places: those behind the kept ones are empty
+-- the sets of all places: those after the kept ones are empty
 abbrev pub all_sets : ℕ → ℕ → List ℕ → List ℕ
 all_sets kept places unions = drop kept unions ++ replicate (places - kept) 0
 

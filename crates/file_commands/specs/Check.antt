@@ -1,4 +1,4 @@
--- The command `check`: what comes of checking the routing tables that stand behind a script.
+-- The command `check`: what comes of checking the routing tables that stand after a script.
 
 use Rattle.std.specs.Prelude.{◌≡◌, ℕ, List, Bool, true, false}
 use Rattle.net_script.specs.Scripts.{ScriptOf}

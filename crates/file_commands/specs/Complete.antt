@@ -19,7 +19,7 @@ gives_expected_of script bytes status text = (status ≡ Ok) × IsExpectOf scrip
 abbrev pub gives_flooded_of : ScriptOf → Gives
 gives_flooded_of script bytes status text = (status ≡ Ok) × IsFloodOf script text
 
--- `flow B`: what becomes of its packets where each channel holds so many, with status 0
+-- `flow B`: what becomes of its packets if each channel holds so many, with status 0
 abbrev pub gives_flow_of : ScriptOf → ℕ → Gives
 gives_flow_of script room bytes status text = (status ≡ Ok) × IsFlowOf script room text
 

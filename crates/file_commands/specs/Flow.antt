@@ -1,4 +1,4 @@
--- The command `flow B`: what becomes of the packets that a script sends, where each channel holds B.
+-- The command `flow B`: what becomes of the packets that a script sends, if each channel holds B.
 
 use Rattle.std.specs.Prelude.{◌≡◌, ℕ, true, List, [], ◌∷◌, codes}
 use Rattle.text_lines.specs.Words.{is_number_in, number_value}

@@ -5,7 +5,7 @@ use Rattle.flow_channels.specs.declared.board.Ahead.{Ahead}
 use Rattle.flow_channels.specs.declared.board.Ahead.TheVariants.{Rests, Arrives, Asks}
 use Rattle.flow_channels.specs.Flows.{PacketOf}
 
--- where there are a far side and a first packet: this arrives if the far side is its target, else it asks
+-- if there are a far side and a first packet: this arrives if the far side is its target, else it asks
 -- there
 abbrev pub ahead_of : Option Channel → Option PacketOf → Ahead
 ahead_of None first = Rests

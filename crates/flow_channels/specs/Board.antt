@@ -27,10 +27,11 @@ pub record AreTablesOf (layout : LayoutOf) (wires : List (Option Channel)) (sets
       → ports_of (exit_set sets came to) ≡ exits_of layout came to
   pub room_is : room ≡ layout.most
 
--- the packet in a place
+-- a packet as it is kept
 abbrev pub packet_of : Packet → PacketOf
 packet_of packet = record { packet = packet.packet; to = packet.to }
 
+-- the packet in a place
 abbrev pub packet_at : List Packet → ℕ → PacketOf
 packet_at packets slot = packet_of (slice_index_or packets slot (record { packet = 0; to = 0 }))
 
@@ -38,13 +39,15 @@ packet_at packets slot = packet_of (slice_index_or packets slot (record { packet
 abbrev pub wait_at : List Packet → List ℕ → ℕ → WaitOf
 wait_at packets entries slot = record { packet = packet_at packets slot; entry = slice_index entries slot }
 
--- the packets in the queues, and those that wait at the routers
+-- the packets in a queue, the first one first
 abbrev pub packets_in : List Packet → QueueOf → List PacketOf
 packets_in packets queue = map (packet_at packets) queue.slots
 
+-- those that wait at a router, oldest first
 abbrev pub waits_at : List Packet → List ℕ → RouterOf → List WaitOf
 waits_at packets entries router = map (λ request. wait_at packets entries request.packet) router.waiting
 
+-- the flow that a board stands for
 abbrev pub flow_of : Board → FlowOf
 flow_of board = record {
   queues = map (packets_in board.packets.items) board.queues.items;
@@ -69,13 +72,15 @@ come_by tables board channel slot =
 abbrev pub freed_by : Tables → Board → Channel → FlowOf
 freed_by tables board came = leaves_by (ways tables) ((ways tables).far came) (flow_of board)
 
--- one that was let go has left the channel that brought it, and has come into that of its port
+-- the spot by which one that was let go had come in
 abbrev pub departed_from : Board → Departure → Channel
 departed_from board departure = spot departure.at (slice_index board.entries.items departure.slot)
 
+-- the flow in which it has left the channel that brought it, if one did
 abbrev pub left_by : Tables → Board → Departure → FlowOf
 left_by tables board departure = freed_by tables board (departed_from board departure)
 
+-- and the one in which it has come into the channel of its port as well
 abbrev pub gone_by : Tables → Board → Departure → FlowOf
 gone_by tables board departure =
     comes_into (ways tables) (spot departure.at departure.exit) (packet_at board.packets.items departure.slot)
@@ -119,7 +124,7 @@ pub record AreIdleRouters (wires : List (Option Channel)) (most end : ℕ) (rout
   pub most_is : HaveMost wires most end routers
 
 -- there is a queue for each spot, a router for each number, and an entry for each packet; what is in
--- them entered; and each has room, a queue where its spot has a far side and a router where its number has
+-- them entered; and each has room, a queue if its spot has a far side and a router if its number has
 -- a link
 pub record IsKept (tables : Tables) (board : Board) : Type 0 where
   pub within : WiresAreWithin tables.wires.items

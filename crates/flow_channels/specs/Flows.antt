@@ -10,7 +10,7 @@ pub record PacketOf : Type 0 where
   pub packet : ℕ
   pub to : ℕ
 
--- a packet that waits at a switch to go on, and the entry at which it came in; 0 where it starts there
+-- a packet that waits at a switch to go on, and the entry at which it came in; 0 if it starts there
 pub record WaitOf : Type 0 where
   pub packet : PacketOf
   pub entry : ℕ
@@ -31,17 +31,19 @@ waiting_at flow at = slice_index_or flow.waiting at []
 abbrev pub first_of : FlowOf → Channel → Option PacketOf
 first_of flow channel = slice_get (queue_at flow channel) 0
 
--- nothing is on its way
+-- nothing is on its way; there is a queue for each of the 13 ports of 127 numbers, and a list for each number
 abbrev pub empty_flow : FlowOf
 empty_flow = record { queues = replicate 1651 []; waiting = replicate 127 [] }
 
+-- these packets are in a channel then
 abbrev pub with_queue : Channel → List PacketOf → FlowOf → FlowOf
 with_queue channel packets flow = record flow { queues = slice_set flow.queues (place_of channel) packets }
 
+-- these wait at a switch then
 abbrev pub with_waiting : ℕ → List WaitOf → FlowOf → FlowOf
 with_waiting at waits flow = record flow { waiting = slice_set flow.waiting at waits }
 
--- a packet asks at a switch: it waits there, behind the others
+-- a packet asks at a switch: it waits there, after the others
 abbrev pub asks : ℕ → WaitOf → FlowOf → FlowOf
 asks at wait flow = with_waiting at (waiting_at flow at ++ (wait ∷ [])) flow
 
@@ -70,7 +72,7 @@ abbrev pub leaves_by : LayoutOf → Option Channel → FlowOf → FlowOf
 leaves_by layout None flow = flow
 leaves_by layout (Some channel) flow = leaves layout channel flow
 
--- a packet comes last in a channel, and asks where it is the first there
+-- a packet comes last in a channel, and asks if it is the first there
 abbrev pub comes_into : LayoutOf → Channel → PacketOf → FlowOf → FlowOf
 comes_into layout channel packet flow =
     if length (queue_at flow channel) == 0
@@ -98,5 +100,6 @@ abbrev pub all_starting : List (List WaitOf) → ℕ
 all_starting [] = 0
 all_starting (waits ∷ waiting) = starting waits + all_starting waiting
 
+-- all of them, in the whole flow
 abbrev pub left_of : FlowOf → ℕ
 left_of flow = in_queues flow.queues + all_starting flow.waiting

@@ -40,8 +40,8 @@ abbrev pub greatest : List (Option ℕ) → ℕ
 greatest [] = 0
 greatest (rank ∷ ranks) = max (unwrap_or rank 0) (greatest ranks)
 
--- How many moves may be left at most: behind a channel one more than its rank, before the first one two
--- more than the greatest
+-- How many moves may be left at most: of a packet in a channel one more than the channel's rank, of one
+-- before its first channel two more than the greatest
 abbrev pub moves_in : List (Option ℕ) → List (List PacketOf) → ℕ
 moves_in [] queues = 0
 moves_in (rank ∷ ranks) [] = 0

@@ -16,7 +16,7 @@ sets_from sets start = map (λ to. slice_index sets (start + to)) (range_with_le
 unfoldable pub all_sets : List ℕ → List ℕ → List ℕ
 all_sets starts sets = flat_map (sets_from sets) starts
 
--- there is a start for each spot, with sets behind it
+-- there is a start for each spot, with sets from there on
 pub record AreStarts (starts sets : List ℕ) : Type 0 where
   pub count : length starts ≡ 1651
   pub within : All (λ start. start + 127 ≤ length sets) starts

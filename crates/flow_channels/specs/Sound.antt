@@ -17,7 +17,7 @@ pub record IsOnWay (layout : LayoutOf) (to : ℕ) (came : Channel) : Type 0 wher
   pub steps : ℕ
   pub walk : Walk (GoesOn layout.far layout.rows to) steps (spot from 0) came
 
--- who waits is the first packet of the channel that brought it, and where none did, it starts there
+-- who waits is the first packet of the channel that brought it, and if none did, it starts there
 abbrev pub IsFirst : FlowOf → Channel → PacketOf → Type 0
 IsFirst flow channel packet = (rest : List PacketOf) × (queue_at flow channel ≡ packet ∷ rest)
 
@@ -42,20 +42,22 @@ abbrev pub ComesBy : LayoutOf → Channel → PacketOf → Type 0
 ComesBy layout channel packet =
     (end : Channel) × (layout.far channel ≡ Some end) × IsOnWay layout packet.to end
 
--- a packet is known, and is in one place
+-- a packet entered, and this spot is its one place
 abbrev pub IsIn : List ℕ → (ℕ → Channel) → Channel → PacketOf → Type 0
 IsIn known place channel packet = Contains known packet.packet × (place packet.packet ≡ channel)
 
+-- so of one that waits at the switch at which it starts: its spot is entry 0 there
 abbrev pub IsInOne : List ℕ → (ℕ → Channel) → ℕ → WaitOf → Type 0
 IsInOne known place at wait = wait.entry ≡ 0 → IsIn known place (spot at 0) wait.packet
 
+-- no packet is twice in one channel, or twice among those that wait at a switch
 abbrev pub AreApart : List PacketOf → Type 0
 AreApart packets = AllPairs (λ one other. one.packet ≢ other.packet) packets
 
 abbrev pub WaitApart : List WaitOf → Type 0
 WaitApart waits = AllPairs (λ one other. one.packet.packet ≢ other.packet.packet) waits
 
--- the same of a flow with the packets that entered
+-- All that holds of a flow, and of the packets that entered
 pub record IsSound (layout : LayoutOf) (known : List ℕ) (flow : FlowOf) : Type 0 where
   -- there is a list for each channel and for each switch
   pub queues : length flow.queues ≡ 1651

@@ -47,6 +47,7 @@ abbrev pub NoneGoesAt : Tables → Board → ℕ → Type 0
 NoneGoesAt tables board at =
     (free : ℕ) × AreFree tables board at free × NoneCanGo free (router_at board at).waiting
 
+-- at the switches of lower numbers than this
 abbrev pub NoneGoes : Tables → Board → ℕ → Type 0
 NoneGoes tables board end = (at : ℕ) → at < end → NoneGoesAt tables board at
 

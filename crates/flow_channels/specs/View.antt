@@ -67,6 +67,7 @@ pub record IsRunning (tables : Tables) (board : Board) : Type 0 where
   pub layout : LayoutOf
   pub over : IsOver layout (view_of tables board)
 
+-- so many are still on their way, of those that entered
 pub record HasLeft (tables : Tables) (board : Board) (left : ℕ) : Type 0 where
   pub running : IsRunning tables board
   pub left_is : left ≡ left_of (flow_of board)

@@ -44,6 +44,7 @@ pub record AreFreePorts (tables : Tables) (flow : FlowOf) (end : ℕ) (sets : Li
       (at port : ℕ) → at < end
       → ((bit_at (slice_index sets at) port ≡ 1) ↔ HasRoom (ways tables) flow (spot at port))
 
+-- the three sets are those of this flow
 pub record IsWatched (tables : Tables) (flow : FlowOf) (watch : Watch) : Type 0 where
   pub arriving : AreArriving tables flow watch.arriving
   pub free : AreFreePorts tables flow 127 watch.free.items

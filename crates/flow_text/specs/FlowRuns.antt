@@ -84,7 +84,7 @@ pub record IsBegun (layout : LayoutOf) (home : List ℕ) (sends : List Sent) (vi
   pub over : IsOver layout view
   pub flow_is : view.flow ≡ entered_flow home sends
 
--- the turns from a flow on until no packet is left, with their lines behind a text and those that go out
+-- the turns from a flow on until no packet is left, with their lines after a text and those that go out
 -- counted
 pub record IsToldRun (layout : LayoutOf) (script : ScriptOf) (entries : List EntryOf) (start : FlowOf)
     (base text : List ℕ) (before out : ℕ)
@@ -94,7 +94,7 @@ pub record IsToldRun (layout : LayoutOf) (script : ScriptOf) (entries : List Ent
   pub text_is : text ≡ base ++ flow_told (map (went_line script entries) moves)
   pub out_is : out ≡ before + count_by is_out moves
 
--- the moves of the packets that enter a component, with their lines behind a text and those that go out
+-- the moves of the packets that enter a component, with their lines after a text and those that go out
 -- counted
 pub record IsToldPart (script : ScriptOf) (room : ℕ) (entries : List EntryOf) (base text : List ℕ)
     (before out : ℕ)

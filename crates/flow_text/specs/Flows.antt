@@ -18,9 +18,9 @@ use Rattle.row_text.specs.Names.{name_of}
 use Rattle.expect_text.specs.Expect.{AreTables, Part, all_rows}
 use Rattle.flow_text.specs.Sends.{entering, homes_of, is_entering, is_joined, is_local, is_unjoined, number_at, numbers_in, sends_of}
 
--- The text of `flow`: what becomes of the packets that a script sends, where channels hold a few each.
+-- The text of `flow`: what becomes of the packets that a script sends, if channels hold a few each.
 
--- the flow where packets have entered, in their order
+-- the flow in which packets have entered, in their order
 abbrev pub with_entered : List ℕ → FlowOf → Sent → FlowOf
 with_entered numbers flow sent =
     enters sent.packet (number_at numbers sent.from) (number_at numbers sent.to) flow
@@ -28,6 +28,7 @@ with_entered numbers flow sent =
 abbrev pub entered_flow : List ℕ → List Sent → FlowOf
 entered_flow numbers sends = fold (with_entered numbers) empty_flow sends
 
+-- the flow of a component before its first turn: all packets have entered that enter it
 abbrev pub start_of : ScriptOf → List EntryOf → FlowOf
 start_of script entries =
     entered_flow (numbers_in script.wires.switches entries)
@@ -121,7 +122,7 @@ flow_text script parts =
     ++ end_line (homes_of script.wires.switches (map entries_of parts)) (sends_of script)
     (flat_map (λ part. part.moves) parts) ∷ []))
 
--- What becomes of the packets that the script sends, with all links up, where channels have so much room: no
+-- What becomes of the packets that the script sends, with all links up, if channels have so much room: no
 -- channel has more packets than it holds after any of the turns, and as many lines say that a packet arrives as
 -- packets enter a component.
 pub record IsFlowOf (script : ScriptOf) (room : ℕ) (text : List ℕ) : Type 0 where

@@ -54,15 +54,17 @@ list_at one next known (suc more) bytes = do
   others ← list_at one next (next first.0) more first.1
   Some (first.0 ∷ others.0, others.1)
 
--- what a call read from the bytes old, as view sees it, where it left the bytes new
+-- what a call read from the bytes old, as view sees it, if it left the bytes new
 abbrev pub ReadsAs : {A B : Type 0} → (A → B) → At B → Result A DecodeRefusal → List ℕ → List ℕ → Type 0
 ReadsAs view at (Ok value) old new = at old ≡ Some (view value, new)
 ReadsAs view at (Err NotAFrame) old new = at old ≡ None
 ReadsAs view at (Err OutOfMemory) old new = ⊤
 
+-- the same, of the value as it is
 abbrev pub Reads : {A : Type 0} → At A → Result A DecodeRefusal → List ℕ → List ℕ → Type 0
 Reads at result old new = ReadsAs (λ value. value) at result old new
 
+-- a byte; and a number of so many bytes, the highest first
 abbrev pub byte_at : At ℕ
 byte_at [] = None
 byte_at (byte ∷ rest) = Some (byte, rest)
@@ -79,9 +81,12 @@ within_at least most = tested (λ byte. not (nat_lt byte least) && not (nat_lt m
 abbrev pub counted_at : At ℕ
 counted_at = tested (λ number. not (nat_lt number 1)) (number_at 4)
 
+-- a byte that is 0 or 1
 abbrev pub truth_at : At Bool
 truth_at = made (λ byte. byte == 1) (within_at 0 1)
 
+-- `life_of` makes a life of its parts, and `life_at` reads it, in the order in which it is spelled; so it is
+-- with each kind of value below
 abbrev pub life_of : ℕ × ℕ → LifeId
 life_of parts = record { uid = parts.0; boot = parts.1 }
 
@@ -123,7 +128,7 @@ entry_of parts = record { life = parts.0.0.0; position = parts.0.0.1; proposed =
 unfoldable pub entry_at : At EntryOf
 entry_at = made entry_of (both (both (both life_at position_at) (within_at 1 MOST_NUMBER)) links_at)
 
--- whether the life is above this one, where there is one
+-- whether the life is above this one, if there is one
 abbrev pub is_above : Option LifeId → LifeId → Bool
 is_above None life = true
 is_above (Some above) life = is_lt (life_cmp above life)
@@ -147,6 +152,7 @@ is_new before number =
     not (nat_lt number 1) && not (nat_lt MOST_NUMBER number)
     && not (list_any (λ other. other == number) before)
 
+-- so of each number of a list in turn
 unfoldable pub are_new : List ℕ → List ℕ → Bool
 are_new before [] = true
 are_new before (number ∷ numbers) = is_new before number && are_new (before ++ number ∷ []) numbers

@@ -7,7 +7,7 @@ use Rattle.frame_region.specs.declared.region.TheConstants.{MOST_BLOCKS}
 use Rattle.frame_region.specs.Blocks.{block, chain_bytes}
 use Rattle.frame_region.specs.Sizes.{blocks_of, needed}
 
--- A region: the bytes under each slip, where there are any, and how many blocks are free. Slips are numbers
+-- A region: the bytes under each slip, if there are any, and how many blocks are free. Slips are numbers
 -- below that of the blocks.
 pub record RegionOf : Type 0 where
   pub held : List (Option (List ℕ))
@@ -40,7 +40,7 @@ abbrev pub content : List ℕ → List ℕ → ℕ → ℕ → Option (List ℕ)
 content bytes next first zero = None
 content bytes next first (suc len) = Some (chain_bytes bytes next first (suc len))
 
--- the length of the byte string that begins with a block; 0 where none does, or none has begun yet
+-- the length of the byte string that begins with a block; 0 if none does, or none has begun yet
 abbrev pub len_at : List ℕ → ℕ → ℕ
 len_at lens first = slice_index_or lens first 0
 

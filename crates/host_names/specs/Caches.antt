@@ -34,7 +34,7 @@ kept_of arrivals = take PLACES (last_of_each arrivals)
 abbrev pub with_arrival : ArrivalOf → List ArrivalOf → List ArrivalOf
 with_arrival arrival kept = take PLACES (arrival ∷ others arrival.uid kept)
 
--- what is kept where at first nothing is, and then one packet after another arrives
+-- what is kept if at first nothing is, and then one packet after another arrives
 abbrev pub after_arrivals : List ArrivalOf → List ArrivalOf
 after_arrivals [] = []
 after_arrivals (arrival ∷ arrivals) = with_arrival arrival (after_arrivals arrivals)

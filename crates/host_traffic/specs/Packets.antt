@@ -27,8 +27,8 @@ pub record TrafficOf : Type 0 where
 abbrev pub row_entry : PacketOf → ℕ
 row_entry packet = if packet.is_new then 0 else packet.entry
 
--- At the switch of its address it is delivered to the host at the port of its address, which is the one that
--- it is for.
+-- At the switch of its address it is delivered to the host at the port of its address, if that is the one
+-- that it is for.
 abbrev pub delivered_to : ℕ → Option (ℕ × ℕ) → PacketOf → Hop
 delivered_to port None packet = hop.Dropped cause.NoHost
 delivered_to port (Some host) packet =
@@ -47,7 +47,7 @@ hop_by (Some table) host next packet =
     then delivered_to (packet.address % 16) (host (packet.address % 16)) packet
     else goes_by (exits_of table (row_entry packet) (packet.address / 16)) next
 
--- the same, where these are read from a network by the place of a switch
+-- the same, if these are read from a network by the place of a switch
 abbrev pub hop_in :
     (ℕ → Option TableOf) → (ℕ → ℕ → Option (ℕ × ℕ)) → (ℕ → ℕ → Option (ℕ × ℕ)) → PacketOf → Hop
 hop_in table host next packet = hop_by (table packet.at) (host packet.at) (next packet.at) packet
@@ -79,6 +79,7 @@ abbrev pub moved_to : Option (ℕ × ℕ) → PacketOf → PacketOf
 moved_to None packet = packet
 moved_to (Some far) packet = record packet { at = far.0; entry = far.1; is_new = false }
 
+-- and so the packet of a number, among those under way
 abbrev pub moved : ℕ → Option (ℕ × ℕ) → List PacketOf → List PacketOf
 moved number far packets =
     map (λ packet. if packet.packet == number then moved_to far packet else packet) packets
@@ -89,6 +90,7 @@ after_hop (hop.Went exit) next number packets = moved number (next exit) packets
 after_hop (hop.Delivered exit host) next number packets = without number packets
 after_hop (hop.Dropped why) next number packets = without number packets
 
+-- the packets under way after the hop of one of them; None: there is no such packet
 abbrev pub hopped_in :
     (ℕ → Option TableOf) → (ℕ → ℕ → Option (ℕ × ℕ)) → (ℕ → ℕ → Option (ℕ × ℕ)) → ℕ → Option PacketOf
     → List PacketOf → List PacketOf

@@ -88,7 +88,8 @@ pub data IsStop (old new : Sources) (status : Status) : Type 0 where
   no_tables : AreNoTables old new status → IsStop old new status
   wanting : status ≡ OutOfMemory → IsStop old new status
 
--- the statuses that a command gives; of a file of its own that it refuses too
+-- the statuses with which a command may end that has read both sources; with `RanksRefused` it refuses a file
+-- of its own
 abbrev pub IsEnding : Status → Type 0
 IsEnding Ok = Unit {0}
 IsEnding RoutesLost = Unit {0}
@@ -121,7 +122,7 @@ pub record IsCutOff (gives : Gives) (old new : Sources) (out out' : Seen) : Type
   pub gains : GainsFront out out' written
   pub failed : Failed out out'
 
--- The cause of a status, and what out gained: the text, a front of it where out failed, and else nothing.
+-- The cause of a status, and what out gained: the text, a front of it if out failed, and else nothing.
 pub data IsCause (gives : Gives) (old new : Sources) (out out' : Seen) (status : Status) : Type 0 where
   written : IsWritten gives old new out out' status → IsCause gives old new out out' status
   cut : status ≡ WriteFault → IsCutOff gives old new out out' → IsCause gives old new out out' status

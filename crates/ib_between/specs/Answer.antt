@@ -82,7 +82,7 @@ pub record IsCutOff (was is : Sources) (out out' : Seen) : Type 0 where
   pub gains : GainsFront out out' written
   pub failed : Failed out out'
 
--- The cause of a status, and what out gained: the text, a front of it where out failed, and else nothing.
+-- The cause of a status, and what out gained: the text, a front of it if out failed, and else nothing.
 pub data IsCause (was is : Sources) (out out' : Seen) (status : Status) : Type 0 where
   written : IsWritten was is out out' status → IsCause was is out out' status
   cut : status ≡ WriteFault → IsCutOff was is out out' → IsCause was is out out' status

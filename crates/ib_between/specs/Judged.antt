@@ -29,7 +29,7 @@ IsEndOf fabric old new Cycle =
     (channel : Channel) × (rest : List Channel) × IsCycle (MayBeFollowed fabric old new) channel rest
 IsEndOf fabric old new status = ⊥
 
--- the least cycle, or no channels where there is none
+-- the least cycle, or no channels if there is none
 abbrev pub IsLoop : FabricOf → (old new : TablesOf) → List LoopChannel → Type 0
 IsLoop fabric old new [] = HasNoCycle (MayBeFollowed fabric old new)
 IsLoop fabric old new (one ∷ rest) = CycleIs fabric old new (one ∷ rest)

@@ -6,6 +6,7 @@ use Rattle.std.specs.Prelude.{length, slice_index_or, if◌then◌else◌, nat_l
 abbrev pub TablesOf : Type 0
 TablesOf = ℕ → ℕ → Option ℕ
 
+-- of so many switches and so many blocks of 64 LIDs, a byte for each switch and LID, block by block
 pub record CellsOf : Type 0 where
   pub switches : ℕ
   pub blocks : ℕ
@@ -15,10 +16,11 @@ pub record CellsOf : Type 0 where
 abbrev pub place_of : ℕ → ℕ → ℕ → ℕ
 place_of switches switch lid = (lid / 64 * switches + switch) * 64 + lid % 64
 
+-- 255 is no port
 abbrev pub port_of : ℕ → Option ℕ
 port_of byte = if byte == 255 then None else Some byte
 
--- the tables: 255 is no port
+-- the tables that cells stand for
 abbrev pub tables_of : CellsOf → TablesOf
 tables_of cells switch lid = if nat_lt switch cells.switches
     then port_of (slice_index_or cells.bytes (place_of cells.switches switch lid) 255)
@@ -43,6 +45,7 @@ HasNoOther tables switch lid port = (other : ℕ) → tables switch lid ≡ Some
 abbrev pub HasOther : TablesOf → ℕ → ℕ → ℕ → Type 0
 HasOther tables switch lid port = (other : ℕ) × (tables switch lid ≡ Some other) × (other ≢ port)
 
+-- what holds of all cells that are kept
 pub record AreCells (cells : CellsOf) : Type 0 where
   pub count : length cells.bytes ≡ cells.blocks * cells.switches * 64
   pub few : cells.switches < 2 ^ 20

@@ -60,7 +60,7 @@ pub record TellsRanks (fabric : FabricOf) (tables : TablesOf) (traffic : Traffic
   pub reads : IsRanksText fabric written told
   pub falls : Fall fabric tables traffic told
 
--- `ranks` tells them, or where there is a credit loop, what `judge` does
+-- `ranks` tells them, or, if there is a credit loop, what `judge` does
 abbrev pub AreRanksTold : Traffic → List ℕ → FabricOf → Tables → Status → List ℕ → Type 0
 AreRanksTold traffic text fabric found status written =
     TellsRanks fabric (tables_of found.cells) traffic status written
@@ -75,7 +75,7 @@ risen_of fabric rise =
       next = rank_of fabric rise.next rise.next_rank;
     }
 
--- the status where ranks fall: there is no credit loop, and each route arrives, or one is stopped
+-- the status if ranks fall: there is no credit loop, and each route arrives, or one is stopped
 abbrev pub IsEndBy : FabricOf → TablesOf → Traffic → Option Rise → Status → Type 0
 IsEndBy fabric tables traffic None status =
     HasNoCycle (DependsOn fabric tables traffic)

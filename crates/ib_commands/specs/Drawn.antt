@@ -19,7 +19,7 @@ use Rattle.ib_commands.specs.Judged.{IsEndOf, IsLoop, step_of}
 use Rattle.ib_commands.specs.Names.{names_for}
 use Rattle.ib_commands.specs.Words.{traffic_word}
 
--- a channel as an arrow, to the switch to which it leads
+-- a channel as an arrow, to the switch to which it leads; there is none if it leads to no switch
 abbrev pub arrow_over : FabricOf → LoopChannel → Side → List Arrow
 arrow_over fabric one (To next entry) =
     record { step = step_of fabric one; to = guid_of fabric (Switch next); entry = entry } ∷ []
@@ -43,7 +43,7 @@ pub record IsPictureOf (traffic : Traffic) (text : List ℕ) (fabric : FabricOf)
   pub arrows : picture.arrows.items ≡ arrows_of fabric loop
   pub names : picture.names.items ≡ names_for text (switches_of picture.arrows.items)
 
--- the picture of the least credit loop, or of none where there is none
+-- the picture of the least credit loop, or of none if there is none
 pub record IsDrawn (traffic : Traffic) (text : List ℕ) (fabric : FabricOf) (found : Tables) (status : Status)
     (written : List ℕ)
     : Type 0 where

@@ -53,7 +53,7 @@ pub record IsRead (fabric : FabricOf) (found : Tables) (read : Read) : Type 0 wh
 abbrev pub routes_of : Counts → Routes
 routes_of counts = record { routes = counts.routes; arrived = counts.arrived; hops = counts.hops }
 
--- the least credit loop, or no channels where there is none
+-- the least credit loop, or no channels if there is none
 abbrev pub IsLoop : FabricOf → TablesOf → Traffic → List LoopChannel → Type 0
 IsLoop fabric tables traffic [] = HasNoCycle (DependsOn fabric tables traffic)
 IsLoop fabric tables traffic (one ∷ rest) = CycleIs fabric tables traffic (one ∷ rest)
@@ -79,7 +79,7 @@ losses_of lost =
       looping = lost.looping.count;
     }
 
--- the least route that is lost by a cause
+-- the least route that is lost by a cause, as an answer tells it
 abbrev pub lost_route : FabricOf → Cause → LostRoute → Lost
 lost_route fabric cause route =
     record {
@@ -89,9 +89,11 @@ lost_route fabric cause route =
       at = guid_of fabric (Switch route.at);
     }
 
+-- none if no route is lost by it
 abbrev pub lost_by : FabricOf → Cause → Loss → List Lost
 lost_by fabric cause loss = option_to_list (option_map (lost_route fabric cause) loss.least)
 
+-- those of all causes, in this order
 abbrev pub lost_of : FabricOf → Counted → List Lost
 lost_of fabric lost =
     lost_by fabric Missing lost.missing ++ lost_by fabric Dead lost.dead ++ lost_by fabric Wrong lost.wrong

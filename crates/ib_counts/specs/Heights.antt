@@ -18,6 +18,7 @@ IsChain hop_at path count =
     (place : ℕ) → place + 1 < count
     → (port : ℕ) × (hop_at (slice_index path place) ≡ On port (slice_index path (place + 1)))
 
+-- the first so many of a path are switches that there are
 abbrev pub AreLow : ℕ → List ℕ → ℕ → Type 0
 AreLow switches path count = (place : ℕ) → place < count → slice_index path place < switches
 

@@ -124,6 +124,7 @@ IsNoCable old None port end fault = ⊥
 IsNoCable old (Some switch) port None fault = ⊥
 IsNoCable old (Some switch) port (Some end) fault = IsRefusedCable old end (spot_of switch port) fault
 
+-- two ports, as they were told, cannot be joined
 abbrev pub CannotJoin : FabricOf → PortTold → PortTold → LinkFault → Type 0
 CannotJoin old (OfSwitch guid port) (OfSwitch other far) fault =
     IsNoLink old (switch_with old guid) port (switch_with old other) far fault

@@ -43,6 +43,7 @@ module _ {Told : Type 0} (adds : Told → Fact → Told → Type 0) where
 -- `faulty old fact cause` says that it is faulty there, first by this cause.
 module _ {Told : Type 0} (adds : Told → Fact → Told → Type 0)
     (faulty : Told → Fact → FabricCause → Type 0) where
+  -- of a fact that is there; without one there is no fault
   abbrev pub IsFaultySome : Told → Option Fact → FabricCause → Type 0
   IsFaultySome old None cause = ⊥
   IsFaultySome old (Some fact) cause = faulty old fact cause

@@ -20,10 +20,11 @@ use Rattle.ib_commands.specs.Words.{traffic_word}
 use Rattle.ib_lane_commands.specs.Inputs.{Told}
 use Rattle.ib_lane_commands.specs.LaneJudged.{IsLaneEndOf, IsLaneLoop, without_lane}
 
--- a channel as an arrow, to the switch to which its link leads, with its lane and the service level of its route
+-- an arrow, with the lane of a channel and the service level of its route
 abbrev pub on_lane : LaneLoopChannel → Arrow → LaneArrow
 on_lane one arrow = record { arrow = arrow; lane = one.channel.lane; level = one.witness.level }
 
+-- a channel as an arrow, to the switch to which its link leads; none if it leads to no switch
 abbrev pub lane_arrow_at : FabricOf → LaneLoopChannel → List LaneArrow
 lane_arrow_at fabric one = map (on_lane one) (arrow_at fabric (without_lane one))
 

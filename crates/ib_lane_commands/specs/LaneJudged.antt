@@ -90,7 +90,7 @@ lane_losses_of lost =
       looping = lost.looping.count;
     }
 
--- the least route that is lost by a cause
+-- the least route that is lost by a cause, as an answer tells it
 abbrev pub lane_lost_route : FabricOf → LossCause → LostLaneRoute → LaneLost
 lane_lost_route fabric cause route =
     record {
@@ -101,9 +101,11 @@ lane_lost_route fabric cause route =
       at = guid_of fabric (Switch route.at);
     }
 
+-- none if no route is lost by it
 abbrev pub lane_lost_by : FabricOf → LossCause → LaneLoss → List LaneLost
 lane_lost_by fabric cause loss = option_to_list (option_map (lane_lost_route fabric cause) loss.least)
 
+-- those of all causes, in this order
 abbrev pub lane_lost_of : FabricOf → Counted → List LaneLost
 lane_lost_of fabric lost =
     lane_lost_by fabric Missing lost.missing ++ lane_lost_by fabric Dead lost.dead

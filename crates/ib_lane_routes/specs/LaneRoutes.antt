@@ -57,7 +57,7 @@ pub record LaneSends (fabric : FabricOf) (traffic : Traffic) (levels : LevelsOf)
   pub sends : Sends fabric traffic lid source
   pub has : HasLevel levels source lid level
 
--- from one place to another by so many hops, where each switch hops as told
+-- from one place to another by so many hops, if each switch hops as told
 abbrev pub LaneWalksBy : (Spot → LaneHop) → ℕ → Spot → Spot → Type 0
 LaneWalksBy hop_at zero start at = start ≡ at
 LaneWalksBy hop_at (suc hops) start at =
@@ -103,13 +103,14 @@ IsLaneStop Arrive = ⊥
 IsLaneStop (Stop cause) = Unit {0}
 IsLaneStop Discard = Unit {0}
 
+-- the route of an end port to a LID with a level stops, or is discarded, at some switch
 abbrev pub IsLaneStopped :
     FabricOf → TablesOf → LanesOf → Traffic → LevelsOf → ℕ → EndPort → ℕ → Type 0
 IsLaneStopped fabric tables lanes traffic levels lid source level =
     (at : Spot) × LaneComesTo fabric tables lanes traffic levels lid source level at
     × IsLaneStop (lane_hop fabric tables lanes level lid at)
 
--- a channel depends on another where some route takes the one and then the other
+-- a channel depends on another if some route takes the one and then the other
 abbrev pub LaneDependsOn :
     FabricOf → TablesOf → LanesOf → Traffic → LevelsOf → LaneChannel → LaneChannel → Type 0
 LaneDependsOn fabric tables lanes traffic levels channel next =

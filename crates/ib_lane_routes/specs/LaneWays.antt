@@ -11,6 +11,7 @@ pub record IsWay (fabric : FabricOf) (tables : TablesOf) (lid switch port : ℕ)
   pub told : tables switch lid ≡ Some port
   pub leads : side_of fabric switch port ≡ To next.switch next.port
 
+-- it has none that leads to a switch
 abbrev pub HasNoWay : FabricOf → TablesOf → ℕ → ℕ → Type 0
 HasNoWay fabric tables lid switch = (port : ℕ) (next : Spot) → IsWay fabric tables lid switch port next → ⊥
 

@@ -72,7 +72,7 @@ module _ (fabric : FabricOf) (tables : TablesOf) (lanes : LanesOf) (traffic : Tr
     pub ranked : LaneHasRanks count ranks
     pub arrived : LaneAllArrive fabric tables lanes traffic levels
 
--- the channel of a place, where switches have at most so many ports, and there are so many lanes
+-- the channel of a place, if switches have at most so many ports, and there are so many lanes
 abbrev pub lane_spot_at : ℕ → ℕ → ℕ → LaneSpot
 lane_spot_at most count place =
     record { switch = place / count / most; port = place / count % most + 1; lane = place % count }

@@ -40,7 +40,8 @@ AreSent fabric traffic levels gates count block top words =
     (gate level bit : ℕ) → gate < count → level < top → bit < 64
     → (HasBit words (gate * top + level) bit ↔ IsSentFrom fabric traffic levels gates gate (64 * block + bit) level)
 
--- the end port before the one of a place has the same gate and levels, and sends to the LID
+-- an end port before that of a place has this gate, and sends to the LID of a bit with the same levels as
+-- that
 pub record StandsAlready (fabric : FabricOf) (levels : LevelsOf) (targets block : ℕ) (gates : List (Option ℕ))
     (owned : List ℕ) (place gate bit : ℕ)
     : Type 0 where
@@ -101,6 +102,7 @@ module _ (fabric : FabricOf) (tables : TablesOf) (lanes : LanesOf) (count : ℕ)
     pub is_one : one ≡ lane_number fabric count channel
     pub is_other : other ≡ lane_number fabric count next
 
+  -- the route of some end port to the LID, with some level, stops
   abbrev pub SomeIsLaneStoppedTo : ℕ → Type 0
   SomeIsLaneStoppedTo lid =
       (source : EndPort) × ((level : ℕ) × IsLaneStopped fabric tables lanes traffic levels lid source level)

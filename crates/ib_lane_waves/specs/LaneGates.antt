@@ -10,7 +10,7 @@ use Rattle.ib_routes.specs.declared.traffic.Traffic.{Traffic}
 use Rattle.ib_routes.specs.Routes.{IsSource}
 use Rattle.ib_lane_routes.specs.LaneRoutes.{begin_of}
 
--- the end port of a place: those of adapters and routers first
+-- the end port of a place: those of adapters and routers first, then switches; and how many there are
 abbrev pub source_at : FabricOf → ℕ → EndPort
 source_at fabric place = if nat_lt place (length fabric.cables)
     then Host place

@@ -33,6 +33,7 @@ none_told = record { part = Start; levels = no_levels }
 abbrev pub Step : Type 0
 Step = Result Told LaneCause
 
+-- the end port at a place that is known, or this cause
 abbrev pub or_unknown : Option ℕ → LaneCause → (ℕ → EndPort) → Result EndPort LaneCause
 or_unknown None cause port = Err cause
 or_unknown (Some place) cause port = Ok (port place)

@@ -18,6 +18,7 @@ abbrev pub IsEndOf : FabricOf → EndPort → Type 0
 IsEndOf fabric (port.Host end) = end < length fabric.cables
 IsEndOf fabric (port.Switch switch) = switch < switch_count fabric
 
+-- if a part is open, it is that of an end port of the fabric
 abbrev pub IsPartOf : FabricOf → Part → Type 0
 IsPartOf fabric Start = Unit {0}
 IsPartOf fabric Paths = Unit {0}

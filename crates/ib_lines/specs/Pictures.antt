@@ -50,6 +50,7 @@ arrow_row_by label arrow =
     ∷ codes "[ taillabel =" ∷ decimal arrow.step.port ∷ codes "headlabel =" ∷ decimal arrow.entry
     ∷ label ∷ decimal arrow.step.lid ∷ codes "from" ∷ closed_word arrow.step.source ∷ codes "]" ∷ []
 
+-- a channel without lanes
 abbrev pub arrow_row : Arrow → Row
 arrow_row arrow = arrow_row_by (codes "label = \"lid") arrow
 

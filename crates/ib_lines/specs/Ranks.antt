@@ -22,6 +22,7 @@ risen_rows None = (codes "ranks" ∷ codes "fall" ∷ []) ∷ []
 risen_rows (Some rise) =
     (codes "ranks" ∷ codes "rise" ∷ []) ∷ channel_row rise.step ∷ rank_row rise.own ∷ rank_row rise.next ∷ []
 
+-- all of the answer
 unfoldable pub verified_rows : Verified → List Row
 verified_rows answer = (codes "fabric" ∷ codes "1" ∷ []) ∷ judged_row answer.traffic ∷ risen_rows answer.rise
 

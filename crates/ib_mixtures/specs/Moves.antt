@@ -30,7 +30,7 @@ pub record TakesWhile (fabric : FabricOf) (old new : TablesOf) (traffic : Traffi
   pub after : ℕ
   pub second : hop fabric (tables_at (hops + 1)) next.switch lid ≡ On next.port after
 
--- while rows change a channel depends on another where some packet takes the one and then the other
+-- while rows change a channel depends on another if some packet takes the one and then the other
 abbrev pub DependsWhile : FabricOf → (old new : TablesOf) → Traffic → Channel → Channel → Type 0
 DependsWhile fabric old new traffic channel next =
     (lid : ℕ) × (source : EndPort) × TakesWhile fabric old new traffic lid source channel next

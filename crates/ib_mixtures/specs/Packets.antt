@@ -15,6 +15,7 @@ pub record StandsWhile (fabric : FabricOf) (old new : TablesOf) (channel : Chann
   pub far : ℕ
   pub took : MayTake fabric old new packet.lid channel.switch channel.port far
 
+-- each packet that is in a channel stands there
 abbrev pub AllStandWhile : FabricOf → (old new : TablesOf) → QueuesOf → Type 0
 AllStandWhile fabric old new queue =
     (channel : Channel) (packet : Packet) → Contains (queue channel) packet

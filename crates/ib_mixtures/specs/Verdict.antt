@@ -61,6 +61,7 @@ pub record CycleIs (fabric : FabricOf) (old new : TablesOf) (found : List LoopCh
   pub least : IsLeastCycle channel_cmp (MayBeFollowed fabric old new) (map channel_of (spots_in found))
   pub turns : AreTurns fabric old new (spots_in found) found
 
+-- the ranks of the channels, or the least cycle
 abbrev pub IsVerdict : FabricOf → (old new : TablesOf) → Verdict → Type 0
 IsVerdict fabric old new (Ranks ranks) = HasRanks fabric old new ranks.items
 IsVerdict fabric old new (Cycle channels) = CycleIs fabric old new channels.items

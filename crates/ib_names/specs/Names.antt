@@ -1,5 +1,5 @@
 -- What the text of a topology calls its nodes: a switch by its GUID, an end port of an adapter or router by
--- that of the port. A name is any bytes, as they stand. Where several lines name a node, the first counts.
+-- that of the port. A name is any bytes, as they stand. If several lines name a node, the first counts.
 use Rattle.std.specs.Prelude.{◌≡◌, ◌++◌, ◌∷◌, [], ℕ, List, Option, Some, None, codes, nat_eq}
 use Rattle.std.specs.Prelude.{option_to_list, Contains}
 use Rattle.std.specs.Map.{lookup}
@@ -110,5 +110,6 @@ pub record AreNamesBy (name : ℕ → Option (List ℕ)) (guids : List ℕ) (nam
   pub asked : (guid : ℕ) → Contains guids guid → lookup (nat_eq guid) names ≡ name guid
   pub others : (guid : ℕ) → ¬ Contains guids guid → lookup (nat_eq guid) names ≡ None
 
+-- so by this text
 abbrev pub AreNamesOf : List ℕ → List ℕ → List (ℕ × List ℕ) → Type 0
 AreNamesOf bytes = AreNamesBy (name_of bytes)

@@ -10,7 +10,7 @@ use Rattle.ib_net.specs.Fabric.{FabricOf, IsOther, side_of}
 use Rattle.ib_net.specs.Nodes.{NodesOf}
 
 -- to a port of a switch: the switch in the upper bytes, the port in the lowest; to an end port: from 2 ^ 30
--- on
+-- on; to nothing: from 2 ^ 31 on
 abbrev pub side_in : ℕ → Side
 side_in word = if nat_lt word (2 ^ 30)
     then To (word / 256) (word % 256)

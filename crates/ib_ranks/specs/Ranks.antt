@@ -74,7 +74,7 @@ abbrev pub HasBegun : Told → Type 0
 HasBegun told = told.begun ≡ true
 
 -- The bytes are the text of these ranks, by the numbers of channels: each line is good after those before it, the head
--- is there, and the ranks are what the lines say, 0 where they say none.
+-- is there, and the ranks are what the lines say, 0 if they say none.
 pub record IsRanksText (fabric : FabricOf) (bytes ranks : List ℕ) : Type 0 where
   pub last : Told
   pub good : LeadsBy (AddsTo fabric) (none_told fabric) (lines_of bytes) last

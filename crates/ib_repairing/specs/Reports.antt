@@ -23,17 +23,18 @@ measures_row when of =
     when ∷ codes "routes" ∷ decimal of.routes ∷ codes "hops" ∷ decimal of.hops
     ∷ codes "longest" ∷ decimal of.longest ∷ codes "greatest" ∷ decimal of.greatest ∷ []
 
--- more than a twentieth of the rows are set: `route` makes better tables
+-- more rows are set than a twentieth of the cells: it is told that `route` makes better tables
 abbrev pub better_rows : Report → List Row
 better_rows report = if nat_lt (report.cells / 20) (length report.rows.items)
     then (codes "better" ∷ codes "route" ∷ []) ∷ []
     else []
 
--- a row that is set
+-- the port that the given tables have, or none
 abbrev pub had_word : Option ℕ → List ℕ
 had_word None = codes "none"
 had_word (Some port) = decimal port
 
+-- a row that is set
 abbrev pub set_row : SetRow → Row
 set_row row =
     codes "set" ∷ guid_word row.guid ∷ codes "lid" ∷ decimal row.lid ∷ codes "port" ∷ decimal row.port

@@ -5,16 +5,18 @@ use Rattle.ib_net.specs.declared.node.Side.{Side}
 use Rattle.ib_net.specs.declared.node.Side.TheVariants.{Bare, To, End}
 use Rattle.ib_net.specs.Fabric.{FabricOf, switch_count, side_of}
 
+-- a port leads to a switch, by what is on the other side of it
 abbrev pub IsTo : Side → Type 0
 IsTo (To next entry) = Unit {0}
 IsTo Bare = ⊥
 IsTo (End end) = ⊥
 
--- the bits of 64 ports of a switch, for each switch four words
+-- the bits of 64 ports of a switch; each switch has four such words
 abbrev pub IsLinksWord : FabricOf → ℕ → ℕ → Type 0
 IsLinksWord fabric place word =
     (bit : ℕ) → bit < 64 → ((bit_at word bit ≡ 1) ↔ IsTo (side_of fabric (place / 4) (64 * (place % 4) + bit)))
 
+-- so of all switches, in their order
 pub record AreLinks (fabric : FabricOf) (words : List ℕ) : Type 0 where
   pub count : length words ≡ switch_count fabric * 4
   pub each : (place : ℕ) → place < switch_count fabric * 4 → IsLinksWord fabric place (slice_index words place)

@@ -14,6 +14,7 @@ use Rattle.ib_routes.specs.declared.hop.Cause.TheVariants.{Missing, Dead, Wrong}
 use Rattle.ib_net.specs.Fabric.{FabricOf, switch_count, side_of, owner_of, start_of}
 use Rattle.ib_cells.specs.Cells.{TablesOf}
 
+-- whether the owner of a LID is this end port of an adapter or router, and whether it is this switch
 abbrev pub is_host : Option EndPort → ℕ → Bool
 is_host (Some (Host end)) other = end == other
 is_host (Some (Switch switch)) other = false
@@ -70,12 +71,13 @@ pub record Sends (fabric : FabricOf) (traffic : Traffic) (lid : ℕ) (source : E
   pub is_target : IsTarget fabric traffic owner
   pub other : source ≢ owner
 
--- from one switch to another by so many hops, where each switch hops as told
+-- from one switch to another by so many hops, if each switch hops as told
 abbrev pub WalksBy : (ℕ → Hop) → ℕ → ℕ → ℕ → Type 0
 WalksBy hop_at zero start at = start ≡ at
 WalksBy hop_at (suc hops) start at =
     (before port : ℕ) × WalksBy hop_at hops start before × (hop_at before ≡ On port at)
 
+-- by the tables, with what goes to a LID
 abbrev pub ComesBy : FabricOf → TablesOf → ℕ → ℕ → ℕ → ℕ → Type 0
 ComesBy fabric tables lid = WalksBy (λ at. hop fabric tables at lid)
 
@@ -105,11 +107,12 @@ IsStop (On port next) = ⊥
 IsStop Arrive = ⊥
 IsStop (Stop cause) = Unit {0}
 
+-- the route of an end port to a LID stops at some switch
 abbrev pub IsStopped : FabricOf → TablesOf → Traffic → ℕ → EndPort → Type 0
 IsStopped fabric tables traffic lid source =
     (at : ℕ) × ComesTo fabric tables traffic lid source at × IsStop (hop fabric tables at lid)
 
--- a channel depends on another where some route takes the one and then the other
+-- a channel depends on another if some route takes the one and then the other
 abbrev pub DependsOn : FabricOf → TablesOf → Traffic → Channel → Channel → Type 0
 DependsOn fabric tables traffic channel next =
     (lid : ℕ) × (source : EndPort) × Takes fabric tables traffic lid source channel next

@@ -14,6 +14,7 @@ abbrev pub IsAmong : FabricOf → Traffic → ℕ → ℕ → EndPort → Type 0
 IsAmong fabric traffic count switch (Host end) = (end < count) × (start_of fabric (Host end) ≡ Some switch)
 IsAmong fabric traffic count switch (Switch at) = IsSource fabric traffic (Switch at) × (at ≡ switch)
 
+-- which of those send from a switch: none, one alone, or several
 abbrev pub AreSendersBelow : FabricOf → Traffic → ℕ → ℕ → Senders → Type 0
 AreSendersBelow fabric traffic count switch Quiet = (source : EndPort) → IsAmong fabric traffic count switch source → ⊥
 AreSendersBelow fabric traffic count switch (One who) =
@@ -21,6 +22,7 @@ AreSendersBelow fabric traffic count switch (One who) =
 AreSendersBelow fabric traffic count switch Several =
     (one other : EndPort) × IsAmong fabric traffic count switch one × IsAmong fabric traffic count switch other × (one ≢ other)
 
+-- of all end ports
 abbrev pub AreSenders : FabricOf → Traffic → ℕ → Senders → Type 0
 AreSenders fabric traffic switch senders = AreSendersBelow fabric traffic (length fabric.cables) switch senders
 
@@ -31,6 +33,7 @@ pub record AreAllSendersBelow (fabric : FabricOf) (traffic : Traffic) (count : �
       (switch : ℕ) → switch < switch_count fabric
       → AreSendersBelow fabric traffic count switch (slice_index_or senders switch Quiet)
 
+-- those of each switch
 abbrev pub AreAllSenders : FabricOf → Traffic → List Senders → Type 0
 AreAllSenders fabric traffic senders = AreAllSendersBelow fabric traffic (length fabric.cables) senders
 

@@ -15,7 +15,7 @@ use Rattle.ib_routes.specs.declared.trace.Mark.TheVariants.{New, Open, Known}
 use Rattle.ib_routes.specs.declared.trace.Target.{Target}
 use Rattle.ib_routes.specs.Routes.{EndsAs, hop}
 
--- where routes arrive at one switch alone
+-- if routes arrive at one switch alone
 abbrev pub not_there : Hop → Hop
 not_there (On port next) = On port next
 not_there Arrive = Stop Wrong

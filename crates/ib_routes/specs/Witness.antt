@@ -35,10 +35,11 @@ abbrev pub Comes : FabricOf → TablesOf → Traffic → (lid via : ℕ) → End
 Comes fabric tables traffic lid via source = ComesTo fabric tables traffic lid source via
 
 module _ (fabric : FabricOf) (tables : TablesOf) (traffic : Traffic) (lid : ℕ) where
-  -- the first whose route takes a channel and then another one
+  -- no route to the LID takes a channel and then another one
   abbrev pub NoSourceTakes : Channel → Channel → Type 0
   NoSourceTakes channel next = (source : EndPort) → Takes fabric tables traffic lid source channel next → ⊥
 
+  -- the end port of least GUID whose route does
   pub record IsLeastAt (channel next : Channel) (source : EndPort) : Type 0 where
     pub takes : Takes fabric tables traffic lid source channel next
     pub first :
@@ -51,6 +52,7 @@ IsLesserOf fabric end switch found =
     ((found ≡ Some (Host end)) × (guid_of fabric (Host end) ≤ guid_of fabric (Switch switch)))
     ⊎ ((found ≡ Some (Switch switch)) × (guid_of fabric (Switch switch) ≤ guid_of fabric (Host end)))
 
+-- and so if one of the two, or neither, is given
 abbrev pub IsLesser : FabricOf → Option ℕ → Option ℕ → Option EndPort → Type 0
 IsLesser fabric None None found = found ≡ None
 IsLesser fabric (Some end) None found = found ≡ Some (Host end)

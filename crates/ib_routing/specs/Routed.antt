@@ -43,7 +43,7 @@ abbrev pub none_words : List (List ℕ)
 none_words = codes "fabric:" ∷ codes "no" ∷ codes "tables" ∷ codes "found" ∷ []
 
 -- What is given for a fabric, the text for out and the line for err: tables that pass, with numbers of which nothing is
--- claimed; an end port and a LID to which it sends that no links join; or nothing, where all are joined.
+-- claimed; an end port and a LID to which it sends that no links join; or nothing, if all are joined.
 abbrev pub IsGiven : Traffic → FabricOf → End → (written line : List ℕ) → Type 0
 IsGiven traffic fabric Routed written line =
     AreRouted traffic fabric written × ((measures : Measures) × (line ≡ line_text (measure_words measures)))

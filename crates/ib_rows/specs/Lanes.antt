@@ -17,7 +17,7 @@ RowsOf = ℕ → ℕ → ℕ → Option ℕ
 abbrev pub lane_in : (row level : ℕ) → ℕ
 lane_in row level = row / 2 ^ (4 * level) % 16
 
--- where no row was told the packet is discarded
+-- the lane of a service level: a packet is discarded if no row was told, or if there is no such level
 abbrev pub lane_by : ℕ → Option ℕ → ℕ
 lane_by level None = 15
 lane_by level (Some row) = if nat_lt level 16 then lane_in row level else 15
@@ -25,8 +25,8 @@ lane_by level (Some row) = if nat_lt level 16 then lane_in row level else 15
 abbrev pub lanes_by : RowsOf → LanesOf
 lanes_by told switch entry port level = lane_by level (told switch entry port)
 
--- how many lanes there are, the different rows, and of each switch, port in and port out the place of its
--- row among them
+-- how many switches there are, the most ports of one, and how many lanes there are; the different rows; and,
+-- of each switch, port in and port out, the place of its row among them
 pub record LaneRowsOf : Type 0 where
   pub switches : ℕ
   pub most : ℕ
@@ -79,6 +79,7 @@ pub record IsLaneCount (lanes : LanesOf) (count : ℕ) : Type 0 where
       ⊎ ((switch entry port level : ℕ) × (lanes switch entry port level < 15)
       × (count ≡ lanes switch entry port level + 1))
 
+-- what holds of all rows of lanes that are kept
 pub record AreLaneRows (table : LaneRowsOf) : Type 0 where
   pub size : length table.places ≡ table.switches * (table.most + 1) * (table.most + 1)
   pub few : table.switches ≤ 2 ^ 14

@@ -29,8 +29,9 @@ abbrev pub HaveSameLevels : LevelsOf → (one other : EndPort) (block : ℕ) →
 HaveSameLevels levels one other block =
     (bit : ℕ) → bit < 64 → levels one (64 * block + bit) ≡ levels other (64 * block + bit)
 
--- How many levels there are at most. The different blocks, of each end port and block of LIDs the place of its block among them, and the
--- levels of the end port that was told last.
+-- How many end ports of adapters and routers, switches and blocks of 64 LIDs there are, and how many levels
+-- at most. The different blocks of levels, and of each end port and block of LIDs the place of its block
+-- among them. The end port that was told last, by its place, with its levels to all LIDs.
 pub record LevelRowsOf : Type 0 where
   pub ends : ℕ
   pub switches : ℕ
@@ -47,11 +48,12 @@ place_of_source told (port.Host end) = if nat_lt end told.ends then Some end els
 place_of_source told (port.Switch switch) =
     if nat_lt switch told.switches then Some (told.ends + switch) else None
 
+-- whether it has one
 abbrev pub IsPlaced : LevelRowsOf → EndPort → Type 0
 IsPlaced told (port.Host end) = end < told.ends
 IsPlaced told (port.Switch switch) = switch < told.switches
 
--- the levels of a LID in a block: none where there is no block
+-- the levels of a LID in a block: none if there is no block
 abbrev pub word_in : Option (List ℕ) → ℕ → ℕ
 word_in None lid = 0
 word_in (Some levels) lid = slice_index levels (lid % 64)
@@ -69,6 +71,7 @@ abbrev pub levels_here : LevelRowsOf → (place lid : ℕ) → ℕ
 levels_here told place lid =
     if place == told.current then slice_index told.row lid else stored_at told place lid
 
+-- None: the end port has no place, and it sends with no level
 abbrev pub levels_at : LevelRowsOf → ℕ → Option ℕ → ℕ
 levels_at told lid None = 0
 levels_at told lid (Some place) = if nat_lt lid (64 * told.blocks) then levels_here told place lid else 0
@@ -138,6 +141,7 @@ pub record SaysAsMuch (old new : LevelRowsOf) : Type 0 where
       (place lid : ℕ) → place < old.ends + old.switches → lid < 64 * old.blocks
       → levels_here new place lid ≡ levels_here old place lid
 
+-- what holds of all levels that are kept
 pub record AreLevelRows (told : LevelRowsOf) : Type 0 where
   pub size : length told.places ≡ (told.ends + told.switches) * told.blocks
   pub row_size : length told.row ≡ 64 * told.blocks

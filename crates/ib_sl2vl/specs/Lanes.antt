@@ -114,7 +114,7 @@ abbrev pub IsEnded : Told → Type 0
 IsEnded told = told.part ≡ Between
 
 -- The bytes are the text of these lanes of the fabric: each line is good after those before it, the last
--- part ended, and the lanes are those of the rows that the lines say, and 15 where they say none.
+-- part ended, and the lanes are those of the rows that the lines say, and 15 if they say none.
 pub record IsLanesText (fabric : FabricOf) (bytes : List ℕ) (lanes : LanesOf) : Type 0 where
   pub last : Told
   pub text : IsTextOf (AddsTo fabric) IsEnded none_told bytes last

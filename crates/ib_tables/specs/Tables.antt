@@ -90,7 +90,7 @@ row_told fabric told lid port switch =
     else (if is_none (owner_of fabric lid) then Ok (unowned_row told)
     else port_told told switch lid port (told.tables switch lid))
 
--- a dump's table, or a plain text, begins where none is open, and ends where one is
+-- a dump's table, or a plain text, begins if none is open, and ends if one is
 abbrev pub may_begin : Part → Result ⊤ TablesCause
 may_begin part = if is_dump part then Err NoEnd else (if is_plain part then Err OutOfPlace else Ok tt)
 

@@ -31,7 +31,7 @@ says part.Dumped line = if length line == 0 then Some (silent part.Dumped) else 
 says part.Plain line = plain line
 says part.Ended line = ended line
 
--- a text may end where a line told what it is, and a plain one after its `end`
+-- a text may end if a line told what it is, and a plain one after its `end`
 abbrev pub may_end : Part → Bool
 may_end part.Start = false
 may_end part.Outside = true

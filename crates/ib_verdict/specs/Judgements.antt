@@ -8,7 +8,7 @@ use Rattle.ib_verdict.specs.declared.judge.Judgement.{Judgement}
 use Rattle.ib_verdict.specs.Count.{IsDependencyCount}
 use Rattle.ib_verdict.specs.Verdict.{IsVerdict, PassesBy}
 
--- the verdict; whether a route is stopped, and where none is and there is no credit loop, all arrive; and how many
+-- the verdict; whether a route is stopped, and if none is and there is no credit loop, all arrive; and how many
 -- dependencies there are
 pub record IsJudgement (fabric : FabricOf) (tables : TablesOf) (traffic : Traffic) (judged : Judgement) : Type 0 where
   pub verdict : IsVerdict fabric tables traffic judged.verdict

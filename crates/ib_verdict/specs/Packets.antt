@@ -29,6 +29,7 @@ QueuesOf = Channel → List Packet
 abbrev pub AllFit : (Channel → ℕ) → QueuesOf → Type 0
 AllFit room queue = (channel : Channel) → length (queue channel) ≤ room channel
 
+-- each packet that is in a channel stands there
 abbrev pub AllStand : FabricOf → TablesOf → Traffic → QueuesOf → Type 0
 AllStand fabric tables traffic queue =
     (channel : Channel) (packet : Packet) → Contains (queue channel) packet

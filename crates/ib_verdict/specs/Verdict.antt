@@ -36,6 +36,7 @@ pub record HasRanks (fabric : FabricOf) (tables : TablesOf) (traffic : Traffic) 
   pub no_cycle : HasNoCycle (DependsOn fabric tables traffic)
   pub ranked : AreRanks (IsChannel fabric) (DependsOn fabric tables traffic) (rank_in fabric ranks)
 
+-- no rank of a channel is greater than this
 abbrev pub AreAtMost : FabricOf → List ℕ → ℕ → Type 0
 AreAtMost fabric ranks most = (channel : Channel) (rank : ℕ) → rank_in fabric ranks channel ≡ Some rank → rank ≤ most
 
@@ -57,11 +58,12 @@ pub record Passes (fabric : FabricOf) (tables : TablesOf) (traffic : Traffic) (r
   pub ranked : HasRanks fabric tables traffic ranks
   pub arrived : AllArrive fabric tables traffic
 
+-- so by a verdict that is ranks; of one that is a loop nothing is said
 abbrev pub PassesBy : FabricOf → TablesOf → Traffic → Verdict → Type 0
 PassesBy fabric tables traffic (Ranks ranks) = Passes fabric tables traffic ranks.items
 PassesBy fabric tables traffic (Cycle channels) = Unit {0}
 
--- the port of a place, where switches have at most so many
+-- the port of a place, if switches have at most so many
 abbrev pub spot_at : ℕ → ℕ → Spot
 spot_at most place = record { switch = place / most; port = place % most + 1 }
 

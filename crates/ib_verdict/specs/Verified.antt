@@ -12,7 +12,7 @@ use Rattle.ib_verdict.specs.declared.verify.Rise.{Rise}
 use Rattle.ib_verdict.specs.declared.verify.Verified.{Verified}
 use Rattle.ib_verdict.specs.Verdict.{AllArrive, channel_cmp}
 
--- the rank that a list has for a channel, by its number, 0 where it has none
+-- the rank that a list has for a channel, by its number, 0 if it has none
 abbrev pub told_rank : FabricOf → List ℕ → Channel → ℕ
 told_rank fabric ranks channel = value_at ranks (number fabric channel)
 
@@ -49,7 +49,7 @@ pub record IsFirstRise (fabric : FabricOf) (tables : TablesOf) (traffic : Traffi
       rise.witness.source
 
 -- The ranks fall along each dependency, so that there is no credit loop, or the first along which they do not is
--- told; and whether a route is stopped. Where the ranks fall and none is, all arrive.
+-- told; and whether a route is stopped. If the ranks fall and none is, all arrive.
 pub record IsVerified (fabric : FabricOf) (tables : TablesOf) (traffic : Traffic) (ranks : List ℕ) (found : Verified)
     : Type 0 where
   pub rise : MatchOption found.rise (Fall fabric tables traffic ranks) (IsFirstRise fabric tables traffic ranks)

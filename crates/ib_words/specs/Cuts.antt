@@ -6,7 +6,7 @@ use Rattle.memchr.specs.Find.{occurs_at}
 
 -- Cuts of a text around what stands in it.
 
--- a step, and then another with what it gave; none where either is none
+-- a step, and then another with what it gave; none if either is none
 infixl 10 ◌>>=◌
 abbrev pub ◌>>=◌ : {A B : Type 0} → Option A → (A → Option B) → Option B
 found >>= next = option_and_then next found

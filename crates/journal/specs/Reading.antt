@@ -25,7 +25,7 @@ pub record HasRead (script : ScriptOf) (bytes : List ℕ) (events : List Event) 
   pub script_is : reader.script ≡ script
   pub read : IsRead script bytes reader.rest events reader.line
 
--- behind these events one more was read, or they are the journal
+-- after these events one more was read, or they are the journal
 abbrev pub IsNext : ScriptOf → List ℕ → List Event → ReaderOf → Option Event → Type 0
 IsNext script bytes events reader (Some event) = HasRead script bytes (events ++ event ∷ []) reader
 IsNext script bytes events reader None = IsJournal script bytes events

@@ -6,7 +6,7 @@ use Rattle.an_base.specs.declared.body.Body.{Body}
 use Rattle.ordered_link.specs.Sending.{Sending, unused, highest, is_outstanding, push, sent_by_push, send_next, next_to_send, send_again, acknowledge, sent_by_ack}
 use Rattle.ordered_link.specs.Receiving.{Receiving, untouched, last, verdict, received, is_acknowledged}
 
--- The tick; how long ago an outstanding body may have gone out, 3 where the sender has handled its clock of
+-- The tick; how long ago an outstanding body may have gone out, 3 if the sender has handled its clock of
 -- this tick and else 4; the epochs of the sender and of the far end; what was sent and what was received in
 -- the sender's epoch; and which bodies and acknowledgements of that epoch are under way
 pub record Direction : Type 0 where
@@ -32,7 +32,7 @@ pub record Stay (old new : ℕ → Bool) : Type 0 where
 abbrev pub under_way : Direction → Direction → Direction
 under_way new old = record old { carry = new.carry; ack = new.ack }
 
--- the body that goes out, where one does, is under way; from base on it is not lost
+-- the body that goes out, if one does, is under way; from base on it is not lost
 pub record Gains (base : ℕ) (out : Option ℕ) (old new : Direction) : Type 0 where
   pub carry : (each : ℕ) → IsTrue (new.carry each) → IsTrue (old.carry each) ⊎ (out ≡ Some each)
   pub carry_on : (each : ℕ) → IsTrue (old.carry each) → IsTrue (new.carry each)
@@ -89,7 +89,7 @@ pub record Ignored (old new : Direction) : Type 0 where
   pub carry : (each : ℕ) → IsTrue (new.carry each) → IsTrue (old.carry each)
   pub acks : Stay old.ack new.ack
 
--- A body comes to the far end, whatever it says, which joins the sender's epoch where it was behind
+-- A body comes to the far end, whatever it says, which joins the sender's epoch if it was behind
 pub record Received (base number : ℕ) (body : Body) (old new : Direction) : Type 0 where
   pub there : IsTrue (old.carry number)
   pub not_ahead : old.far_epoch ≤ old.epoch
@@ -122,6 +122,7 @@ pub record Joins (old new : Direction) : Type 0 where
   pub no_carry : (each : ℕ) → IsTrue (new.carry each) → ⊥
   pub ack : (each : ℕ) → IsTrue (new.ack each) → (new.epoch ≤ old.far_epoch) × (each ≡ 0)
 
+-- what may happen in this direction; `base` is the tick from which on what goes out is not lost
 pub data Step (base : ℕ) (old new : Direction) : Type 0 where
   ticks : Ticks old new → Step base old new
   pushes : (body : Body) → Sends base (push body old.now old.sending) (sent_by_push body old.sending) old new
@@ -139,6 +140,7 @@ pub data Step (base : ℕ) (old new : Direction) : Type 0 where
   far_joins : FarJoins old new → Step base old new
   joins : Joins old new → Step base old new
 
+-- steps one after another
 pub data Run (base : ℕ) : Direction → Direction → Type 0 where
   rest : (old : Direction) → Run base old old
   then_step : (first old new : Direction) → Run base first old → Step base old new → Run base first new

@@ -26,13 +26,13 @@ abbrev pub nonce_after : EndId → History → ℕ
 nonce_after me history = (port_after me history).far.nonce
 
 -- One tick at one end of a link that is up, without a loss: a clock, and then replies of the far end alone.
--- Where both ends ask after their clocks of this tick, the probe of this end is answered
+-- If both ends ask after their clocks of this tick, the probe of this end is answered
 pub record IsTick (me far : EndId) (before after far_after : History) : Type 0 where
   pub nonces : List ℕ
   pub happened : after ≡ with_replies far nonces (Sampled sample.Switch ∷ before)
   pub answered : Speaks me after → Speaks far far_after → IsAmong (nonce_after me after) nonces
 
--- So many ticks, one after another, behind what had happened at both ends of a link of two switch ports when
+-- So many ticks, one after another, after what had happened at both ends of a link of two switch ports when
 -- the disturbance was over
 pub data Ticks (end far : EndId) : ℕ → History → History → Type 0 where
   begins : (here there : History) → HasNo sample.Host here → HasNo sample.Host there

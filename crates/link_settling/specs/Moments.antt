@@ -72,7 +72,7 @@ pub record FarHears (own : EndId) (old new : EndView) : Type 0 where
   pub is : new ≡ record old { there = Replied own nonce ∷ old.there; probe = new.probe; reply = new.reply }
   pub stays : Stays old new
 
--- the far end handles the last probe of this one, which may be under way no more; where it speaks it replies
+-- the far end handles the last probe of this one, which may be under way no more; if it speaks it replies
 pub record Answers (far : EndId) (old new : EndView) : Type 0 where
   pub fresh : old.far_has_clocked ≡ true
   pub is : new ≡ record old { probe = new.probe; reply = new.reply }

@@ -12,7 +12,7 @@ use Rattle.link_settling.specs.Directions.{last_sent}
 use Rattle.switch_core.specs.Switch.{SwitchOf}
 use Rattle.switch_core.specs.Steps.{Sent, Step, peer_among}
 
--- the number of the body in a frame, where it has one
+-- the number of the body in a frame, if it has one
 abbrev pub number_of : Frame → List ℕ
 number_of (Carry carry) = carry.number ∷ []
 number_of (Ack epoch from to number) = []
@@ -40,7 +40,7 @@ pub data Moves (now : ℕ) : Sending → List ℕ → Sending → Type 0 where
       → Moves now (send_again number now old) numbers new → Moves now old (number ∷ numbers) new
 
 -- at most eight bodies are outstanding, all of them pushed; and, but for so many that may go out next, eight
--- are where some body waits
+-- are if some body waits
 pub record IsFilledBut (room : ℕ) (sending : Sending) : Type 0 where
   pub within : highest sending ≤ length sending.pushed
   pub window : length sending.sent ≤ 8
@@ -53,7 +53,7 @@ IsFilled sending = IsFilledBut 0 sending
 abbrev pub AreFilled : SwitchOf → Type 0
 AreFilled switch = (port : ℕ) → IsFilled (switch.sendings port)
 
--- What a step does in the session of a port, of which this was sent before and this is received then. Where
+-- What a step does in the session of a port, of which this was sent before and this is received then. If
 -- the window was filled but for so many (had), what goes out is permitted, and the window is filled but for
 -- so many (has); of another window nothing is said.
 pub record WorksFrom (had has port now : ℕ) (sending : Sending) (receiving : Receiving) (step : Step)
@@ -64,6 +64,7 @@ pub record WorksFrom (had has port now : ℕ) (sending : Sending) (receiving : R
       → Moves now sending (carried_by port step.frames) (step.switch.sendings port)
   pub filled : IsFilledBut had sending → IsFilledBut has (step.switch.sendings port)
 
+-- so of the session as the switch has it before the step
 abbrev pub Works : ℕ → ℕ → ℕ → SwitchOf → Step → Type 0
 Works had has port switch step =
     WorksFrom had has port switch.tick (switch.sendings port) (switch.receivings port) step
@@ -80,6 +81,7 @@ from_of (Ack epoch from to number) = from
 from_of (Probe from nonce) = from
 from_of (Reply from to nonce) = from
 
+-- it says that it is from this life and from the port by which it goes out
 abbrev pub IsFrom : LifeId → Sent → Type 0
 IsFrom life sent = from_of sent.frame ≡ record { life = life; port = sent.port }
 

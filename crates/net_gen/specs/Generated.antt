@@ -1,5 +1,5 @@
 -- The script made from a seed: a tree of switches with more links, a host at each switch, and packets before
--- and behind a failure and its repair. Switches and hosts stand for their places, from 0.
+-- and after a failure and its repair. Switches and hosts stand for their places, from 0.
 
 use Rattle.std.specs.Prelude.{◌+◌, ◌-◌, ◌==◌, ◌%◌, ◌^◌, ℕ, zero, suc, not, Bool, List, [], ◌∷◌, ◌++◌, map, find, nat_lt, Option, Some, None, is_some, codes, fold, if◌then◌else◌}
 use Rattle.std.specs.Fmt.{decimal}
@@ -58,10 +58,12 @@ pub record DrawnOf : Type 0 where
 abbrev pub from_on : ℕ → ℕ → List ℕ
 from_on first end = range_with_len first (end - first) ++ range_with_len 0 first
 
+-- None: no switch before it has a free port, and it is not linked
 abbrev pub with_link_to : List LinkAt → Option ℕ → ℕ → List LinkAt
 with_link_to links None place = links
 with_link_to links (Some before) place = with_link links before place
 
+-- the switch at this place is linked, by the next draw
 abbrev pub grown : DrawnOf → ℕ → DrawnOf
 grown so_far place =
     let seed : ℕ = next_seed so_far.seed in
@@ -71,7 +73,7 @@ grown so_far place =
       seed = seed;
     }
 
--- two switches are drawn of so many, and linked where they are different
+-- two switches are drawn of so many, and linked if they are different
 abbrev pub joined : ℕ → DrawnOf → DrawnOf
 joined count so_far =
     let seed : ℕ = next_seed so_far.seed in
@@ -101,13 +103,14 @@ send_of count time place = record { time = time; event = event.Send place ((plac
 abbrev pub sends_at : ℕ → ℕ → List Command
 sends_at count time = map (send_of count time) (range_with_len 0 count)
 
--- the first link of the tree goes down and comes up again, where there is one
+-- the first link of the tree goes down and comes up again, if there is one
 abbrev pub failure : ℕ → List Command
 failure count =
     if nat_lt 1 count
     then record { time = 20; event = event.Fail 0 1 } ∷ record { time = 60; event = event.Repair 0 1 } ∷ []
     else []
 
+-- they send twice: before the failure, and after the repair
 abbrev pub commands_of : ℕ → List Command
 commands_of count = sends_at count 10 ++ failure count ++ sends_at count 80
 

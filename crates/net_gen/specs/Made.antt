@@ -15,7 +15,7 @@ with_links links script = record script { wires = record script.wires { links = 
 abbrev pub with_commands : List Command → ScriptOf → ScriptOf
 with_commands commands script = record script { commands = script.commands ++ commands }
 
--- what has been drawn, where the links are those of a script
+-- what has been drawn, if the links are those of a script
 abbrev pub drawn_of : ScriptOf → ℕ → DrawnOf
 drawn_of script seed = record { links = script.wires.links; seed = seed }
 
@@ -38,6 +38,6 @@ pub record CanSend (commands : List Command) (time : ℕ) : Type 0 where
   pub few : length commands ≤ 102
   pub none : restarts_of commands ≡ 0
 
--- the first switch has a link at its first port, where there are two
+-- the first switch has a link at its first port, if there are two
 abbrev pub HasFirst : ℕ → List LinkAt → Type 0
 HasFirst count links = 2 ≤ count → is_some (far_of links 0 1) ≡ true

@@ -28,7 +28,7 @@ end_word ending.Unsettled = codes "unsettled"
 end_word ending.Full = codes "full"
 end_word (ending.Spent life) = codes "spent"
 
--- a word and a number, each behind a space
+-- a word and a number, each after a space
 abbrev pub counted : List ℕ → ℕ → List ℕ
 counted word number = codes " " ++ word ++ codes " " ++ decimal number
 

@@ -4,7 +4,7 @@ use Rattle.an_base.specs.declared.limits.TheConstants.{MOST_LEVEL}
 
 -- The distances of nodes to a root, found round by round.
 
--- the level of a node, where it has one so far
+-- the level of a node, if it has one so far
 abbrev pub level_at : List (Option ℕ) → ℕ → Option ℕ
 level_at levels node = slice_index_or levels node None
 

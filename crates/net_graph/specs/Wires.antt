@@ -114,11 +114,11 @@ far_or_host (Some far) host = Some (Switch far.0 far.1)
 abbrev pub far_at : Wires → (node port : ℕ) → Option Far
 far_at wires node port = far_or_host (far_of wires.links node port) (host_of wires.hosts node port)
 
--- the switch's identifier, 0 where there is no such switch
+-- the switch's identifier, 0 if there is no such switch
 abbrev pub uid_of : List SwitchAt → ℕ → ℕ
 uid_of switches node = unwrap_or (option_map (λ found. found.uid) (slice_get switches node)) 0
 
--- the number that the switch had last, 1 where there is no such switch
+-- the number that the switch had last, 1 if there is no such switch
 abbrev pub had_of : Wires → ℕ → ℕ
 had_of wires node = unwrap_or (option_map (λ found. found.had) (slice_get wires.switches node)) 1
 

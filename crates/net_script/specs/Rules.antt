@@ -29,7 +29,7 @@ use Rattle.net_script.specs.declared.draft.Draft.{Draft}
 
 -- What is wrong with the lines of a script, and what they add.
 
--- the place that a name stands for, where it is known
+-- the place that a name stands for, if it is known
 abbrev pub place : List (List ℕ) → List ℕ → ℕ
 place names name = unwrap_or (place_of names name) 0
 
@@ -68,7 +68,7 @@ abbrev pub known_cause : List (List ℕ) → List ℕ → Option ScriptCause
 known_cause names word =
     first_of (unless (is_name word) BadName ∷ unless (is_some (place_of names word)) NoSuchName ∷ [])
 
--- as the number that a switch had last, where it stands,
+-- as the number that a switch had last, if it stands,
 abbrev pub had_cause : Option (List ℕ) → Option ScriptCause
 had_cause None = None
 had_cause (Some word) = number_cause 1 126 word
@@ -86,7 +86,7 @@ lives_cause script = unless (nat_lt (lives_of script) 126) TooMany
 abbrev pub commands_cause : ScriptOf → Option ScriptCause
 commands_cause script = unless (nat_lt (length script.commands) 10000) TooMany
 
--- the number that a switch had last, 1 where no word stands for it
+-- the number that a switch had last, 1 if no word stands for it
 abbrev pub had_of : Option (List ℕ) → ℕ
 had_of None = 1
 had_of (Some word) = number_value word

@@ -17,8 +17,9 @@ use Rattle.net_script.specs.declared.setting.Limits.{Limits}
 
 -- Scripts, and what each keeps.
 
--- a script: the wiring, the names of its switches and hosts by place, the commands in order, and the
--- settings
+-- A script: the wiring, the names of its switches and hosts by place, and the commands in order. Then the
+-- settings: the epoch in which switches start, the pace, the limits, and whether tables have all legal
+-- routes.
 pub record ScriptOf : Type 0 where
   pub wires : Wires
   pub switch_names : List (List ℕ)

@@ -26,6 +26,7 @@ last receiving = length receiving.accepted
 abbrev pub has_come : ℕ → Receiving → Bool
 has_come number receiving = nat_le number (last receiving) || is_some (receiving.held number)
 
+-- a body is accepted next; and this body, or none, is held of a number
 abbrev pub accept : Body → Receiving → Receiving
 accept body receiving = record receiving { accepted = receiving.accepted ++ body ∷ [] }
 
@@ -42,6 +43,8 @@ come number body receiving =
     else if nat_le number (last receiving + 8) then hold number (Some body) receiving
     else receiving
 
+-- what is answered to it: that it is accepted; of a repeat the number of the last accepted body; or the
+-- wanted number and its own
 abbrev pub verdict : ℕ → Body → Receiving → Verdict
 verdict number body receiving =
     if has_come number receiving then Repeat (last receiving)
@@ -49,7 +52,7 @@ verdict number body receiving =
     else if nat_le number (last receiving + 8) then Held (last receiving + 1) number
     else Ahead (last receiving + 1) number
 
--- the wanted body, where it is held, is accepted
+-- the wanted body, if it is held, is accepted
 abbrev pub follow_with : Option Body → Receiving → Receiving
 follow_with None receiving = receiving
 follow_with (Some body) receiving = hold (last receiving + 1) None (accept body receiving)
@@ -68,6 +71,7 @@ after_verdict (Held wanted got) receiving = receiving
 after_verdict (Repeat last) receiving = receiving
 after_verdict (Ahead wanted got) receiving = receiving
 
+-- a body with this number comes; if it is accepted, so are the held ones that follow it
 abbrev pub received : ℕ → Body → Receiving → Receiving
 received number body receiving = after_verdict (verdict number body receiving) (come number body receiving)
 
@@ -75,7 +79,7 @@ received number body receiving = after_verdict (verdict number body receiving) (
 abbrev pub accepted_by : ℕ → Body → Receiving → List Body
 accepted_by number body receiving = drop (last receiving) (received number body receiving).accepted
 
--- all that were accepted up to now are acknowledged, but where the body is too far ahead
+-- all that were accepted up to now are acknowledged, unless the body is too far ahead
 abbrev pub is_acknowledged : Verdict → Bool
 is_acknowledged (Accepted body) = true
 is_acknowledged (Held wanted got) = true
@@ -87,6 +91,7 @@ pub record ReceiverOf : Type 0 where
   pub last : ℕ
   pub places : List (Option Early)
 
+-- a held body, with its number
 abbrev pub early : ℕ → Option Body → Option Early
 early number None = None
 early number (Some body) = Some (record { k = number; body = body })

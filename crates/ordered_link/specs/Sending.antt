@@ -40,26 +40,29 @@ abbrev pub send_next : ℕ → Sending → Sending
 send_next now sending =
     if may_send sending then record sending { sent = sending.sent ++ now ∷ [] } else sending
 
--- a pushed body is sent at once where fewer than eight are outstanding and none waits, else it waits
+-- a body is pushed
 abbrev pub with_pushed : Body → Sending → Sending
 with_pushed body sending = record sending { pushed = sending.pushed ++ body ∷ [] }
 
+-- it is sent at once if fewer than eight are outstanding and none waits; else it waits
 abbrev pub push : Body → ℕ → Sending → Sending
 push body now sending =
     if is_waiting sending then with_pushed body sending else send_next now (with_pushed body sending)
 
+-- the number that is sent then, if one is
 abbrev pub sent_by_push : Body → Sending → Option ℕ
 sent_by_push body sending = if is_waiting sending then None else next_to_send (with_pushed body sending)
 
--- An acknowledgement counts where its number is that of an outstanding body; the bodies up to it are then
--- acknowledged, and the first waiting one is sent.
+-- the bodies up to this number are acknowledged
 abbrev pub forget : ℕ → Sending → Sending
 forget number sending = record sending { acked = number; sent = drop (number - sending.acked) sending.sent }
 
+-- An acknowledgement counts if its number is that of an outstanding body; the first waiting one is sent then.
 abbrev pub acknowledge : ℕ → ℕ → Sending → Sending
 acknowledge number now sending =
     if is_outstanding number sending then send_next now (forget number sending) else sending
 
+-- the number that is sent then, if one is
 abbrev pub sent_by_ack : ℕ → Sending → Option ℕ
 sent_by_ack number sending =
     if is_outstanding number sending then next_to_send (forget number sending) else None
@@ -76,6 +79,7 @@ patience = 4
 abbrev pub is_due : ℕ → ℕ → Bool
 is_due now tick = nat_le (tick + patience) now
 
+-- so of an outstanding body with this number
 pub record IsDue (sending : Sending) (now number : ℕ) : Type 0 where
   pub outstanding : is_outstanding number sending ≡ true
   pub ticks : slice_index_or sending.sent (number - sending.acked - 1) 0 + patience ≤ now

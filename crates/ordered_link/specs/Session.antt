@@ -20,10 +20,13 @@ pub record Session : Type 0 where
   pub bodies : List Numbered
   pub acks : List ℕ
 
+-- nothing was sent and nothing came
 abbrev pub start : Session
 start = record { sending = unused; receiving = untouched; bodies = []; acks = [] }
 
--- What may happen next. A frame that was ever sent may come at any time, any number of times, or never
+-- What may happen next. More: the first waiting body is sent. Follow: the wanted body is accepted, if it is
+-- held. Answer: an acknowledgement goes out. A frame that was ever sent may come at any time, any number of
+-- times, or never; `which` counts from the newest, 0.
 pub data Event : Type 0 where
   Push : (body : Body) → (now : ℕ) → Event
   More : (now : ℕ) → Event
@@ -33,7 +36,7 @@ pub data Event : Type 0 where
   Answer : Event
   Ack_comes : (which : ℕ) → (now : ℕ) → Event
 
--- the body with this number goes out, where one does
+-- the body with this number goes out, if one does
 abbrev pub numbered : ℕ → Option Body → List Numbered
 numbered number None = []
 numbered number (Some body) = record { number = number; body = body } ∷ []
@@ -42,14 +45,17 @@ abbrev pub put_out : Sending → Option ℕ → List Numbered
 put_out sending None = []
 put_out sending (Some number) = numbered number (slice_get sending.pushed (number - 1))
 
+-- the sender becomes this, and the body with this number, if there is one, is put on the wires
 abbrev pub sends : Sending → Option ℕ → Session → Session
 sends sending number session =
     record session { sending = sending; bodies = put_out sending number ++ session.bodies }
 
+-- None: there is no such body, and nothing happens
 abbrev pub body_comes : Option Numbered → Session → Session
 body_comes None session = session
 body_comes (Some item) session = record session { receiving = come item.number item.body session.receiving }
 
+-- None: there is no such acknowledgement, and nothing happens
 abbrev pub ack_comes : Option ℕ → ℕ → Session → Session
 ack_comes None now session = session
 ack_comes (Some number) now session =

@@ -59,7 +59,7 @@ after_read source most =
     then record source { calls = counted source.calls; faults = counted source.faults }
     else record source { calls = counted source.calls; left = drop (read_size source most) source.left }
 
--- a write fails where its number is listed or no room is left
+-- a write fails if its number is listed or no room is left
 abbrev pub is_refused : SinkState → Bool
 is_refused sink = is_listed sink.failing sink.calls || (sink.room == 0)
 

@@ -47,7 +47,8 @@ abbrev pub links_after : LifeId → (ℕ → History) → List PeerAt
 links_after life histories =
     links_from 1 (map (λ port. port_after (record { life = life; port = port }) (histories port)) externals)
 
--- Who answered the probes since the far end was last asked anew, the last first
+-- Who answered the probes since the far end was last asked anew, the last first; None for one that nobody
+-- answered
 abbrev pub answered_by : Sample → Phase → Option EndId → List (Option EndId) → List (Option EndId)
 answered_by sample.Down phase answer answers = []
 answered_by other Dead answer answers = []

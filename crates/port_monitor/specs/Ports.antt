@@ -20,7 +20,7 @@ use Rattle.port_monitor.specs.declared.port.Port.{Port}
 abbrev pub unsampled : EndId → Port
 unsampled me = record { phase = Dead; status = record { level = 0; run = 0 }; far = unknown me }
 
--- the status skeptic at a port that is down: a failure, where the port was not dead
+-- the status skeptic at a port that is down: a failure, if the port was not dead
 abbrev pub status_down : Phase → SkepticOf → SkepticOf
 status_down Dead status = cleared status
 status_down Checking status = failed status
@@ -51,7 +51,7 @@ sampled sample.Down port = fallen port
 sampled sample.Host port = kept_up port.phase true port
 sampled sample.Switch port = kept_up port.phase false port
 
--- whether a switch is asked, and asks
+-- whether a switch is taken to be at the other end: the port then asks who it is, and answers
 abbrev pub speaks : Phase → Bool
 speaks Dead = false
 speaks Checking = false
@@ -79,7 +79,7 @@ state_by Switch (Good peer) = state.Good
 abbrev pub state_of : Port → PortState
 state_of port = state_by port.phase port.far.conn
 
--- the far end, where it is known
+-- the far end, if it is known
 abbrev pub peer_by : Phase → Conn → Option EndId
 peer_by Dead conn = None
 peer_by Checking conn = None
@@ -110,6 +110,6 @@ links_from number [] = []
 links_from number (port ∷ ports) =
     link_to number (good_peer_by port.phase port.far.conn) ++ links_from (suc number) ports
 
--- the reply to a probe, where the port speaks
+-- the reply to a probe, if the port speaks
 abbrev pub reply_to : EndId → EndId → ℕ → Port → Option Frame
 reply_to me from nonce port = if speaks port.phase then Some (Reply me from nonce) else None

@@ -17,7 +17,7 @@ abbrev pub from_words : List (List ℕ) → List (List ℕ)
 from_words [] = []
 from_words (line ∷ lines) = if has_words line then line ∷ lines else from_words lines
 
--- the lines behind the first that is `end` and those without words that follow it directly
+-- the lines after the first that is `end` and those without words that follow it directly
 abbrev pub behind_end : List (List ℕ) → List (List ℕ)
 behind_end [] = []
 behind_end (line ∷ lines) = if is_end_line line then from_words lines else behind_end lines
@@ -26,8 +26,8 @@ behind_end (line ∷ lines) = if is_end_line line then from_words lines else beh
 abbrev pub IsBack : List ℕ → List ℕ → Type 0
 IsBack bytes back = (front : List ℕ) × (bytes ≡ front ++ back)
 
--- The bytes are those of a script, with the lines without words behind its `end`, and then those of a
--- journal. Where no line is `end`, there are none of a journal.
+-- The bytes are those of a script, with the lines without words after its `end`, and then those of a
+-- journal. If no line is `end`, there are none of a journal.
 pub record IsDivision (bytes script journal : List ℕ) : Type 0 where
   pub parts : bytes ≡ script ++ journal
   pub behind : lines_of journal ≡ behind_end (lines_of bytes)

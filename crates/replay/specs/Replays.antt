@@ -19,8 +19,8 @@ pub record HasMade (script : ScriptOf) (events : List Event) (net : NetOf) : Typ
   pub net_is : net ≡ record { script = script; events = events; lost = false }
   pub lawful : IsLawful script events
 
--- The line of the event behind so many, in the text of a journal, whose first line is `journal 1`; or of the
--- `end` behind them all.
+-- The line of the event after so many, in the text of a journal, whose first line is `journal 1`; or of the
+-- `end` after them all.
 abbrev pub line_behind : List Event → ℕ
 line_behind events = length events + 2
 

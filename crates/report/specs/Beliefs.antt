@@ -27,7 +27,7 @@ use Rattle.report.specs.Moments.{Moment, moments}
 abbrev pub host_in : ScriptOf → ℕ → HostOn
 host_in script host = slice_index_or script.wires.hosts host no_host
 
--- the fabric behind a history
+-- the fabric after a history
 abbrev pub fabric_behind : ScriptOf → List Event → FabricOf
 fabric_behind script history = (world_after script history).fabric
 
@@ -40,6 +40,7 @@ sender_by event = []
 unfoldable pub senders : List Event → List ℕ
 senders history = flat_map sender_by history
 
+-- None: no packet of this number was sent
 abbrev pub sender_of : ScriptOf → List Event → ℕ → Option HostOn
 sender_of script history packet = option_map (host_in script) (slice_get (senders history) (packet - 1))
 
@@ -54,30 +55,34 @@ is_moving packet moment = is_move_of packet moment.event
 unfoldable pub first_move : List Event → ℕ → Option Moment
 first_move history packet = find (is_moving packet) (moments history)
 
--- The address from which a packet comes: the number of the table in use at its sender's switch when it first
--- moves, and the sender's port. It is 0 where there is none.
+-- The address of a host: the number of the table in use at its switch, and its port. It is 0 if no table is
+-- in use.
 abbrev pub address_in : FabricOf → HostOn → ℕ
 address_in fabric host =
     option_map_or (λ table. address_of table host.port) (table_at fabric host.s) 0
 
+-- the address from which a packet comes that moves first at this moment: that of its sender
 abbrev pub address_at : ScriptOf → ℕ → Moment → ℕ
 address_at script packet moment =
     option_map_or (address_in (fabric_behind script moment.before))
     (sender_of script moment.before packet) 0
 
+-- that of its first move; 0 before it
 abbrev pub source_of : ScriptOf → List Event → ℕ → ℕ
 source_of script history packet = option_map_or (address_at script packet) (first_move history packet) 0
 
--- the host to which a packet is delivered by its next hop, if to one
+-- the host to which a hop delivers, if to one
 abbrev pub delivered_by : Hop → Option ℕ
 delivered_by (hop.Went exit) = None
 delivered_by (hop.Delivered exit host) = Some host
 delivered_by (hop.Dropped why) = None
 
+-- the one to which a packet under way is delivered by its next hop
 abbrev pub delivery_of : FabricOf → ℕ → Option ℕ
 delivery_of fabric packet =
     option_and_then (λ found. delivered_by (hop_of fabric found)) (packet_of packet fabric.packets)
 
+-- whether it is this host
 abbrev pub is_host : ℕ → Option ℕ → Bool
 is_host host None = false
 is_host host (Some other) = other == host
@@ -90,7 +95,7 @@ arrival_of script before packet = record {
   tick = (fabric_behind script before).tick;
 }
 
--- what arrives at a host at a moment, and in a history, the newest first
+-- what arrives at a host by an event after others
 abbrev pub arrivals_by : ScriptOf → ℕ → List Event → Event → List ArrivalOf
 arrivals_by script host before (Move packet) =
     if is_host host (delivery_of (fabric_behind script before) packet)
@@ -100,6 +105,7 @@ arrivals_by script host before event = []
 abbrev pub arrivals_at : ScriptOf → ℕ → Moment → List ArrivalOf
 arrivals_at script host moment = arrivals_by script host moment.before moment.event
 
+-- all that arrives there in a history, the newest first
 unfoldable pub arrivals_of : ScriptOf → List Event → ℕ → List ArrivalOf
 arrivals_of script history host = flat_map (arrivals_at script host) (reverse (moments history))
 
@@ -141,6 +147,7 @@ belief_words script belief =
     decimal belief.place ∷ host_text script belief.from ∷ codes "to" ∷ host_text script belief.to
     ∷ choice_words belief.choice
 
+-- a line, and the lines of what is sent at a moment
 abbrev pub belief_line : ScriptOf → Belief → List ℕ
 belief_line script belief = line_text (belief_words script belief)
 

@@ -28,7 +28,7 @@ use Rattle.row_text.specs.Names.{life_text}
 use Rattle.row_text.specs.Rows.{row_form}
 use Rattle.row_text.specs.TableForms.{table_text}
 
--- each word behind a space
+-- each word after a space
 abbrev pub spaced_word : List ℕ → List ℕ
 spaced_word word = codes " " ++ word
 
@@ -60,6 +60,7 @@ switch_text script lives place = option_map_or (life_text script) (slice_get liv
 abbrev pub host_text : ScriptOf → ℕ → List ℕ
 host_text script host = slice_index_or script.names_of_hosts host []
 
+-- the states of a port, as a report names them
 abbrev pub state_word : PortState → List ℕ
 state_word state.Dead = codes "s.dead"
 state_word state.Checking = codes "s.checking"
@@ -73,6 +74,7 @@ abbrev pub end_words : ScriptOf → Option EndId → List (List ℕ)
 end_words script None = []
 end_words script (Some end) = life_text script end.life ∷ decimal end.port ∷ []
 
+-- ports in other states have none
 abbrev pub peer_words : ScriptOf → PortState → Option EndId → List (List ℕ)
 peer_words script state.Good peer = end_words script peer
 peer_words script other peer = []
@@ -97,7 +99,7 @@ abbrev pub deliver_words : ScriptOf → Option ℕ → List (List ℕ)
 deliver_words script None = []
 deliver_words script (Some host) = codes "deliver" ∷ host_text script host ∷ []
 
--- the words of what is told of a packet, by the lives behind the event
+-- the words of what is told of a packet, by the lives after the event
 abbrev pub packet_words : ScriptOf → List LifeId → Line → List (List ℕ)
 packet_words script lives (line.Packet packet from to address) =
     codes "packet" ∷ decimal packet ∷ host_text script from ∷ codes "to" ∷ host_text script to
@@ -136,21 +138,22 @@ told_words script lives (line.Mended place port) =
 told_words script lives (line.Restarted place) = codes "restart" ∷ switch_text script lives place ∷ []
 told_words script lives other = packet_words script lives other
 
--- the lines of a table: one for entry 0, and one for each other entry that has rows
+-- whether the table has a line for an entry: it has one for entry 0, and for each other entry that has rows
 abbrev pub has_line : List RowOf → ℕ → Bool
 has_line rows entry = (entry == 0) || list_any (λ row. row.entry == entry) rows
 
+-- the lines of a table, by rising entry
 abbrev pub rows_in_use : ScriptOf → LifeId → List RowOf → List ℕ
 rows_in_use script life rows =
     table_text (map (row_form script life rows) (filter (has_line rows) (range_with_len 0 13)))
 
--- behind the line of a load stand those of the table that is then in use
+-- after the line of a load stand those of the table that is then in use
 abbrev pub rows_text : ScriptOf → List LifeId → List RowOf → Line → List ℕ
 rows_text script lives rows (line.Load place epoch number) =
     option_map_or (λ life. rows_in_use script life rows) (slice_get lives place) []
 rows_text script lives rows told = []
 
--- a line of an event begins with the place of the event in the history, from 1
+-- A line of an event begins with the place of the event in the history, from 1.
 unfoldable pub told_text : ScriptOf → CourseOf → List RowOf → Line → List ℕ
 told_text script course rows told =
     decimal course.events ++ spaced (told_words script course.lives told) ++ codes "\n"
@@ -184,6 +187,7 @@ unfoldable pub line_of_end : ScriptOf → CourseOf → Ending → List ℕ
 line_of_end script course end =
     codes "end" ++ spaced (ending_words script end ++ place_words course) ++ codes "\n"
 
+-- none before an end has come
 abbrev pub last_line : ScriptOf → CourseOf → Option Ending → List ℕ
 last_line script course None = []
 last_line script course (Some end) = line_of_end script course end

@@ -20,7 +20,7 @@ pub record Moment : Type 0 where
   pub before : List Event
   pub event : Event
 
--- the moments of what comes behind some events, and those of a history
+-- the moments of what comes after some events, and those of a history
 abbrev pub moments_behind : List Event → List Event → List Moment
 moments_behind before [] = []
 moments_behind before (event ∷ events) =
@@ -30,7 +30,7 @@ abbrev pub moments : List Event → List Moment
 moments history = moments_behind [] history
 
 -- What is told of a history so far: a beginning, and what is told at each moment; and the whole text, which
--- has the last line where an end has come.
+-- has the last line if an end has come.
 unfoldable pub told_so_far : List ℕ → (Moment → List ℕ) → List Event → List ℕ
 told_so_far first told history = first ++ flat_map told (moments history)
 

@@ -27,6 +27,7 @@ delivery_in (other ∷ lines) = None
 abbrev pub nothing_sent : Traced
 nothing_sent = record { host = 0; source = None }
 
+-- what is kept of the packet at a place, from 0: that of the number one above it
 abbrev pub traced_at : List Traced → ℕ → Traced
 traced_at packets place = slice_index_or packets place nothing_sent
 
@@ -35,13 +36,14 @@ traced_at packets place = slice_index_or packets place nothing_sent
 abbrev pub source_with : List Traced → (place address : ℕ) → ℕ
 source_with packets place address = unwrap_or (traced_at packets place).source address
 
+-- and this is kept of it, so that a later address changes nothing
 abbrev pub with_source : List Traced → (place address : ℕ) → List Traced
 with_source packets place address = slice_set packets place (record {
   host = (traced_at packets place).host;
   source = Some (source_with packets place address);
 })
 
--- what a host keeps, and what all keep where something arrives at one
+-- what a host keeps, and what all keep if something arrives at one
 abbrev pub cache_at : List (List ArrivalOf) → ℕ → List ArrivalOf
 cache_at caches host = slice_index_or caches host []
 
@@ -74,10 +76,11 @@ arrival_in script fabric packets place = record {
 abbrev pub CameUntil : ℕ → List (List ArrivalOf) → Type 0
 CameUntil tick caches = (host : ℕ) → All (λ arrival. arrival.tick ≤ tick) (cache_at caches host)
 
--- the hosts that sent the packets of a history, and where those come from that have moved
+-- from where the packet at a place comes, if it has moved
 abbrev pub source_at : List Traced → ℕ → Option ℕ
 source_at packets place = option_and_then (λ packet. packet.source) (slice_get packets place)
 
+-- the hosts that sent the packets of a history, by rising number, and where those come from that have moved
 pub record AreTraced (script : ScriptOf) (history : List Event) (packets : List Traced) : Type 0 where
   pub hosts : map (λ packet. packet.host) packets ≡ senders history
   pub sources : (place : ℕ) → source_at packets place
@@ -101,7 +104,7 @@ pub record KeepBeliefs (script : ScriptOf) (history : List Event) (own : ScriptO
   pub count : length packets ≡ length (beliefs_of script history)
   pub known_are : known ≡ count_by (λ belief. is_known belief.choice) (beliefs_of script history)
 
--- An event comes to what is kept: it is lawful, it stands at this place, the fabric is that behind it, and
+-- An event comes to what is kept: it is lawful, it stands at this place, the fabric is that after it, and
 -- this is told of it.
 pub record Meets (script : ScriptOf) (before : List Event) (event : Event) (fabric : FabricOf) (place : ℕ)
     (lines : List Line) (own : ScriptOf) (packets : List Traced) (caches : List (List ArrivalOf)) (known : ℕ)

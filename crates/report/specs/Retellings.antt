@@ -44,6 +44,7 @@ left_of world events caller = record {
   rows = gathered loaded_rows caller world events;
 }
 
+-- so of each caller, after the events before these
 abbrev pub AreLeft : ScriptOf → List Event → List Event → List AccountOf → Type 0
 AreLeft script before events left = (caller : ℕ) → caller < length left
     → slice_index_or left caller no_account ≡ left_of (world_after script before) events caller

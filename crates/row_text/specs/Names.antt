@@ -16,13 +16,13 @@ name_at names (Some switch) = slice_index_or names switch []
 abbrev pub switch_name : List (List ℕ) → List SwitchAt → ℕ → List ℕ
 switch_name names switches uid = name_at names (position (λ switch. switch.uid == uid) switches)
 
--- a life is printed as the name of its switch, followed by a point and the boot where that is above 1
+-- a life is printed as the name of its switch, followed by a point and the boot if that is above 1
 abbrev pub life_text : ScriptOf → LifeId → List ℕ
 life_text script life =
     switch_name script.switch_names script.wires.switches life.uid
     ++ (if life.boot == 1 then [] else (codes "." ++ decimal life.boot))
 
--- the member at a place, and the member that has a number, are printed so
+-- the member at a place, and the member that has a number, are printed so; nothing, if there is none
 abbrev pub member_text : ScriptOf → List EntryOf → Option ℕ → List ℕ
 member_text script entries None = []
 member_text script entries (Some place) = life_text script (life_at entries place)

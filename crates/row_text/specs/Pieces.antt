@@ -5,6 +5,6 @@ use Rattle.row_text.specs.Rows.{exits_text}
 
 -- What private functions alone cite: pieces of a line.
 
--- a pair behind a space
+-- a pair after a space
 unfoldable pub spaced_pair : RowOf → List ℕ
 spaced_pair row = codes " " ++ decimal row.to ++ codes ":" ++ exits_text row.exits

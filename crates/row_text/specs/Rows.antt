@@ -12,11 +12,11 @@ use Rattle.row_text.specs.Names.{life_text}
 
 -- Routing tables as lines of the forms from which tables are read.
 
--- a port behind a slash
+-- a port after a slash
 abbrev pub slashed : ℕ → List ℕ
 slashed port = codes "/" ++ decimal port
 
--- the exits joined by `/`, or `-` where there are none
+-- the exits joined by `/`, or `-` if there are none
 unfoldable pub exits_text : List ℕ → List ℕ
 exits_text [] = codes "-"
 exits_text (port ∷ ports) = decimal port ++ flat_map slashed ports

@@ -30,7 +30,7 @@ forms_text = forms_text_by form_words
 abbrev pub setting_form : Setting → (number default : ℕ) → List Form
 setting_form setting number default = if number == default then [] else Number setting (decimal number) ∷ []
 
--- the pace, where there is one
+-- the pace, if there is one
 abbrev pub pace_form : Option ℕ → List Form
 pace_form None = []
 pace_form (Some number) = Number Pace (decimal number) ∷ []
@@ -47,7 +47,7 @@ setting_forms script =
     ++ (setting_form Blocks script.limits.blocks DEFAULT_BLOCKS
     ++ (setting_form Epoch script.epoch 0 ++ (pace_form script.pace ++ routes_form script.any_routes))))
 
--- the number that a switch had last, where it is not 1
+-- the number that a switch had last, if it is not 1
 abbrev pub had_word : ℕ → Option (List ℕ)
 had_word number = if number == 1 then None else Some (decimal number)
 
@@ -111,6 +111,6 @@ forms_of script =
 unfoldable pub canonical_text : ScriptOf → List ℕ
 canonical_text script = lines_text (header_words ∷ map form_words (forms_of script))
 
--- numbers, each behind a space, which a private function alone cites
+-- numbers, each after a space, which a private function alone cites
 abbrev pub spaced_numbers : List ℕ → List ℕ
 spaced_numbers numbers = flat_map (λ word. 32 ∷ word) (map decimal numbers)

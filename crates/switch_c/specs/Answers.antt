@@ -7,7 +7,7 @@ use Rattle.switch_c.specs.declared.instance.Instance.{Instance}
 use Rattle.switch_c.specs.Codes.{code_of}
 use Rattle.switch_c.specs.Calls.{IsStarted, is_in_range}
 
--- a handle is marked by a number that is not 0 exactly where it holds a switch
+-- a handle is marked by a number that is not 0 exactly if it holds a switch
 abbrev pub IsHandle : ℕ → Option Instance → Type 0
 IsHandle held instance = is_some instance ≡ not (held == 0)
 
@@ -19,7 +19,7 @@ pub record Becomes (Does : Instance → Status → Type 0) (new : Option Instanc
   pub told : number ≡ code_of status
   pub does : Does instance status
 
--- A call on the switch that a handle holds. Where it holds none that is told, and it holds none still.
+-- A call on the switch that a handle holds. If it holds none that is told, and it holds none still.
 pub record Calls (Does : Instance → Instance → Status → Type 0) (old new : Option Instance) (number : ℕ)
     : Type 0 where
   pub none : old ≡ None → (new ≡ None) × (number ≡ code_of NotStarted)

@@ -82,9 +82,11 @@ samples_of up hosts = map (sample_of up hosts) externals
 abbrev pub brings_none : KeptOf → KeptOf → Type 0
 brings_none old new = carried new ≡ counted (epoch_of old) (epoch_of new) (carried old) 0
 
+-- a clock that finds no epoch left, and begins none
 abbrev pub keeps_count : KeptOf → KeptOf → Type 0
 keeps_count old new = carried new ≡ carried old
 
+-- a clock came at this tick; `up` is the set of the ports with a link, `hosts` that of the ports to hosts
 pub record Clocks (now up hosts : ℕ) (old new : Instance) (status : Status) : Type 0 where
   pub over : is_over old ≡ true → Refuses Over old new status
   pub taken : is_over old ≡ false → (status ≡ Done) ⊎ ((status ≡ Spent) ⊎ (status ≡ OutOfMemory))
@@ -101,6 +103,7 @@ is_port port = nat_lt 0 port && nat_lt port 13
 abbrev pub comes_with : List ℕ → KeptOf → KeptOf → Type 0
 comes_with bytes old new = Counts bytes (epoch_of old) (epoch_of new) (carried old) (carried new)
 
+-- bytes came by a port; they are refused if that is no external port, or if the life is over
 pub record TakesFrame (port : ℕ) (bytes : List ℕ) (old new : Instance) (status : Status) : Type 0 where
   pub argument : is_port port ≡ false → Refuses Argument old new status
   pub over : is_port port ≡ true → is_over old ≡ true → Refuses Over old new status

@@ -26,7 +26,7 @@ flag_of is = if is then 1 else 0
 abbrev pub member_count : Option TopoOf → ℕ
 member_count topo = option_map_or (λ it. length it.entries) topo 0
 
--- the epoch of the table that it loaded last, and its number in it
+-- the epoch of the table that it loaded last, and its number in it; 0 before the first
 abbrev pub table_epoch_of : Instance → ℕ
 table_epoch_of instance = option_map_or (λ it. it.epoch) instance.loaded 0
 
@@ -50,6 +50,7 @@ pub record IsShown (instance : Instance) (shown : Shown) : Type 0 where
   pub noframe : shown.noframe ≡ flag_of instance.out.noframe
   pub lost : shown.lost ≡ flag_of instance.lost
 
+-- the call is done, and this is what C sees of the switch
 pub record Shows (shown : Shown) (instance : Instance) (status : Status) : Type 0 where
   pub done : status ≡ Done
   pub is_shown : IsShown instance shown
@@ -63,12 +64,13 @@ state_of state.Who = 3
 state_of state.Loop = 4
 state_of state.Good = 5
 
--- what it takes the other end of a port to be
+-- what it takes the other end of a port to be; zeros if it knows none
 abbrev pub IsPeerShown : Option EndId → PortShown → Type 0
 IsPeerShown None shown = (shown.uid ≡ 0) × ((shown.boot ≡ 0) × (shown.port ≡ 0))
 IsPeerShown (Some peer) shown =
     (shown.uid ≡ peer.life.uid) × ((shown.boot ≡ peer.life.boot) × (shown.port ≡ peer.port))
 
+-- the number of its state, and the other end
 pub record IsPortShown (view : PortViewOf) (shown : PortShown) : Type 0 where
   pub state_is : shown.state ≡ state_of view.state
   pub peer : IsPeerShown view.peer shown
@@ -91,17 +93,19 @@ pub record IsRowShown (row : RowOf) (shown : RowShown) : Type 0 where
 abbrev pub row_at : Instance → ℕ → Option RowOf
 row_at instance place = option_map_or (λ it. slice_get it.table.rows place) instance.loaded None
 
+-- it is told of that row; if there is none, nothing is told
 pub record AsksRow (place : ℕ) (shown told : RowShown) (instance : Instance) (status : Status) : Type 0 where
   pub none : row_at instance place ≡ None → (status ≡ NoMore) × (told ≡ shown)
   pub some : (row : RowOf) → row_at instance place ≡ Some row → (status ≡ Done) × IsRowShown row told
 
--- the member at a place of what it has finished with
+-- the member at a place of what it has finished with, and its number
 abbrev pub entry_at : SwitchOf → ℕ → Option EntryOf
 entry_at switch place = option_map_or (λ it. slice_get it.entries place) (finish_of switch) None
 
 abbrev pub number_at : SwitchOf → ℕ → Option ℕ
 number_at switch place = option_map_or (λ it. slice_get it.numbers place) (finish_of switch) None
 
+-- its identifier, its boot and its number
 pub record IsMemberShown (switch : SwitchOf) (place : ℕ) (shown : MemberShown) : Type 0 where
   pub entry : EntryOf
   pub at : entry_at switch place ≡ Some entry
@@ -109,6 +113,7 @@ pub record IsMemberShown (switch : SwitchOf) (place : ℕ) (shown : MemberShown)
   pub boot : shown.boot ≡ entry.life.boot
   pub number : number_at switch place ≡ Some shown.number
 
+-- it is told of that member; if there is none, nothing is told
 pub record AsksMember (place : ℕ) (shown told : MemberShown) (instance : Instance) (status : Status)
     : Type 0 where
   pub none : (switch : SwitchOf) → StandsFor instance.switch switch → entry_at switch place ≡ None

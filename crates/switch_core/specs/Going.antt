@@ -38,6 +38,7 @@ pub record IsReplyBy (switch : SwitchOf) (port : ℕ) (from : EndId) : Type 0 wh
   pub from_is : from ≡ end_at switch port
   pub answers : speaks (port_of switch port).phase ≡ true
 
+-- what each kind of frame is that may go out by this port
 abbrev pub IsFrameOf : SwitchOf → ℕ → Frame → Type 0
 IsFrameOf switch port (Carry carry) = IsCarriedBy switch port carry
 IsFrameOf switch port (Ack epoch from to number) = IsAckedBy switch port epoch from to number

@@ -40,7 +40,7 @@ epoch_of kept = kept.control.epoch
 abbrev pub StandsFor : KeptOf → SwitchOf → Type 0
 StandsFor kept = Stands kept.control
 
--- whether a clock has answered that the epochs are spent; it takes clocks and frames where none has
+-- whether a clock has answered that the epochs are spent; it takes clocks and frames if none has
 abbrev pub is_spent : KeptOf → Bool
 is_spent kept = kept.control.spent
 

@@ -10,15 +10,17 @@ use Rattle.ordered_link.specs.Receiving.{Receiving, last}
 use Rattle.port_monitor.specs.Histories.{externals}
 use Rattle.switch_core.specs.Switch.{SwitchOf, port_of, good_links, good_peer, finish_of}
 
--- how many bodies are held of so many numbers, from this one on
+-- how many bodies are held among so many numbers, from this one on
 abbrev pub held_from : ℕ → ℕ → Receiving → ℕ
 held_from zero number receiving = 0
 held_from (suc more) number receiving =
     (if is_some (receiving.held number) then 1 else 0) + held_from more (suc number) receiving
 
+-- of the eight numbers after the last that was accepted
 abbrev pub held_count : Receiving → ℕ
 held_count receiving = held_from 8 (last receiving + 1) receiving
 
+-- at all external ports
 abbrev pub all_held : (ℕ → Receiving) → ℕ
 all_held receivings = sum (map (λ port. held_count (receivings port)) externals)
 
@@ -48,7 +50,7 @@ pub record IsSoundBy (works carried : ℕ) (switch : SwitchOf) : Type 0 where
   pub one_link : (port : ℕ) → length (links_at port switch.card.links) ≤ 1
   pub links : switch.spent ≡ false → switch.card.links ≡ good_links switch
   pub unjoined : switch.joined ≡ false → switch.spent ≡ false → (port : ℕ) → good_peer switch port ≡ None
-  -- where a load is due it has finished
+  -- if a load is due it has finished
   pub due : switch.load_due ≡ true → is_some (finish_of switch) ≡ true
   -- a probe went out for each clock at most, and eight bodies at most are outstanding at a port
   pub probes : (port : ℕ) → (port_of switch port).far.nonce ≤ works

@@ -24,6 +24,7 @@ pub record HasCore (core : CoreOf) (card : CardOf) (log : Log) : Type 0 where
   pub stands : StandsFor core log
   pub joined_with : core.card ≡ card
 
+-- a core is kept if the epoch was joined, and only then
 abbrev pub HasJoined : Option CoreOf → Bool → CardOf → Log → Type 0
 HasJoined None joined card log = joined ≡ false
 HasJoined (Some core) joined card log = (joined ≡ true) × HasCore core card log
@@ -105,6 +106,8 @@ pub record Receives (port number : ℕ) (body : Body) (old new : Control) (befor
 abbrev pub in_turn : Body → Receiving → List Body
 in_turn body receiving = body ∷ drop (last receiving) (follow_all 7 receiving).accepted
 
+-- They were accepted in the core and in the session of the port, and what they add was added to what is to be
+-- pushed.
 pub record AcceptsInTurn (port : ℕ) (body : Body) (old new : CoreOf)
     (old_sessions new_sessions : Sessions) (before after : List OnPort) : Type 0 where
   pub core : (log : Log) (sendings : ℕ → Sending) (receivings : ℕ → Receiving) → StandsFor old log
@@ -145,11 +148,13 @@ pub record HasRoom (control : Control) : Type 0 where
   pub stands : Stands control switch
   pub sound : IsSoundBy works carried switch
 
+-- what a switch becomes by such a body and those that follow it
 abbrev pub accepting : ℕ → Body → SwitchOf → SwitchOf
 accepting port body switch =
     accepts port (in_turn body (switch.receivings port))
     (record switch { receivings = at_port port (follow_all 7 (switch.receivings port)) switch.receivings })
 
+-- What is kept of the whole switch became that, and what they add was added to what is to be pushed.
 pub record Accepts (port : ℕ) (body : Body) (old new : Control) (before after : List OnPort) : Type 0 where
   pub stands : (switch : SwitchOf) → Stands old switch → Stands new (accepting port body switch)
   pub sends : (switch : SwitchOf) → Stands old switch
@@ -164,6 +169,7 @@ pub record IsClocked (now : ℕ) (samples : List Sample) (switch : SwitchOf) (ne
   pub stands : Stands new (clocked now samples switch).switch
   pub out : spent ≡ false → after ≡ before ++ all_spelled (clocked now samples switch).frames
 
+-- so of each switch for which the old one stood
 abbrev pub Clocks : ℕ → List Sample → Control → Control → List BytesOut → List BytesOut → Bool → Type 0
 Clocks now samples old new before after spent =
     (switch : SwitchOf) → Stands old switch → IsClocked now samples switch new before after spent

@@ -68,7 +68,7 @@ sends_on port peer sending items switch =
       frames = map (carried_to switch port peer) items;
     }
 
--- A body is pushed in the session of its port, and goes out at once where the window lets it. A port without
+-- A body is pushed in the session of its port, and goes out at once if the window lets it. A port without
 -- a link has no session
 abbrev pub pushed_to : Option EndId → OnPort → SwitchOf → Step
 pushed_to None item switch = still switch
@@ -99,6 +99,7 @@ begun epoch switch =
       load_due = is_some (finish (card_of switch.life switch.number (good_links switch)) []);
     }
 
+-- the epoch is joined, and what the life adds before any body was accepted is pushed
 abbrev pub joins : ℕ → SwitchOf → Step
 joins epoch switch = all_pushed (adds (begun epoch switch).card []) (begun epoch switch)
 
@@ -122,6 +123,7 @@ all_added card port (body ∷ bodies) log =
 abbrev pub finishes_by : CardOf → Log → Log → Bool
 finishes_by card before log = not (is_some (finish card before)) && is_some (finish card log)
 
+-- a life that finishes by these bodies is to load a table
 abbrev pub accepts : ℕ → List Body → SwitchOf → SwitchOf
 accepts port bodies switch =
     record switch {
@@ -137,6 +139,7 @@ receives port number body switch =
       receivings = at_port port (received number body (switch.receivings port)) switch.receivings;
     })
 
+-- the acknowledgement, if one goes out, is of all that were accepted, those by this body among them
 abbrev pub acks : ℕ → EndId → ℕ → Body → SwitchOf → List Sent
 acks port peer number body switch =
     if is_acknowledged (verdict number body (switch.receivings port))
@@ -158,7 +161,7 @@ on_carry port carry switch =
     else if carry.epoch == switch.epoch then answers_body port carry.from carry.number carry.body switch
     else still switch
 
--- the first waiting body of a session goes out, where the window lets it, so many times
+-- the first waiting body of a session goes out, if the window lets it, so many times
 abbrev pub sends_next : ℕ → EndId → SwitchOf → Step
 sends_next port peer switch =
     sends_on port peer (send_next switch.tick (switch.sendings port))
@@ -178,6 +181,7 @@ acknowledges port peer number switch =
     (sent_by_ack number (switch.sendings port)))
     switch
 
+-- one of another epoch, or of a number that is not outstanding, is nothing
 abbrev pub on_ack : ℕ → EndId → ℕ → ℕ → SwitchOf → Step
 on_ack port peer epoch number switch =
     if epoch == switch.epoch && is_outstanding number (switch.sendings port)
@@ -185,7 +189,7 @@ on_ack port peer epoch number switch =
     (fills 7 port peer (acknowledges port peer number switch).switch)
     else still switch
 
--- a probe is answered where the port speaks
+-- a probe is answered if the port speaks
 abbrev pub answer_out : ℕ → Option Frame → List Sent
 answer_out port None = []
 answer_out port (Some frame) = record { port = port; frame = frame } ∷ []
@@ -243,7 +247,8 @@ all_resent [] switch = still switch
 all_resent (link ∷ links) switch =
     after (resends_on link switch) (all_resent links (resends_on link switch).switch)
 
--- a change is due at the first clock, and at a clock that changes the list of good links
+-- a change is due at a clock of a life that has not joined its epoch, and at a clock that changes the list of
+-- good links
 abbrev pub are_same_links : List PeerAt → List PeerAt → Bool
 are_same_links links others = is_eq (slice_cmp link_cmp links others)
 
@@ -251,6 +256,7 @@ abbrev pub is_change_due : SwitchOf → SwitchOf → Bool
 is_change_due before switch =
     not before.joined || not (are_same_links (good_links before) (good_links switch))
 
+-- 2^64 - 1
 abbrev pub last_epoch : ℕ
 last_epoch = 18446744073709551615
 
@@ -258,18 +264,20 @@ last_epoch = 18446744073709551615
 abbrev pub is_spent_by : SwitchOf → SwitchOf → Bool
 is_spent_by before switch = is_change_due before switch && (switch.epoch == last_epoch)
 
--- behind the probes, the next epoch is joined, or what is due is sent again
+-- after the probes, the next epoch is joined, or what is due is sent again
 abbrev pub goes_on : SwitchOf → SwitchOf → Step
 goes_on before switch =
     if is_change_due before switch
     then joins (suc switch.epoch) switch
     else all_resent switch.card.links switch
 
+-- if no epoch is left for a change, nothing goes out, and the epochs are spent
 abbrev pub clocked_to : SwitchOf → SwitchOf → Step
 clocked_to before switch =
     if is_spent_by before switch then still (record switch { spent = true })
     else after (record { switch = switch; frames = probes switch }) (goes_on before switch)
 
+-- a clock comes at this tick, with what the hardware says of each external port, by rising port
 abbrev pub clocked : ℕ → List Sample → SwitchOf → Step
 clocked now samples switch = clocked_to switch (sampled_by now samples switch)
 

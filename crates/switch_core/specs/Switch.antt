@@ -90,7 +90,7 @@ good_links switch = links_after switch.life switch.ports
 abbrev pub good_peer : SwitchOf → ℕ → Option EndId
 good_peer switch port = good_peer_by (port_of switch port).phase (port_of switch port).far.conn
 
--- a frame of a session counts where the port is good, its peer sent the frame, and this end is meant
+-- a frame of a session counts if the port is good, its peer sent the frame, and this end is meant
 abbrev pub counts : SwitchOf → ℕ → EndId → EndId → Bool
 counts switch port from to = is_end (good_peer switch port) from && is_same_end to (end_at switch port)
 

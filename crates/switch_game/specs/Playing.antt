@@ -36,7 +36,7 @@ pub record FarHasAll (game : Game) (life : LifeId) (port : ℕ) (switch : Switch
   pub end : FarHasJoined game life port switch far
   pub accepted : on_port far.port end.node.log ≡ sent switch.card port switch.log
 
--- and so many of them, where not all are acknowledged
+-- and so many of them, if not all are acknowledged
 pub record FarHasSome (game : Game) (life : LifeId) (port : ℕ) (switch : SwitchOf) (far : EndId)
     : Type 0 where
   pub end : FarHasJoined game life port switch far

@@ -93,11 +93,12 @@ pub record IsToldBy (script : ScriptOf) (view : View Event ScriptOf) (number : �
   pub own : own_entries owner_of seen number ≡ mine
   pub account_is : HasAccount (account_of script number seen) account
 
--- the accounts of callers: of the workers, the last one first, and of all in the order of their numbers
+-- the accounts of callers: those of the workers, from the last one down
 abbrev pub AreToldDown : ScriptOf → View Event ScriptOf → List Account → Type 0
 AreToldDown script view accounts = (index : ℕ) (account : Account) → index < length accounts
     → IsToldBy script view (length script.wires.switches - index) (slice_index_or accounts index account)
 
+-- those of all callers, in the order of their numbers
 abbrev pub AreToldBy : ScriptOf → View Event ScriptOf → List Account → Type 0
 AreToldBy script view accounts = (length accounts ≡ callers_of script)
     × ((number : ℕ) (account : Account) → number < length accounts

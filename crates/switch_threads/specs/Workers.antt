@@ -85,7 +85,7 @@ pub record KeepsUp (script : ScriptOf) (world : WorldOf) (place : ℕ) (power : 
   pub works : switch.works ≤ world.fabric.events
   pub fits : IsPending world place switch next
 
--- A switch has this in hand, and has not handled it yet. Where it is a frame, the buffer has its bytes.
+-- A switch has this in hand, and has not handled it yet. If it is a frame, the buffer has its bytes.
 pub record HasInHand (script : ScriptOf) (world : WorldOf) (place : ℕ) (power : PowerOf) (switch : KeptOf)
     (buffer : List ℕ) (hand : Hand) : Type 0 where
   pub powered : IsPowerAt script place power
@@ -148,7 +148,7 @@ IsAsking view desk papers next = IsWorker view desk (λ script history. IsUpTo s
 abbrev pub IsInStep : View Event ScriptOf → Desk → Papers → Next → Type 0
 IsInStep view desk papers then = IsWorker view desk (λ script history. IsNext script history desk papers then)
 
--- The driver has the number 0, and has told of its events. Where it was told an end, that is the end of what
+-- The driver has the number 0, and has told of its events. If it was told an end, that is the end of what
 -- its seat has seen.
 pub record IsDriving (view : View Event ScriptOf) (end : Option Ending) (account : Account) : Type 0 where
   pub script : ScriptOf

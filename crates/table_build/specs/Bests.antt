@@ -10,8 +10,8 @@ use Rattle.table_build.specs.declared.best.Search.{Search}
 use Rattle.table_build.specs.declared.link.Link.{Link}
 use Rattle.table_build.specs.Links.{link_at}
 
--- The ports lead from a place over links to the target, upward only where `up` and downward only where
--- `down`; behind a link downward none leads upward.
+-- The ports lead from a place over links to the target, upward only if `up` and downward only if
+-- `down`; after a link downward none leads upward.
 abbrev pub Goes : List EntryOf → Bool → Bool → ℕ → List ℕ → ℕ → Type 0
 Goes entries up down place [] target = place ≡ target
 Goes entries up down place (port ∷ ports) target =
@@ -41,12 +41,12 @@ pub record AreBest (any : Bool) (Ways : List ℕ → Type 0) (best : Best) : Typ
       (port : ℕ) (rest : List ℕ) → Ways (port ∷ rest) → cost_of any (port ∷ rest) ≡ best.cost
       → HasPort best.ports port
 
--- the best of these ways, or none where there is none
+-- the best of these ways, or none if there is none
 abbrev pub IsBest : Bool → (List ℕ → Type 0) → Option Best → Type 0
 IsBest any Ways None = (ports : List ℕ) → Ways ports → ⊥
 IsBest any Ways (Some best) = AreBest any Ways best
 
--- the better of two, and where they cost the same what both have
+-- the better of two, and if they cost the same what both have
 pub record IsBetter (one other better : Best) : Type 0 where
   pub cost : better.cost ≡ min one.cost other.cost
   pub ports :
@@ -55,6 +55,7 @@ pub record IsBetter (one other better : Best) : Type 0 where
       ↔ (((one.cost ≤ other.cost) × HasPort one.ports port)
       ⊎ ((other.cost ≤ one.cost) × HasPort other.ports port))
 
+-- so of two that may be none
 abbrev pub IsBetterOf : Option Best → Option Best → Option Best → Type 0
 IsBetterOf None other result = result ≡ other
 IsBetterOf (Some one) None result = result ≡ Some one
@@ -116,6 +117,7 @@ pub record BestsOf : Type 0 where
   pub up : List (Option Best)
   pub down : List (Option Best)
 
+-- so from a member at a place
 pub record AreBestFrom (entries : List EntryOf) (any : Bool) (place : ℕ) (bests : BestsOf) : Type 0 where
   pub up : AreBestTo entries any true true place bests.up
   pub down : AreBestTo entries any false true place bests.down

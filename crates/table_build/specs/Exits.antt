@@ -9,7 +9,7 @@ use Rattle.updown.specs.Routes.{is_up_end, LegalRoute, DownRoute}
 use Rattle.table_build.specs.declared.best.Best.{Best}
 use Rattle.table_build.specs.Bests.{HasPort}
 
--- the ports lead from a place to the target along a legal route or, where they may not go up, along downward
+-- the ports lead from a place to the target along a legal route or, if they may not go up, along downward
 -- links alone
 abbrev pub LeadsTo : List EntryOf → Bool → ℕ → List ℕ → ℕ → Type 0
 LeadsTo entries true place ports target = LegalRoute entries place ports target
@@ -51,13 +51,13 @@ IsEntry entries place entry = (entry ≡ 0) ⊎ ((far : ℕ × ℕ) × (far_of e
 abbrev pub is_entry : List EntryOf → ℕ → ℕ → Bool
 is_entry entries place entry = (entry == 0) || is_some (far_of entries place entry)
 
--- whether it may go on upward: where it starts there, and where this is the up end of the link that brought
+-- whether it may go on upward: if it starts there, or if this is the up end of the link that brought
 -- it
 abbrev pub may_go_up : List EntryOf → ℕ → ℕ → Bool
 may_go_up entries place entry =
     (entry == 0) || option_map_or (λ far. is_up_end entries place far.0) (far_of entries place entry) false
 
--- whether a port is an exit, from what is left behind it and from the least of the whole way
+-- whether a port is an exit, from what is left after it and from the least of the whole way
 abbrev pub is_next : Option ℕ → ℕ → Bool
 is_next None left = false
 is_next (Some whole) left = whole == (left + 1)

@@ -20,7 +20,7 @@ Follows entries any target place entry (port ∷ ports) end out =
     × ((next came : ℕ) × (far_of entries place port ≡ Some (next, came))
     × Follows entries any target next came ports end out)
 
--- A channel is a place and a port with a link. It leads to another one where what it brings to the far place
+-- A channel is a place and a port with a link. It leads to another one if what it brings to the far place
 -- goes on there by the port of the other, towards whatever member.
 abbrev pub LeadsOn : List EntryOf → Bool → (ℕ × ℕ) → (ℕ × ℕ) → Type 0
 LeadsOn entries any one other =

@@ -14,8 +14,8 @@ use Rattle.table_build.specs.Tables.{TableOf}
 abbrev pub exit_ports : List ℕ
 exit_ports = range_with_len 1 12
 
--- Whether so many links lead from a place to the target, along a legal route or, where the way may not go up,
--- along downward links alone. A link upward is passed only where the way may go up.
+-- Whether so many links lead from a place to the target, along a legal route or, if the way may not go up,
+-- along downward links alone. A link upward is passed only if the way may go up.
 abbrev pub leads_in : List EntryOf → ℕ → ℕ → Bool → ℕ → Bool
 leads_in entries target zero up place = place == target
 leads_in entries target (suc links) up place =
@@ -33,7 +33,7 @@ abbrev pub shortest : List EntryOf → ℕ → Bool → ℕ → Option ℕ
 shortest entries target up place =
     find (λ links. leads_in entries target links up place) (range_with_len 0 (2 * length entries))
 
--- the same behind a port: any legal route behind an upward link, downward links alone behind a downward one
+-- the same after a port: any legal route after an upward link, downward links alone after a downward one
 abbrev pub left_behind : List EntryOf → ℕ → Bool → ℕ → ℕ × ℕ → Option ℕ
 left_behind entries target up place far =
     if is_up_end entries far.0 place

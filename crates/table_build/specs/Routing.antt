@@ -27,6 +27,7 @@ pub record RoutingOf : Type 0 where
   pub order : List Height
   pub links : List Links
 
+-- those of these entries and numbers
 pub record IsRouting (entries : List EntryOf) (numbers : List ℕ) (routing : RoutingOf) : Type 0 where
   pub places : ArePlaces numbers (length entries) routing.places
   pub order : IsDescent entries routing.order

@@ -45,7 +45,7 @@ abbrev pub IsTableOf : List EntryOf → List ℕ → Bool → LifeId → TableOf
 IsTableOf entries numbers any life table =
     (place : ℕ) × (place_of entries life ≡ Some place) × IsTable entries numbers any place table
 
--- the exits of a table at an entry for a number, none where it has no such row
+-- the exits of a table at an entry for a number, none if it has no such row
 abbrev pub exits_of : TableOf → ℕ → ℕ → List ℕ
 exits_of table entry number =
     option_map_or (λ row. row.exits) (find (λ row. (row.entry == entry) && (row.to == number)) table.rows) []

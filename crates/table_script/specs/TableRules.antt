@@ -154,7 +154,7 @@ pub record IsKept (script : ScriptOf) (draft : TableDraftOf) : Type 0 where
   pub rows_apart : AllPairs AreRowsApart draft.rows
   pub ended : draft.ended ≡ true → are_numbered script.wires draft ≡ true
 
--- the number of a switch, 0 where it had no line
+-- the number of a switch, 0 if it had no line
 unfoldable pub number_of : TableDraftOf → ℕ → ℕ
 number_of draft node =
     unwrap_or (option_map (λ one. one.number) (find (λ one. one.s == node) draft.numbers)) 0

@@ -2,7 +2,7 @@ use Rattle.std.specs.Prelude.{◌≡◌, ◌⊎◌, ℕ, ◌+◌, List, [], ◌�
 use Rattle.text_lines.specs.Lines.{lines_of}
 
 -- A text is read line by line. State is what the lines so far say; `adds before line after` says that a
--- line is good where the lines before it say `before`, and that all then say `after`.
+-- line is good if the lines before it say `before`, and that all then say `after`.
 
 module _ {State : Type 0} (adds : State → List ℕ → State → Type 0) where
   -- all the lines are good, each after those before it, and lead from one state to another

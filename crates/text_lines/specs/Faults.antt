@@ -3,7 +3,7 @@ use Rattle.std.specs.Option.{option_or}
 
 -- What is wrong with a part of a text: nothing, or a cause.
 
--- the cause, where what is asked for does not hold
+-- the cause, if what is asked for does not hold
 abbrev pub unless : {Cause : Type 0} → Bool → Cause → Option Cause
 unless holds cause = if holds then None else Some cause
 
@@ -12,12 +12,12 @@ abbrev pub first_of : {Cause : Type 0} → List (Option Cause) → Option Cause
 first_of [] = None
 first_of (cause ∷ causes) = option_or cause (first_of causes)
 
--- a field has this value where nothing is wrong with it, and else is refused by the cause
+-- a field has this value if nothing is wrong with it, and else is refused by the cause
 abbrev pub IsField : {Value Cause : Type 0} → Result Value Cause → Option Cause → Value → Type 0
 IsField (Ok found) cause value = (cause ≡ None) × (found ≡ value)
 IsField (Err found) cause value = cause ≡ Some found
 
--- a field is good in this way where nothing is wrong with it, and else is refused by the cause
+-- a field is good in this way if nothing is wrong with it, and else is refused by the cause
 abbrev pub IsGoodField :
     {Value Cause : Type 0} → Result Value Cause → Option Cause → (Value → Type 0) → Type 0
 IsGoodField (Ok found) cause good = (cause ≡ None) × good found

@@ -3,7 +3,7 @@ use Rattle.std.specs.Prelude.{◌≡◌, ◌≢◌, ℕ, ◌+◌, ◌≤◌, Lis
 use Rattle.an_base.specs.Values.{EntryOf, Place}
 use Rattle.topo_graph.specs.Topology.{life_at, level_at, far_of}
 
--- What the port leads to is at most one level nearer than here, and where it is, it is not before the parent
+-- What the port leads to is at most one level nearer than here, and if it is, it is not before the parent
 -- above, nor is it the parent by a lesser port.
 abbrev pub IsAfter : List EntryOf → ℕ → ℕ → Place → ℕ → Type 0
 IsAfter entries here above place port =

@@ -63,7 +63,7 @@ is_to port end link =
 abbrev pub names_at : List EntryOf → ℕ → ℕ → EndId → Bool
 names_at entries place port end = list_any (is_to port end) (entry_at entries place).links
 
--- the far place and port of a link that the entry at a place names, where the far entry names it too, and is
+-- the far place and port of a link that the entry at a place names, if the far entry names it too, and is
 -- another
 abbrev pub joined_at : List EntryOf → ℕ → PeerAt → ℕ → Option (ℕ × ℕ)
 joined_at entries place link far =

@@ -18,7 +18,7 @@ pub record ReportOf : Type 0 where
 abbrev pub lesser_entry : EntryOf → EntryOf → EntryOf
 lesser_entry one other = if is_lt (entry_cmp other one) then other else one
 
--- an entry before the first of others, with it or behind it, as its life compares
+-- an entry before the first of others, with it or after it, as its life compares
 abbrev pub put_by : Ordering → EntryOf → EntryOf → List EntryOf → List EntryOf → List EntryOf
 put_by Less entry first others behind = entry ∷ first ∷ others
 put_by Equal entry first others behind = lesser_entry entry first ∷ others

@@ -33,7 +33,7 @@ candidates [] offered = []
 candidates (link ∷ links) [] = []
 candidates (link ∷ links) (offer ∷ offered) = candidate link offer ++ candidates links offered
 
--- the lesser of two places; the first where they are alike
+-- the lesser of two places; the first if they are alike
 abbrev pub lesser : Place → Place → Place
 lesser one other = if is_lt (position_cmp other one) then other else one
 

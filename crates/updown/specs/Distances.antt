@@ -7,7 +7,7 @@ use Rattle.an_base.specs.Order.{life_cmp}
 use Rattle.updown.specs.Routes.{HasLegalFrom, HasDownFrom, IsLeast}
 use Rattle.updown.specs.Lengths.{LengthsOf, length_at}
 
--- lives, and for the place of each the lengths to one of them
+-- lives, and for the place of each the lengths of routes from there to one life, which is not told here
 pub record DistancesOf : Type 0 where
   pub lives : List LifeId
   pub lengths : LengthsOf
@@ -16,7 +16,7 @@ pub record DistancesOf : Type 0 where
 abbrev pub place_in : List LifeId → LifeId → Option ℕ
 place_in lives life = position (λ other. is_eq (life_cmp other life)) lives
 
--- its lengths, none where it is not among the lives
+-- its lengths, none if it is not among the lives
 abbrev pub up_of : DistancesOf → LifeId → Option ℕ
 up_of distances life = option_and_then (length_at distances.lengths.up) (place_in distances.lives life)
 

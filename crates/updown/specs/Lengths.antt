@@ -28,8 +28,8 @@ pub record AreLengths (entries : List EntryOf) (to : ℕ) (lengths : LengthsOf) 
   pub up_count : length lengths.up ≡ length entries
   pub down_count : length lengths.down ≡ length entries
 
--- what is left to go behind the far end of a port: by any legal route behind an upward link, downward alone
--- behind a downward one
+-- what is left to go after the far end of a port: by any legal route after an upward link, downward alone
+-- after a downward one
 abbrev pub behind_at : List EntryOf → List (Option ℕ) → List (Option ℕ) → ℕ → (ℕ × ℕ) → Option ℕ
 behind_at entries up down place far = length_at (if is_up_end entries far.0 place then up else down) far.0
 
@@ -41,13 +41,13 @@ behind_of entries up down place port =
 abbrev pub AreAtMost : List (Option ℕ) → ℕ → Type 0
 AreAtMost lengths most = (place count : ℕ) → length_at lengths place ≡ Some count → count ≤ most
 
--- the lesser of two lengths, where there are both
+-- the lesser of two lengths, if there are both
 abbrev pub lesser_of : Option ℕ → Option ℕ → Option ℕ
 lesser_of None other = other
 lesser_of (Some one) None = Some one
 lesser_of (Some one) (Some other) = Some (min one other)
 
--- the lengths of ways from a place: none at the place itself, and one more than what is left behind a port
+-- the lengths of ways from a place: none at the place itself, and one more than what is left after a port
 abbrev pub Onward : List EntryOf → List (Option ℕ) → List (Option ℕ) → ℕ → ℕ → ℕ → Type 0
 Onward entries up down to place zero = place ≡ to
 Onward entries up down to place (suc count) = (port : ℕ) × (behind_of entries up down place port ≡ Some count)

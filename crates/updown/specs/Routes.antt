@@ -76,7 +76,7 @@ HasDownFrom entries from to count =
     (place target : ℕ) × (place_of entries from ≡ Some place) × (place_of entries to ≡ Some target)
     × HasDown entries place target count
 
--- the least number of which this holds, or none where it holds of none
+-- the least number of which this holds, or none if it holds of none
 abbrev pub IsLeast : (ℕ → Type 0) → Option ℕ → Type 0
 IsLeast Has None = (number : ℕ) → Has number → ⊥
 IsLeast Has (Some least) = Has least × ((number : ℕ) → Has number → least ≤ number)

@@ -91,8 +91,8 @@ start wiring blocks = record {
 abbrev pub less_to_lose : Side → Side
 less_to_lose side = record side { lose = side.lose - 1 }
 
--- A frame is put on a wire, from the port at its other end: it is lost where the link is down, else where a
--- loss is told, else where it has no room.
+-- A frame is put on a wire, from the port at its other end: it is lost if the link is down, else if a
+-- loss is told, else if it has no room.
 abbrev pub put_into : ℕ → ℕ → List ℕ → WiresOf → WiresOf
 put_into from wire bytes wires =
     if not (side_at wires from).is_up then wires
@@ -108,7 +108,7 @@ what_becomes from wire bytes wires =
     else if nat_lt wires.frames.free (blocks_of bytes) then Lost (NoRoom (blocks_of bytes) wires.frames.free)
     else Kept
 
--- the frame that is taken is the second one where an exchange is told and there are two
+-- the frame that is taken is the second one if an exchange is told and there are two
 abbrev pub is_second : ℕ → WiresOf → Bool
 is_second wire wires = nat_lt 0 (side_at wires wire).swap && nat_lt 1 (length (wire_at wires wire))
 
@@ -141,7 +141,7 @@ is_copied wire wires = nat_lt 0 (side_at wires wire).again
 abbrev pub before_copy : ℕ → WiresOf → WiresOf
 before_copy wire wires = with_side wire (less_again (side_at wires wire)) wires
 
--- where a copy is told, a copy of the frame is put at the end of the wire
+-- if a copy is told, a copy of the frame is put at the end of the wire
 abbrev pub copied_from : ℕ → List ℕ → WiresOf → WiresOf
 copied_from wire bytes wires =
     if is_copied wire wires
@@ -155,7 +155,7 @@ what_copy_becomes wire bytes wires =
     then Some (what_becomes (far_place (side_at wires wire).far) wire bytes (before_copy wire wires))
     else None
 
--- a frame is taken from a wire into a hand, and then copied where that is told
+-- a frame is taken from a wire into a hand, and then copied if that is told
 abbrev pub take_from : ℕ → ℕ → WiresOf → WiresOf
 take_from wire hand wires = copied_from wire (taken_frame wire wires) (held_from wire hand wires)
 
@@ -202,7 +202,7 @@ fail_at at wires = wires_cleared (side_at wires at).far at (link_set false (side
 abbrev pub repair_at : ℕ → WiresOf → WiresOf
 repair_at at wires = link_set true (side_at wires at).far at wires
 
--- how many frames are dropped where it goes down
+-- how many frames are dropped if it goes down
 abbrev pub dropped_at : ℕ → WiresOf → ℕ
 dropped_at at wires = on_both (side_at wires at).far at wires
 
