@@ -6,10 +6,12 @@ use std::alloc::Global;
 /// What has a number, by which it is found in a table.
 pub trait Numbered {
     /// Its number.
+    #[inline]
     fn number(self) -> u32;
 }
 
 impl Numbered for u32 {
+    #[inline]
     fn number(self) -> u32 {
         self
     }
@@ -47,12 +49,14 @@ impl<T: Copy> Table<T> {
     }
 
     /// The value for a number.
+    #[inline]
     pub fn get<K: Numbered>(&self, key: K) -> T {
         let place = key.number() as usize;
         self.items.get(place).copied().unwrap_or(self.first)
     }
 
     /// Puts the value for a number.
+    #[inline]
     pub fn put<K: Numbered>(&mut self, key: K, value: T) {
         let place = key.number() as usize;
         if let Some(item) = self.items.get_mut(place) {
@@ -85,6 +89,7 @@ pub fn places<K: Numbered + Copy>(alloc: Global, list: &[K]) -> Result<Table<u32
 }
 
 /// A count in four bytes, `u32::MAX` if it is greater.
+#[inline]
 pub fn narrow(count: usize) -> u32 {
     u32::try_from(count).unwrap_or(u32::MAX)
 }

@@ -3,9 +3,18 @@
 use crate::plan::Plan;
 use an_base::memory::OutOfMemory;
 use ib_channels::channels::Channel;
-use ib_channels::table::Table;
+use ib_channels::table::{Table, narrow};
 use ib_channels::ways::Ways;
 use std::alloc::Global;
+
+/// An exit that may be taken.
+#[derive(Clone, Copy)]
+pub struct Step {
+    /// The exit.
+    pub exit: Channel,
+    /// The switch to which it leads.
+    pub to: u32,
+}
 
 // The exits of a switch: they stand one after another.
 #[derive(Clone, Copy)]
@@ -19,7 +28,7 @@ const NO_FAN: Fan = Fan { first: 0, count: 0 };
 /// For each switch with a way exits that lead nearer by one, such that all turns rise whichever each switch takes.
 #[derive(Drop)]
 pub struct Fans {
-    exits: Vec<Channel>,
+    steps: Vec<Step>,
     fans: Table<Fan>,
     // The least place of an exit of each switch, and one more than the greatest of those that lead to it.
     lowest: Table<u32>,
@@ -30,33 +39,29 @@ impl Fans {
     /// Room for the exits of so many switches.
     pub fn new(alloc: Global, switches: u32) -> Result<Fans, OutOfMemory> {
         Ok(Fans {
-            exits: Vec::new(alloc),
+            steps: Vec::new(alloc),
             fans: Table::filled(alloc, switches, NO_FAN)?,
             lowest: Table::filled(alloc, switches, u32::MAX)?,
             highest: Table::filled(alloc, switches, 0u32)?,
         })
     }
 
-    // Notes that an exit may be taken.
-    fn note(&mut self, plan: Plan<'_>, exit: Channel) {
-        let ends = plan.channels.ends(exit);
-        let place = plan.order.place(exit);
-        let lowest = self.lowest.get(ends.from).min(place);
-        self.lowest.put(ends.from, lowest);
-        let highest = self.highest.get(ends.to).max(place.saturating_add(1));
-        self.highest.put(ends.to, highest);
+    // Notes that an exit of a switch may be taken.
+    #[inline]
+    fn note(&mut self, plan: Plan<'_>, switch: u32, step: Step) {
+        let place = plan.order.place(step.exit);
+        let lowest = self.lowest.get(switch).min(place);
+        self.lowest.put(switch, lowest);
+        let highest = self.highest.get(step.to).max(place.saturating_add(1));
+        self.highest.put(step.to, highest);
     }
 
-    // Whether another exit of a switch may be taken too: it leads nearer by one, after all that lead to the switch and
-    // before all on which it can go on.
-    fn may_take(&self, plan: Plan<'_>, ways: &Ways, target: u32, channel: Channel) -> bool {
-        let ends = plan.channels.ends(channel);
-        if ways.depth(ends.to).saturating_add(1) != ways.depth(ends.from) {
-            return false;
-        }
-        let place = plan.order.place(channel);
-        let is_before = ends.to == target || place < self.lowest.get(ends.to);
-        is_before && place >= self.highest.get(ends.from)
+    // Whether another exit, which leads nearer, may be taken too: after all that lead to its switch, and before all on
+    // which it can go on.
+    #[inline]
+    fn may_take(&self, plan: Plan<'_>, target: u32, least: u32, step: Step) -> bool {
+        let place = plan.order.place(step.exit);
+        place >= least && (step.to == target || place < self.lowest.get(step.to))
     }
 
     // Finds the exits of a switch, of which it has one.
@@ -66,36 +71,50 @@ impl Fans {
         ways: &Ways,
         target: u32,
         switch: u32,
-        own: Channel,
+        own: Step,
     ) -> Result<(), OutOfMemory> {
-        let first = ib_channels::table::narrow(self.exits.len());
-        self.exits.push(own)?;
+        let first = narrow(self.steps.len());
+        let nearer = ways.depth(switch).wrapping_sub(1);
+        let least = self.highest.get(switch);
+        self.steps.push(own)?;
         'exits: for number in plan.channels.exits(switch) {
-            let channel = Channel(number);
-            if channel != own && self.may_take(plan, ways, target, channel) {
-                self.note(plan, channel);
-                self.exits.push(channel)?;
+            let exit = Channel(number);
+            let to = plan.channels.to(exit);
+            let step = Step { exit, to };
+            if ways.depth(to) == nearer
+                && exit != own.exit
+                && self.may_take(plan, target, least, step)
+            {
+                self.note(plan, switch, step);
+                self.steps.push(step)?;
             }
         }
-        let end = ib_channels::table::narrow(self.exits.len());
+        let end = narrow(self.steps.len());
         let count = end.saturating_sub(first);
         self.fans.put(switch, Fan { first, count });
         Ok(())
     }
 
+    // The exit that a switch has.
+    fn own(plan: Plan<'_>, ways: &Ways, switch: u32) -> Option<Step> {
+        let exit = ways.exit(switch)?;
+        let to = plan.channels.to(exit);
+        Some(Step { exit, to })
+    }
+
     /// Finds the exits for the ways to a target.
     pub fn widen(&mut self, plan: Plan<'_>, ways: &Ways, target: u32) -> Result<(), OutOfMemory> {
-        self.exits.clear();
+        self.steps.clear();
         self.fans.reset();
         self.lowest.reset();
         self.highest.reset();
         'own: for switch in ways.nearest() {
-            if let Some(own) = ways.exit(*switch) {
-                self.note(plan, own);
+            if let Some(own) = Fans::own(plan, ways, *switch) {
+                self.note(plan, *switch, own);
             }
         }
         'nearest: for switch in ways.nearest() {
-            if let Some(own) = ways.exit(*switch) {
+            if let Some(own) = Fans::own(plan, ways, *switch) {
                 self.widen_one(plan, ways, target, *switch, own)?;
             }
         }
@@ -103,12 +122,13 @@ impl Fans {
     }
 
     /// The exits of a switch.
-    pub fn exits(&self, switch: u32) -> &[Channel] {
+    #[inline]
+    pub fn exits(&self, switch: u32) -> &[Step] {
         let fan = self.fans.get(switch);
         let first = fan.first as usize;
         let end = first.saturating_add(fan.count as usize);
-        match self.exits.get(first..end) {
-            Some(exits) => exits,
+        match self.steps.get(first..end) {
+            Some(steps) => steps,
             None => &[],
         }
     }

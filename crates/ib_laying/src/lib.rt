@@ -10,6 +10,7 @@ pub mod choice;
 mod closure;
 mod fans;
 mod laying;
+mod loads;
 pub mod measures;
 mod plan;
 mod polish;

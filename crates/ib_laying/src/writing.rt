@@ -19,7 +19,7 @@ fn port_of(channels: &Channels, rows: &Rows, row: u32, target: Target, switch: u
         return Some(target.port);
     }
     let exit = rows.exit(channels, row, switch)?;
-    Some(channels.ends(exit).port)
+    Some(channels.port(exit))
 }
 
 // Puts the port of a switch for a LID, if the LID has an owner.

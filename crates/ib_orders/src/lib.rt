@@ -5,7 +5,7 @@
 #![tactic(auto)]
 
 mod first_ports;
-mod levels;
+pub mod levels;
 pub mod materials;
 pub mod recipe;
 mod sift;

@@ -45,8 +45,8 @@ pub enum Recipe {
     FirstPorts,
     /// Up to a switch with the most channels, and then down.
     Levels,
-    /// Up to a leaf, and then down. In a whole fat tree all turns rise that rise by heights, and there is a route from
-    /// each switch to each.
+    /// Up to a leaf, and then down, if not each switch is a leaf. In a whole fat tree all turns rise that rise by
+    /// heights, and there is a route from each switch to each.
     LevelsFromLeaf,
     /// Up a spanning tree and then down, made better.
     Tree(FromTree),
@@ -73,16 +73,30 @@ impl Making<'_> {
         sift(self.alloc, self.channels, Wishes { weights, kept }, order)?;
         let mut least = u64::MAX;
         'times: for _ in 0..2 {
-            let rule = Rule::Fewest(&*order);
-            let routes = Weights::shortest(self.alloc, self.channels, self.demand, rule)?;
-            if routes.spared == 0 || routes.spared >= least - least / 100 {
+            let spared = self.improve_once(kept, order, least)?;
+            if spared == 0 || spared >= least - least / 100 {
                 break;
             }
-            least = routes.spared;
+            least = spared;
+        }
+        Ok(())
+    }
+
+    // Makes it better for the routes that break fewest of its turns, if they break somewhat less than were broken. How
+    // many they break.
+    fn improve_once(
+        self,
+        kept: Option<&Table<bool>>,
+        order: &mut Order,
+        least: u64,
+    ) -> Result<u64, OutOfMemory> {
+        let rule = Rule::Fewest(&*order);
+        let routes = Weights::shortest(self.alloc, self.channels, self.demand, rule)?;
+        if routes.spared > 0 && routes.spared < least - least / 100 {
             let weights = &routes.turns;
             sift(self.alloc, self.channels, Wishes { weights, kept }, order)?;
         }
-        Ok(())
+        Ok(routes.spared)
     }
 
     // Up by height and down, if not all switches are leaves.
@@ -108,6 +122,14 @@ impl Making<'_> {
         up_down(self.alloc, self.channels, &levels)
     }
 
+    // Up to a leaf and down, if not all switches are leaves.
+    fn by_levels_from_leaf(self) -> Result<Option<Order>, OutOfMemory> {
+        if self.demand.leaves().len() >= self.channels.switches() as usize {
+            return Ok(None);
+        }
+        Ok(Some(self.by_levels(self.materials.leaf)?))
+    }
+
     // A spanning tree.
     fn tree(self, shape: Shape) -> Result<Tree, OutOfMemory> {
         match shape {
@@ -120,10 +142,22 @@ impl Making<'_> {
     fn by_tree(self, from: FromTree) -> Result<Order, OutOfMemory> {
         let tree = self.tree(from.shape)?;
         let mut order = tree.order(self.alloc, self.channels)?;
-        let marks = tree.marks(self.alloc, self.channels)?;
-        let kept = if from.keeps { Some(&marks) } else { None };
-        self.improve(from.wanted, kept, &mut order)?;
+        self.improve_from(from, &tree, &mut order)?;
         Ok(order)
+    }
+
+    // Makes the order of a spanning tree better.
+    fn improve_from(
+        self,
+        from: FromTree,
+        tree: &Tree,
+        order: &mut Order,
+    ) -> Result<(), OutOfMemory> {
+        if !from.keeps {
+            return self.improve(from.wanted, None, order);
+        }
+        let marks = tree.marks(self.alloc, self.channels)?;
+        self.improve(from.wanted, Some(&marks), order)
     }
 }
 
@@ -149,7 +183,7 @@ impl Recipe {
                 order_along(alloc, channels, materials.weights(Wanted::FirstPorts))
             }
             Recipe::Levels => Ok(Some(making.by_levels(materials.root)?)),
-            Recipe::LevelsFromLeaf => Ok(Some(making.by_levels(materials.leaf)?)),
+            Recipe::LevelsFromLeaf => making.by_levels_from_leaf(),
             Recipe::Tree(from) => Ok(Some(making.by_tree(from)?)),
         }
     }

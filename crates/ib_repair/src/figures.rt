@@ -27,7 +27,7 @@ impl Measuring {
                 return Some(links);
             }
             let exit = self.routes.exit(switch)?;
-            switch = task.channels.ends(exit).to;
+            switch = task.channels.to(exit);
         }
         None
     }
@@ -45,7 +45,7 @@ impl Measuring {
             let load = self.loads.get(exit).wrapping_add(hosts);
             self.loads.put(exit, load);
             self.measures.greatest = self.measures.greatest.max(load);
-            switch = task.channels.ends(exit).to;
+            switch = task.channels.to(exit);
         }
     }
 

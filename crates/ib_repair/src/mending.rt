@@ -58,16 +58,16 @@ impl Mending {
         self.leasts.reset();
         self.leasts.put(target, 0);
         'channels: for channel in order.sequence().iter().rev() {
-            let ends = task.channels.ends(*channel);
-            let onward = self.leasts.get(ends.to);
-            if ends.from == target || onward == FAR {
+            let from = task.channels.from(*channel);
+            let onward = self.leasts.get(task.channels.to(*channel));
+            if from == target || onward == FAR {
                 continue;
             }
-            let price = self.price(ends.from, *channel);
+            let price = self.price(from, *channel);
             let cost = onward.wrapping_add(price).wrapping_add(1);
             self.costs.put(*channel, cost);
-            let least = self.leasts.get(ends.from).min(cost);
-            self.leasts.put(ends.from, least);
+            let least = self.leasts.get(from).min(cost);
+            self.leasts.put(from, least);
         }
     }
 
@@ -120,9 +120,9 @@ impl Mending {
     fn lay(&mut self, task: Task<'_>, order: &Order, target: u32) -> u32 {
         let lost = self.begin(task, order, target);
         'channels: for channel in order.sequence() {
-            let ends = task.channels.ends(*channel);
-            if ends.to != target && self.made.exit(ends.from) == Some(*channel) {
-                self.go_on(task, order, ends.to, order.place(*channel));
+            let (from, to) = (task.channels.from(*channel), task.channels.to(*channel));
+            if to != target && self.made.exit(from) == Some(*channel) {
+                self.go_on(task, order, to, order.place(*channel));
             }
         }
         lost
@@ -134,7 +134,7 @@ impl Mending {
             return Ok(());
         };
         if self.made.flow(switch) > 0 && self.given.exit(switch) != Some(exit) {
-            let port = task.channels.ends(exit).port;
+            let port = task.channels.port(exit);
             self.last.push(Row {
                 switch,
                 lid: target.lid,

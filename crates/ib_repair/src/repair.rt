@@ -7,7 +7,7 @@ ghost use Rattle.ib_repair.specs.Repaired.{AreRepairedOf};
 use crate::changes::Changes;
 use crate::figures::measure;
 use crate::mending::{Scope, mend};
-use crate::roots::{falling, find_root, order_by, tree_from, widest};
+use crate::roots::{Shape, falling, find_root, order_by, tree_from, widest};
 use crate::task::{Ports, Task};
 use crate::weights::{reweigh, weigh};
 use crate::wishes::wish;
@@ -20,7 +20,6 @@ use ib_channels::order::Order;
 use ib_channels::table::Table;
 use ib_laying::measures::Measures;
 use ib_net::fabric::Fabric;
-use ib_orders::recipe::Recipe;
 use ib_routes::traffic::Traffic;
 use ib_sorting::effort::Effort;
 use ib_sorting::sorting::{Sorting, Wanted, heaviest};
@@ -61,7 +60,7 @@ struct Start {
 // How it is made: the order from a root, and whether the turns of a tree from it are kept.
 #[derive(Clone, Copy)]
 struct Begin {
-    recipe: Recipe,
+    shape: Shape,
     root: u32,
     tree: bool,
 }
@@ -76,7 +75,7 @@ struct Ranked {
 // Where searches begin, for the root that is broken least and for a switch with the most channels.
 fn begins(root: u32, widest: u32) -> [Begin; 4] {
     let from_root = Begin {
-        recipe: Recipe::Levels,
+        shape: Shape::Levels,
         root,
         tree: false,
     };
@@ -87,7 +86,7 @@ fn begins(root: u32, widest: u32) -> [Begin; 4] {
             ..from_root
         },
         Begin {
-            recipe: Recipe::Heights,
+            shape: Shape::Heights,
             ..from_root
         },
         Begin {
@@ -124,10 +123,10 @@ fn add_turns_after(
     sorting: &mut Sorting,
     effort: &mut Effort,
 ) -> Result<(), OutOfMemory> {
-    let ends = channels.ends(channel);
-    'exits: for number in channels.exits(ends.to) {
+    let back = channels.back(channel);
+    'exits: for number in channels.exits(channels.to(channel)) {
         let next = Channel(number);
-        if tree.get(next) && next != ends.back {
+        if tree.get(next) && next != back {
             let _ = sorting.add(channels, channel, next, effort)?;
         }
     }
@@ -241,7 +240,7 @@ impl Search<'_> {
 
     // The order with which a search begins, if there is one.
     fn order(self, begin: Begin) -> Result<Option<Order>, OutOfMemory> {
-        order_by(self.alloc, self.task, begin.recipe, begin.root)
+        order_by(self.alloc, self.task, begin.shape, begin.root)
     }
 
     // Where a search begins, if there is an order.

@@ -2,12 +2,11 @@
 
 use crate::task::Task;
 use an_base::memory::OutOfMemory;
-use ib_channels::channels::{Channel, Ends};
+use ib_channels::channels::{Channel, Channels};
 use ib_channels::order::Order;
 use ib_channels::table::Table;
 use ib_channels::ways::{Rule, Ways};
-use ib_orders::materials::Materials;
-use ib_orders::recipe::Recipe;
+use ib_orders::levels::{by_height, distances, up_down};
 use std::alloc::Global;
 
 // How many switches are tried as the root: at least, at most, and how many turns are looked at for them.
@@ -21,7 +20,7 @@ const LOOKED_AT: u32 = 1 << 26;
 fn passed(alloc: Global, task: Task<'_>, weights: &Table<u32>) -> Result<Table<u64>, OutOfMemory> {
     let mut passed = Table::filled(alloc, task.channels.switches(), 0u64)?;
     'channels: for number in 0..task.channels.count() {
-        let switch = task.channels.ends(Channel(number)).to;
+        let switch = task.channels.to(Channel(number));
         let more = turns_from(task, weights, Channel(number));
         passed.put(switch, passed.get(switch).wrapping_add(more));
     }
@@ -31,7 +30,7 @@ fn passed(alloc: Global, task: Task<'_>, weights: &Table<u32>) -> Result<Table<u
 // What all turns from a channel weigh.
 fn turns_from(task: Task<'_>, weights: &Table<u32>, channel: Channel) -> u64 {
     let mut weight = 0u64;
-    'exits: for number in task.channels.exits(task.channels.ends(channel).to) {
+    'exits: for number in task.channels.exits(task.channels.to(channel)) {
         let turn = task.channels.turn(channel, Channel(number));
         weight = weight.wrapping_add(u64::from(weights.get(turn)));
     }
@@ -39,20 +38,20 @@ fn turns_from(task: Task<'_>, weights: &Table<u32>, channel: Channel) -> u64 {
 }
 
 // Whether a channel leads up, to a lesser level; among equal levels to a lesser switch.
-fn leads_up(levels: &Ways, ends: Ends) -> bool {
-    (levels.depth(ends.to), ends.to) < (levels.depth(ends.from), ends.from)
+fn leads_up(channels: &Channels, levels: &Ways, channel: Channel) -> bool {
+    let (from, to) = (channels.from(channel), channels.to(channel));
+    (levels.depth(to), to) < (levels.depth(from), from)
 }
 
 // What the turns weigh that lead up after a channel that leads down.
 fn broken_after(task: Task<'_>, weights: &Table<u32>, levels: &Ways, channel: Channel) -> u64 {
-    let ends = task.channels.ends(channel);
-    if leads_up(levels, ends) {
+    if leads_up(task.channels, levels, channel) {
         return 0;
     }
     let mut weight = 0u64;
-    'exits: for number in task.channels.exits(ends.to) {
+    'exits: for number in task.channels.exits(task.channels.to(channel)) {
         let next = Channel(number);
-        if leads_up(levels, task.channels.ends(next)) {
+        if leads_up(task.channels, levels, next) {
             let turn = task.channels.turn(channel, next);
             weight = weight.wrapping_add(u64::from(weights.get(turn)));
         }
@@ -72,7 +71,7 @@ fn broken(task: Task<'_>, weights: &Table<u32>, levels: &Ways) -> u64 {
 // What the turns from a channel weigh that fall in an order.
 fn falling_after(task: Task<'_>, weights: &Table<u32>, order: &Order, channel: Channel) -> u64 {
     let mut weight = 0u64;
-    'exits: for number in task.channels.exits(task.channels.ends(channel).to) {
+    'exits: for number in task.channels.exits(task.channels.to(channel)) {
         let next = Channel(number);
         let own = weights.get(task.channels.turn(channel, next));
         if own > 0 && !order.rises(channel, next) {
@@ -134,16 +133,30 @@ pub fn widest(task: Task<'_>) -> u32 {
     widest
 }
 
-/// An order by levels from a root, or by heights.
+/// By what switches have levels.
+#[derive(Clone, Copy)]
+pub enum Shape {
+    /// How far each is from the root.
+    Levels,
+    /// How high it stands over those with hosts.
+    Heights,
+}
+
+/// An order by levels from a root, or by heights, if not all switches are as high.
 pub fn order_by(
     alloc: Global,
     task: Task<'_>,
-    recipe: Recipe,
+    shape: Shape,
     root: u32,
 ) -> Result<Option<Order>, OutOfMemory> {
-    let mut materials = Materials::bare(alloc, task.channels, task.demand);
-    materials.root = root;
-    recipe.make(alloc, task.channels, task.demand, &materials)
+    let levels = match shape {
+        Shape::Levels => Some(distances(alloc, task.channels, &[root])?),
+        Shape::Heights => by_height(alloc, task.channels, task.demand)?,
+    };
+    match levels {
+        Some(levels) => Ok(Some(up_down(alloc, task.channels, &levels)?)),
+        None => Ok(None),
+    }
 }
 
 /// Which channels are of a spanning tree, in breadth, from a root.
@@ -155,7 +168,7 @@ pub fn tree_from(alloc: Global, task: Task<'_>, root: u32) -> Result<Table<bool>
     'switches: for switch in 0..task.channels.switches() {
         if let Some(exit) = ways.exit(switch) {
             marks.put(exit, true);
-            marks.put(task.channels.ends(exit).back, true);
+            marks.put(task.channels.back(exit), true);
         }
     }
     Ok(marks)

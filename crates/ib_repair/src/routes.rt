@@ -92,7 +92,7 @@ impl Routes {
             let Some(exit) = self.exits.get(switch) else {
                 break;
             };
-            switch = task.channels.ends(exit).to;
+            switch = task.channels.to(exit);
         }
     }
 
@@ -112,7 +112,7 @@ impl Routes {
         let Some(exit) = self.exits.get(switch) else {
             return switch == target;
         };
-        let to = task.channels.ends(exit).to;
+        let to = task.channels.to(exit);
         if to == target {
             return true;
         }

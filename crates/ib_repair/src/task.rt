@@ -28,8 +28,9 @@ impl Ports {
         let count = channels.switches().wrapping_mul(SLOTS);
         let mut slots = Table::filled(alloc, count, None)?;
         'channels: for number in 0..channels.count() {
-            let ends = channels.ends(Channel(number));
-            slots.put(slot_of(ends.from, ends.port), Some(Channel(number)));
+            let channel = Channel(number);
+            let slot = slot_of(channels.from(channel), channels.port(channel));
+            slots.put(slot, Some(channel));
         }
         Ok(Ports { slots })
     }

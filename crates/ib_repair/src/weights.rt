@@ -18,11 +18,10 @@ fn add_turn(task: Task<'_>, routes: &Routes, switch: u32, by: u32, weights: &mut
     let Some(exit) = routes.exit(switch) else {
         return;
     };
-    let ends = task.channels.ends(exit);
-    let Some(next) = routes.exit(ends.to) else {
+    let Some(next) = routes.exit(task.channels.to(exit)) else {
         return;
     };
-    if next != ends.back {
+    if next != task.channels.back(exit) {
         let turn = task.channels.turn(exit, next);
         let weight = weights.get(turn).wrapping_add(by);
         weights.put(turn, weight);
