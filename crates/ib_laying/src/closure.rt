@@ -1,6 +1,7 @@
 //! Ways for switches that have none along which an order rises from level to level.
 
 use crate::plan::Plan;
+use crate::raising::{extend, raise};
 use an_base::memory::OutOfMemory;
 use ib_channels::channels::Channel;
 use ib_channels::table::Table;
@@ -125,9 +126,14 @@ pub fn close_all(
     ways: &mut Ways,
     target: u32,
 ) -> Result<(), OutOfMemory> {
+    if plan.missing(ways) == 0 {
+        return Ok(());
+    }
+    raise(plan, ways, target);
+    extend(plan, ways, target)?;
     let missing = find_missing(alloc, plan, ways)?;
     if missing.is_empty() {
-        return Ok(());
+        return ways.arrange(plan.channels, target);
     }
     let starts = last_starts(alloc, plan, target)?;
     'missing: for switch in &missing {

@@ -14,5 +14,6 @@ mod loads;
 pub mod measures;
 mod plan;
 mod polish;
+mod raising;
 mod rows;
 mod writing;
