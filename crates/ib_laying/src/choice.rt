@@ -5,7 +5,6 @@ ghost use Rattle.ib_laying.specs.Made.{AreTablesFor};
 
 use crate::laying::Laying;
 use crate::measures::Measures;
-use crate::plan::Plan;
 use crate::writing::write_tables;
 use an_base::memory::OutOfMemory;
 use ib_cells::cells::Cells;
@@ -15,6 +14,7 @@ use ib_channels::order::Order;
 use ib_net::fabric::Fabric;
 use ib_orders::materials::{Materials, Wanted};
 use ib_orders::recipe::{FromTree, Recipe, Shape};
+use ib_rising::plan::Plan;
 use ib_routes::traffic::Traffic;
 use std::alloc::Global;
 

@@ -1,17 +1,17 @@
 //! Routes laid along an order of the channels, target by target, and spread over the channels.
 
-use crate::closure::close_all;
-use crate::fans::Fans;
-use crate::loads::{Change, Loads};
 use crate::measures::Measures;
-use crate::plan::Plan;
 use crate::polish::polish;
-use crate::rows::Rows;
 use an_base::memory::OutOfMemory;
 use ib_channels::channels::Channels;
 use ib_channels::demand::{Demand, Target};
 use ib_channels::table::{Table, narrow};
 use ib_channels::ways::Rule;
+use ib_rising::closure::close_all;
+use ib_rising::fans::Fans;
+use ib_rising::loads::{Change, Loads};
+use ib_rising::plan::Plan;
+use ib_rising::rows::Rows;
 use ib_routes::traffic::Traffic;
 use std::alloc::Global;
 use std::ops::Range;

@@ -1,8 +1,8 @@
 //! How good routes are.
 
-use crate::loads::Loads;
-use crate::plan::Plan;
 use ib_channels::ways::Ways;
+use ib_rising::loads::Loads;
+use ib_rising::plan::Plan;
 
 /// How good routes are: all but the first number are of those between the end ports of adapters and routers.
 #[derive(Clone, Copy)]

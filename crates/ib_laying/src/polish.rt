@@ -1,11 +1,11 @@
 //! Single exits moved so that routes are spread better over the channels.
 
-use crate::loads::{Change, Loads};
-use crate::plan::Plan;
-use crate::rows::Rows;
 use an_base::memory::OutOfMemory;
 use ib_channels::channels::Channel;
 use ib_channels::table::narrow;
+use ib_rising::loads::{Change, Loads};
+use ib_rising::plan::Plan;
+use ib_rising::rows::Rows;
 
 // How often all exits are looked at.
 const PASSES: u32 = 3;

@@ -38,9 +38,9 @@ impl Rows {
         channels.exit_at(switch, u32::from(byte))
     }
 
-    /// Puts the exit of a switch in a row.
+    // Puts the exit of a switch in a row.
     #[inline]
-    pub fn put(&mut self, channels: &Channels, row: u32, switch: u32, exit: Option<Channel>) {
+    fn put(&mut self, channels: &Channels, row: u32, switch: u32, exit: Option<Channel>) {
         let place = self.place(row, switch);
         let byte = match exit {
             Some(channel) => u8::try_from(channels.place(switch, channel)).unwrap_or(NO_EXIT),
