@@ -16,10 +16,10 @@ use ib_routes::traffic::Traffic;
 use std::alloc::Global;
 use std::ops::Range;
 
-// What it costs to lead routes over a channel with a load.
+// What it costs to lead routes over a channel with a load, in parts of which a channel without a load costs 64.
 #[inline]
 fn cost_of(load: u64) -> u64 {
-    (load.wrapping_mul(load) / 64).wrapping_add(1)
+    load.wrapping_mul(load).wrapping_add(64)
 }
 
 /// Routes that are being laid.
@@ -99,7 +99,7 @@ impl Laying {
         let mut best = None;
         'exits: for step in self.fans.exits(switch) {
             let cost = cost_of(self.loads.of(step.exit)).saturating_add(self.costs.get(step.to));
-            if cost < least {
+            if best.is_none() || cost < least {
                 least = cost;
                 best = Some(step.exit);
             }
