@@ -211,6 +211,30 @@ impl Mending {
         }
         Ok(lost)
     }
+
+    // Finds the rows that are to be set for all targets. Answers whether it did, or was given up.
+    fn mend_all(
+        &mut self,
+        task: Task<'_>,
+        order: &Order,
+        scope: Scope<'_>,
+        changes: &mut Changes,
+        effort: &mut Effort,
+    ) -> Result<bool, OutOfMemory> {
+        'targets: for (place, target) in task.demand.targets().iter().enumerate() {
+            if effort.is_spent() && scope.may_end() {
+                return Ok(false);
+            }
+            let lost = if task.sends_to(*target) && scope.has(place) {
+                self.mend(task, order, *target, effort)?
+            } else {
+                self.rows.clear();
+                0
+            };
+            changes.push(&self.rows, lost)?;
+        }
+        Ok(true)
+    }
 }
 
 /// Which targets are looked at.
@@ -254,17 +278,9 @@ pub fn mend(
 ) -> Result<Option<Changes>, OutOfMemory> {
     let mut mending = Mending::new(alloc, task)?;
     let mut changes = Changes::none(alloc);
-    'targets: for (place, target) in task.demand.targets().iter().enumerate() {
-        if effort.is_spent() && scope.may_end() {
-            return Ok(None);
-        }
-        let lost = if task.sends_to(*target) && scope.has(place) {
-            mending.mend(task, order, *target, effort)?
-        } else {
-            mending.rows.clear();
-            0
-        };
-        changes.push(&mending.rows, lost)?;
+    match mending.mend_all(task, order, scope, &mut changes, effort) {
+        Ok(true) => Ok(Some(changes)),
+        Ok(false) => Ok(None),
+        Err(error) => Err(error),
     }
-    Ok(Some(changes))
 }

@@ -14,7 +14,7 @@ use crate::wishes::wish;
 use crate::writing::write_tables;
 use an_base::memory::OutOfMemory;
 use ib_cells::cells::Cells;
-use ib_channels::channels::{Channel, Channels};
+use ib_channels::channels::{Channel, Channels, Turn};
 use ib_channels::demand::Demand;
 use ib_channels::order::Order;
 use ib_channels::table::Table;
@@ -179,8 +179,54 @@ impl Search<'_> {
         }
     }
 
-    // The same after the turns of the routes that were found and those with which there would be fewer rows. Notes those
-    // of the latter that cannot rise.
+    // Adds the turns that weigh something and were not added, the heaviest first. Answers which cannot rise.
+    fn add_heaviest(
+        self,
+        sorting: &mut Sorting,
+        weights: &Table<u32>,
+        effort: &mut Effort,
+    ) -> Result<Vec<Turn>, OutOfMemory> {
+        let Search { alloc, task, .. } = self;
+        let wanted = heaviest(alloc, task.channels, weights, sorting.added())?;
+        sorting.add_all(alloc, task.channels, &wanted, effort)
+    }
+
+    // Adds the turns with which there would be fewer rows than were found. Notes those that cannot rise.
+    fn add_wishes(
+        self,
+        sorting: &mut Sorting,
+        found: &Found,
+        refused: &mut Table<bool>,
+        effort: &mut Effort,
+    ) -> Result<(), OutOfMemory> {
+        let Search { alloc, task, .. } = self;
+        let wishes = wish(alloc, task, &found.order, &found.changes, refused, effort)?;
+        'refused: for turn in &self.add_heaviest(sorting, &wishes, effort)? {
+            refused.put(*turn, true);
+        }
+        Ok(())
+    }
+
+    // Adds the turns of the routes that were found. Answers which targets are to be looked at after it.
+    fn add_found<'a>(
+        self,
+        sorting: &mut Sorting,
+        found: &'a Found,
+        effort: &mut Effort,
+    ) -> Result<Scope<'a>, OutOfMemory> {
+        let made = reweigh(self.alloc, self.task, self.weights, &found.changes)?;
+        let scope = if found.changes.lost() == 0 {
+            sorting.add_rising(self.task.channels, &made);
+            Scope::Concerned(&found.changes)
+        } else {
+            Scope::AllInTime
+        };
+        let _ = self.add_heaviest(sorting, &made, effort)?;
+        Ok(scope)
+    }
+
+    // Adds the turns of the routes that were found, those with which there would be fewer rows, and those of the given
+    // routes, and finds the rows that are to be set.
     fn mend_again(
         self,
         start: &Start,
@@ -188,22 +234,9 @@ impl Search<'_> {
         refused: &mut Table<bool>,
         effort: &mut Effort,
     ) -> Result<Option<Found>, OutOfMemory> {
-        let Search { alloc, task, .. } = self;
         let mut sorting = self.sorting(&found.order, start, effort)?;
-        let made = reweigh(alloc, task, self.weights, &found.changes)?;
-        let scope = if found.changes.lost() == 0 {
-            sorting.add_rising(task.channels, &made);
-            Scope::Concerned(&found.changes)
-        } else {
-            Scope::AllInTime
-        };
-        let made = heaviest(alloc, task.channels, &made, sorting.added())?;
-        let _ = sorting.add_all(alloc, task.channels, &made, effort)?;
-        let wishes = wish(alloc, task, &found.order, &found.changes, refused, effort)?;
-        let wishes = heaviest(alloc, task.channels, &wishes, sorting.added())?;
-        'refused: for turn in &sorting.add_all(alloc, task.channels, &wishes, effort)? {
-            refused.put(*turn, true);
-        }
+        let scope = self.add_found(&mut sorting, found, effort)?;
+        self.add_wishes(&mut sorting, found, refused, effort)?;
         self.mend(sorting, scope, effort)
     }
 
@@ -335,6 +368,45 @@ fn find_changes(alloc: Global, task: Task<'_>) -> Result<Option<Changes>, OutOfM
     Ok(best.filter(|changes| changes.lost() == 0))
 }
 
+// The given tables with the rows that are to be set.
+fn repaired_by(
+    alloc: Global,
+    fabric: &Fabric,
+    cells: &Cells,
+    task: Task<'_>,
+    changes: &Changes,
+) -> Result<Repaired, OutOfMemory>
+    requires switches { cells.now.switches ≡ switch_count fabric.now }
+    requires lids { length fabric.now.owners ≤ 64 * cells.now.blocks }
+    ensures { IfOk result (λ made. AreRepairedOf fabric.now cells.now made.cells) }
+{
+    let before = measure(alloc, task, None)?;
+    let after = measure(alloc, task, Some(changes))?;
+    Ok(Repaired {
+        lids: changes.lids(),
+        before,
+        after,
+        cells: write_tables(alloc, fabric, cells, changes.rows())?,
+    })
+}
+
+// The given tables repaired, if rows are found that are to be set.
+fn repair_task(
+    alloc: Global,
+    fabric: &Fabric,
+    cells: &Cells,
+    task: Task<'_>,
+) -> Result<Option<Repaired>, OutOfMemory>
+    requires switches { cells.now.switches ≡ switch_count fabric.now }
+    requires lids { length fabric.now.owners ≤ 64 * cells.now.blocks }
+    ensures { IfOk result (λ found. IfSome found (λ made. AreRepairedOf fabric.now cells.now made.cells)) }
+{
+    match find_changes(alloc, task)? {
+        Some(changes) => Ok(Some(repaired_by(alloc, fabric, cells, task, &changes)?)),
+        None => Ok(None),
+    }
+}
+
 /// Tables in which few rows are set otherwise than in given ones, with all ways for the traffic; none where no such
 /// tables are found, as where the fabric is in parts. The same tables are repaired alike each time. The error is want of
 /// memory alone.
@@ -358,13 +430,5 @@ pub fn repair(
         cells,
         traffic,
     };
-    let Some(changes) = find_changes(alloc, task)? else {
-        return Ok(None);
-    };
-    Ok(Some(Repaired {
-        lids: changes.lids(),
-        before: measure(alloc, task, None)?,
-        after: measure(alloc, task, Some(&changes))?,
-        cells: write_tables(alloc, fabric, cells, changes.rows())?,
-    }))
+    repair_task(alloc, fabric, cells, task)
 }

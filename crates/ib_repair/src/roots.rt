@@ -7,6 +7,7 @@ use ib_channels::order::Order;
 use ib_channels::table::Table;
 use ib_channels::ways::{Rule, Ways};
 use ib_orders::levels::{by_height, distances, up_down};
+use ib_orders::spanning::Tree;
 use std::alloc::Global;
 
 // How many switches are tried as the root: at least, at most, and how many turns are looked at for them.
@@ -101,25 +102,36 @@ fn busiest(alloc: Global, task: Task<'_>, weights: &Table<u32>) -> Result<Vec<u3
     Ok(switches)
 }
 
-/// Of the switches that routes pass most, one from which levels are broken least: by turns that lead up after they led
-/// down.
-pub fn find_root(alloc: Global, task: Task<'_>, weights: &Table<u32>) -> Result<u32, OutOfMemory> {
-    let mut levels = Ways::new(alloc, task.channels.switches())?;
-    let loads = Table::empty(alloc, 0u64);
-    let switches = busiest(alloc, task, weights)?;
+// Of the first of some switches one from which levels are broken least.
+fn least_broken(
+    task: Task<'_>,
+    weights: &Table<u32>,
+    switches: &[u32],
+    loads: &Table<u64>,
+    levels: &mut Ways,
+) -> Result<u32, OutOfMemory> {
     let tried = LOOKED_AT / task.channels.turns().max(1);
     let tried = tried.clamp(LEAST_TRIED, MOST_TRIED);
     let mut root = 0;
     let mut least = u64::MAX;
     'switches: for switch in switches.iter().take(tried as usize) {
-        levels.grow(task.channels, Rule::Any, &loads, *switch)?;
-        let weight = broken(task, weights, &levels);
+        levels.grow(task.channels, Rule::Any, loads, *switch)?;
+        let weight = broken(task, weights, levels);
         if weight < least {
             root = *switch;
             least = weight;
         }
     }
     Ok(root)
+}
+
+/// Of the switches that routes pass most, one from which levels are broken least: by turns that lead up after they led
+/// down.
+pub fn find_root(alloc: Global, task: Task<'_>, weights: &Table<u32>) -> Result<u32, OutOfMemory> {
+    let switches = busiest(alloc, task, weights)?;
+    let loads = Table::empty(alloc, 0u64);
+    let mut levels = Ways::new(alloc, task.channels.switches())?;
+    least_broken(task, weights, &switches, &loads, &mut levels)
 }
 
 /// A switch with the most channels.
@@ -161,15 +173,6 @@ pub fn order_by(
 
 /// Which channels are of a spanning tree, in breadth, from a root.
 pub fn tree_from(alloc: Global, task: Task<'_>, root: u32) -> Result<Table<bool>, OutOfMemory> {
-    let mut ways = Ways::new(alloc, task.channels.switches())?;
-    let loads = Table::empty(alloc, 0u64);
-    ways.grow(task.channels, Rule::Any, &loads, root)?;
-    let mut marks = Table::filled(alloc, task.channels.count(), false)?;
-    'switches: for switch in 0..task.channels.switches() {
-        if let Some(exit) = ways.exit(switch) {
-            marks.put(exit, true);
-            marks.put(task.channels.back(exit), true);
-        }
-    }
-    Ok(marks)
+    let tree = Tree::wide(alloc, task.channels, root)?;
+    tree.marks(alloc, task.channels)
 }
