@@ -70,6 +70,17 @@ impl Polishing<'_> {
             && plan.may_follow(&loads.ways, self.target, channel)
     }
 
+    // Whether another exit may be that of a switch.
+    fn has_choice(self, loads: &Loads, switch: u32, own: Channel) -> bool {
+        let least = self.plan.least_place(&loads.ways, switch);
+        let depth = loads.ways.depth(switch);
+        let may_be = |number: u32| {
+            let exit = Channel(number);
+            exit != own && self.may_be(loads, least, depth, exit)
+        };
+        self.plan.channels.exits(switch).any(may_be)
+    }
+
     // The exit of a switch over which it costs least to lead a flow: the one that it has, if that is one of them.
     fn best_exit(self, loads: &Loads, switch: u32, flow: u32, own: Channel) -> Channel {
         let least = self.plan.least_place(&loads.ways, switch);
@@ -110,7 +121,8 @@ impl Polishing<'_> {
                 continue;
             };
             let is_idle = loads.flows.get(switch) == 0 || loads.of(own) < self.busy;
-            if !is_idle && self.move_exit(loads, switch, own)? {
+            let is_looked_at = !is_idle && self.has_choice(loads, switch, own);
+            if is_looked_at && self.move_exit(loads, switch, own)? {
                 is_moved = true;
             }
         }
