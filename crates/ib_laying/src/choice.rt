@@ -90,6 +90,8 @@ struct Effort {
     finalists: usize,
     // Whether it is enough if no channel has more routes than lead to one LID.
     is_small: bool,
+    // How many exits there are: one of each switch for each target.
+    exits: u64,
 }
 
 impl Effort {
@@ -111,6 +113,7 @@ impl Effort {
             tried,
             finalists,
             is_small: steps > FEW,
+            exits,
         }
     }
 }
@@ -131,7 +134,8 @@ impl Finalist {
         }
         let plan = ground.plan(&self.order);
         self.laying.lay(alloc, plan, 1..ROUNDS)?;
-        if !ground.is_good(self.laying.measures()) {
+        let measures = self.laying.measures();
+        if !ground.is_good(measures) && ground.may_polish(measures) {
             self.laying.polish(plan)?;
         }
         self.score = ground.score(self.laying.measures());
@@ -201,6 +205,12 @@ impl Ground {
         let greatest = measures.greatest.saturating_mul(channels);
         let all = measures.hops;
         self.is_short(measures) && greatest <= all.saturating_add(all / 8)
+    }
+
+    // Whether single exits may be moved: all ways of all switches together have not too many channels.
+    fn may_polish(&self, measures: Measures) -> bool {
+        let links = self.effort.exits.saturating_mul(measures.mean() >> 16);
+        links <= MANY
     }
 
     // Whether routes are good enough for a small effort: none are shorter, and no channel has many more than lead to one
