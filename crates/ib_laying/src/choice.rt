@@ -21,8 +21,13 @@ use std::alloc::Global;
 // How many rounds the best orders get.
 const ROUNDS: u32 = 3;
 
-// Up to how many steps of a round all orders are tried, and up to how many more than one.
+// Up to how many steps of a round all orders are tried, up to how many most of them, up to how many some, and up to how
+// many more than one.
+const FEWEST: u64 = 1 << 20;
+
 const FEW: u64 = 1 << 24;
+
+const SOME: u64 = 1 << 28;
 
 const MANY: u64 = 1 << 31;
 
@@ -30,7 +35,7 @@ const MANY: u64 = 1 << 31;
 const TOO_LONG: u64 = 1 << 40;
 
 // How many orders there are to be tried.
-const RECIPES: u32 = 16;
+const RECIPES: u32 = 32;
 
 /// Tables that were made, and how good they are.
 #[derive(Drop)]
@@ -65,19 +70,19 @@ fn recipe_at(place: u32) -> Recipe {
         0 => Recipe::LevelsFromLeaf,
         1 => Recipe::Heights,
         2 => Recipe::FirstPorts,
-        3 => tree(Shape::Deep(0), Wanted::Spread),
+        3 => tree(Shape::Wide, Wanted::Spread),
         4 => tree(Shape::Deep(1), Wanted::FirstPorts),
-        5 => tree(Shape::Wide, Wanted::Spread),
+        5 => tree(Shape::Deep(0), Wanted::Spread),
         6 => Recipe::BetterHeights,
         7 => tree(Shape::Deep(1), Wanted::Spread),
         8 => tree(Shape::Wide, Wanted::FirstPorts),
         9 => free_tree(Shape::Deep(0)),
         10 => free_tree(Shape::Deep(1)),
-        11 => tree(Shape::Deep(2), Wanted::Spread),
-        12 => tree(Shape::Deep(3), Wanted::Spread),
-        13 => tree(Shape::Deep(4), Wanted::Spread),
-        14 => tree(Shape::Deep(5), Wanted::Spread),
-        _ => Recipe::Levels,
+        11 => Recipe::Levels,
+        _ => tree(
+            Shape::Deep(u64::from(place.saturating_sub(10))),
+            Wanted::Spread,
+        ),
     }
 }
 
@@ -102,10 +107,14 @@ impl Effort {
         let looks = leaves.saturating_mul(u64::from(channels.count()));
         let exits = targets.saturating_mul(u64::from(channels.switches()));
         let steps = looks.saturating_add(exits);
-        let (tried, finalists) = if steps <= FEW {
+        let (tried, finalists) = if steps <= FEWEST {
             (RECIPES, 4)
+        } else if steps <= FEW {
+            (16, 4)
+        } else if steps <= SOME {
+            (5, 1)
         } else if steps <= MANY {
-            (6, 1)
+            (4, 1)
         } else {
             (1, 1)
         };

@@ -62,7 +62,7 @@ struct Making<'a> {
 }
 
 impl Making<'_> {
-    // Makes an order better: for given routes, and then twice for those that break fewest of its turns.
+    // Makes an order better for given routes, and then for those that break fewest of its turns.
     fn improve(
         self,
         wanted: Wanted,
@@ -71,32 +71,22 @@ impl Making<'_> {
     ) -> Result<(), OutOfMemory> {
         let weights = self.materials.weights(wanted);
         sift(self.alloc, self.channels, Wishes { weights, kept }, order)?;
-        let mut least = u64::MAX;
-        'times: for _ in 0..2 {
-            let spared = self.improve_once(kept, order, least)?;
-            if spared == 0 || spared >= least - least / 100 {
-                break;
-            }
-            least = spared;
-        }
-        Ok(())
+        self.improve_again(kept, order)
     }
 
-    // Makes it better for the routes that break fewest of its turns, if they break somewhat less than were broken. How
-    // many they break.
-    fn improve_once(
+    // Makes it better for the routes that break fewest of its turns.
+    fn improve_again(
         self,
         kept: Option<&Table<bool>>,
         order: &mut Order,
-        least: u64,
-    ) -> Result<u64, OutOfMemory> {
+    ) -> Result<(), OutOfMemory> {
         let rule = Rule::Fewest(&*order);
         let routes = Weights::shortest(self.alloc, self.channels, self.demand, rule)?;
-        if routes.spared > 0 && routes.spared < least - least / 100 {
-            let weights = &routes.turns;
-            sift(self.alloc, self.channels, Wishes { weights, kept }, order)?;
+        if routes.spared == 0 {
+            return Ok(());
         }
-        Ok(routes.spared)
+        let weights = &routes.turns;
+        sift(self.alloc, self.channels, Wishes { weights, kept }, order)
     }
 
     // Up by height and down, if not all switches are leaves.
