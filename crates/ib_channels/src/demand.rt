@@ -51,7 +51,7 @@ fn count_hosts(alloc: Global, fabric: &Fabric, switches: u32) -> Result<Table<u3
     let mut hosts = Table::filled(alloc, switches, 0u32)?;
     'ends: for end in 0..fabric.ends() {
         if let Some(spot) = fabric.cable_of(end) {
-            hosts.put(spot.switch, hosts.get(spot.switch).wrapping_add(1));
+            hosts.add(spot.switch, 1);
         }
     }
     Ok(hosts)
@@ -176,10 +176,7 @@ impl Demand {
         let group = self.groups.get(switch);
         let first = group.first as usize;
         let end = first.saturating_add(group.count as usize);
-        match self.targets.get(first..end) {
-            Some(targets) => targets,
-            None => &[],
-        }
+        self.targets.get(first..end).unwrap_or(&[])
     }
 
     /// How many LIDs the adapters and routers at a switch own.

@@ -265,8 +265,7 @@ impl Ways {
         'flows: for switch in self.nearest.iter().rev() {
             if let Some(exit) = self.exit(*switch) {
                 let to = channels.to(exit);
-                let flow = flows.get(to).wrapping_add(flows.get(*switch));
-                flows.put(to, flow);
+                flows.add(to, flows.get(*switch));
             }
         }
     }

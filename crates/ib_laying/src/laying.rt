@@ -3,13 +3,14 @@
 use crate::measures::Measures;
 use crate::polish::polish;
 use an_base::memory::OutOfMemory;
+use ib_channels::amount::Change;
 use ib_channels::channels::Channels;
 use ib_channels::demand::{Demand, Target};
 use ib_channels::table::{Table, narrow};
 use ib_channels::ways::Rule;
 use ib_rising::closure::close_all;
 use ib_rising::fans::Fans;
-use ib_rising::loads::{Change, Loads};
+use ib_rising::loads::Loads;
 use ib_rising::plan::Plan;
 use ib_rising::rows::Rows;
 use ib_routes::traffic::Traffic;

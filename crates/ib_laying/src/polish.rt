@@ -1,9 +1,10 @@
 //! Single exits moved so that routes are spread better over the channels.
 
 use an_base::memory::OutOfMemory;
+use ib_channels::amount::Change;
 use ib_channels::channels::Channel;
 use ib_channels::table::narrow;
-use ib_rising::loads::{Change, Loads};
+use ib_rising::loads::Loads;
 use ib_rising::plan::Plan;
 use ib_rising::rows::Rows;
 
@@ -43,7 +44,7 @@ impl Polishing<'_> {
             };
             loads.change(exit, flow, change);
             at = self.to(exit);
-            loads.pass(at, flow, change);
+            loads.flows.change(at, flow, change);
         }
     }
 

@@ -1,6 +1,7 @@
 //! An order in which the turns of given routes rise, if there is one.
 
 use an_base::memory::OutOfMemory;
+use ib_channels::amount::Change;
 use ib_channels::channels::{Channel, Channels};
 use ib_channels::order::Order;
 use ib_channels::table::Table;
@@ -52,8 +53,7 @@ impl Queue {
     fn count(&mut self, channels: &Channels, weights: &Table<u32>, channel: Channel) {
         'exits: for number in channels.exits(channels.to(channel)) {
             if weights.get(channels.turn(channel, Channel(number))) > 0 {
-                self.waits
-                    .put(number, self.waits.get(number).wrapping_add(1));
+                self.waits.add(number, 1);
             }
         }
     }
@@ -67,9 +67,8 @@ impl Queue {
     ) -> Result<(), OutOfMemory> {
         'exits: for number in channels.exits(channels.to(channel)) {
             if weights.get(channels.turn(channel, Channel(number))) > 0 {
-                let waits = self.waits.get(number).wrapping_sub(1);
-                self.waits.put(number, waits);
-                if waits == 0 {
+                self.waits.change(number, 1, Change::Go);
+                if self.waits.get(number) == 0 {
                     self.ready.push(Channel(number))?;
                 }
             }

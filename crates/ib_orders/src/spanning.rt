@@ -2,6 +2,7 @@
 
 use crate::levels::up_down;
 use an_base::memory::OutOfMemory;
+use ib_channels::amount::Change;
 use ib_channels::channels::{Channel, Channels};
 use ib_channels::order::Order;
 use ib_channels::table::Table;
@@ -70,7 +71,7 @@ impl Walk {
         self.path.push(switch)?;
         'exits: for number in channels.exits(switch) {
             let to = channels.to(Channel(number));
-            self.fresh.put(to, self.fresh.get(to).wrapping_sub(1));
+            self.fresh.change(to, 1, Change::Go);
         }
         Ok(())
     }

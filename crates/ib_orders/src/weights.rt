@@ -59,8 +59,7 @@ impl Weights {
         routes: u32,
     ) {
         let turn = channels.turn(channel, next);
-        self.turns
-            .put(turn, self.turns.get(turn).wrapping_add(routes));
+        self.turns.add(turn, routes);
         if rule.toll(channel, Some(next)) != Some(0) {
             self.spared = self.spared.wrapping_add(u64::from(routes));
         }
@@ -75,8 +74,7 @@ impl Weights {
         if routes > 0 {
             self.longest = self.longest.max(self.ways.depth(switch));
         }
-        let load = self.loads.get(channel).wrapping_add(u64::from(routes));
-        self.loads.put(channel, load);
+        self.loads.add(channel, u64::from(routes));
         self.hops = self.hops.wrapping_add(u64::from(routes));
         let to = channels.to(channel);
         if let Some(next) = self.ways.exit(to) {

@@ -42,8 +42,8 @@ impl Measuring {
             if switch == target.switch {
                 break;
             }
-            let load = self.loads.get(exit).wrapping_add(hosts);
-            self.loads.put(exit, load);
+            self.loads.add(exit, hosts);
+            let load = self.loads.get(exit);
             self.measures.greatest = self.measures.greatest.max(load);
             switch = task.channels.to(exit);
         }

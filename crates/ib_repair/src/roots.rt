@@ -22,8 +22,7 @@ fn passed(alloc: Global, task: Task<'_>, weights: &Table<u32>) -> Result<Table<u
     let mut passed = Table::filled(alloc, task.channels.switches(), 0u64)?;
     'channels: for number in 0..task.channels.count() {
         let switch = task.channels.to(Channel(number));
-        let more = turns_from(task, weights, Channel(number));
-        passed.put(switch, passed.get(switch).wrapping_add(more));
+        passed.add(switch, turns_from(task, weights, Channel(number)));
     }
     Ok(passed)
 }

@@ -87,8 +87,7 @@ impl Routes {
                 break;
             }
             self.last.put(switch, source);
-            let flow = self.flows.get(switch).wrapping_add(1);
-            self.flows.put(switch, flow);
+            self.flows.add(switch, 1);
             let Some(exit) = self.exits.get(switch) else {
                 break;
             };

@@ -150,9 +150,7 @@ impl Wishing {
             at = self.onward.get(channel).next;
             if let Some(next) = at {
                 if !order.rises(channel, next) {
-                    let turn = task.channels.turn(channel, next);
-                    let wish = wishes.get(turn).wrapping_add(1);
-                    wishes.put(turn, wish);
+                    wishes.add(task.channels.turn(channel, next), 1);
                 }
             }
         }

@@ -3,19 +3,11 @@
 use crate::plan::Plan;
 use crate::rows::Rows;
 use an_base::memory::OutOfMemory;
+use ib_channels::amount::Change;
 use ib_channels::channels::{Channel, Channels};
 use ib_channels::table::Table;
 use ib_channels::ways::{Rule, Ways};
 use std::alloc::Global;
-
-/// Whether routes come to channels or go from them.
-#[derive(Clone, Copy)]
-pub enum Change {
-    /// They come.
-    Come,
-    /// They go.
-    Go,
-}
 
 /// How many routes between end ports of adapters and routers pass each channel; and for one target the ways to it, and
 /// how many of these routes pass each switch.
@@ -26,15 +18,6 @@ pub struct Loads {
     pub ways: Ways,
     /// How many routes to the target pass each switch that has a way.
     pub flows: Table<u32>,
-}
-
-// A load after a flow came or went.
-#[inline]
-fn changed(load: u64, flow: u32, change: Change) -> u64 {
-    match change {
-        Change::Come => load.wrapping_add(u64::from(flow)),
-        Change::Go => load.wrapping_sub(u64::from(flow)),
-    }
 }
 
 // Lets the flow of each switch come to the next one, and come to its exit or go from it; the farthest switches first.
@@ -48,8 +31,8 @@ fn pass_all(
     'flows: for switch in ways.nearest().iter().rev() {
         if let Some(exit) = ways.exit(*switch) {
             let (to, flow) = (plan.channels.to(exit), flows.get(*switch));
-            flows.put(to, flows.get(to).wrapping_add(flow));
-            loads.put(exit, changed(loads.get(exit), flow, change));
+            flows.add(to, flow);
+            loads.change(exit, u64::from(flow), change);
         }
     }
 }
@@ -73,18 +56,7 @@ impl Loads {
     /// Lets a flow come to a channel or go from it.
     #[inline]
     pub fn change(&mut self, channel: Channel, flow: u32, change: Change) {
-        let load = changed(self.loads.get(channel), flow, change);
-        self.loads.put(channel, load);
-    }
-
-    /// Lets a flow come to a switch on its way to the target or go from it.
-    pub fn pass(&mut self, switch: u32, flow: u32, change: Change) {
-        let passed = self.flows.get(switch);
-        let passed = match change {
-            Change::Come => passed.wrapping_add(flow),
-            Change::Go => passed.wrapping_sub(flow),
-        };
-        self.flows.put(switch, passed);
+        self.loads.change(channel, u64::from(flow), change);
     }
 
     /// Finds how many routes pass each switch.
