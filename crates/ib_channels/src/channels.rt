@@ -191,6 +191,17 @@ impl Channels {
         exits.end.saturating_sub(exits.start)
     }
 
+    /// The first switch with the most channels.
+    pub fn widest(&self) -> u32 {
+        let mut widest = 0;
+        'switches: for switch in 0..self.switches {
+            if self.degree(switch) > self.degree(widest) {
+                widest = switch;
+            }
+        }
+        widest
+    }
+
     /// The turn from a channel to one of the switch to which it leads.
     #[inline]
     pub fn turn(&self, channel: Channel, next: Channel) -> Turn {

@@ -88,6 +88,11 @@ impl Ways {
         self.depths.get(switch)
     }
 
+    /// How many channels the way of each switch has.
+    pub fn depths(&self) -> &Table<u32> {
+        &self.depths
+    }
+
     /// The switches with a way, the target first, none before one that is nearer.
     pub fn nearest(&self) -> &[u32] {
         &self.nearest

@@ -11,7 +11,7 @@ use std::alloc::Global;
 /// What orders of the channels of a fabric are made of.
 #[derive(Drop)]
 pub struct Materials {
-    /// A switch with the most channels.
+    /// The first switch with the most channels.
     pub root: u32,
     /// The first switch with end ports of adapters and routers, or the root.
     pub leaf: u32,
@@ -33,17 +33,6 @@ pub enum Wanted {
     FirstPorts,
 }
 
-// The first switch with the most channels.
-fn find_root(channels: &Channels) -> u32 {
-    let mut root = 0;
-    'switches: for switch in 0..channels.switches() {
-        if channels.degree(switch) > channels.degree(root) {
-            root = switch;
-        }
-    }
-    root
-}
-
 impl Materials {
     /// The materials of a fabric.
     pub fn of(
@@ -53,7 +42,7 @@ impl Materials {
     ) -> Result<Materials, OutOfMemory> {
         let spread = Weights::shortest(alloc, channels, demand, Rule::Any)?;
         let first_ports = Weights::first_ports(alloc, channels, demand)?;
-        let root = find_root(channels);
+        let root = channels.widest();
         Ok(Materials {
             root,
             leaf: demand.leaves().first().copied().unwrap_or(root),

@@ -130,11 +130,7 @@ impl Tree {
 
     /// The order of routes that lead up the tree and then down.
     pub fn order(&self, alloc: Global, channels: &Channels) -> Result<Order, OutOfMemory> {
-        let mut depths = Table::filled(alloc, channels.switches(), FAR)?;
-        'switches: for switch in 0..channels.switches() {
-            depths.put(switch, self.ways.depth(switch));
-        }
-        up_down(alloc, channels, &depths)
+        up_down(alloc, channels, self.ways.depths())
     }
 
     /// Which channels are of the tree.

@@ -7,7 +7,7 @@ ghost use Rattle.ib_repair.specs.Repaired.{AreRepairedOf};
 use crate::changes::Changes;
 use crate::figures::measure;
 use crate::mending::{Scope, mend};
-use crate::roots::{Shape, falling, find_root, order_by, tree_from, widest};
+use crate::roots::{Shape, falling, find_root, order_by, tree_from};
 use crate::task::{Ports, Task};
 use crate::weights::{reweigh, weigh};
 use crate::wishes::wish;
@@ -329,7 +329,7 @@ impl Search<'_> {
     fn ranked(self) -> Result<Vec<Ranked>, OutOfMemory> {
         let root = find_root(self.alloc, self.task, self.weights)?;
         let mut ranked = Vec::new(self.alloc);
-        'begins: for begin in begins(root, widest(self.task)) {
+        'begins: for begin in begins(root, self.task.channels.widest()) {
             if let Some(order) = self.order(begin)? {
                 let weight = falling(self.task, self.weights, &order);
                 ranked.push(Ranked { begin, weight })?;

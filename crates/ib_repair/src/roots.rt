@@ -133,17 +133,6 @@ pub fn find_root(alloc: Global, task: Task<'_>, weights: &Table<u32>) -> Result<
     least_broken(task, weights, &switches, &loads, &mut levels)
 }
 
-/// A switch with the most channels.
-pub fn widest(task: Task<'_>) -> u32 {
-    let mut widest = 0;
-    'switches: for switch in 0..task.channels.switches() {
-        if task.channels.degree(switch) > task.channels.degree(widest) {
-            widest = switch;
-        }
-    }
-    widest
-}
-
 /// By what switches have levels.
 #[derive(Clone, Copy)]
 pub enum Shape {
