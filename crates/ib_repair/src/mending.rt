@@ -252,8 +252,7 @@ impl Scope<'_> {
     // Whether the target at a place is looked at.
     fn has(self, place: usize) -> bool {
         match self {
-            Scope::All => true,
-            Scope::AllInTime => true,
+            Scope::All | Scope::AllInTime => true,
             Scope::Concerned(changes) => changes.concerns(place),
         }
     }
@@ -262,8 +261,7 @@ impl Scope<'_> {
     fn may_end(self) -> bool {
         match self {
             Scope::All => false,
-            Scope::AllInTime => true,
-            Scope::Concerned(_) => true,
+            Scope::AllInTime | Scope::Concerned(_) => true,
         }
     }
 }

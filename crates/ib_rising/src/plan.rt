@@ -20,23 +20,31 @@ pub struct Plan<'a> {
     pub traffic: Traffic,
 }
 
+/// Whether routes of a traffic begin at a switch.
+pub fn sends_from(traffic: Traffic, demand: &Demand, switch: u32) -> bool {
+    match traffic {
+        Traffic::Hosts | Traffic::Lids => demand.hosts(switch) > 0,
+        Traffic::All => true,
+    }
+}
+
+/// Whether routes of a traffic lead to a target.
+pub fn sends_to(traffic: Traffic, target: Target) -> bool {
+    match traffic {
+        Traffic::Hosts => target.is_host(),
+        Traffic::Lids | Traffic::All => true,
+    }
+}
+
 impl Plan<'_> {
     /// Whether routes of the traffic begin at a switch.
     pub fn sends_from(self, switch: u32) -> bool {
-        match self.traffic {
-            Traffic::Hosts => self.demand.hosts(switch) > 0,
-            Traffic::Lids => self.demand.hosts(switch) > 0,
-            Traffic::All => true,
-        }
+        sends_from(self.traffic, self.demand, switch)
     }
 
     /// Whether routes of the traffic lead to a target.
     pub fn sends_to(self, target: Target) -> bool {
-        match self.traffic {
-            Traffic::Hosts => target.is_host(),
-            Traffic::Lids => true,
-            Traffic::All => true,
-        }
+        sends_to(self.traffic, target)
     }
 
     /// Whether routes of the traffic lead to a target at a switch.
