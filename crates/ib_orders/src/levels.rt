@@ -56,12 +56,8 @@ fn reach_all(
     Ok(())
 }
 
-/// How far each switch is from the nearest of some roots, `FAR` if it is joined to none.
-pub fn distances(
-    alloc: Global,
-    channels: &Channels,
-    roots: &[u32],
-) -> Result<Table<u32>, OutOfMemory> {
+// How far each switch is from the nearest of some roots, `FAR` if it is joined to none.
+fn distances(alloc: Global, channels: &Channels, roots: &[u32]) -> Result<Table<u32>, OutOfMemory> {
     let mut levels = Table::filled(alloc, channels.switches(), FAR)?;
     let mut reached = Vec::with_capacity(alloc, channels.switches() as usize)?;
     reach_all(channels, &mut levels, &mut reached, roots)?;
@@ -80,8 +76,8 @@ fn greatest(channels: &Channels, levels: &Table<u32>) -> u32 {
     greatest
 }
 
-/// Levels by height: those that are farthest from all leaves have level 0. None where each switch is a leaf, or none.
-pub fn by_height(
+// Levels by height: those that are farthest from all leaves have level 0. None where each switch is a leaf, or none.
+fn by_height(
     alloc: Global,
     channels: &Channels,
     demand: &Demand,
@@ -180,4 +176,26 @@ fn push_all(
         push_exits(channels, ranks, *switch, Way::Down, sequence)?;
     }
     Ok(())
+}
+
+/// The order up to a root and then down.
+pub fn order_from_root(
+    alloc: Global,
+    channels: &Channels,
+    root: u32,
+) -> Result<Order, OutOfMemory> {
+    let levels = distances(alloc, channels, &[root])?;
+    up_down(alloc, channels, &levels)
+}
+
+/// The order up to switches that are farther from all leaves and then down; none where each switch is a leaf, or none.
+pub fn order_by_height(
+    alloc: Global,
+    channels: &Channels,
+    demand: &Demand,
+) -> Result<Option<Order>, OutOfMemory> {
+    match by_height(alloc, channels, demand)? {
+        Some(levels) => Ok(Some(up_down(alloc, channels, &levels)?)),
+        None => Ok(None),
+    }
 }

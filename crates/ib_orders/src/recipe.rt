@@ -1,7 +1,7 @@
 //! How orders of channels are made.
 
 use crate::first_ports::order_along;
-use crate::levels::{by_height, distances, up_down};
+use crate::levels::{order_by_height, order_from_root};
 use crate::materials::{Materials, Wanted};
 use crate::sift::{Wishes, sift};
 use crate::spanning::Tree;
@@ -89,27 +89,13 @@ impl Making<'_> {
         sift(self.alloc, self.channels, Wishes { weights, kept }, order)
     }
 
-    // Up by height and down, if not all switches are leaves.
-    fn by_heights(self) -> Result<Option<Order>, OutOfMemory> {
-        match by_height(self.alloc, self.channels, self.demand)? {
-            Some(levels) => Ok(Some(up_down(self.alloc, self.channels, &levels)?)),
-            None => Ok(None),
-        }
-    }
-
-    // The same, made better.
+    // Up by height and down, if not all switches are leaves, made better.
     fn by_better_heights(self) -> Result<Option<Order>, OutOfMemory> {
-        let Some(mut order) = self.by_heights()? else {
+        let Some(mut order) = order_by_height(self.alloc, self.channels, self.demand)? else {
             return Ok(None);
         };
         self.improve(Wanted::Spread, None, &mut order)?;
         Ok(Some(order))
-    }
-
-    // Up to a root and down.
-    fn by_levels(self, root: u32) -> Result<Order, OutOfMemory> {
-        let levels = distances(self.alloc, self.channels, &[root])?;
-        up_down(self.alloc, self.channels, &levels)
     }
 
     // Up to a leaf and down, if not all switches are leaves.
@@ -117,7 +103,8 @@ impl Making<'_> {
         if self.demand.leaves().len() >= self.channels.switches() as usize {
             return Ok(None);
         }
-        Ok(Some(self.by_levels(self.materials.leaf)?))
+        let order = order_from_root(self.alloc, self.channels, self.materials.leaf)?;
+        Ok(Some(order))
     }
 
     // A spanning tree.
@@ -167,12 +154,12 @@ impl Recipe {
             materials,
         };
         match self {
-            Recipe::Heights => making.by_heights(),
+            Recipe::Heights => order_by_height(alloc, channels, demand),
             Recipe::BetterHeights => making.by_better_heights(),
             Recipe::FirstPorts => {
                 order_along(alloc, channels, materials.weights(Wanted::FirstPorts))
             }
-            Recipe::Levels => Ok(Some(making.by_levels(materials.root)?)),
+            Recipe::Levels => Ok(Some(order_from_root(alloc, channels, materials.root)?)),
             Recipe::LevelsFromLeaf => making.by_levels_from_leaf(),
             Recipe::Tree(from) => Ok(Some(making.by_tree(from)?)),
         }

@@ -7,7 +7,7 @@ ghost use Rattle.ib_repair.specs.Repaired.{AreRepairedOf};
 use crate::changes::Changes;
 use crate::figures::measure;
 use crate::mending::{Scope, mend};
-use crate::roots::{Shape, falling, find_root, order_by, tree_from};
+use crate::roots::{falling, find_root, tree_from};
 use crate::task::{Ports, Task};
 use crate::weights::{reweigh, weigh};
 use crate::wishes::wish;
@@ -20,6 +20,7 @@ use ib_channels::order::Order;
 use ib_channels::table::Table;
 use ib_laying::measures::Measures;
 use ib_net::fabric::Fabric;
+use ib_orders::levels::{order_by_height, order_from_root};
 use ib_routes::traffic::Traffic;
 use ib_sorting::effort::Effort;
 use ib_sorting::sorting::{Sorting, Wanted, heaviest};
@@ -49,51 +50,25 @@ pub struct Repaired {
     pub after: Measures,
 }
 
-// Where the search for an order begins.
+// By which order a search begins.
+#[derive(Clone, Copy)]
+enum Begin {
+    // That from a root.
+    Root(u32),
+    // That by height.
+    Height,
+    // That from a root, and the turns of a tree from it are kept.
+    Tree(u32),
+}
+
+// Where a search for an order begins.
 #[derive(Drop)]
 struct Start {
     order: Order,
     // Which channels are of a tree whose turns are kept, if they are: then there is a route from each switch to each.
     tree: Option<Table<bool>>,
-}
-
-// How it is made: the order from a root, and whether the turns of a tree from it are kept.
-#[derive(Clone, Copy)]
-struct Begin {
-    shape: Shape,
-    root: u32,
-    tree: bool,
-}
-
-// The same, and what the turns of the given routes weigh that fall in the order.
-#[derive(Clone, Copy)]
-struct Ranked {
-    begin: Begin,
+    // What the turns of the given routes weigh that fall in the order.
     weight: u64,
-}
-
-// Where searches begin, for the root that is broken least and for a switch with the most channels.
-fn begins(root: u32, widest: u32) -> [Begin; 4] {
-    let from_root = Begin {
-        shape: Shape::Levels,
-        root,
-        tree: false,
-    };
-    [
-        from_root,
-        Begin {
-            root: widest,
-            ..from_root
-        },
-        Begin {
-            shape: Shape::Heights,
-            ..from_root
-        },
-        Begin {
-            tree: true,
-            ..from_root
-        },
-    ]
 }
 
 // What is looked for.
@@ -273,38 +248,49 @@ impl Search<'_> {
 
     // The order with which a search begins, if there is one.
     fn order(self, begin: Begin) -> Result<Option<Order>, OutOfMemory> {
-        order_by(self.alloc, self.task, begin.shape, begin.root)
+        let channels = self.task.channels;
+        match begin {
+            Begin::Height => order_by_height(self.alloc, channels, self.task.demand),
+            Begin::Root(root) | Begin::Tree(root) => {
+                Ok(Some(order_from_root(self.alloc, channels, root)?))
+            }
+        }
+    }
+
+    // Which channels are of the tree whose turns are kept, if they are.
+    fn tree(self, begin: Begin) -> Result<Option<Table<bool>>, OutOfMemory> {
+        match begin {
+            Begin::Root(_) | Begin::Height => Ok(None),
+            Begin::Tree(root) => Ok(Some(tree_from(self.alloc, self.task, root)?)),
+        }
     }
 
     // Where a search begins, if there is an order.
     fn start(self, begin: Begin) -> Result<Option<Start>, OutOfMemory> {
-        let Some(order) = self.order(begin)? else {
-            return Ok(None);
-        };
-        let tree = if begin.tree {
-            Some(tree_from(self.alloc, self.task, begin.root)?)
-        } else {
-            None
-        };
-        Ok(Some(Start { order, tree }))
+        let tree = self.tree(begin)?;
+        match self.order(begin)? {
+            Some(order) => Ok(Some(Start {
+                weight: falling(self.task, self.weights, &order),
+                order,
+                tree,
+            })),
+            None => Ok(None),
+        }
     }
 
     // Searches, and keeps what is found if it is better. Without effort the first search is made, and one that keeps a
     // tree if something is lost.
     fn search_from(
         self,
-        begin: Begin,
+        start: &Start,
         best: &mut Option<Changes>,
         effort: &mut Effort,
     ) -> Result<(), OutOfMemory> {
         if best.as_ref().is_some_and(Changes::is_empty) {
             return Ok(());
         }
-        let Some(start) = self.start(begin)? else {
-            return Ok(());
-        };
         let is_wanted = match best {
-            Some(best) => best.lost() > 0 && begin.tree,
+            Some(best) => best.lost() > 0 && start.tree.is_some(),
             None => true,
         };
         let scope = if is_wanted {
@@ -312,7 +298,7 @@ impl Search<'_> {
         } else {
             Scope::AllInTime
         };
-        let Some(changes) = self.search(&start, scope, effort)? else {
+        let Some(changes) = self.search(start, scope, effort)? else {
             return Ok(());
         };
         let is_better = match best {
@@ -325,26 +311,33 @@ impl Search<'_> {
         Ok(())
     }
 
-    // Where searches begin, the orders first in which the given routes fall least.
-    fn ranked(self) -> Result<Vec<Ranked>, OutOfMemory> {
+    // Where searches begin, those first in whose orders the given routes fall least: for the root that is broken least, for
+    // a switch with the most channels, by height, and for the root with a tree.
+    fn starts(self) -> Result<Vec<Start>, OutOfMemory> {
         let root = find_root(self.alloc, self.task, self.weights)?;
-        let mut ranked = Vec::new(self.alloc);
-        'begins: for begin in begins(root, self.task.channels.widest()) {
-            if let Some(order) = self.order(begin)? {
-                let weight = falling(self.task, self.weights, &order);
-                ranked.push(Ranked { begin, weight })?;
+        let widest = self.task.channels.widest();
+        let begins = [
+            Begin::Root(root),
+            Begin::Root(widest),
+            Begin::Height,
+            Begin::Tree(root),
+        ];
+        let mut starts = Vec::new(self.alloc);
+        'begins: for begin in begins {
+            if let Some(start) = self.start(begin)? {
+                starts.push(start)?;
             }
         }
-        ranked.sort_by_key(|ranked| ranked.weight)?;
-        Ok(ranked)
+        starts.sort_by_key(|start| start.weight)?;
+        Ok(starts)
     }
 
     // The rows that are to be set by the best order of all that are tried.
     fn best(self) -> Result<Option<Changes>, OutOfMemory> {
         let mut effort = Effort::of(STEPS);
         let mut best = None;
-        'begins: for ranked in &self.ranked()? {
-            self.search_from(ranked.begin, &mut best, &mut effort)?;
+        'starts: for start in &self.starts()? {
+            self.search_from(start, &mut best, &mut effort)?;
         }
         Ok(best)
     }

@@ -6,7 +6,6 @@ use ib_channels::channels::{Channel, Channels};
 use ib_channels::order::Order;
 use ib_channels::table::Table;
 use ib_channels::ways::{Rule, Ways};
-use ib_orders::levels::{by_height, distances, up_down};
 use ib_orders::spanning::Tree;
 use std::alloc::Global;
 
@@ -131,32 +130,6 @@ pub fn find_root(alloc: Global, task: Task<'_>, weights: &Table<u32>) -> Result<
     let loads = Table::empty(alloc, 0u64);
     let mut levels = Ways::new(alloc, task.channels.switches())?;
     least_broken(task, weights, &switches, &loads, &mut levels)
-}
-
-/// By what switches have levels.
-#[derive(Clone, Copy)]
-pub enum Shape {
-    /// How far each is from the root.
-    Levels,
-    /// How high it stands over those with hosts.
-    Heights,
-}
-
-/// An order by levels from a root, or by heights, if not all switches are as high.
-pub fn order_by(
-    alloc: Global,
-    task: Task<'_>,
-    shape: Shape,
-    root: u32,
-) -> Result<Option<Order>, OutOfMemory> {
-    let levels = match shape {
-        Shape::Levels => Some(distances(alloc, task.channels, &[root])?),
-        Shape::Heights => by_height(alloc, task.channels, task.demand)?,
-    };
-    match levels {
-        Some(levels) => Ok(Some(up_down(alloc, task.channels, &levels)?)),
-        None => Ok(None),
-    }
 }
 
 /// Which channels are of a spanning tree, in breadth, from a root.
