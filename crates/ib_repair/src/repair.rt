@@ -311,8 +311,8 @@ impl Search<'_> {
         Ok(())
     }
 
-    // Where searches begin, those first in whose orders the given routes fall least: for the root that is broken least, for
-    // a switch with the most channels, by height, and for the root with a tree.
+    // Where searches begin: from the root in whose order the given routes fall least, from a switch with the most channels,
+    // by height, and from that root with a tree. Those come first in whose orders the routes fall least.
     fn starts(self) -> Result<Vec<Start>, OutOfMemory> {
         let root = find_root(self.alloc, self.task, self.weights)?;
         let widest = self.task.channels.widest();

@@ -2,10 +2,10 @@
 
 use crate::task::Task;
 use an_base::memory::OutOfMemory;
-use ib_channels::channels::{Channel, Channels};
+use ib_channels::channels::Channel;
 use ib_channels::order::Order;
 use ib_channels::table::Table;
-use ib_channels::ways::{Rule, Ways};
+use ib_orders::levels::order_from_root;
 use ib_orders::spanning::Tree;
 use std::alloc::Global;
 
@@ -32,37 +32,6 @@ fn turns_from(task: Task<'_>, weights: &Table<u32>, channel: Channel) -> u64 {
     'exits: for number in task.channels.exits(task.channels.to(channel)) {
         let turn = task.channels.turn(channel, Channel(number));
         weight = weight.wrapping_add(u64::from(weights.get(turn)));
-    }
-    weight
-}
-
-// Whether a channel leads up, to a lesser level; among equal levels to a lesser switch.
-fn leads_up(channels: &Channels, levels: &Ways, channel: Channel) -> bool {
-    let (from, to) = (channels.from(channel), channels.to(channel));
-    (levels.depth(to), to) < (levels.depth(from), from)
-}
-
-// What the turns weigh that lead up after a channel that leads down.
-fn broken_after(task: Task<'_>, weights: &Table<u32>, levels: &Ways, channel: Channel) -> u64 {
-    if leads_up(task.channels, levels, channel) {
-        return 0;
-    }
-    let mut weight = 0u64;
-    'exits: for number in task.channels.exits(task.channels.to(channel)) {
-        let next = Channel(number);
-        if leads_up(task.channels, levels, next) {
-            let turn = task.channels.turn(channel, next);
-            weight = weight.wrapping_add(u64::from(weights.get(turn)));
-        }
-    }
-    weight
-}
-
-// What all these weigh.
-fn broken(task: Task<'_>, weights: &Table<u32>, levels: &Ways) -> u64 {
-    let mut weight = 0u64;
-    'channels: for number in 0..task.channels.count() {
-        weight = weight.wrapping_add(broken_after(task, weights, levels, Channel(number)));
     }
     weight
 }
@@ -100,21 +69,20 @@ fn busiest(alloc: Global, task: Task<'_>, weights: &Table<u32>) -> Result<Vec<u3
     Ok(switches)
 }
 
-// Of the first of some switches one from which levels are broken least.
-fn least_broken(
+// Of the first of some switches one in whose order the given routes fall least.
+fn least_falling(
+    alloc: Global,
     task: Task<'_>,
     weights: &Table<u32>,
     switches: &[u32],
-    loads: &Table<u64>,
-    levels: &mut Ways,
 ) -> Result<u32, OutOfMemory> {
     let tried = LOOKED_AT / task.channels.turns().max(1);
     let tried = tried.clamp(LEAST_TRIED, MOST_TRIED);
     let mut root = 0;
     let mut least = u64::MAX;
     'switches: for switch in switches.iter().take(tried as usize) {
-        levels.grow(task.channels, Rule::Any, loads, *switch)?;
-        let weight = broken(task, weights, levels);
+        let order = order_from_root(alloc, task.channels, *switch)?;
+        let weight = falling(task, weights, &order);
         if weight < least {
             root = *switch;
             least = weight;
@@ -123,13 +91,10 @@ fn least_broken(
     Ok(root)
 }
 
-/// Of the switches that routes pass most, one from which levels are broken least: by turns that lead up after they led
-/// down.
+/// Of the switches that routes pass most, one in whose order, up to it and then down, the given routes fall least.
 pub fn find_root(alloc: Global, task: Task<'_>, weights: &Table<u32>) -> Result<u32, OutOfMemory> {
     let switches = busiest(alloc, task, weights)?;
-    let loads = Table::empty(alloc, 0u64);
-    let mut levels = Ways::new(alloc, task.channels.switches())?;
-    least_broken(task, weights, &switches, &loads, &mut levels)
+    least_falling(alloc, task, weights, &switches)
 }
 
 /// Which channels are of a spanning tree, in breadth, from a root.

@@ -127,9 +127,6 @@ impl Fans {
         let fan = self.fans.get(switch);
         let first = fan.first as usize;
         let end = first.saturating_add(fan.count as usize);
-        match self.steps.get(first..end) {
-            Some(steps) => steps,
-            None => &[],
-        }
+        self.steps.get(first..end).unwrap_or(&[])
     }
 }
