@@ -49,6 +49,7 @@ const NO_DETAIL: Detail = Detail {
     turns: u32::MAX,
 };
 
+// The channel that there is not.
 const NO_CHANNEL: Channel = Channel(u32::MAX);
 
 /// The channels of a fabric, switch by switch, and those of a switch by rising port. A link of a switch to itself is

@@ -34,6 +34,7 @@ struct Group {
     count: u32,
 }
 
+// No targets.
 const NO_GROUP: Group = Group { first: 0, count: 0 };
 
 /// The end ports at each switch, and the targets, switch by switch. An end port that is not cabled is none.

@@ -21,14 +21,16 @@ use std::alloc::Global;
 // How many rounds the best orders get.
 const ROUNDS: u32 = 3;
 
-// Up to how many steps of a round all orders are tried, up to how many most of them, up to how many some, and up to how
-// many more than one.
+// Up to how many steps of a round all orders are tried.
 const FEWEST: u64 = 1 << 20;
 
+// Up to how many most of them are tried.
 const FEW: u64 = 1 << 24;
 
+// Up to how many some are tried.
 const SOME: u64 = 1 << 28;
 
+// Up to how many more than one is tried.
 const MANY: u64 = 1 << 31;
 
 // What is added to the score of routes that are too long.

@@ -37,8 +37,8 @@ fn log2(number: u64) -> u64 {
 }
 
 impl Measures {
-    // Of no routes.
-    pub(crate) const NONE: Measures = Measures {
+    /// Of no routes.
+    pub const NONE: Measures = Measures {
         lost: 0,
         routes: 0,
         hops: 0,
@@ -56,7 +56,7 @@ impl Measures {
         self.hops.saturating_mul(1 << 16) / self.routes.max(1)
     }
 
-    /// The less, the better: a hundredth more hops counts as much as six more load on the channel with most.
+    /// The less, the better: a hundredth more hops counts as much as six hundredths more load on the channel with most.
     pub fn score(self) -> u64 {
         log2(self.hops)
             .wrapping_mul(6)

@@ -89,13 +89,7 @@ pub fn measure(
     changes: Option<&Changes>,
 ) -> Result<Measures, OutOfMemory> {
     let mut measuring = Measuring {
-        measures: Measures {
-            lost: 0,
-            routes: 0,
-            hops: 0,
-            longest: 0,
-            greatest: 0,
-        },
+        measures: Measures::NONE,
         loads: Table::filled(alloc, task.channels.count(), 0u64)?,
         routes: Routes::new(alloc, task.channels.switches())?,
     };

@@ -1,7 +1,7 @@
 //! The rows that are to be set for one target, so that its routes rise in an order.
 
 use crate::changes::{Changes, Row};
-use crate::routes::{FAR, Routes};
+use crate::routes::{NO_ROUTE, Routes};
 use crate::task::Task;
 use an_base::memory::OutOfMemory;
 use ib_channels::channels::Channel;
@@ -37,8 +37,8 @@ impl Mending {
             given: Routes::new(alloc, switches)?,
             made: Routes::new(alloc, switches)?,
             paid: Table::filled(alloc, switches, None)?,
-            costs: Table::filled(alloc, task.channels.count(), FAR)?,
-            leasts: Table::filled(alloc, switches, FAR)?,
+            costs: Table::filled(alloc, task.channels.count(), NO_ROUTE)?,
+            leasts: Table::filled(alloc, switches, NO_ROUTE)?,
             rows: Vec::new(alloc),
             last: Vec::new(alloc),
         })
@@ -60,7 +60,7 @@ impl Mending {
         'channels: for channel in order.sequence().iter().rev() {
             let from = task.channels.from(*channel);
             let onward = self.leasts.get(task.channels.to(*channel));
-            if from == target || onward == FAR {
+            if from == target || onward == NO_ROUTE {
                 continue;
             }
             let price = self.price(from, *channel);
@@ -74,12 +74,12 @@ impl Mending {
     // The exit of a switch, not before a place of the order, with which the cheapest route begins; of several the last.
     fn choose(&self, task: Task<'_>, order: &Order, switch: u32, first: u32) -> Option<Channel> {
         let mut best = None;
-        let mut least = (FAR, 0);
+        let mut least = (NO_ROUTE, 0);
         'exits: for number in task.channels.exits(switch) {
             let channel = Channel(number);
             let place = order.place(channel);
             let key = (self.costs.get(channel), u32::MAX - place);
-            if place >= first && key.0 < FAR && (best.is_none() || key < least) {
+            if place >= first && key.0 < NO_ROUTE && (best.is_none() || key < least) {
                 best = Some(channel);
                 least = key;
             }

@@ -26,9 +26,10 @@ use ib_sorting::effort::Effort;
 use ib_sorting::sorting::{Sorting, Wanted, heaviest};
 use std::alloc::Global;
 
-// How often an order is made better, and how often that may bring nothing.
+// How often an order is made better at most.
 const ROUNDS: u32 = 10;
 
+// How often that may bring nothing.
 const IDLE: u32 = 3;
 
 // Of so many cells one row may be set at most for it to be made better.

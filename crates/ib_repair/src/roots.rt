@@ -9,11 +9,13 @@ use ib_orders::levels::order_from_root;
 use ib_orders::spanning::Tree;
 use std::alloc::Global;
 
-// How many switches are tried as the root: at least, at most, and how many turns are looked at for them.
+// How many switches are tried as the root at least.
 const LEAST_TRIED: u32 = 16;
 
+// How many are tried at most.
 const MOST_TRIED: u32 = 256;
 
+// Between these, how many turns are looked at for them.
 const LOOKED_AT: u32 = 1 << 26;
 
 // Over how many turns routes pass each switch.

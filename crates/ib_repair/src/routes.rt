@@ -9,7 +9,7 @@ use ib_channels::table::Table;
 use std::alloc::Global;
 
 /// What a route costs that there is not.
-pub const FAR: u64 = u64::MAX;
+pub const NO_ROUTE: u64 = u64::MAX;
 
 // What it costs to set a row that serves one switch of sources alone: more than all channels of a route.
 const ROW: u64 = 1 << 32;

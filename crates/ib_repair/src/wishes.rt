@@ -1,7 +1,7 @@
 //! Turns that do not rise in an order and with which fewer rows would have to be set.
 
 use crate::changes::Changes;
-use crate::routes::{FAR, Routes};
+use crate::routes::{NO_ROUTE, Routes};
 use crate::task::Task;
 use an_base::memory::OutOfMemory;
 use ib_channels::channels::Channel;
@@ -21,9 +21,10 @@ struct Onward {
     cost: u64,
 }
 
+// No route goes on.
 const NOWHERE: Onward = Onward {
     next: None,
-    cost: FAR,
+    cost: NO_ROUTE,
 };
 
 // Routes to one target of which few turns fall.
@@ -48,9 +49,9 @@ impl Wishing {
             given: Routes::new(alloc, switches)?,
             onward: Table::filled(alloc, channels, NOWHERE)?,
             starts: Table::filled(alloc, switches, NOWHERE)?,
-            costs_before: Table::filled(alloc, channels, FAR)?,
-            least_before: Table::filled(alloc, switches, FAR)?,
-            costs: Table::filled(alloc, channels, FAR)?,
+            costs_before: Table::filled(alloc, channels, NO_ROUTE)?,
+            least_before: Table::filled(alloc, switches, NO_ROUTE)?,
+            costs: Table::filled(alloc, channels, NO_ROUTE)?,
         })
     }
 
@@ -91,7 +92,7 @@ impl Wishing {
         'channels: for channel in order.sequence().iter().rev() {
             let from = task.channels.from(*channel);
             let onward = self.best_onward(task, refused, *channel);
-            if from == target || onward.cost == FAR {
+            if from == target || onward.cost == NO_ROUTE {
                 continue;
             }
             let price = self.given.price(from, *channel);
@@ -116,7 +117,7 @@ impl Wishing {
     // Whether there is a route from each switch of sources.
     fn reaches_all(&self, task: Task<'_>) -> bool {
         let mut switches = 0..task.channels.switches();
-        switches.all(|switch| !task.sends_from(switch) || self.starts.get(switch).cost < FAR)
+        switches.all(|switch| !task.sends_from(switch) || self.starts.get(switch).cost < NO_ROUTE)
     }
 
     // Finds the cheapest routes with at least one turn that may fall.

@@ -23,6 +23,7 @@ struct Fan {
     count: u32,
 }
 
+// No exits.
 const NO_FAN: Fan = Fan { first: 0, count: 0 };
 
 /// For each switch with a way exits that lead nearer by one, such that all turns rise whichever each switch takes.
