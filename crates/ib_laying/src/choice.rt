@@ -13,7 +13,7 @@ use ib_channels::demand::Demand;
 use ib_channels::order::Order;
 use ib_net::fabric::Fabric;
 use ib_orders::materials::{Materials, Wanted};
-use ib_orders::recipe::{FromTree, Recipe, Shape};
+use ib_orders::recipe::{Recipe, Shape};
 use ib_rising::plan::Plan;
 use ib_routes::traffic::Traffic;
 use std::alloc::Global;
@@ -37,7 +37,23 @@ const MANY: u64 = 1 << 31;
 const TOO_LONG: u64 = 1 << 40;
 
 // How many orders there are to be tried.
-const RECIPES: u32 = 32;
+const RECIPES: usize = 32;
+
+// The first of them.
+const FIRST: [Recipe; 12] = [
+    Recipe::LevelsFromLeaf,
+    Recipe::Heights,
+    Recipe::FirstPorts,
+    Recipe::Tree(Shape::Wide, Wanted::Spread),
+    Recipe::Tree(Shape::Deep(1), Wanted::FirstPorts),
+    Recipe::Tree(Shape::Deep(0), Wanted::Spread),
+    Recipe::BetterHeights,
+    Recipe::Tree(Shape::Deep(1), Wanted::Spread),
+    Recipe::Tree(Shape::Wide, Wanted::FirstPorts),
+    Recipe::FreeTree(Shape::Deep(0)),
+    Recipe::FreeTree(Shape::Deep(1)),
+    Recipe::Levels,
+];
 
 /// Tables that were made, and how good they are.
 #[derive(Drop)]
@@ -48,41 +64,12 @@ pub struct Made {
     pub measures: Measures,
 }
 
-// A spanning tree whose turns are kept.
-fn tree(shape: Shape, wanted: Wanted) -> Recipe {
-    Recipe::Tree(FromTree {
-        shape,
-        wanted,
-        keeps: true,
-    })
-}
-
-// One whose turns are not.
-fn free_tree(shape: Shape) -> Recipe {
-    Recipe::Tree(FromTree {
-        shape,
-        wanted: Wanted::Spread,
-        keeps: false,
-    })
-}
-
-// Which order is tried at a place.
-fn recipe_at(place: u32) -> Recipe {
-    match place {
-        0 => Recipe::LevelsFromLeaf,
-        1 => Recipe::Heights,
-        2 => Recipe::FirstPorts,
-        3 => tree(Shape::Wide, Wanted::Spread),
-        4 => tree(Shape::Deep(1), Wanted::FirstPorts),
-        5 => tree(Shape::Deep(0), Wanted::Spread),
-        6 => Recipe::BetterHeights,
-        7 => tree(Shape::Deep(1), Wanted::Spread),
-        8 => tree(Shape::Wide, Wanted::FirstPorts),
-        9 => free_tree(Shape::Deep(0)),
-        10 => free_tree(Shape::Deep(1)),
-        11 => Recipe::Levels,
-        _ => tree(
-            Shape::Deep(u64::from(place.saturating_sub(10))),
+// Which order is tried at a place: after the first ones those from other trees in depth.
+fn recipe_at(place: usize) -> Recipe {
+    match FIRST.get(place) {
+        Some(recipe) => *recipe,
+        None => Recipe::Tree(
+            Shape::Deep((place as u64).saturating_sub(10)),
             Wanted::Spread,
         ),
     }
@@ -92,7 +79,7 @@ fn recipe_at(place: u32) -> Recipe {
 #[derive(Clone, Copy)]
 struct Effort {
     // How many orders are tried, if one of them has all ways.
-    tried: u32,
+    tried: usize,
     // How many of the best are laid in more rounds.
     finalists: usize,
     // Whether it is enough if no channel has more routes than lead to one LID.

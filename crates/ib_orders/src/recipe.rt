@@ -23,17 +23,6 @@ pub enum Shape {
     Deep(u64),
 }
 
-/// An order from a spanning tree.
-#[derive(Clone, Copy)]
-pub struct FromTree {
-    /// The form of the tree.
-    pub shape: Shape,
-    /// Which routes are to break few turns.
-    pub wanted: Wanted,
-    /// Whether the turns of the tree are kept: then there is a route from each switch to each.
-    pub keeps: bool,
-}
-
 /// How an order is made.
 #[derive(Clone, Copy)]
 pub enum Recipe {
@@ -48,8 +37,11 @@ pub enum Recipe {
     /// Up to a leaf, and then down, if not each switch is a leaf. In a whole fat tree all turns rise that rise by
     /// heights, and there is a route from each switch to each.
     LevelsFromLeaf,
-    /// Up a spanning tree and then down, made better.
-    Tree(FromTree),
+    /// Up a spanning tree and then down, made better so that these routes break few turns. The turns of the tree are kept,
+    /// so there is a route from each switch to each.
+    Tree(Shape, Wanted),
+    /// Up a spanning tree and then down, made better for routes that are spread. The turns of the tree may be broken.
+    FreeTree(Shape),
 }
 
 // What orders are made for.
@@ -115,26 +107,31 @@ impl Making<'_> {
         }
     }
 
-    // From a spanning tree.
-    fn by_tree(self, from: FromTree) -> Result<Order, OutOfMemory> {
-        let tree = self.tree(from.shape)?;
+    // From a spanning tree whose turns are kept.
+    fn by_tree(self, shape: Shape, wanted: Wanted) -> Result<Order, OutOfMemory> {
+        let tree = self.tree(shape)?;
         let mut order = tree.order(self.alloc, self.channels)?;
-        self.improve_from(from, &tree, &mut order)?;
+        self.improve_along(&tree, wanted, &mut order)?;
         Ok(order)
     }
 
-    // Makes the order of a spanning tree better.
-    fn improve_from(
+    // Makes an order better, but for the turns of a spanning tree.
+    fn improve_along(
         self,
-        from: FromTree,
         tree: &Tree,
+        wanted: Wanted,
         order: &mut Order,
     ) -> Result<(), OutOfMemory> {
-        if !from.keeps {
-            return self.improve(from.wanted, None, order);
-        }
         let marks = tree.marks(self.alloc, self.channels)?;
-        self.improve(from.wanted, Some(&marks), order)
+        self.improve(wanted, Some(&marks), order)
+    }
+
+    // From a spanning tree whose turns may be broken.
+    fn by_free_tree(self, shape: Shape) -> Result<Order, OutOfMemory> {
+        let tree = self.tree(shape)?;
+        let mut order = tree.order(self.alloc, self.channels)?;
+        self.improve(Wanted::Spread, None, &mut order)?;
+        Ok(order)
     }
 }
 
@@ -161,7 +158,8 @@ impl Recipe {
             }
             Recipe::Levels => Ok(Some(order_from_root(alloc, channels, materials.root)?)),
             Recipe::LevelsFromLeaf => making.by_levels_from_leaf(),
-            Recipe::Tree(from) => Ok(Some(making.by_tree(from)?)),
+            Recipe::Tree(shape, wanted) => Ok(Some(making.by_tree(shape, wanted)?)),
+            Recipe::FreeTree(shape) => Ok(Some(making.by_free_tree(shape)?)),
         }
     }
 }
