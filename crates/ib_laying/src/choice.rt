@@ -37,7 +37,7 @@ const MANY: u64 = 1 << 31;
 const TOO_LONG: u64 = 1 << 40;
 
 // How many orders there are to be tried.
-const RECIPES: usize = 32;
+const RECIPES: usize = 48;
 
 // The first of them.
 const FIRST: [Recipe; 12] = [
@@ -97,13 +97,13 @@ impl Effort {
         let exits = targets.saturating_mul(u64::from(channels.switches()));
         let steps = looks.saturating_add(exits);
         let (tried, finalists) = if steps <= FEWEST {
-            (RECIPES, 4)
+            (RECIPES, 8)
         } else if steps <= FEW {
             (16, 4)
         } else if steps <= SOME {
-            (5, 1)
+            (6, 1)
         } else if steps <= MANY {
-            (4, 1)
+            (5, 1)
         } else {
             (1, 1)
         };
