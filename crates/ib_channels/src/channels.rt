@@ -15,6 +15,7 @@ use std::ops::Range;
 pub struct Channel(pub u32);
 
 impl Numbered for Channel {
+    #[inline]
     fn number(self) -> u32 {
         self.0
     }
@@ -25,44 +26,42 @@ impl Numbered for Channel {
 pub struct Turn(pub u32);
 
 impl Numbered for Turn {
+    #[inline]
     fn number(self) -> u32 {
         self.0
     }
 }
 
-/// Where a channel leads.
+// The ports of a channel, and its turns.
 #[derive(Clone, Copy)]
-pub struct Ends {
-    /// The switch that sends.
-    pub from: u32,
-    /// The port by which it sends.
-    pub port: u8,
-    /// The switch that receives.
-    pub to: u32,
-    /// The port by which it receives.
-    pub entry: u8,
-    /// The channel of the same link in the other direction.
-    pub back: Channel,
+struct Detail {
+    // The port by which its switch sends, and the one by which the other receives.
+    port: u8,
+    entry: u8,
     // The number of the first of its turns.
     turns: u32,
 }
 
 // What is said of a channel that there is not.
-const NOWHERE: Ends = Ends {
-    from: u32::MAX,
+const NO_DETAIL: Detail = Detail {
     port: 0,
-    to: u32::MAX,
     entry: 0,
-    back: Channel(u32::MAX),
     turns: u32::MAX,
 };
+
+// The channel that there is not.
+const NO_CHANNEL: Channel = Channel(u32::MAX);
 
 /// The channels of a fabric, switch by switch, and those of a switch by rising port. A link of a switch to itself is
 /// none: no route needs it.
 #[derive(Drop)]
 pub struct Channels {
     switches: u32,
-    ends: Table<Ends>,
+    details: Table<Detail>,
+    // The switch to which each channel leads, and the channel of the same link in the other direction: these are what
+    // is looked up most, so they stand close together.
+    heads: Table<u32>,
+    backs: Table<Channel>,
     // The first channel of each switch, and how many channels there are after these.
     firsts: Table<u32>,
     turns: u32,
@@ -73,7 +72,9 @@ impl Channels {
     pub fn of(alloc: Global, fabric: &Fabric) -> Result<Channels, OutOfMemory> {
         let mut channels = Channels {
             switches: fabric.switches() as u32,
-            ends: Table::empty(alloc, NOWHERE),
+            details: Table::empty(alloc, NO_DETAIL),
+            heads: Table::empty(alloc, u32::MAX),
+            backs: Table::empty(alloc, NO_CHANNEL),
             firsts: Table::empty(alloc, 0),
             turns: 0,
         };
@@ -108,34 +109,36 @@ impl Channels {
         if to as usize == switch {
             return Ok(());
         }
-        self.ends.push(Ends {
-            from: crate::table::narrow(switch),
+        self.heads.push(to)?;
+        self.backs.push(NO_CHANNEL)?;
+        self.details.push(Detail {
             port,
-            to,
             entry,
-            ..NOWHERE
+            turns: 0,
         })
     }
 
     // Finds for each channel the one of the same link in the other direction, and numbers the turns.
     fn pair(&mut self) {
         'channels: for number in 0..self.count() {
-            let mut ends = self.ends.get(number);
-            ends.back = self.back_of(ends);
-            ends.turns = self.turns;
-            self.ends.put(number, ends);
-            self.turns = self.turns.wrapping_add(self.degree(ends.to));
+            let to = self.heads.get(number);
+            let mut detail = self.details.get(number);
+            detail.turns = self.turns;
+            self.details.put(number, detail);
+            let back = self.exit_by(to, detail.entry);
+            self.backs.put(number, back);
+            self.turns = self.turns.wrapping_add(self.degree(to));
         }
     }
 
-    // The channel in the other direction.
-    fn back_of(&self, ends: Ends) -> Channel {
-        'exits: for number in self.exits(ends.to) {
-            if self.ends.get(number).port == ends.entry {
+    // The channel of a switch by a port.
+    fn exit_by(&self, switch: u32, port: u8) -> Channel {
+        'exits: for number in self.exits(switch) {
+            if self.details.get(number).port == port {
                 return Channel(number);
             }
         }
-        NOWHERE.back
+        NO_CHANNEL
     }
 
     /// How many switches there are.
@@ -145,7 +148,7 @@ impl Channels {
 
     /// How many channels there are.
     pub fn count(&self) -> u32 {
-        self.ends.count()
+        self.heads.count()
     }
 
     /// How many turns there are.
@@ -153,40 +156,74 @@ impl Channels {
         self.turns
     }
 
-    /// Where a channel leads.
-    pub fn ends(&self, channel: Channel) -> Ends {
-        self.ends.get(channel)
+    /// The port by which its switch sends.
+    pub fn port(&self, channel: Channel) -> u8 {
+        self.details.get(channel).port
+    }
+
+    /// The switch to which a channel leads.
+    #[inline]
+    pub fn to(&self, channel: Channel) -> u32 {
+        self.heads.get(channel)
+    }
+
+    /// The switch from which it leads.
+    #[inline]
+    pub fn from(&self, channel: Channel) -> u32 {
+        self.to(self.back(channel))
+    }
+
+    /// The channel of the same link in the other direction.
+    #[inline]
+    pub fn back(&self, channel: Channel) -> Channel {
+        self.backs.get(channel)
     }
 
     /// The numbers of the channels of a switch.
+    #[inline]
     pub fn exits(&self, switch: u32) -> Range<u32> {
         self.firsts.get(switch)..self.firsts.get(switch.wrapping_add(1))
     }
 
     /// How many channels a switch has.
+    #[inline]
     pub fn degree(&self, switch: u32) -> u32 {
         let exits = self.exits(switch);
         exits.end.saturating_sub(exits.start)
     }
 
+    /// The first switch with the most channels.
+    pub fn widest(&self) -> u32 {
+        let mut widest = 0;
+        'switches: for switch in 0..self.switches {
+            if self.degree(switch) > self.degree(widest) {
+                widest = switch;
+            }
+        }
+        widest
+    }
+
     /// The turn from a channel to one of the switch to which it leads.
+    #[inline]
     pub fn turn(&self, channel: Channel, next: Channel) -> Turn {
-        let ends = self.ends.get(channel);
-        let place = next.0.wrapping_sub(self.firsts.get(ends.to));
-        Turn(ends.turns.wrapping_add(place))
+        let place = self.place(self.to(channel), next);
+        Turn(self.details.get(channel).turns.wrapping_add(place))
     }
 
     /// The place of a channel among those of its switch.
-    pub fn place(&self, channel: Channel) -> u32 {
-        let ends = self.ends.get(channel);
-        channel.0.wrapping_sub(self.firsts.get(ends.from))
+    #[inline]
+    pub fn place(&self, switch: u32, channel: Channel) -> u32 {
+        channel.0.wrapping_sub(self.firsts.get(switch))
     }
 
     /// The channel at a place among those of a switch, if there is one.
+    #[inline]
     pub fn exit_at(&self, switch: u32, place: u32) -> Option<Channel> {
-        if place >= self.degree(switch) {
-            return None;
+        let exits = self.exits(switch);
+        let number = exits.start.wrapping_add(place);
+        if number < exits.end {
+            return Some(Channel(number));
         }
-        Some(Channel(self.firsts.get(switch).wrapping_add(place)))
+        None
     }
 }

@@ -21,6 +21,7 @@ pub struct Target {
 
 impl Target {
     /// Whether the owner is an adapter or router.
+    #[inline]
     pub fn is_host(self) -> bool {
         self.port != 0
     }
@@ -33,12 +34,15 @@ struct Group {
     count: u32,
 }
 
+// No targets.
 const NO_GROUP: Group = Group { first: 0, count: 0 };
 
 /// The end ports at each switch, and the targets, switch by switch. An end port that is not cabled is none.
 #[derive(Drop)]
 pub struct Demand {
     hosts: Table<u32>,
+    count: u32,
+    leaves: Vec<u32>,
     targets: Vec<Target>,
     groups: Table<Group>,
 }
@@ -48,10 +52,30 @@ fn count_hosts(alloc: Global, fabric: &Fabric, switches: u32) -> Result<Table<u3
     let mut hosts = Table::filled(alloc, switches, 0u32)?;
     'ends: for end in 0..fabric.ends() {
         if let Some(spot) = fabric.cable_of(end) {
-            hosts.put(spot.switch, hosts.get(spot.switch).wrapping_add(1));
+            hosts.add(spot.switch, 1);
         }
     }
     Ok(hosts)
+}
+
+// How many there are together.
+fn sum(hosts: &Table<u32>) -> u32 {
+    let mut sum = 0u32;
+    'switches: for switch in 0..hosts.count() {
+        sum = sum.wrapping_add(hosts.get(switch));
+    }
+    sum
+}
+
+// The switches that have some.
+fn find_leaves(alloc: Global, hosts: &Table<u32>) -> Result<Vec<u32>, OutOfMemory> {
+    let mut leaves = Vec::new(alloc);
+    'switches: for switch in 0..hosts.count() {
+        if hosts.get(switch) > 0 {
+            leaves.push(switch)?;
+        }
+    }
+    Ok(leaves)
 }
 
 // The target that a LID is, if it is one.
@@ -110,18 +134,32 @@ impl Demand {
     pub fn of(alloc: Global, fabric: &Fabric) -> Result<Demand, OutOfMemory> {
         let switches = narrow(fabric.switches());
         let hosts = count_hosts(alloc, fabric, switches)?;
+        let leaves = find_leaves(alloc, &hosts)?;
         let targets = find_targets(alloc, fabric)?;
         let groups = find_groups(alloc, &targets, switches)?;
         Ok(Demand {
+            count: sum(&hosts),
             hosts,
+            leaves,
             targets,
             groups,
         })
     }
 
     /// How many end ports of adapters and routers are cabled to a switch.
+    #[inline]
     pub fn hosts(&self, switch: u32) -> u32 {
         self.hosts.get(switch)
+    }
+
+    /// How many end ports of adapters and routers are cabled.
+    pub fn host_count(&self) -> u32 {
+        self.count
+    }
+
+    /// The switches to which end ports of adapters and routers are cabled.
+    pub fn leaves(&self) -> &[u32] {
+        &self.leaves
     }
 
     /// All targets.
@@ -139,10 +177,7 @@ impl Demand {
         let group = self.groups.get(switch);
         let first = group.first as usize;
         let end = first.saturating_add(group.count as usize);
-        match self.targets.get(first..end) {
-            Some(targets) => targets,
-            None => &[],
-        }
+        self.targets.get(first..end).unwrap_or(&[])
     }
 
     /// How many LIDs the adapters and routers at a switch own.

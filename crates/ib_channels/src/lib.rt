@@ -5,6 +5,7 @@
 //! are read. Only that each call returns, and that no number runs over and no index is out of range, is proved.
 #![tactic(auto)]
 
+pub mod amount;
 pub mod channels;
 pub mod demand;
 pub mod order;

@@ -25,11 +25,13 @@ impl Order {
     }
 
     /// The place of a channel.
+    #[inline]
     pub fn place(&self, channel: Channel) -> u32 {
         self.places.get(channel)
     }
 
     /// Whether a turn rises.
+    #[inline]
     pub fn rises(&self, channel: Channel, next: Channel) -> bool {
         self.place(channel) < self.place(next)
     }

@@ -1,15 +1,18 @@
 //! Tables of values for what has numbers.
 
+use crate::amount::{Amount, Change};
 use an_base::memory::OutOfMemory;
 use std::alloc::Global;
 
 /// What has a number, by which it is found in a table.
-pub trait Numbered {
+pub trait Numbered: Copy {
     /// Its number.
+    #[inline]
     fn number(self) -> u32;
 }
 
 impl Numbered for u32 {
+    #[inline]
     fn number(self) -> u32 {
         self
     }
@@ -34,10 +37,7 @@ impl<T: Copy> Table<T> {
 
     /// A table for the numbers below a count, which all have one value.
     pub fn filled(alloc: Global, count: u32, first: T) -> Result<Table<T>, OutOfMemory> {
-        let mut items = Vec::with_capacity(alloc, count as usize)?;
-        'items: for _ in 0..count {
-            items.push(first)?;
-        }
+        let items = vec![in alloc; first; count as usize]?;
         Ok(Table { items, first })
     }
 
@@ -47,12 +47,14 @@ impl<T: Copy> Table<T> {
     }
 
     /// The value for a number.
+    #[inline]
     pub fn get<K: Numbered>(&self, key: K) -> T {
         let place = key.number() as usize;
         self.items.get(place).copied().unwrap_or(self.first)
     }
 
     /// Puts the value for a number.
+    #[inline]
     pub fn put<K: Numbered>(&mut self, key: K, value: T) {
         let place = key.number() as usize;
         if let Some(item) = self.items.get_mut(place) {
@@ -75,8 +77,25 @@ impl<T: Copy> Table<T> {
     }
 }
 
+impl<T: Copy + Amount> Table<T> {
+    /// Lets so many come to the value for a number or go from it.
+    #[inline]
+    pub fn change<K: Numbered>(&mut self, key: K, by: T, change: Change) {
+        let place = key.number() as usize;
+        if let Some(item) = self.items.get_mut(place) {
+            *item = change.of(*item, by);
+        }
+    }
+
+    /// Adds so many to the value for a number.
+    #[inline]
+    pub fn add<K: Numbered>(&mut self, key: K, more: T) {
+        self.change(key, more, Change::Come);
+    }
+}
+
 /// The place of each in a list of all.
-pub fn places<K: Numbered + Copy>(alloc: Global, list: &[K]) -> Result<Table<u32>, OutOfMemory> {
+pub fn places<K: Numbered>(alloc: Global, list: &[K]) -> Result<Table<u32>, OutOfMemory> {
     let mut places = Table::filled(alloc, narrow(list.len()), 0u32)?;
     'list: for (place, key) in list.iter().enumerate() {
         places.put(*key, narrow(place));
@@ -85,6 +104,7 @@ pub fn places<K: Numbered + Copy>(alloc: Global, list: &[K]) -> Result<Table<u32
 }
 
 /// A count in four bytes, `u32::MAX` if it is greater.
+#[inline]
 pub fn narrow(count: usize) -> u32 {
     u32::try_from(count).unwrap_or(u32::MAX)
 }

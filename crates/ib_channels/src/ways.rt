@@ -26,6 +26,7 @@ pub enum Rule<'a> {
 
 impl Rule<'_> {
     /// What the turn from a channel to the exit of the switch to which it leads costs; none where it may not be made.
+    #[inline]
     pub fn toll(self, channel: Channel, exit: Option<Channel>) -> Option<u64> {
         let Some(next) = exit else {
             return Some(0);
@@ -48,24 +49,13 @@ impl Rule<'_> {
     }
 }
 
-// The way of a switch: the channel by which it sends, how many channels it has, and what these cost.
-#[derive(Clone, Copy)]
-struct Way {
-    exit: Option<Channel>,
-    depth: u32,
-    cost: u64,
-}
-
-const NO_WAY: Way = Way {
-    exit: None,
-    depth: FAR,
-    cost: 0,
-};
-
 /// The ways of all switches to one, the target: each sends by one channel, its exit, if it has a way.
 #[derive(Drop)]
 pub struct Ways {
-    ways: Table<Way>,
+    exits: Table<Option<Channel>>,
+    depths: Table<u32>,
+    // What the channels of the ways cost together, where they were grown.
+    costs: Table<u64>,
     // The switches with a way, the target first, none before one that is nearer.
     nearest: Vec<u32>,
     // For each switch one that sends to it, and for each switch another that sends to the same.
@@ -77,7 +67,9 @@ impl Ways {
     /// Room for the ways of so many switches.
     pub fn new(alloc: Global, switches: u32) -> Result<Ways, OutOfMemory> {
         Ok(Ways {
-            ways: Table::filled(alloc, switches, NO_WAY)?,
+            exits: Table::filled(alloc, switches, None)?,
+            depths: Table::filled(alloc, switches, FAR)?,
+            costs: Table::filled(alloc, switches, 0u64)?,
             nearest: Vec::with_capacity(alloc, switches as usize)?,
             senders: Table::filled(alloc, switches, None)?,
             others: Table::filled(alloc, switches, None)?,
@@ -85,13 +77,20 @@ impl Ways {
     }
 
     /// The exit of a switch; the target has none.
+    #[inline]
     pub fn exit(&self, switch: u32) -> Option<Channel> {
-        self.ways.get(switch).exit
+        self.exits.get(switch)
     }
 
     /// How many channels the way of a switch has, `FAR` if it has none.
+    #[inline]
     pub fn depth(&self, switch: u32) -> u32 {
-        self.ways.get(switch).depth
+        self.depths.get(switch)
+    }
+
+    /// How many channels the way of each switch has.
+    pub fn depths(&self) -> &Table<u32> {
+        &self.depths
     }
 
     /// The switches with a way, the target first, none before one that is nearer.
@@ -100,26 +99,28 @@ impl Ways {
     }
 
     /// Gives an exit to a switch. Depths are not found anew.
+    #[inline]
     pub fn put_exit(&mut self, switch: u32, exit: Option<Channel>) {
-        let mut way = self.ways.get(switch);
-        way.exit = exit;
-        self.ways.put(switch, way);
+        self.exits.put(switch, exit);
     }
 
     /// Takes all ways away.
     pub fn clear(&mut self) {
-        self.ways.reset();
+        self.exits.reset();
+        self.depths.reset();
         self.nearest.clear();
     }
 
     // Adds a switch that had no way.
-    fn reach(&mut self, switch: u32, way: Way) -> Result<(), OutOfMemory> {
-        self.ways.put(switch, way);
+    #[inline]
+    fn reach(&mut self, switch: u32, depth: u32) -> Result<(), OutOfMemory> {
+        self.depths.put(switch, depth);
         self.nearest.push(switch)?;
         Ok(())
     }
 
     /// Adds a switch that had no way, by an exit to one that has one, or as the target.
+    #[inline]
     pub fn add(
         &mut self,
         channels: &Channels,
@@ -127,28 +128,29 @@ impl Ways {
         exit: Option<Channel>,
     ) -> Result<(), OutOfMemory> {
         let depth = match exit {
-            Some(exit) => self.depth(channels.ends(exit).to).wrapping_add(1),
+            Some(exit) => self.depth(channels.to(exit)).wrapping_add(1),
             None => 0,
         };
-        self.reach(
-            switch,
-            Way {
-                exit,
-                depth,
-                cost: 0,
-            },
-        )
+        self.exits.put(switch, exit);
+        self.reach(switch, depth)
     }
 
-    // Takes a way for a switch if it had none, or one as long that costs more.
-    fn offer(&mut self, switch: u32, way: Way) -> Result<(), OutOfMemory> {
-        let had = self.ways.get(switch);
-        if had.depth == FAR {
-            return self.reach(switch, way);
+    // Takes an exit for a switch that has no way, or one as long that costs more.
+    #[inline]
+    fn offer(
+        &mut self,
+        switch: u32,
+        exit: Channel,
+        depth: u32,
+        cost: u64,
+    ) -> Result<(), OutOfMemory> {
+        if self.depths.get(switch) == FAR {
+            self.reach(switch, depth)?;
+        } else if cost >= self.costs.get(switch) {
+            return Ok(());
         }
-        if had.depth == way.depth && way.cost < had.cost {
-            self.ways.put(switch, way);
-        }
+        self.exits.put(switch, Some(exit));
+        self.costs.put(switch, cost);
         Ok(())
     }
 
@@ -160,22 +162,32 @@ impl Ways {
         loads: &Table<u64>,
         switch: u32,
     ) -> Result<(), OutOfMemory> {
-        let over = self.ways.get(switch);
+        let exit = self.exits.get(switch);
+        let cost = self.costs.get(switch);
+        let depth = self.depths.get(switch).wrapping_add(1);
         'exits: for number in channels.exits(switch) {
-            let ends = channels.ends(Channel(number));
-            if let Some(toll) = rule.toll(ends.back, over.exit) {
-                let load = loads.get(ends.back).wrapping_add(toll).wrapping_add(1);
-                self.offer(
-                    ends.to,
-                    Way {
-                        exit: Some(ends.back),
-                        depth: over.depth.wrapping_add(1),
-                        cost: over.cost.wrapping_add(load),
-                    },
-                )?;
+            let neighbour = channels.to(Channel(number));
+            if self.depths.get(neighbour) < depth {
+                continue;
+            }
+            let back = channels.back(Channel(number));
+            if let Some(toll) = rule.toll(back, exit) {
+                let load = loads.get(back).wrapping_add(toll).wrapping_add(1);
+                self.offer(neighbour, back, depth, cost.wrapping_add(load))?;
             }
         }
         Ok(())
+    }
+
+    // Whether all switches have ways, and none has a longer one than this switch.
+    fn is_done(&self, channels: &Channels, switch: u32) -> bool {
+        match self.nearest.last() {
+            Some(last) => {
+                self.nearest.len() == channels.switches() as usize
+                    && self.depth(*last) == self.depth(switch)
+            }
+            None => false,
+        }
     }
 
     /// Makes shortest ways to a target, level by level: of the exits of a switch that the rule allows to be taken to
@@ -188,11 +200,15 @@ impl Ways {
         target: u32,
     ) -> Result<(), OutOfMemory> {
         self.clear();
+        self.costs.put(target, 0);
         self.add(channels, target, None)?;
         'levels: for place in 0..channels.switches() {
             let Some(switch) = self.nearest.get(place as usize).copied() else {
                 break;
             };
+            if self.is_done(channels, switch) {
+                break;
+            }
             self.offer_over(channels, rule, loads, switch)?;
         }
         Ok(())
@@ -201,12 +217,10 @@ impl Ways {
     // Notes for each switch which ones send to it, and forgets the depths.
     fn note_senders(&mut self, channels: &Channels) {
         self.senders.reset();
+        self.depths.reset();
         'switches: for switch in 0..channels.switches() {
-            let mut way = self.ways.get(switch);
-            way.depth = FAR;
-            self.ways.put(switch, way);
-            if let Some(exit) = way.exit {
-                let to = channels.ends(exit).to;
+            if let Some(exit) = self.exits.get(switch) {
+                let to = channels.to(exit);
                 self.others.put(switch, self.senders.get(to));
                 self.senders.put(to, Some(switch));
             }
@@ -242,17 +256,21 @@ impl Ways {
         Ok(())
     }
 
-    /// Finds for each switch with a way how many end ports of adapters and routers send over it to the target, those
-    /// at the switch among them.
-    pub fn gather(&self, channels: &Channels, demand: &Demand, flows: &mut Table<u32>) {
+    /// Finds for each switch with a way how many end ports of adapters and routers there are at it.
+    pub fn begin(&self, demand: &Demand, flows: &mut Table<u32>) {
         'hosts: for switch in &self.nearest {
             flows.put(*switch, demand.hosts(*switch));
         }
+    }
+
+    /// Finds for each switch with a way how many end ports of adapters and routers send over it to the target, those
+    /// at the switch among them.
+    pub fn gather(&self, channels: &Channels, demand: &Demand, flows: &mut Table<u32>) {
+        self.begin(demand, flows);
         'flows: for switch in self.nearest.iter().rev() {
             if let Some(exit) = self.exit(*switch) {
-                let to = channels.ends(exit).to;
-                let flow = flows.get(to).wrapping_add(flows.get(*switch));
-                flows.put(to, flow);
+                let to = channels.to(exit);
+                flows.add(to, flows.get(*switch));
             }
         }
     }

@@ -4,8 +4,7 @@ ghost use Rattle.std.specs.Prelude.{IfOk, IfSome};
 ghost use Rattle.ib_laying.specs.Made.{AreTablesFor};
 
 use crate::laying::Laying;
-use crate::measures::{Measures, measure};
-use crate::plan::Plan;
+use crate::measures::Measures;
 use crate::writing::write_tables;
 use an_base::memory::OutOfMemory;
 use ib_cells::cells::Cells;
@@ -14,25 +13,47 @@ use ib_channels::demand::Demand;
 use ib_channels::order::Order;
 use ib_net::fabric::Fabric;
 use ib_orders::materials::{Materials, Wanted};
-use ib_orders::recipe::{FromTree, Recipe, Shape};
+use ib_orders::recipe::{Recipe, Shape};
+use ib_rising::plan::Plan;
 use ib_routes::traffic::Traffic;
 use std::alloc::Global;
 
-// How many rounds the best orders get, and how many of the best there are.
+// How many rounds the best orders get.
 const ROUNDS: u32 = 3;
 
-const FINALISTS: usize = 4;
+// Up to how many steps of a round all orders are tried.
+const FEWEST: u64 = 1 << 20;
 
-// Up to how many switches all orders are tried, and how many are where there are more.
-const FEW: usize = 1000;
+// Up to how many most of them are tried.
+const FEW: u64 = 1 << 24;
 
-const TRIED: u32 = 5;
+// Up to how many some are tried.
+const SOME: u64 = 1 << 28;
+
+// Up to how many more than one is tried.
+const MANY: u64 = 1 << 31;
 
 // What is added to the score of routes that are too long.
 const TOO_LONG: u64 = 1 << 40;
 
 // How many orders there are to be tried.
-const RECIPES: u32 = 16;
+const RECIPES: usize = 48;
+
+// The first of them.
+const FIRST: [Recipe; 12] = [
+    Recipe::LevelsFromLeaf,
+    Recipe::Heights,
+    Recipe::FirstPorts,
+    Recipe::Tree(Shape::Wide, Wanted::Spread),
+    Recipe::Tree(Shape::Deep(1), Wanted::FirstPorts),
+    Recipe::Tree(Shape::Deep(0), Wanted::Spread),
+    Recipe::BetterHeights,
+    Recipe::Tree(Shape::Deep(1), Wanted::Spread),
+    Recipe::Tree(Shape::Wide, Wanted::FirstPorts),
+    Recipe::FreeTree(Shape::Deep(0)),
+    Recipe::FreeTree(Shape::Deep(1)),
+    Recipe::Levels,
+];
 
 /// Tables that were made, and how good they are.
 #[derive(Drop)]
@@ -43,100 +64,110 @@ pub struct Made {
     pub measures: Measures,
 }
 
-/// How long is looked for tables.
-#[derive(Clone, Copy)]
-pub enum Search {
-    /// Until some have all ways: these are by heights or levels, and loads may be great.
-    First,
-    /// Until all orders are tried that are few enough for the size of the fabric.
-    Best,
+// Which order is tried at a place: after the first ones those from other trees in depth.
+fn recipe_at(place: usize) -> Recipe {
+    match FIRST.get(place) {
+        Some(recipe) => *recipe,
+        None => Recipe::Tree(
+            Shape::Deep((place as u64).saturating_sub(10)),
+            Wanted::Spread,
+        ),
+    }
 }
 
-// An order along which the traffic has all its ways, and how good its routes are after one round.
+// How much is done to find good tables.
+#[derive(Clone, Copy)]
+struct Effort {
+    // How many orders are tried, if one of them has all ways.
+    tried: usize,
+    // How many of the best are laid in more rounds.
+    finalists: usize,
+    // Whether it is enough if no channel has more routes than lead to one LID.
+    is_small: bool,
+    // How many exits there are: one of each switch for each target.
+    exits: u64,
+}
+
+impl Effort {
+    // The less, the more steps a round takes: it looks at each channel for each switch with end ports, and at each
+    // switch for each target.
+    fn of(channels: &Channels, demand: &Demand) -> Effort {
+        let (leaves, targets) = (demand.leaves().len() as u64, demand.targets().len() as u64);
+        let looks = leaves.saturating_mul(u64::from(channels.count()));
+        let exits = targets.saturating_mul(u64::from(channels.switches()));
+        let steps = looks.saturating_add(exits);
+        let (tried, finalists) = if steps <= FEWEST {
+            (RECIPES, 8)
+        } else if steps <= FEW {
+            (16, 4)
+        } else if steps <= SOME {
+            (6, 1)
+        } else if steps <= MANY {
+            (5, 1)
+        } else {
+            (1, 1)
+        };
+        Effort {
+            tried,
+            finalists,
+            is_small: steps > FEW,
+            exits,
+        }
+    }
+}
+
+// Routes along an order that has all ways for the traffic, and how good they are.
 #[derive(Drop)]
 struct Finalist {
     order: Order,
-    measures: Measures,
+    laying: Laying,
     score: u64,
 }
 
-// Routes that are laid, and how good they are.
-#[derive(Drop)]
-struct Laid {
-    laying: Laying,
-    measures: Measures,
+impl Finalist {
+    // Lays the routes in more rounds, and moves single exits, unless they are good.
+    fn lay_well(&mut self, alloc: Global, ground: &Ground) -> Result<(), OutOfMemory> {
+        if ground.is_enough(self.laying.measures()) {
+            return Ok(());
+        }
+        let plan = ground.plan(&self.order);
+        self.laying.lay(alloc, plan, 1..ROUNDS)?;
+        let measures = self.laying.measures();
+        if !ground.is_good(measures) && ground.may_polish(measures) {
+            self.laying.polish(plan)?;
+        }
+        self.score = ground.score(self.laying.measures());
+        Ok(())
+    }
+
+    // Lays those that the traffic leaves out.
+    fn lay_others(&mut self, alloc: Global, ground: &Ground) -> Result<(), OutOfMemory> {
+        self.laying.lay_others(alloc, ground.plan(&self.order))
+    }
 }
 
-// What is chosen from.
+// What tables are made for and of.
 #[derive(Drop)]
-struct Choosing {
+struct Ground {
     channels: Channels,
     demand: Demand,
     traffic: Traffic,
     materials: Materials,
-    finalists: Vec<Finalist>,
+    effort: Effort,
 }
 
-// A spanning tree whose turns are kept.
-fn tree(shape: Shape, wanted: Wanted) -> Recipe {
-    Recipe::Tree(FromTree {
-        shape,
-        wanted,
-        keeps: true,
-    })
-}
-
-// One whose turns are not.
-fn free_tree(shape: Shape) -> Recipe {
-    Recipe::Tree(FromTree {
-        shape,
-        wanted: Wanted::Spread,
-        keeps: false,
-    })
-}
-
-// Which order is tried at a place.
-fn recipe_at(place: u32) -> Recipe {
-    match place {
-        0 => Recipe::Heights,
-        1 => Recipe::LevelsFromLeaf,
-        2 => Recipe::FirstPorts,
-        3 => tree(Shape::Deep(0), Wanted::Spread),
-        4 => tree(Shape::Deep(1), Wanted::FirstPorts),
-        5 => tree(Shape::Deep(1), Wanted::Spread),
-        6 => Recipe::BetterHeights,
-        7 => tree(Shape::Wide, Wanted::Spread),
-        8 => tree(Shape::Wide, Wanted::FirstPorts),
-        9 => free_tree(Shape::Deep(0)),
-        10 => free_tree(Shape::Deep(1)),
-        11 => tree(Shape::Deep(2), Wanted::Spread),
-        12 => tree(Shape::Deep(3), Wanted::Spread),
-        13 => tree(Shape::Deep(4), Wanted::Spread),
-        14 => tree(Shape::Deep(5), Wanted::Spread),
-        _ => Recipe::Levels,
-    }
-}
-
-impl Choosing {
-    // Nothing to choose from yet.
-    fn of(
-        alloc: Global,
-        fabric: &Fabric,
-        traffic: Traffic,
-        search: Search,
-    ) -> Result<Choosing, OutOfMemory> {
+impl Ground {
+    // What tables of a fabric are made for and of.
+    fn of(alloc: Global, fabric: &Fabric, traffic: Traffic) -> Result<Ground, OutOfMemory> {
         let channels = Channels::of(alloc, fabric)?;
         let demand = Demand::of(alloc, fabric)?;
-        let materials = match search {
-            Search::First => Materials::bare(alloc, &channels, &demand),
-            Search::Best => Materials::of(alloc, &channels, &demand)?,
-        };
-        Ok(Choosing {
+        let materials = Materials::of(alloc, &channels, &demand)?;
+        Ok(Ground {
+            effort: Effort::of(&channels, &demand),
             channels,
             demand,
             traffic,
             materials,
-            finalists: Vec::new(alloc),
         })
     }
 
@@ -150,34 +181,6 @@ impl Choosing {
         }
     }
 
-    // Lays routes along an order.
-    fn lay(&self, alloc: Global, order: &Order, rounds: u32) -> Result<Laid, OutOfMemory> {
-        let plan = self.plan(order);
-        let mut laying = Laying::new(alloc, &self.channels, &self.demand)?;
-        laying.lay(alloc, plan, rounds)?;
-        let measures = measure(alloc, plan, laying.rows())?;
-        Ok(Laid { laying, measures })
-    }
-
-    // Lays them as well as can be.
-    fn lay_well(&self, alloc: Global, order: &Order) -> Result<Laid, OutOfMemory> {
-        let plan = self.plan(order);
-        let mut laid = self.lay(alloc, order, ROUNDS)?;
-        laid.laying.polish(alloc, plan)?;
-        laid.measures = measure(alloc, plan, laid.laying.rows())?;
-        Ok(laid)
-    }
-
-    // Lays them once, or as well as can be, and those that the traffic leaves out.
-    fn lay_all(&self, alloc: Global, order: &Order, search: Search) -> Result<Laid, OutOfMemory> {
-        let mut laid = match search {
-            Search::First => self.lay(alloc, order, 1)?,
-            Search::Best => self.lay_well(alloc, order)?,
-        };
-        laid.laying.lay_others(alloc, self.plan(order))?;
-        Ok(laid)
-    }
-
     // The less, the better: routes that have more than twice the channels of the longest shortest one come last.
     fn score(&self, measures: Measures) -> u64 {
         let most = self.materials.least_longest.saturating_mul(2);
@@ -188,30 +191,10 @@ impl Choosing {
         score
     }
 
-    // Tries an order.
-    fn try_order(&mut self, alloc: Global, order: Order) -> Result<(), OutOfMemory> {
-        let laid = self.lay(alloc, &order, 1)?;
-        let measures = laid.measures;
-        if measures.is_complete() {
-            let score = self.score(measures);
-            self.finalists.push(Finalist {
-                order,
-                measures,
-                score,
-            })?;
-            self.finalists.sort_by_key(|finalist| finalist.score)?;
-            self.finalists.truncate(FINALISTS);
-        }
-        Ok(())
-    }
-
-    // Tries the order that a recipe makes, if it makes one.
-    fn try_recipe(&mut self, alloc: Global, recipe: Recipe) -> Result<(), OutOfMemory> {
-        let made = recipe.make(alloc, &self.channels, &self.demand, &self.materials)?;
-        match made {
-            Some(order) => self.try_order(alloc, order),
-            None => Ok(()),
-        }
+    // Whether no routes are shorter.
+    fn is_short(&self, measures: Measures) -> bool {
+        let least = self.materials.least_mean;
+        measures.mean() <= least.saturating_add(least / 1000)
     }
 
     // Whether no routes can be much better: none are shorter, and the greatest load is at most an eighth above the mean.
@@ -219,47 +202,114 @@ impl Choosing {
         let channels = u64::from(self.channels.count());
         let greatest = measures.greatest.saturating_mul(channels);
         let all = measures.hops;
-        all <= self.materials.least_hops && greatest <= all.saturating_add(all / 8)
+        self.is_short(measures) && greatest <= all.saturating_add(all / 8)
     }
 
-    // Whether the search is at its end.
-    fn is_enough(&self, search: Search) -> bool {
-        match self.finalists.first() {
-            None => false,
-            Some(finalist) => match search {
-                Search::First => true,
-                Search::Best => self.is_good(finalist.measures),
-            },
+    // Whether single exits may be moved: all ways of all switches together have not too many channels.
+    fn may_polish(&self, measures: Measures) -> bool {
+        let links = self.effort.exits.saturating_mul(measures.mean() >> 16);
+        links <= MANY
+    }
+
+    // Whether routes are good enough for a small effort: none are shorter, and no channel has many more than lead to one
+    // LID.
+    fn is_enough(&self, measures: Measures) -> bool {
+        let others = u64::from(self.demand.host_count()).saturating_sub(1);
+        let most = others.saturating_add(others / 8);
+        self.effort.is_small && self.is_short(measures) && measures.greatest <= most
+    }
+
+    // Tries an order: its routes in one round, if the traffic has all its ways.
+    fn try_order(&self, alloc: Global, order: Order) -> Result<Option<Finalist>, OutOfMemory> {
+        let mut laying = Laying::new(alloc, &self.channels, &self.demand)?;
+        laying.lay(alloc, self.plan(&order), 0..1)?;
+        let measures = laying.measures();
+        if !measures.is_complete() {
+            return Ok(None);
+        }
+        let score = self.score(measures);
+        Ok(Some(Finalist {
+            order,
+            laying,
+            score,
+        }))
+    }
+
+    // Tries the order that a recipe makes, if it makes one.
+    fn try_recipe(&self, alloc: Global, recipe: Recipe) -> Result<Option<Finalist>, OutOfMemory> {
+        match recipe.make(alloc, &self.channels, &self.demand, &self.materials)? {
+            Some(order) => self.try_order(alloc, order),
+            None => Ok(None),
         }
     }
 
-    // Tries orders.
-    fn try_orders(&mut self, alloc: Global, search: Search) -> Result<(), OutOfMemory> {
+    // Whether the best of those that were tried is good.
+    fn has_good(&self, finalists: &[Finalist]) -> bool {
+        match finalists.first() {
+            Some(best) => {
+                let measures = best.laying.measures();
+                self.is_good(measures) || self.is_enough(measures)
+            }
+            None => false,
+        }
+    }
+
+    // Tries orders, and keeps the best.
+    fn try_orders(&self, alloc: Global, finalists: &mut Vec<Finalist>) -> Result<(), OutOfMemory> {
         'recipes: for place in 0..RECIPES {
-            let is_late = place >= TRIED && self.channels.switches() as usize > FEW;
-            let has_some = !self.finalists.is_empty();
-            if self.is_enough(search) || (is_late && has_some) {
+            let is_late = place >= self.effort.tried && !finalists.is_empty();
+            if is_late || self.has_good(finalists) {
                 break;
             }
-            self.try_recipe(alloc, recipe_at(place))?;
+            if let Some(finalist) = self.try_recipe(alloc, recipe_at(place))? {
+                finalists.push(finalist)?;
+                finalists.sort_by_key(|finalist| finalist.score)?;
+                finalists.truncate(self.effort.finalists);
+            }
         }
         Ok(())
     }
 
-    // The best of the finalists.
-    fn best(&self, alloc: Global, search: Search) -> Result<Option<Laid>, OutOfMemory> {
-        let mut best: Option<Laid> = None;
-        'finalists: for finalist in &self.finalists {
-            let laid = self.lay_all(alloc, &finalist.order, search)?;
-            let is_better = match &best {
-                Some(best) => self.score(laid.measures) < self.score(best.measures),
-                None => true,
-            };
-            if is_better {
-                best = Some(laid);
-            }
+    // Lays the routes of the best well, and puts first the best of these.
+    fn lay_well(&self, alloc: Global, finalists: &mut Vec<Finalist>) -> Result<(), OutOfMemory> {
+        'finalists: for finalist in finalists.iter_mut() {
+            finalist.lay_well(alloc, self)?;
         }
-        Ok(best)
+        finalists.sort_by_key(|finalist| finalist.score)?;
+        Ok(())
+    }
+
+    // Tables of the best routes.
+    fn choose(
+        &self,
+        alloc: Global,
+        fabric: &Fabric,
+        finalists: &mut Vec<Finalist>,
+    ) -> Result<Option<Made>, OutOfMemory>
+        ensures { IfOk result (λ found. IfSome found (λ made. AreTablesFor fabric.now made.cells)) }
+    {
+        self.try_orders(alloc, finalists)?;
+        self.lay_well(alloc, finalists)?;
+        match finalists.first_mut() {
+            Some(best) => self.made_of(alloc, fabric, best),
+            None => Ok(None),
+        }
+    }
+
+    // The tables of routes, and of those that the traffic leaves out.
+    fn made_of(
+        &self,
+        alloc: Global,
+        fabric: &Fabric,
+        best: &mut Finalist,
+    ) -> Result<Option<Made>, OutOfMemory>
+        ensures { IfOk result (λ found. IfSome found (λ made. AreTablesFor fabric.now made.cells)) }
+    {
+        best.lay_others(alloc, self)?;
+        let rows = best.laying.rows();
+        let cells = write_tables(alloc, fabric, &self.channels, &self.demand, rows)?;
+        let measures = best.laying.measures();
+        Ok(Some(Made { cells, measures }))
     }
 }
 
@@ -270,17 +320,11 @@ pub fn lay_tables(
     alloc: Global,
     fabric: &Fabric,
     traffic: Traffic,
-    search: Search,
 ) -> Result<Option<Made>, OutOfMemory>
     ensures { IfOk result (λ found. IfSome found (λ made. AreTablesFor fabric.now made.cells)) }
 {
-    let mut choosing = Choosing::of(alloc, fabric, traffic, search)?;
-    choosing.try_orders(alloc, search)?;
-    let Some(laid) = choosing.best(alloc, search)? else {
-        return Ok(None);
-    };
-    let rows = laid.laying.rows();
-    let cells = write_tables(alloc, fabric, &choosing.channels, &choosing.demand, rows)?;
-    let measures = laid.measures;
-    Ok(Some(Made { cells, measures }))
+    match Ground::of(alloc, fabric, traffic) {
+        Ok(ground) => ground.choose(alloc, fabric, &mut Vec::new(alloc)),
+        Err(error) => Err(error),
+    }
 }

@@ -1,12 +1,8 @@
 //! How good routes are.
 
-use crate::plan::Plan;
-use crate::rows::Rows;
-use an_base::memory::OutOfMemory;
-use ib_channels::demand::Target;
-use ib_channels::table::{Table, narrow};
-use ib_channels::ways::{FAR, Ways};
-use std::alloc::Global;
+use ib_channels::ways::Ways;
+use ib_rising::loads::Loads;
+use ib_rising::plan::Plan;
 
 /// How good routes are: all but the first number are of those between the end ports of adapters and routers.
 #[derive(Clone, Copy)]
@@ -21,17 +17,6 @@ pub struct Measures {
     pub longest: u32,
     /// The most routes that pass one channel.
     pub greatest: u64,
-}
-
-// What is being measured.
-#[derive(Drop)]
-struct Measuring {
-    measures: Measures,
-    // How many end ports of adapters and routers there are.
-    hosts: u64,
-    loads: Table<u64>,
-    ways: Ways,
-    flows: Table<u32>,
 }
 
 // A logarithm to the base 2, in parts of 2^16.
@@ -52,94 +37,47 @@ fn log2(number: u64) -> u64 {
 }
 
 impl Measures {
+    /// Of no routes.
+    pub const NONE: Measures = Measures {
+        lost: 0,
+        routes: 0,
+        hops: 0,
+        longest: 0,
+        greatest: 0,
+    };
+
     /// Whether the traffic has all its ways.
     pub fn is_complete(self) -> bool {
         self.lost == 0
     }
 
-    /// The less, the better: a hundredth more hops counts as much as six more load on the channel with most.
+    /// How many channels a route has in the mean, in parts of 2^16.
+    pub fn mean(self) -> u64 {
+        self.hops.saturating_mul(1 << 16) / self.routes.max(1)
+    }
+
+    /// The less, the better: a hundredth more hops counts as much as six hundredths more load on the channel with most.
     pub fn score(self) -> u64 {
         log2(self.hops)
             .wrapping_mul(6)
             .wrapping_add(log2(self.greatest))
     }
-}
 
-impl Measuring {
-    // Measures the way of a switch to a target.
-    fn add_switch(&mut self, plan: Plan<'_>, target: Target, switch: u32) {
-        let depth = self.ways.depth(switch);
-        if depth == FAR {
-            if plan.sends_from(switch) {
-                self.measures.lost = self.measures.lost.wrapping_add(1);
-            }
-            return;
-        }
-        let Some(exit) = self.ways.exit(switch) else {
-            return;
-        };
-        let flow = u64::from(self.flows.get(switch));
-        if target.is_host() && flow > 0 {
-            self.measures.longest = self.measures.longest.max(depth);
-            self.measures.hops = self.measures.hops.wrapping_add(flow);
-            let load = self.loads.get(exit).wrapping_add(flow);
-            self.loads.put(exit, load);
-            self.measures.greatest = self.measures.greatest.max(load);
+    // Adds the ways to a switch: the routes to the targets there, and those that are lost.
+    pub(crate) fn add_ways(&mut self, plan: Plan<'_>, ways: &Ways, target: u32) {
+        let lids = u64::from(plan.demand.host_lids(target));
+        let others = u64::from(plan.demand.host_count()).saturating_sub(1);
+        self.routes = self.routes.wrapping_add(lids.wrapping_mul(others));
+        let lost = plan.missing(ways).wrapping_mul(plan.sent_to(target));
+        self.lost = self.lost.wrapping_add(lost);
+        if lids > 0 {
+            self.longest = plan.longest(ways).max(self.longest);
         }
     }
 
-    // Measures the ways to a target.
-    fn add_target(
-        &mut self,
-        plan: Plan<'_>,
-        rows: &Rows,
-        row: u32,
-        target: Target,
-    ) -> Result<(), OutOfMemory> {
-        rows.take(plan.channels, row, &mut self.ways);
-        self.ways.arrange(plan.channels, target.switch)?;
-        self.ways
-            .gather(plan.channels, plan.demand, &mut self.flows);
-        if target.is_host() {
-            let routes = self.hosts.saturating_sub(1);
-            self.measures.routes = self.measures.routes.wrapping_add(routes);
-        }
-        'switches: for switch in 0..plan.channels.switches() {
-            self.add_switch(plan, target, switch);
-        }
-        Ok(())
+    // Takes what the loads say.
+    pub(crate) fn take_loads(&mut self, loads: &Loads) {
+        self.hops = loads.sum();
+        self.greatest = loads.greatest();
     }
-}
-
-// How many end ports of adapters and routers there are.
-fn count_hosts(plan: Plan<'_>) -> u64 {
-    let mut hosts = 0u64;
-    'switches: for switch in 0..plan.channels.switches() {
-        hosts = hosts.wrapping_add(u64::from(plan.demand.hosts(switch)));
-    }
-    hosts
-}
-
-/// Measures the routes of the traffic.
-pub(crate) fn measure(alloc: Global, plan: Plan<'_>, rows: &Rows) -> Result<Measures, OutOfMemory> {
-    let switches = plan.channels.switches();
-    let mut measuring = Measuring {
-        measures: Measures {
-            lost: 0,
-            routes: 0,
-            hops: 0,
-            longest: 0,
-            greatest: 0,
-        },
-        hosts: count_hosts(plan),
-        loads: Table::filled(alloc, plan.channels.count(), 0u64)?,
-        ways: Ways::new(alloc, switches)?,
-        flows: Table::filled(alloc, switches, 0u32)?,
-    };
-    'targets: for (row, target) in plan.demand.targets().iter().enumerate() {
-        if plan.sends_to(*target) {
-            measuring.add_target(plan, rows, narrow(row), *target)?;
-        }
-    }
-    Ok(measuring.measures)
 }

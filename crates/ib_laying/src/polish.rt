@@ -1,25 +1,18 @@
 //! Single exits moved so that routes are spread better over the channels.
 
-use crate::plan::Plan;
-use crate::rows::Rows;
 use an_base::memory::OutOfMemory;
+use ib_channels::amount::Change;
 use ib_channels::channels::Channel;
-use ib_channels::table::{Table, narrow};
-use ib_channels::ways::Ways;
-use std::alloc::Global;
+use ib_channels::table::narrow;
+use ib_rising::loads::Loads;
+use ib_rising::plan::Plan;
+use ib_rising::rows::Rows;
 
 // How often all exits are looked at.
 const PASSES: u32 = 3;
 
 // From how many switches on only exits with great loads are looked at.
 const MANY: u32 = 256;
-
-// Whether the routes of a switch come to a way or go from it.
-#[derive(Clone, Copy)]
-enum Change {
-    Come,
-    Go,
-}
 
 // An exit, and what it costs to lead routes over it.
 #[derive(Clone, Copy)]
@@ -28,114 +21,77 @@ struct Priced {
     price: u64,
 }
 
-#[derive(Drop)]
-struct Polishing {
-    // How many routes between end ports of adapters and routers pass each channel.
-    loads: Table<u64>,
-    // For one target: the ways to it, and how many routes pass each switch.
-    ways: Ways,
-    flows: Table<u32>,
+// The ways to a target that are polished, and the least load of an exit that is looked at.
+#[derive(Clone, Copy)]
+struct Polishing<'a> {
+    plan: Plan<'a>,
+    target: u32,
+    busy: u64,
 }
 
-impl Polishing {
-    // Takes a row, to a target at a switch.
-    fn take(
-        &mut self,
-        plan: Plan<'_>,
-        rows: &Rows,
-        row: u32,
-        target: u32,
-    ) -> Result<(), OutOfMemory> {
-        rows.take(plan.channels, row, &mut self.ways);
-        self.ways.arrange(plan.channels, target)?;
-        self.ways
-            .gather(plan.channels, plan.demand, &mut self.flows);
-        Ok(())
-    }
-
-    // Adds the routes of the ways to the loads.
-    fn add_loads(&mut self, plan: Plan<'_>) {
-        'switches: for switch in 0..plan.channels.switches() {
-            if let Some(exit) = self.ways.exit(switch) {
-                let flow = u64::from(self.flows.get(switch));
-                let load = self.loads.get(exit).wrapping_add(flow);
-                self.loads.put(exit, load);
-            }
-        }
+impl Polishing<'_> {
+    // The switch to which a channel leads.
+    fn to(self, channel: Channel) -> u32 {
+        self.plan.channels.to(channel)
     }
 
     // Lets the routes of a switch come to its way or go from it.
-    fn change(&mut self, plan: Plan<'_>, switch: u32, flow: u32, change: Change) {
+    fn change(self, loads: &mut Loads, switch: u32, flow: u32, change: Change) {
         let mut at = switch;
-        'links: for _ in 0..plan.channels.switches() {
-            let Some(exit) = self.ways.exit(at) else {
+        'links: for _ in 0..self.plan.channels.switches() {
+            let Some(exit) = loads.ways.exit(at) else {
                 break;
             };
-            let to = plan.channels.ends(exit).to;
-            let (load, passed) = (self.loads.get(exit), self.flows.get(to));
-            let (load, passed) = match change {
-                Change::Come => (
-                    load.wrapping_add(u64::from(flow)),
-                    passed.wrapping_add(flow),
-                ),
-                Change::Go => (
-                    load.wrapping_sub(u64::from(flow)),
-                    passed.wrapping_sub(flow),
-                ),
-            };
-            self.loads.put(exit, load);
-            self.flows.put(to, passed);
-            at = to;
+            loads.change(exit, flow, change);
+            at = self.to(exit);
+            loads.flows.change(at, flow, change);
         }
     }
 
     // By how much the sum of the squares of all loads grows for each route, where a flow is led over an exit and on.
-    fn price(&self, plan: Plan<'_>, exit: Channel, flow: u32) -> u64 {
+    fn price(self, loads: &Loads, exit: Channel, flow: u32) -> u64 {
         let mut price = 0u64;
         let mut next = Some(exit);
-        'links: for _ in 0..plan.channels.switches() {
+        'links: for _ in 0..self.plan.channels.switches() {
             let Some(channel) = next else {
                 break;
             };
-            let load = self.loads.get(channel).wrapping_mul(2);
+            let load = loads.of(channel).wrapping_mul(2);
             price = price.wrapping_add(load).wrapping_add(u64::from(flow));
-            next = self.ways.exit(plan.channels.ends(channel).to);
+            next = loads.ways.exit(self.to(channel));
         }
         price
     }
 
     // Whether a channel may be the exit of a switch: all turns rise, and the way grows no longer.
-    fn may_be(
-        &self,
-        plan: Plan<'_>,
-        target: u32,
-        least: u32,
-        depth: u32,
-        channel: Channel,
-    ) -> bool {
-        let over = self.ways.depth(plan.channels.ends(channel).to);
-        over < depth
+    fn may_be(self, loads: &Loads, least: u32, depth: u32, channel: Channel) -> bool {
+        let plan = self.plan;
+        loads.ways.depth(self.to(channel)) < depth
             && plan.order.place(channel) >= least
-            && plan.may_follow(&self.ways, target, channel)
+            && plan.may_follow(&loads.ways, self.target, channel)
+    }
+
+    // Whether another exit may be that of a switch.
+    fn has_choice(self, loads: &Loads, switch: u32, own: Channel) -> bool {
+        let least = self.plan.least_place(&loads.ways, switch);
+        let depth = loads.ways.depth(switch);
+        let may_be = |number: u32| {
+            let exit = Channel(number);
+            exit != own && self.may_be(loads, least, depth, exit)
+        };
+        self.plan.channels.exits(switch).any(may_be)
     }
 
     // The exit of a switch over which it costs least to lead a flow: the one that it has, if that is one of them.
-    fn best_exit(
-        &self,
-        plan: Plan<'_>,
-        target: u32,
-        switch: u32,
-        flow: u32,
-        own: Channel,
-    ) -> Channel {
-        let least = plan.least_place(&self.ways, switch);
-        let depth = self.ways.depth(switch);
-        let price = self.price(plan, own, flow);
+    fn best_exit(self, loads: &Loads, switch: u32, flow: u32, own: Channel) -> Channel {
+        let least = self.plan.least_place(&loads.ways, switch);
+        let depth = loads.ways.depth(switch);
+        let price = self.price(loads, own, flow);
         let mut best = Priced { exit: own, price };
-        'exits: for number in plan.channels.exits(switch) {
+        'exits: for number in self.plan.channels.exits(switch) {
             let exit = Channel(number);
-            if exit != own && self.may_be(plan, target, least, depth, exit) {
-                let price = self.price(plan, exit, flow);
+            if exit != own && self.may_be(loads, least, depth, exit) {
+                let price = self.price(loads, exit, flow);
                 if price < best.price {
                     best = Priced { exit, price };
                 }
@@ -145,97 +101,93 @@ impl Polishing {
     }
 
     // Moves the exit of a switch, if that spreads the routes better. Answers whether it did.
-    fn move_exit(
-        &mut self,
-        plan: Plan<'_>,
-        target: u32,
-        switch: u32,
-        own: Channel,
-    ) -> Result<bool, OutOfMemory> {
-        let flow = self.flows.get(switch);
-        self.change(plan, switch, flow, Change::Go);
-        let best = self.best_exit(plan, target, switch, flow, own);
-        self.ways.put_exit(switch, Some(best));
-        self.change(plan, switch, flow, Change::Come);
-        let over = self.ways.depth(plan.channels.ends(best).to);
-        if over.wrapping_add(1) != self.ways.depth(switch) {
-            self.ways.arrange(plan.channels, target)?;
+    fn move_exit(self, loads: &mut Loads, switch: u32, own: Channel) -> Result<bool, OutOfMemory> {
+        let flow = loads.flows.get(switch);
+        self.change(loads, switch, flow, Change::Go);
+        let best = self.best_exit(loads, switch, flow, own);
+        loads.ways.put_exit(switch, Some(best));
+        self.change(loads, switch, flow, Change::Come);
+        let over = loads.ways.depth(self.to(best));
+        if over.wrapping_add(1) != loads.ways.depth(switch) {
+            loads.ways.arrange(self.plan.channels, self.target)?;
         }
         Ok(best != own)
     }
 
-    // Moves exits of the ways to a target from channels with at least some load. Answers whether it did.
-    fn polish_ways(&mut self, plan: Plan<'_>, target: u32, busy: u64) -> Result<bool, OutOfMemory> {
+    // Moves exits from channels that are busy. Answers whether it did.
+    fn polish_ways(self, loads: &mut Loads) -> Result<bool, OutOfMemory> {
         let mut is_moved = false;
-        'switches: for switch in 0..plan.channels.switches() {
-            let Some(own) = self.ways.exit(switch) else {
+        'switches: for switch in 0..self.plan.channels.switches() {
+            let Some(own) = loads.ways.exit(switch) else {
                 continue;
             };
-            if self.flows.get(switch) == 0 || self.loads.get(own) < busy {
-                continue;
-            }
-            if self.move_exit(plan, target, switch, own)? {
+            let is_idle = loads.flows.get(switch) == 0 || loads.of(own) < self.busy;
+            let is_looked_at = !is_idle && self.has_choice(loads, switch, own);
+            if is_looked_at && self.move_exit(loads, switch, own)? {
                 is_moved = true;
             }
         }
         Ok(is_moved)
     }
 
-    // Polishes the rows of the end ports of adapters and routers. Answers whether an exit was moved.
-    fn polish_rows(
-        &mut self,
-        plan: Plan<'_>,
-        rows: &mut Rows,
-        busy: u64,
-    ) -> Result<bool, OutOfMemory> {
-        let mut is_moved = false;
-        'targets: for (row, target) in plan.demand.targets().iter().enumerate() {
-            if !target.is_host() {
-                continue;
-            }
-            let row = narrow(row);
-            self.take(plan, rows, row, target.switch)?;
-            if self.polish_ways(plan, target.switch, busy)? {
-                rows.keep(plan.channels, row, &self.ways);
-                is_moved = true;
-            }
+    // Polishes a row. Answers whether an exit was moved.
+    fn polish_row(self, rows: &mut Rows, row: u32, loads: &mut Loads) -> Result<bool, OutOfMemory> {
+        loads.take(self.plan, rows, row, self.target)?;
+        loads.gather(self.plan);
+        let is_moved = self.polish_ways(loads)?;
+        if is_moved {
+            rows.keep(self.plan.channels, row, &loads.ways);
         }
         Ok(is_moved)
-    }
-
-    // The load from which on an exit is looked at: any, or nine tenths of the greatest where there are many switches.
-    fn busy(&self, plan: Plan<'_>) -> u64 {
-        if plan.channels.switches() < MANY {
-            return 0;
-        }
-        let mut greatest = 0;
-        'channels: for number in 0..plan.channels.count() {
-            greatest = self.loads.get(number).max(greatest);
-        }
-        greatest / 10 * 9
     }
 }
 
-/// Moves exits of the rows, so that turns rise as before, no way grows longer, and the sum of the squares of the loads
-/// falls.
-pub fn polish(alloc: Global, plan: Plan<'_>, rows: &mut Rows) -> Result<(), OutOfMemory> {
-    let switches = plan.channels.switches();
-    let mut polishing = Polishing {
-        loads: Table::filled(alloc, plan.channels.count(), 0u64)?,
-        ways: Ways::new(alloc, switches)?,
-        flows: Table::filled(alloc, switches, 0u32)?,
+// Whether exits were moved, and the most channels on a way after it.
+#[derive(Clone, Copy)]
+struct Outcome {
+    is_moved: bool,
+    longest: u32,
+}
+
+// Polishes the rows of the end ports of adapters and routers, once.
+fn polish_once(plan: Plan<'_>, rows: &mut Rows, loads: &mut Loads) -> Result<Outcome, OutOfMemory> {
+    let busy = busy(plan, loads);
+    let mut outcome = Outcome {
+        is_moved: false,
+        longest: 0,
     };
     'targets: for (row, target) in plan.demand.targets().iter().enumerate() {
-        if target.is_host() {
-            polishing.take(plan, rows, narrow(row), target.switch)?;
-            polishing.add_loads(plan);
+        if !target.is_host() {
+            continue;
         }
+        let target = target.switch;
+        let polishing = Polishing { plan, target, busy };
+        if polishing.polish_row(rows, narrow(row), loads)? {
+            outcome.is_moved = true;
+        }
+        outcome.longest = plan.longest(&loads.ways).max(outcome.longest);
     }
+    Ok(outcome)
+}
+
+// The load from which on an exit is looked at: any, or nine tenths of the greatest where there are many switches.
+fn busy(plan: Plan<'_>, loads: &Loads) -> u64 {
+    if plan.channels.switches() < MANY {
+        return 0;
+    }
+    loads.greatest() / 10 * 9
+}
+
+/// Moves exits of the rows, whose loads are given, so that turns rise as before, no way grows longer, and the sum of the
+/// squares of the loads falls. Answers the most channels on a way of end ports after it.
+pub fn polish(plan: Plan<'_>, rows: &mut Rows, loads: &mut Loads) -> Result<u32, OutOfMemory> {
+    let mut longest = 0;
     'passes: for _ in 0..PASSES {
-        let busy = polishing.busy(plan);
-        if !polishing.polish_rows(plan, rows, busy)? {
+        let outcome = polish_once(plan, rows, loads)?;
+        longest = outcome.longest;
+        if !outcome.is_moved {
             break;
         }
     }
-    Ok(())
+    Ok(longest)
 }

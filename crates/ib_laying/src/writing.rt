@@ -4,13 +4,13 @@ ghost use Rattle.std.specs.Prelude.{◌<◌, IfOk};
 ghost use Rattle.ib_net.specs.Fabric.{switch_count};
 ghost use Rattle.ib_laying.specs.Made.{AreTablesFor};
 
-use crate::rows::Rows;
 use an_base::memory::OutOfMemory;
 use ib_cells::cells::Cells;
 use ib_channels::channels::Channels;
 use ib_channels::demand::{Demand, Target};
 use ib_channels::table::narrow;
 use ib_net::fabric::Fabric;
+use ib_rising::rows::Rows;
 use std::alloc::Global;
 
 // The port of a switch for a target: the owner's, or that of the exit in a row.
@@ -19,7 +19,7 @@ fn port_of(channels: &Channels, rows: &Rows, row: u32, target: Target, switch: u
         return Some(target.port);
     }
     let exit = rows.exit(channels, row, switch)?;
-    Some(channels.ends(exit).port)
+    Some(channels.port(exit))
 }
 
 // Puts the port of a switch for a LID, if the LID has an owner.

@@ -1,6 +1,7 @@
 //! An order in which the turns of given routes rise, if there is one.
 
 use an_base::memory::OutOfMemory;
+use ib_channels::amount::Change;
 use ib_channels::channels::{Channel, Channels};
 use ib_channels::order::Order;
 use ib_channels::table::Table;
@@ -15,12 +16,44 @@ struct Queue {
 }
 
 impl Queue {
+    // No channels yet.
+    fn new(alloc: Global, count: u32) -> Result<Queue, OutOfMemory> {
+        Ok(Queue {
+            waits: Table::filled(alloc, count, 0u32)?,
+            ready: Vec::with_capacity(alloc, count as usize)?,
+        })
+    }
+
+    // Finds the channels to which no route turns.
+    fn begin(&mut self, channels: &Channels, weights: &Table<u32>) -> Result<(), OutOfMemory> {
+        'counts: for number in 0..channels.count() {
+            self.count(channels, weights, Channel(number));
+        }
+        'first: for number in 0..channels.count() {
+            if self.waits.get(number) == 0 {
+                self.ready.push(Channel(number))?;
+            }
+        }
+        Ok(())
+    }
+
+    // Passes all channels, if the turns close no cycle. Answers whether it did.
+    fn pass_all(&mut self, channels: &Channels, weights: &Table<u32>) -> Result<bool, OutOfMemory> {
+        self.begin(channels, weights)?;
+        'ready: for place in 0..channels.count() {
+            let Some(channel) = self.ready.get(place as usize).copied() else {
+                return Ok(false);
+            };
+            self.pass(channels, weights, channel)?;
+        }
+        Ok(true)
+    }
+
     // Counts the turns from a channel that have a weight.
     fn count(&mut self, channels: &Channels, weights: &Table<u32>, channel: Channel) {
-        'exits: for number in channels.exits(channels.ends(channel).to) {
+        'exits: for number in channels.exits(channels.to(channel)) {
             if weights.get(channels.turn(channel, Channel(number))) > 0 {
-                self.waits
-                    .put(number, self.waits.get(number).wrapping_add(1));
+                self.waits.add(number, 1);
             }
         }
     }
@@ -32,11 +65,10 @@ impl Queue {
         weights: &Table<u32>,
         channel: Channel,
     ) -> Result<(), OutOfMemory> {
-        'exits: for number in channels.exits(channels.ends(channel).to) {
+        'exits: for number in channels.exits(channels.to(channel)) {
             if weights.get(channels.turn(channel, Channel(number))) > 0 {
-                let waits = self.waits.get(number).wrapping_sub(1);
-                self.waits.put(number, waits);
-                if waits == 0 {
+                self.waits.change(number, 1, Change::Go);
+                if self.waits.get(number) == 0 {
                     self.ready.push(Channel(number))?;
                 }
             }
@@ -51,24 +83,10 @@ pub fn order_along(
     channels: &Channels,
     weights: &Table<u32>,
 ) -> Result<Option<Order>, OutOfMemory> {
-    let count = channels.count();
-    let mut queue = Queue {
-        waits: Table::filled(alloc, count, 0u32)?,
-        ready: Vec::with_capacity(alloc, count as usize)?,
-    };
-    'counts: for number in 0..count {
-        queue.count(channels, weights, Channel(number));
+    let mut queue = Queue::new(alloc, channels.count())?;
+    if queue.pass_all(channels, weights)? {
+        Ok(Some(Order::of(alloc, queue.ready)?))
+    } else {
+        Ok(None)
     }
-    'first: for number in 0..count {
-        if queue.waits.get(number) == 0 {
-            queue.ready.push(Channel(number))?;
-        }
-    }
-    'ready: for place in 0..count {
-        let Some(channel) = queue.ready.get(place as usize).copied() else {
-            return Ok(None);
-        };
-        queue.pass(channels, weights, channel)?;
-    }
-    Ok(Some(Order::of(alloc, queue.ready)?))
 }

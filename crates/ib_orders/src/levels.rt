@@ -31,41 +31,37 @@ fn reach_neighbours(
 ) -> Result<(), OutOfMemory> {
     let level = levels.get(switch).wrapping_add(1);
     'exits: for number in channels.exits(switch) {
-        let to = channels.ends(Channel(number)).to;
+        let to = channels.to(Channel(number));
         reach(levels, reached, to, level)?;
     }
     Ok(())
 }
 
-/// How far each switch is from the nearest of some roots, `FAR` if it is joined to none.
-pub fn distances(
-    alloc: Global,
+// Gives levels to all switches that are joined to roots.
+fn reach_all(
     channels: &Channels,
+    levels: &mut Table<u32>,
+    reached: &mut Vec<u32>,
     roots: &[u32],
-) -> Result<Table<u32>, OutOfMemory> {
-    let mut levels = Table::filled(alloc, channels.switches(), FAR)?;
-    let mut reached = Vec::with_capacity(alloc, channels.switches() as usize)?;
+) -> Result<(), OutOfMemory> {
     'roots: for root in roots {
-        reach(&mut levels, &mut reached, *root, 0)?;
+        reach(levels, reached, *root, 0)?;
     }
     'reached: for place in 0..channels.switches() {
         let Some(switch) = reached.get(place as usize).copied() else {
             break;
         };
-        reach_neighbours(channels, &mut levels, &mut reached, switch)?;
+        reach_neighbours(channels, levels, reached, switch)?;
     }
-    Ok(levels)
+    Ok(())
 }
 
-// The switches that have end ports of adapters and routers.
-fn leaves(alloc: Global, channels: &Channels, demand: &Demand) -> Result<Vec<u32>, OutOfMemory> {
-    let mut leaves = Vec::new(alloc);
-    'switches: for switch in 0..channels.switches() {
-        if demand.hosts(switch) > 0 {
-            leaves.push(switch)?;
-        }
-    }
-    Ok(leaves)
+// How far each switch is from the nearest of some roots, `FAR` if it is joined to none.
+fn distances(alloc: Global, channels: &Channels, roots: &[u32]) -> Result<Table<u32>, OutOfMemory> {
+    let mut levels = Table::filled(alloc, channels.switches(), FAR)?;
+    let mut reached = Vec::with_capacity(alloc, channels.switches() as usize)?;
+    reach_all(channels, &mut levels, &mut reached, roots)?;
+    Ok(levels)
 }
 
 // The greatest level.
@@ -80,14 +76,13 @@ fn greatest(channels: &Channels, levels: &Table<u32>) -> u32 {
     greatest
 }
 
-/// Levels by height: those that are farthest from all leaves have level 0. None where each switch is a leaf, or none.
-pub fn by_height(
+// Levels by height: those that are farthest from all leaves have level 0. None where each switch is a leaf, or none.
+fn by_height(
     alloc: Global,
     channels: &Channels,
     demand: &Demand,
 ) -> Result<Option<Table<u32>>, OutOfMemory> {
-    let leaves = leaves(alloc, channels, demand)?;
-    let heights = distances(alloc, channels, &leaves)?;
+    let heights = distances(alloc, channels, demand.leaves())?;
     let top = greatest(channels, &heights);
     if top == 0 {
         return Ok(None);
@@ -131,7 +126,7 @@ fn push_exits(
     let rank = ranks.get(switch);
     'exits: for number in channels.exits(switch) {
         let channel = Channel(number);
-        let led = if ranks.get(channels.ends(channel).to) < rank {
+        let led = if ranks.get(channels.to(channel)) < rank {
             Way::Up
         } else {
             Way::Down
@@ -151,13 +146,56 @@ pub fn up_down(
     levels: &Table<u32>,
 ) -> Result<Order, OutOfMemory> {
     let switches = by_level(alloc, channels, levels)?;
-    let ranks = places(alloc, &switches)?;
-    let mut sequence = Vec::with_capacity(alloc, channels.count() as usize)?;
-    'up: for switch in switches.iter().rev() {
-        push_exits(channels, &ranks, *switch, Way::Up, &mut sequence)?;
-    }
-    'down: for switch in &switches {
-        push_exits(channels, &ranks, *switch, Way::Down, &mut sequence)?;
-    }
+    let sequence = sequence_of(alloc, channels, &switches)?;
     Order::of(alloc, sequence)
+}
+
+// The channels up, the last switch first, and then down, the first switch first.
+fn sequence_of(
+    alloc: Global,
+    channels: &Channels,
+    switches: &[u32],
+) -> Result<Vec<Channel>, OutOfMemory> {
+    let ranks = places(alloc, switches)?;
+    let mut sequence = Vec::with_capacity(alloc, channels.count() as usize)?;
+    push_all(channels, &ranks, switches, &mut sequence)?;
+    Ok(sequence)
+}
+
+// Appends the channels up and then down.
+fn push_all(
+    channels: &Channels,
+    ranks: &Table<u32>,
+    switches: &[u32],
+    sequence: &mut Vec<Channel>,
+) -> Result<(), OutOfMemory> {
+    'up: for switch in switches.iter().rev() {
+        push_exits(channels, ranks, *switch, Way::Up, sequence)?;
+    }
+    'down: for switch in switches {
+        push_exits(channels, ranks, *switch, Way::Down, sequence)?;
+    }
+    Ok(())
+}
+
+/// The order up to a root and then down.
+pub fn order_from_root(
+    alloc: Global,
+    channels: &Channels,
+    root: u32,
+) -> Result<Order, OutOfMemory> {
+    let levels = distances(alloc, channels, &[root])?;
+    up_down(alloc, channels, &levels)
+}
+
+/// The order up to switches that are farther from all leaves and then down; none where each switch is a leaf, or none.
+pub fn order_by_height(
+    alloc: Global,
+    channels: &Channels,
+    demand: &Demand,
+) -> Result<Option<Order>, OutOfMemory> {
+    match by_height(alloc, channels, demand)? {
+        Some(levels) => Ok(Some(up_down(alloc, channels, &levels)?)),
+        None => Ok(None),
+    }
 }

@@ -1,13 +1,13 @@
 //! Total orders of the channels of a fabric, along which routes may be laid: by levels of switches, by first ports,
 //! and by spanning trees, sifted so that few routes have to go round.
 //!
-//! It stands on `an_base`, `ib_net` and `ib_channels`. No contract speaks of it, as of that.
+//! It stands on `an_base` and `ib_channels`. No contract speaks of it, as of that.
 #![tactic(auto)]
 
 mod first_ports;
-mod levels;
+pub mod levels;
 pub mod materials;
 pub mod recipe;
 mod sift;
-mod spanning;
+pub mod spanning;
 mod weights;

@@ -11,12 +11,12 @@ use std::alloc::Global;
 /// What orders of the channels of a fabric are made of.
 #[derive(Drop)]
 pub struct Materials {
-    /// A switch with the most channels.
+    /// The first switch with the most channels.
     pub root: u32,
     /// The first switch with end ports of adapters and routers, or the root.
     pub leaf: u32,
-    /// How many channels shortest routes have together, between the end ports of adapters and routers.
-    pub least_hops: u64,
+    /// How many channels a shortest route has in the mean, between end ports of adapters and routers, in parts of 2^16.
+    pub least_mean: u64,
     /// The most channels that one of these has.
     pub least_longest: u32,
     // How many shortest routes make each turn, where they are spread, and where they leave by first ports.
@@ -33,49 +33,20 @@ pub enum Wanted {
     FirstPorts,
 }
 
-// The first switch with the most channels.
-fn find_root(channels: &Channels) -> u32 {
-    let mut root = 0;
-    'switches: for switch in 0..channels.switches() {
-        if channels.degree(switch) > channels.degree(root) {
-            root = switch;
-        }
-    }
-    root
-}
-
-// The first switch with end ports of adapters and routers.
-fn find_leaf(channels: &Channels, demand: &Demand) -> Option<u32> {
-    (0..channels.switches()).find(|switch| demand.hosts(*switch) > 0)
-}
-
 impl Materials {
-    /// Without any routes: for orders by heights and levels alone.
-    pub fn bare(alloc: Global, channels: &Channels, demand: &Demand) -> Materials {
-        let root = find_root(channels);
-        Materials {
-            root,
-            leaf: find_leaf(channels, demand).unwrap_or(root),
-            least_hops: 0,
-            least_longest: u32::MAX,
-            spread: Table::empty(alloc, 0),
-            first_ports: Table::empty(alloc, 0),
-        }
-    }
-
     /// The materials of a fabric.
     pub fn of(
         alloc: Global,
         channels: &Channels,
         demand: &Demand,
     ) -> Result<Materials, OutOfMemory> {
-        let bare = Materials::bare(alloc, channels, demand);
         let spread = Weights::shortest(alloc, channels, demand, Rule::Any)?;
         let first_ports = Weights::first_ports(alloc, channels, demand)?;
+        let root = channels.widest();
         Ok(Materials {
-            root: bare.root,
-            leaf: bare.leaf,
-            least_hops: spread.hops,
+            root,
+            leaf: demand.leaves().first().copied().unwrap_or(root),
+            least_mean: spread.hops.saturating_mul(1 << 16) / spread.routes.max(1),
             least_longest: spread.longest,
             spread: spread.turns,
             first_ports: first_ports.turns,

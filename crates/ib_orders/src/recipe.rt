@@ -1,7 +1,7 @@
 //! How orders of channels are made.
 
 use crate::first_ports::order_along;
-use crate::levels::{by_height, distances, up_down};
+use crate::levels::{order_by_height, order_from_root};
 use crate::materials::{Materials, Wanted};
 use crate::sift::{Wishes, sift};
 use crate::spanning::Tree;
@@ -23,17 +23,6 @@ pub enum Shape {
     Deep(u64),
 }
 
-/// An order from a spanning tree.
-#[derive(Clone, Copy)]
-pub struct FromTree {
-    /// The form of the tree.
-    pub shape: Shape,
-    /// Which routes are to break few turns.
-    pub wanted: Wanted,
-    /// Whether the turns of the tree are kept: then there is a route from each switch to each.
-    pub keeps: bool,
-}
-
 /// How an order is made.
 #[derive(Clone, Copy)]
 pub enum Recipe {
@@ -45,11 +34,14 @@ pub enum Recipe {
     FirstPorts,
     /// Up to a switch with the most channels, and then down.
     Levels,
-    /// Up to a leaf, and then down. In a whole fat tree all turns rise that rise by heights, and there is a route from
-    /// each switch to each.
+    /// Up to a leaf, and then down, if not each switch is a leaf. In a whole fat tree all turns rise that rise by
+    /// heights, and there is a route from each switch to each.
     LevelsFromLeaf,
-    /// Up a spanning tree and then down, made better.
-    Tree(FromTree),
+    /// Up a spanning tree and then down, made better so that these routes break few turns. The turns of the tree are kept,
+    /// so there is a route from each switch to each.
+    Tree(Shape, Wanted),
+    /// Up a spanning tree and then down, made better for routes that are spread. The turns of the tree may be broken.
+    FreeTree(Shape),
 }
 
 // What orders are made for.
@@ -62,7 +54,7 @@ struct Making<'a> {
 }
 
 impl Making<'_> {
-    // Makes an order better: for given routes, and then twice for those that break fewest of its turns.
+    // Makes an order better for given routes, and then for those that break fewest of its turns.
     fn improve(
         self,
         wanted: Wanted,
@@ -71,41 +63,40 @@ impl Making<'_> {
     ) -> Result<(), OutOfMemory> {
         let weights = self.materials.weights(wanted);
         sift(self.alloc, self.channels, Wishes { weights, kept }, order)?;
-        let mut least = u64::MAX;
-        'times: for _ in 0..2 {
-            let rule = Rule::Fewest(&*order);
-            let routes = Weights::shortest(self.alloc, self.channels, self.demand, rule)?;
-            if routes.spared == 0 || routes.spared >= least - least / 100 {
-                break;
-            }
-            least = routes.spared;
-            let weights = &routes.turns;
-            sift(self.alloc, self.channels, Wishes { weights, kept }, order)?;
-        }
-        Ok(())
+        self.improve_again(kept, order)
     }
 
-    // Up by height and down, if not all switches are leaves.
-    fn by_heights(self) -> Result<Option<Order>, OutOfMemory> {
-        match by_height(self.alloc, self.channels, self.demand)? {
-            Some(levels) => Ok(Some(up_down(self.alloc, self.channels, &levels)?)),
-            None => Ok(None),
+    // Makes it better for the routes that break fewest of its turns.
+    fn improve_again(
+        self,
+        kept: Option<&Table<bool>>,
+        order: &mut Order,
+    ) -> Result<(), OutOfMemory> {
+        let rule = Rule::Fewest(&*order);
+        let routes = Weights::shortest(self.alloc, self.channels, self.demand, rule)?;
+        if routes.spared == 0 {
+            return Ok(());
         }
+        let weights = &routes.turns;
+        sift(self.alloc, self.channels, Wishes { weights, kept }, order)
     }
 
-    // The same, made better.
+    // Up by height and down, if not all switches are leaves, made better.
     fn by_better_heights(self) -> Result<Option<Order>, OutOfMemory> {
-        let Some(mut order) = self.by_heights()? else {
+        let Some(mut order) = order_by_height(self.alloc, self.channels, self.demand)? else {
             return Ok(None);
         };
         self.improve(Wanted::Spread, None, &mut order)?;
         Ok(Some(order))
     }
 
-    // Up to a root and down.
-    fn by_levels(self, root: u32) -> Result<Order, OutOfMemory> {
-        let levels = distances(self.alloc, self.channels, &[root])?;
-        up_down(self.alloc, self.channels, &levels)
+    // Up to a leaf and down, if not all switches are leaves.
+    fn by_levels_from_leaf(self) -> Result<Option<Order>, OutOfMemory> {
+        if self.demand.leaves().len() >= self.channels.switches() as usize {
+            return Ok(None);
+        }
+        let order = order_from_root(self.alloc, self.channels, self.materials.leaf)?;
+        Ok(Some(order))
     }
 
     // A spanning tree.
@@ -116,13 +107,30 @@ impl Making<'_> {
         }
     }
 
-    // From a spanning tree.
-    fn by_tree(self, from: FromTree) -> Result<Order, OutOfMemory> {
-        let tree = self.tree(from.shape)?;
+    // From a spanning tree whose turns are kept.
+    fn by_tree(self, shape: Shape, wanted: Wanted) -> Result<Order, OutOfMemory> {
+        let tree = self.tree(shape)?;
         let mut order = tree.order(self.alloc, self.channels)?;
+        self.improve_along(&tree, wanted, &mut order)?;
+        Ok(order)
+    }
+
+    // Makes an order better, but for the turns of a spanning tree.
+    fn improve_along(
+        self,
+        tree: &Tree,
+        wanted: Wanted,
+        order: &mut Order,
+    ) -> Result<(), OutOfMemory> {
         let marks = tree.marks(self.alloc, self.channels)?;
-        let kept = if from.keeps { Some(&marks) } else { None };
-        self.improve(from.wanted, kept, &mut order)?;
+        self.improve(wanted, Some(&marks), order)
+    }
+
+    // From a spanning tree whose turns may be broken.
+    fn by_free_tree(self, shape: Shape) -> Result<Order, OutOfMemory> {
+        let tree = self.tree(shape)?;
+        let mut order = tree.order(self.alloc, self.channels)?;
+        self.improve(Wanted::Spread, None, &mut order)?;
         Ok(order)
     }
 }
@@ -143,14 +151,15 @@ impl Recipe {
             materials,
         };
         match self {
-            Recipe::Heights => making.by_heights(),
+            Recipe::Heights => order_by_height(alloc, channels, demand),
             Recipe::BetterHeights => making.by_better_heights(),
             Recipe::FirstPorts => {
                 order_along(alloc, channels, materials.weights(Wanted::FirstPorts))
             }
-            Recipe::Levels => Ok(Some(making.by_levels(materials.root)?)),
-            Recipe::LevelsFromLeaf => Ok(Some(making.by_levels(materials.leaf)?)),
-            Recipe::Tree(from) => Ok(Some(making.by_tree(from)?)),
+            Recipe::Levels => Ok(Some(order_from_root(alloc, channels, materials.root)?)),
+            Recipe::LevelsFromLeaf => making.by_levels_from_leaf(),
+            Recipe::Tree(shape, wanted) => Ok(Some(making.by_tree(shape, wanted)?)),
+            Recipe::FreeTree(shape) => Ok(Some(making.by_free_tree(shape)?)),
         }
     }
 }

@@ -107,17 +107,17 @@ impl Sifting {
         channel: Channel,
     ) -> Result<(), OutOfMemory> {
         self.marks.clear();
-        let ends = channels.ends(channel);
-        'before: for number in channels.exits(ends.from) {
-            let before = channels.ends(Channel(number)).back;
-            if before != ends.back {
+        let back = channels.back(channel);
+        'before: for number in channels.exits(channels.to(back)) {
+            let before = channels.back(Channel(number));
+            if before != back {
                 let weight = wishes.weight(channels, before, channel);
                 self.mark(before, weight, false)?;
             }
         }
-        'after: for number in channels.exits(ends.to) {
+        'after: for number in channels.exits(channels.to(channel)) {
             let after = Channel(number);
-            if after != ends.back {
+            if after != back {
                 let weight = wishes.weight(channels, channel, after);
                 self.mark(after, weight, true)?;
             }
@@ -139,6 +139,20 @@ impl Sifting {
             }
         }
         cost
+    }
+
+    // Puts each channel, one after another, where its turns break least. By how much less is broken.
+    fn sift_all(
+        &mut self,
+        channels: &Channels,
+        wishes: Wishes<'_>,
+        sequence: &[Channel],
+    ) -> Result<u64, OutOfMemory> {
+        let mut gain = 0u64;
+        'channels: for channel in sequence {
+            gain = gain.wrapping_add(self.sift(channels, wishes, *channel)?);
+        }
+        Ok(gain)
     }
 
     // Puts a channel where its turns break least.
@@ -195,10 +209,7 @@ fn pass(
         keys: keys_of(alloc, channels, order)?,
         marks: Vec::new(alloc),
     };
-    let mut gain = 0u64;
-    'channels: for channel in order.sequence() {
-        gain = gain.wrapping_add(sifting.sift(channels, wishes, *channel)?);
-    }
+    let gain = sifting.sift_all(channels, wishes, order.sequence())?;
     *order = order_by(alloc, order, &sifting.keys)?;
     Ok(gain)
 }

@@ -2,6 +2,7 @@
 
 use crate::levels::up_down;
 use an_base::memory::OutOfMemory;
+use ib_channels::amount::Change;
 use ib_channels::channels::{Channel, Channels};
 use ib_channels::order::Order;
 use ib_channels::table::Table;
@@ -34,6 +35,31 @@ fn scattered(seed: u64, channel: Channel) -> u64 {
 }
 
 impl Walk {
+    // Nowhere yet.
+    fn new(alloc: Global, channels: &Channels) -> Result<Walk, OutOfMemory> {
+        let switches = channels.switches();
+        Ok(Walk {
+            ways: Ways::new(alloc, switches)?,
+            path: Vec::new(alloc),
+            fresh: Table::filled(alloc, switches, 0u32)?,
+        })
+    }
+
+    // Comes to all switches that are joined to a root.
+    fn go(&mut self, channels: &Channels, seed: u64, root: u32) -> Result<(), OutOfMemory> {
+        'switches: for switch in 0..channels.switches() {
+            self.fresh.put(switch, channels.degree(switch));
+        }
+        self.come(channels, root, None)?;
+        'steps: for _ in 0..channels.switches().saturating_mul(2) {
+            let Some(switch) = self.path.last().copied() else {
+                break;
+            };
+            self.step(channels, seed, switch)?;
+        }
+        Ok(())
+    }
+
     // Comes to a switch, by the other direction of its exit.
     fn come(
         &mut self,
@@ -44,8 +70,8 @@ impl Walk {
         self.ways.add(channels, switch, exit)?;
         self.path.push(switch)?;
         'exits: for number in channels.exits(switch) {
-            let to = channels.ends(Channel(number)).to;
-            self.fresh.put(to, self.fresh.get(to).wrapping_sub(1));
+            let to = channels.to(Channel(number));
+            self.fresh.change(to, 1, Change::Go);
         }
         Ok(())
     }
@@ -56,7 +82,7 @@ impl Walk {
         let mut least = (u32::MAX, u64::MAX);
         'exits: for number in channels.exits(switch) {
             let channel = Channel(number);
-            let to = channels.ends(channel).to;
+            let to = channels.to(channel);
             let key = (self.fresh.get(to), scattered(seed, channel));
             if self.ways.depth(to) == FAR && (best.is_none() || key < least) {
                 best = Some(channel);
@@ -70,8 +96,8 @@ impl Walk {
     fn step(&mut self, channels: &Channels, seed: u64, switch: u32) -> Result<(), OutOfMemory> {
         match self.next(channels, seed, switch) {
             Some(channel) => {
-                let ends = channels.ends(channel);
-                self.come(channels, ends.to, Some(ends.back))
+                let back = channels.back(channel);
+                self.come(channels, channels.to(channel), Some(back))
             }
             None => {
                 self.path.pop();
@@ -89,22 +115,8 @@ impl Tree {
         root: u32,
         seed: u64,
     ) -> Result<Tree, OutOfMemory> {
-        let switches = channels.switches();
-        let mut walk = Walk {
-            ways: Ways::new(alloc, switches)?,
-            path: Vec::new(alloc),
-            fresh: Table::filled(alloc, switches, 0u32)?,
-        };
-        'switches: for switch in 0..switches {
-            walk.fresh.put(switch, channels.degree(switch));
-        }
-        walk.come(channels, root, None)?;
-        'steps: for _ in 0..switches.saturating_mul(2) {
-            let Some(switch) = walk.path.last().copied() else {
-                break;
-            };
-            walk.step(channels, seed, switch)?;
-        }
+        let mut walk = Walk::new(alloc, channels)?;
+        walk.go(channels, seed, root)?;
         Ok(Tree { ways: walk.ways })
     }
 
@@ -118,11 +130,7 @@ impl Tree {
 
     /// The order of routes that lead up the tree and then down.
     pub fn order(&self, alloc: Global, channels: &Channels) -> Result<Order, OutOfMemory> {
-        let mut depths = Table::filled(alloc, channels.switches(), FAR)?;
-        'switches: for switch in 0..channels.switches() {
-            depths.put(switch, self.ways.depth(switch));
-        }
-        up_down(alloc, channels, &depths)
+        up_down(alloc, channels, self.ways.depths())
     }
 
     /// Which channels are of the tree.
@@ -131,7 +139,7 @@ impl Tree {
         'switches: for switch in 0..channels.switches() {
             if let Some(exit) = self.ways.exit(switch) {
                 marks.put(exit, true);
-                marks.put(channels.ends(exit).back, true);
+                marks.put(channels.back(exit), true);
             }
         }
         Ok(marks)

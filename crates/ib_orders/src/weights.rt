@@ -7,6 +7,15 @@ use ib_channels::table::Table;
 use ib_channels::ways::{Rule, Ways};
 use std::alloc::Global;
 
+// By which of the exits on shortest ways routes leave a switch.
+#[derive(Clone, Copy)]
+enum Exits {
+    // By those that have least load.
+    Spread,
+    // By those of the first port.
+    First,
+}
+
 /// What routes between the end ports of adapters and routers do, if they are laid by some rule.
 #[derive(Drop)]
 pub struct Weights {
@@ -14,6 +23,8 @@ pub struct Weights {
     pub turns: Table<u32>,
     /// How many turns of routes the rule would spare.
     pub spared: u64,
+    /// How many routes there are, but for those from each to itself.
+    pub routes: u64,
     /// How many channels they have together.
     pub hops: u64,
     /// The most channels that one has.
@@ -29,6 +40,7 @@ impl Weights {
         Ok(Weights {
             turns: Table::filled(alloc, channels.turns(), 0u32)?,
             spared: 0,
+            routes: 0,
             hops: 0,
             longest: 0,
             loads: Table::filled(alloc, channels.count(), 0u64)?,
@@ -47,8 +59,7 @@ impl Weights {
         routes: u32,
     ) {
         let turn = channels.turn(channel, next);
-        self.turns
-            .put(turn, self.turns.get(turn).wrapping_add(routes));
+        self.turns.add(turn, routes);
         if rule.toll(channel, Some(next)) != Some(0) {
             self.spared = self.spared.wrapping_add(u64::from(routes));
         }
@@ -63,10 +74,9 @@ impl Weights {
         if routes > 0 {
             self.longest = self.longest.max(self.ways.depth(switch));
         }
-        let load = self.loads.get(channel).wrapping_add(u64::from(routes));
-        self.loads.put(channel, load);
+        self.loads.add(channel, u64::from(routes));
         self.hops = self.hops.wrapping_add(u64::from(routes));
-        let to = channels.ends(channel).to;
+        let to = channels.to(channel);
         if let Some(next) = self.ways.exit(to) {
             self.add_turn(channels, rule, channel, next, routes);
         }
@@ -75,6 +85,10 @@ impl Weights {
     // Adds the routes to so many LIDs at one switch.
     fn add_routes(&mut self, channels: &Channels, demand: &Demand, rule: Rule<'_>, lids: u32) {
         self.ways.gather(channels, demand, &mut self.flows);
+        let others = u64::from(demand.host_count()).saturating_sub(1);
+        self.routes = self
+            .routes
+            .wrapping_add(others.wrapping_mul(u64::from(lids)));
         'switches: for switch in 0..channels.switches() {
             self.add_exit(channels, rule, switch, lids);
         }
@@ -85,12 +99,48 @@ impl Weights {
         'switches: for switch in 0..channels.switches() {
             let depth = self.ways.depth(switch);
             let nearer = |number: &u32| {
-                let to = channels.ends(Channel(*number)).to;
+                let to = channels.to(Channel(*number));
                 self.ways.depth(to) < depth
             };
             let first = channels.exits(switch).find(nearer);
             self.ways.put_exit(switch, first.map(Channel));
         }
+    }
+
+    // Follows the routes to a switch.
+    fn follow(
+        &mut self,
+        channels: &Channels,
+        demand: &Demand,
+        rule: Rule<'_>,
+        exits: Exits,
+        target: u32,
+    ) -> Result<(), OutOfMemory> {
+        let lids = demand.host_lids(target);
+        if lids == 0 {
+            return Ok(());
+        }
+        self.ways.grow(channels, rule, &self.loads, target)?;
+        match exits {
+            Exits::Spread => {}
+            Exits::First => self.take_first_ports(channels),
+        }
+        self.add_routes(channels, demand, rule, lids);
+        Ok(())
+    }
+
+    // Follows the routes to all switches with end ports.
+    fn follow_all(
+        &mut self,
+        channels: &Channels,
+        demand: &Demand,
+        rule: Rule<'_>,
+        exits: Exits,
+    ) -> Result<(), OutOfMemory> {
+        'leaves: for leaf in demand.leaves() {
+            self.follow(channels, demand, rule, exits, *leaf)?;
+        }
+        Ok(())
     }
 
     /// Shortest routes by a rule, spread over the channels.
@@ -101,13 +151,7 @@ impl Weights {
         rule: Rule<'_>,
     ) -> Result<Weights, OutOfMemory> {
         let mut weights = Weights::none(alloc, channels)?;
-        'targets: for target in 0..channels.switches() {
-            let lids = demand.host_lids(target);
-            if lids > 0 {
-                weights.ways.grow(channels, rule, &weights.loads, target)?;
-                weights.add_routes(channels, demand, rule, lids);
-            }
-        }
+        weights.follow_all(channels, demand, rule, Exits::Spread)?;
         Ok(weights)
     }
 
@@ -118,16 +162,7 @@ impl Weights {
         demand: &Demand,
     ) -> Result<Weights, OutOfMemory> {
         let mut weights = Weights::none(alloc, channels)?;
-        'targets: for target in 0..channels.switches() {
-            let lids = demand.host_lids(target);
-            if lids > 0 {
-                weights
-                    .ways
-                    .grow(channels, Rule::Any, &weights.loads, target)?;
-                weights.take_first_ports(channels);
-                weights.add_routes(channels, demand, Rule::Any, lids);
-            }
-        }
+        weights.follow_all(channels, demand, Rule::Any, Exits::First)?;
         Ok(weights)
     }
 }

@@ -92,10 +92,7 @@ impl Changes {
             Some(before) => self.ends.get(before).copied().unwrap_or(0),
             None => 0,
         };
-        match self.rows.get(first..end) {
-            Some(rows) => rows,
-            None => &[],
-        }
+        self.rows.get(first..end).unwrap_or(&[])
     }
 
     /// Puts the exits of the rows for the target at a place.

@@ -27,7 +27,7 @@ impl Measuring {
                 return Some(links);
             }
             let exit = self.routes.exit(switch)?;
-            switch = task.channels.ends(exit).to;
+            switch = task.channels.to(exit);
         }
         None
     }
@@ -42,10 +42,10 @@ impl Measuring {
             if switch == target.switch {
                 break;
             }
-            let load = self.loads.get(exit).wrapping_add(hosts);
-            self.loads.put(exit, load);
+            self.loads.add(exit, hosts);
+            let load = self.loads.get(exit);
             self.measures.greatest = self.measures.greatest.max(load);
-            switch = task.channels.ends(exit).to;
+            switch = task.channels.to(exit);
         }
     }
 
@@ -89,13 +89,7 @@ pub fn measure(
     changes: Option<&Changes>,
 ) -> Result<Measures, OutOfMemory> {
     let mut measuring = Measuring {
-        measures: Measures {
-            lost: 0,
-            routes: 0,
-            hops: 0,
-            longest: 0,
-            greatest: 0,
-        },
+        measures: Measures::NONE,
         loads: Table::filled(alloc, task.channels.count(), 0u64)?,
         routes: Routes::new(alloc, task.channels.switches())?,
     };

@@ -1,9 +1,9 @@
 //! Given tables repaired: few rows of them set, so that the routes of a traffic arrive and rise along one order of the
 //! channels.
 //!
-//! It stands on `an_base`, `ib_net`, `ib_cells`, `ib_routes`, `ib_channels`, `ib_orders`, `ib_sorting` and `ib_laying`. Its
-//! contract: `repair` answers tables of as many switches as the fabric and for all its LIDs, and takes no port away. That
-//! these are good, and that few rows are set, is not proved: who takes them has them judged.
+//! It stands on `an_base`, `ib_net`, `ib_cells`, `ib_routes`, `ib_channels`, `ib_orders`, `ib_sorting`, `ib_rising` and
+//! `ib_laying`. Its contract: `repair` answers tables of as many switches as the fabric and for all its LIDs, and takes no
+//! port away. That these are good, and that few rows are set, is not proved: who takes them has them judged.
 #![tactic(auto)]
 
 mod changes;

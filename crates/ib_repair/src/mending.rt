@@ -1,7 +1,7 @@
 //! The rows that are to be set for one target, so that its routes rise in an order.
 
 use crate::changes::{Changes, Row};
-use crate::routes::{FAR, Routes};
+use crate::routes::{NO_ROUTE, Routes};
 use crate::task::Task;
 use an_base::memory::OutOfMemory;
 use ib_channels::channels::Channel;
@@ -37,8 +37,8 @@ impl Mending {
             given: Routes::new(alloc, switches)?,
             made: Routes::new(alloc, switches)?,
             paid: Table::filled(alloc, switches, None)?,
-            costs: Table::filled(alloc, task.channels.count(), FAR)?,
-            leasts: Table::filled(alloc, switches, FAR)?,
+            costs: Table::filled(alloc, task.channels.count(), NO_ROUTE)?,
+            leasts: Table::filled(alloc, switches, NO_ROUTE)?,
             rows: Vec::new(alloc),
             last: Vec::new(alloc),
         })
@@ -58,28 +58,28 @@ impl Mending {
         self.leasts.reset();
         self.leasts.put(target, 0);
         'channels: for channel in order.sequence().iter().rev() {
-            let ends = task.channels.ends(*channel);
-            let onward = self.leasts.get(ends.to);
-            if ends.from == target || onward == FAR {
+            let from = task.channels.from(*channel);
+            let onward = self.leasts.get(task.channels.to(*channel));
+            if from == target || onward == NO_ROUTE {
                 continue;
             }
-            let price = self.price(ends.from, *channel);
+            let price = self.price(from, *channel);
             let cost = onward.wrapping_add(price).wrapping_add(1);
             self.costs.put(*channel, cost);
-            let least = self.leasts.get(ends.from).min(cost);
-            self.leasts.put(ends.from, least);
+            let least = self.leasts.get(from).min(cost);
+            self.leasts.put(from, least);
         }
     }
 
     // The exit of a switch, not before a place of the order, with which the cheapest route begins; of several the last.
     fn choose(&self, task: Task<'_>, order: &Order, switch: u32, first: u32) -> Option<Channel> {
         let mut best = None;
-        let mut least = (FAR, 0);
+        let mut least = (NO_ROUTE, 0);
         'exits: for number in task.channels.exits(switch) {
             let channel = Channel(number);
             let place = order.place(channel);
             let key = (self.costs.get(channel), u32::MAX - place);
-            if place >= first && key.0 < FAR && (best.is_none() || key < least) {
+            if place >= first && key.0 < NO_ROUTE && (best.is_none() || key < least) {
                 best = Some(channel);
                 least = key;
             }
@@ -120,9 +120,9 @@ impl Mending {
     fn lay(&mut self, task: Task<'_>, order: &Order, target: u32) -> u32 {
         let lost = self.begin(task, order, target);
         'channels: for channel in order.sequence() {
-            let ends = task.channels.ends(*channel);
-            if ends.to != target && self.made.exit(ends.from) == Some(*channel) {
-                self.go_on(task, order, ends.to, order.place(*channel));
+            let (from, to) = (task.channels.from(*channel), task.channels.to(*channel));
+            if to != target && self.made.exit(from) == Some(*channel) {
+                self.go_on(task, order, to, order.place(*channel));
             }
         }
         lost
@@ -134,7 +134,7 @@ impl Mending {
             return Ok(());
         };
         if self.made.flow(switch) > 0 && self.given.exit(switch) != Some(exit) {
-            let port = task.channels.ends(exit).port;
+            let port = task.channels.port(exit);
             self.last.push(Row {
                 switch,
                 lid: target.lid,
@@ -211,6 +211,30 @@ impl Mending {
         }
         Ok(lost)
     }
+
+    // Finds the rows that are to be set for all targets. Answers whether it did, or was given up.
+    fn mend_all(
+        &mut self,
+        task: Task<'_>,
+        order: &Order,
+        scope: Scope<'_>,
+        changes: &mut Changes,
+        effort: &mut Effort,
+    ) -> Result<bool, OutOfMemory> {
+        'targets: for (place, target) in task.demand.targets().iter().enumerate() {
+            if effort.is_spent() && scope.may_end() {
+                return Ok(false);
+            }
+            let lost = if task.sends_to(*target) && scope.has(place) {
+                self.mend(task, order, *target, effort)?
+            } else {
+                self.rows.clear();
+                0
+            };
+            changes.push(&self.rows, lost)?;
+        }
+        Ok(true)
+    }
 }
 
 /// Which targets are looked at.
@@ -228,8 +252,7 @@ impl Scope<'_> {
     // Whether the target at a place is looked at.
     fn has(self, place: usize) -> bool {
         match self {
-            Scope::All => true,
-            Scope::AllInTime => true,
+            Scope::All | Scope::AllInTime => true,
             Scope::Concerned(changes) => changes.concerns(place),
         }
     }
@@ -238,8 +261,7 @@ impl Scope<'_> {
     fn may_end(self) -> bool {
         match self {
             Scope::All => false,
-            Scope::AllInTime => true,
-            Scope::Concerned(_) => true,
+            Scope::AllInTime | Scope::Concerned(_) => true,
         }
     }
 }
@@ -254,17 +276,9 @@ pub fn mend(
 ) -> Result<Option<Changes>, OutOfMemory> {
     let mut mending = Mending::new(alloc, task)?;
     let mut changes = Changes::none(alloc);
-    'targets: for (place, target) in task.demand.targets().iter().enumerate() {
-        if effort.is_spent() && scope.may_end() {
-            return Ok(None);
-        }
-        let lost = if task.sends_to(*target) && scope.has(place) {
-            mending.mend(task, order, *target, effort)?
-        } else {
-            mending.rows.clear();
-            0
-        };
-        changes.push(&mending.rows, lost)?;
+    match mending.mend_all(task, order, scope, &mut changes, effort) {
+        Ok(true) => Ok(Some(changes)),
+        Ok(false) => Ok(None),
+        Err(error) => Err(error),
     }
-    Ok(Some(changes))
 }

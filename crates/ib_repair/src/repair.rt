@@ -7,28 +7,29 @@ ghost use Rattle.ib_repair.specs.Repaired.{AreRepairedOf};
 use crate::changes::Changes;
 use crate::figures::measure;
 use crate::mending::{Scope, mend};
-use crate::roots::{falling, find_root, order_by, tree_from, widest};
+use crate::roots::{falling, find_root, tree_from};
 use crate::task::{Ports, Task};
 use crate::weights::{reweigh, weigh};
 use crate::wishes::wish;
 use crate::writing::write_tables;
 use an_base::memory::OutOfMemory;
 use ib_cells::cells::Cells;
-use ib_channels::channels::{Channel, Channels};
+use ib_channels::channels::{Channel, Channels, Turn};
 use ib_channels::demand::Demand;
 use ib_channels::order::Order;
 use ib_channels::table::Table;
 use ib_laying::measures::Measures;
 use ib_net::fabric::Fabric;
-use ib_orders::recipe::Recipe;
+use ib_orders::levels::{order_by_height, order_from_root};
 use ib_routes::traffic::Traffic;
 use ib_sorting::effort::Effort;
 use ib_sorting::sorting::{Sorting, Wanted, heaviest};
 use std::alloc::Global;
 
-// How often an order is made better, and how often that may bring nothing.
+// How often an order is made better at most.
 const ROUNDS: u32 = 10;
 
+// How often that may bring nothing.
 const IDLE: u32 = 3;
 
 // Of so many cells one row may be set at most for it to be made better.
@@ -50,51 +51,25 @@ pub struct Repaired {
     pub after: Measures,
 }
 
-// Where the search for an order begins.
+// By which order a search begins.
+#[derive(Clone, Copy)]
+enum Begin {
+    // That from a root.
+    Root(u32),
+    // That by height.
+    Height,
+    // That from a root, and the turns of a tree from it are kept.
+    Tree(u32),
+}
+
+// Where a search for an order begins.
 #[derive(Drop)]
 struct Start {
     order: Order,
     // Which channels are of a tree whose turns are kept, if they are: then there is a route from each switch to each.
     tree: Option<Table<bool>>,
-}
-
-// How it is made: the order from a root, and whether the turns of a tree from it are kept.
-#[derive(Clone, Copy)]
-struct Begin {
-    recipe: Recipe,
-    root: u32,
-    tree: bool,
-}
-
-// The same, and what the turns of the given routes weigh that fall in the order.
-#[derive(Clone, Copy)]
-struct Ranked {
-    begin: Begin,
+    // What the turns of the given routes weigh that fall in the order.
     weight: u64,
-}
-
-// Where searches begin, for the root that is broken least and for a switch with the most channels.
-fn begins(root: u32, widest: u32) -> [Begin; 4] {
-    let from_root = Begin {
-        recipe: Recipe::Levels,
-        root,
-        tree: false,
-    };
-    [
-        from_root,
-        Begin {
-            root: widest,
-            ..from_root
-        },
-        Begin {
-            recipe: Recipe::Heights,
-            ..from_root
-        },
-        Begin {
-            tree: true,
-            ..from_root
-        },
-    ]
 }
 
 // What is looked for.
@@ -124,10 +99,10 @@ fn add_turns_after(
     sorting: &mut Sorting,
     effort: &mut Effort,
 ) -> Result<(), OutOfMemory> {
-    let ends = channels.ends(channel);
-    'exits: for number in channels.exits(ends.to) {
+    let back = channels.back(channel);
+    'exits: for number in channels.exits(channels.to(channel)) {
         let next = Channel(number);
-        if tree.get(next) && next != ends.back {
+        if tree.get(next) && next != back {
             let _ = sorting.add(channels, channel, next, effort)?;
         }
     }
@@ -180,8 +155,54 @@ impl Search<'_> {
         }
     }
 
-    // The same after the turns of the routes that were found and those with which there would be fewer rows. Notes those
-    // of the latter that cannot rise.
+    // Adds the turns that weigh something and were not added, the heaviest first. Answers which cannot rise.
+    fn add_heaviest(
+        self,
+        sorting: &mut Sorting,
+        weights: &Table<u32>,
+        effort: &mut Effort,
+    ) -> Result<Vec<Turn>, OutOfMemory> {
+        let Search { alloc, task, .. } = self;
+        let wanted = heaviest(alloc, task.channels, weights, sorting.added())?;
+        sorting.add_all(alloc, task.channels, &wanted, effort)
+    }
+
+    // Adds the turns with which there would be fewer rows than were found. Notes those that cannot rise.
+    fn add_wishes(
+        self,
+        sorting: &mut Sorting,
+        found: &Found,
+        refused: &mut Table<bool>,
+        effort: &mut Effort,
+    ) -> Result<(), OutOfMemory> {
+        let Search { alloc, task, .. } = self;
+        let wishes = wish(alloc, task, &found.order, &found.changes, refused, effort)?;
+        'refused: for turn in &self.add_heaviest(sorting, &wishes, effort)? {
+            refused.put(*turn, true);
+        }
+        Ok(())
+    }
+
+    // Adds the turns of the routes that were found. Answers which targets are to be looked at after it.
+    fn add_found<'a>(
+        self,
+        sorting: &mut Sorting,
+        found: &'a Found,
+        effort: &mut Effort,
+    ) -> Result<Scope<'a>, OutOfMemory> {
+        let made = reweigh(self.alloc, self.task, self.weights, &found.changes)?;
+        let scope = if found.changes.lost() == 0 {
+            sorting.add_rising(self.task.channels, &made);
+            Scope::Concerned(&found.changes)
+        } else {
+            Scope::AllInTime
+        };
+        let _ = self.add_heaviest(sorting, &made, effort)?;
+        Ok(scope)
+    }
+
+    // Adds the turns of the routes that were found, those with which there would be fewer rows, and those of the given
+    // routes, and finds the rows that are to be set.
     fn mend_again(
         self,
         start: &Start,
@@ -189,22 +210,9 @@ impl Search<'_> {
         refused: &mut Table<bool>,
         effort: &mut Effort,
     ) -> Result<Option<Found>, OutOfMemory> {
-        let Search { alloc, task, .. } = self;
         let mut sorting = self.sorting(&found.order, start, effort)?;
-        let made = reweigh(alloc, task, self.weights, &found.changes)?;
-        let scope = if found.changes.lost() == 0 {
-            sorting.add_rising(task.channels, &made);
-            Scope::Concerned(&found.changes)
-        } else {
-            Scope::AllInTime
-        };
-        let made = heaviest(alloc, task.channels, &made, sorting.added())?;
-        let _ = sorting.add_all(alloc, task.channels, &made, effort)?;
-        let wishes = wish(alloc, task, &found.order, &found.changes, refused, effort)?;
-        let wishes = heaviest(alloc, task.channels, &wishes, sorting.added())?;
-        'refused: for turn in &sorting.add_all(alloc, task.channels, &wishes, effort)? {
-            refused.put(*turn, true);
-        }
+        let scope = self.add_found(&mut sorting, found, effort)?;
+        self.add_wishes(&mut sorting, found, refused, effort)?;
         self.mend(sorting, scope, effort)
     }
 
@@ -241,38 +249,49 @@ impl Search<'_> {
 
     // The order with which a search begins, if there is one.
     fn order(self, begin: Begin) -> Result<Option<Order>, OutOfMemory> {
-        order_by(self.alloc, self.task, begin.recipe, begin.root)
+        let channels = self.task.channels;
+        match begin {
+            Begin::Height => order_by_height(self.alloc, channels, self.task.demand),
+            Begin::Root(root) | Begin::Tree(root) => {
+                Ok(Some(order_from_root(self.alloc, channels, root)?))
+            }
+        }
+    }
+
+    // Which channels are of the tree whose turns are kept, if they are.
+    fn tree(self, begin: Begin) -> Result<Option<Table<bool>>, OutOfMemory> {
+        match begin {
+            Begin::Root(_) | Begin::Height => Ok(None),
+            Begin::Tree(root) => Ok(Some(tree_from(self.alloc, self.task, root)?)),
+        }
     }
 
     // Where a search begins, if there is an order.
     fn start(self, begin: Begin) -> Result<Option<Start>, OutOfMemory> {
-        let Some(order) = self.order(begin)? else {
-            return Ok(None);
-        };
-        let tree = if begin.tree {
-            Some(tree_from(self.alloc, self.task, begin.root)?)
-        } else {
-            None
-        };
-        Ok(Some(Start { order, tree }))
+        let tree = self.tree(begin)?;
+        match self.order(begin)? {
+            Some(order) => Ok(Some(Start {
+                weight: falling(self.task, self.weights, &order),
+                order,
+                tree,
+            })),
+            None => Ok(None),
+        }
     }
 
     // Searches, and keeps what is found if it is better. Without effort the first search is made, and one that keeps a
     // tree if something is lost.
     fn search_from(
         self,
-        begin: Begin,
+        start: &Start,
         best: &mut Option<Changes>,
         effort: &mut Effort,
     ) -> Result<(), OutOfMemory> {
         if best.as_ref().is_some_and(Changes::is_empty) {
             return Ok(());
         }
-        let Some(start) = self.start(begin)? else {
-            return Ok(());
-        };
         let is_wanted = match best {
-            Some(best) => best.lost() > 0 && begin.tree,
+            Some(best) => best.lost() > 0 && start.tree.is_some(),
             None => true,
         };
         let scope = if is_wanted {
@@ -280,7 +299,7 @@ impl Search<'_> {
         } else {
             Scope::AllInTime
         };
-        let Some(changes) = self.search(&start, scope, effort)? else {
+        let Some(changes) = self.search(start, scope, effort)? else {
             return Ok(());
         };
         let is_better = match best {
@@ -293,26 +312,33 @@ impl Search<'_> {
         Ok(())
     }
 
-    // Where searches begin, the orders first in which the given routes fall least.
-    fn ranked(self) -> Result<Vec<Ranked>, OutOfMemory> {
+    // Where searches begin: from the root in whose order the given routes fall least, from a switch with the most channels,
+    // by height, and from that root with a tree. Those come first in whose orders the routes fall least.
+    fn starts(self) -> Result<Vec<Start>, OutOfMemory> {
         let root = find_root(self.alloc, self.task, self.weights)?;
-        let mut ranked = Vec::new(self.alloc);
-        'begins: for begin in begins(root, widest(self.task)) {
-            if let Some(order) = self.order(begin)? {
-                let weight = falling(self.task, self.weights, &order);
-                ranked.push(Ranked { begin, weight })?;
+        let widest = self.task.channels.widest();
+        let begins = [
+            Begin::Root(root),
+            Begin::Root(widest),
+            Begin::Height,
+            Begin::Tree(root),
+        ];
+        let mut starts = Vec::new(self.alloc);
+        'begins: for begin in begins {
+            if let Some(start) = self.start(begin)? {
+                starts.push(start)?;
             }
         }
-        ranked.sort_by_key(|ranked| ranked.weight)?;
-        Ok(ranked)
+        starts.sort_by_key(|start| start.weight)?;
+        Ok(starts)
     }
 
     // The rows that are to be set by the best order of all that are tried.
     fn best(self) -> Result<Option<Changes>, OutOfMemory> {
         let mut effort = Effort::of(STEPS);
         let mut best = None;
-        'begins: for ranked in &self.ranked()? {
-            self.search_from(ranked.begin, &mut best, &mut effort)?;
+        'starts: for start in &self.starts()? {
+            self.search_from(start, &mut best, &mut effort)?;
         }
         Ok(best)
     }
@@ -334,6 +360,45 @@ fn find_changes(alloc: Global, task: Task<'_>) -> Result<Option<Changes>, OutOfM
     };
     let best = search.best()?;
     Ok(best.filter(|changes| changes.lost() == 0))
+}
+
+// The given tables with the rows that are to be set.
+fn repaired_by(
+    alloc: Global,
+    fabric: &Fabric,
+    cells: &Cells,
+    task: Task<'_>,
+    changes: &Changes,
+) -> Result<Repaired, OutOfMemory>
+    requires switches { cells.now.switches ≡ switch_count fabric.now }
+    requires lids { length fabric.now.owners ≤ 64 * cells.now.blocks }
+    ensures { IfOk result (λ made. AreRepairedOf fabric.now cells.now made.cells) }
+{
+    let before = measure(alloc, task, None)?;
+    let after = measure(alloc, task, Some(changes))?;
+    Ok(Repaired {
+        lids: changes.lids(),
+        before,
+        after,
+        cells: write_tables(alloc, fabric, cells, changes.rows())?,
+    })
+}
+
+// The given tables repaired, if rows are found that are to be set.
+fn repair_task(
+    alloc: Global,
+    fabric: &Fabric,
+    cells: &Cells,
+    task: Task<'_>,
+) -> Result<Option<Repaired>, OutOfMemory>
+    requires switches { cells.now.switches ≡ switch_count fabric.now }
+    requires lids { length fabric.now.owners ≤ 64 * cells.now.blocks }
+    ensures { IfOk result (λ found. IfSome found (λ made. AreRepairedOf fabric.now cells.now made.cells)) }
+{
+    match find_changes(alloc, task)? {
+        Some(changes) => Ok(Some(repaired_by(alloc, fabric, cells, task, &changes)?)),
+        None => Ok(None),
+    }
 }
 
 /// Tables in which few rows are set otherwise than in given ones, with all ways for the traffic; none where no such
@@ -359,13 +424,5 @@ pub fn repair(
         cells,
         traffic,
     };
-    let Some(changes) = find_changes(alloc, task)? else {
-        return Ok(None);
-    };
-    Ok(Some(Repaired {
-        lids: changes.lids(),
-        before: measure(alloc, task, None)?,
-        after: measure(alloc, task, Some(&changes))?,
-        cells: write_tables(alloc, fabric, cells, changes.rows())?,
-    }))
+    repair_task(alloc, fabric, cells, task)
 }

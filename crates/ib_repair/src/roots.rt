@@ -2,28 +2,28 @@
 
 use crate::task::Task;
 use an_base::memory::OutOfMemory;
-use ib_channels::channels::{Channel, Ends};
+use ib_channels::channels::Channel;
 use ib_channels::order::Order;
 use ib_channels::table::Table;
-use ib_channels::ways::{Rule, Ways};
-use ib_orders::materials::Materials;
-use ib_orders::recipe::Recipe;
+use ib_orders::levels::order_from_root;
+use ib_orders::spanning::Tree;
 use std::alloc::Global;
 
-// How many switches are tried as the root: at least, at most, and how many turns are looked at for them.
+// How many switches are tried as the root at least.
 const LEAST_TRIED: u32 = 16;
 
+// How many are tried at most.
 const MOST_TRIED: u32 = 256;
 
+// Between these, how many turns are looked at for them.
 const LOOKED_AT: u32 = 1 << 26;
 
 // Over how many turns routes pass each switch.
 fn passed(alloc: Global, task: Task<'_>, weights: &Table<u32>) -> Result<Table<u64>, OutOfMemory> {
     let mut passed = Table::filled(alloc, task.channels.switches(), 0u64)?;
     'channels: for number in 0..task.channels.count() {
-        let switch = task.channels.ends(Channel(number)).to;
-        let more = turns_from(task, weights, Channel(number));
-        passed.put(switch, passed.get(switch).wrapping_add(more));
+        let switch = task.channels.to(Channel(number));
+        passed.add(switch, turns_from(task, weights, Channel(number)));
     }
     Ok(passed)
 }
@@ -31,40 +31,9 @@ fn passed(alloc: Global, task: Task<'_>, weights: &Table<u32>) -> Result<Table<u
 // What all turns from a channel weigh.
 fn turns_from(task: Task<'_>, weights: &Table<u32>, channel: Channel) -> u64 {
     let mut weight = 0u64;
-    'exits: for number in task.channels.exits(task.channels.ends(channel).to) {
+    'exits: for number in task.channels.exits(task.channels.to(channel)) {
         let turn = task.channels.turn(channel, Channel(number));
         weight = weight.wrapping_add(u64::from(weights.get(turn)));
-    }
-    weight
-}
-
-// Whether a channel leads up, to a lesser level; among equal levels to a lesser switch.
-fn leads_up(levels: &Ways, ends: Ends) -> bool {
-    (levels.depth(ends.to), ends.to) < (levels.depth(ends.from), ends.from)
-}
-
-// What the turns weigh that lead up after a channel that leads down.
-fn broken_after(task: Task<'_>, weights: &Table<u32>, levels: &Ways, channel: Channel) -> u64 {
-    let ends = task.channels.ends(channel);
-    if leads_up(levels, ends) {
-        return 0;
-    }
-    let mut weight = 0u64;
-    'exits: for number in task.channels.exits(ends.to) {
-        let next = Channel(number);
-        if leads_up(levels, task.channels.ends(next)) {
-            let turn = task.channels.turn(channel, next);
-            weight = weight.wrapping_add(u64::from(weights.get(turn)));
-        }
-    }
-    weight
-}
-
-// What all these weigh.
-fn broken(task: Task<'_>, weights: &Table<u32>, levels: &Ways) -> u64 {
-    let mut weight = 0u64;
-    'channels: for number in 0..task.channels.count() {
-        weight = weight.wrapping_add(broken_after(task, weights, levels, Channel(number)));
     }
     weight
 }
@@ -72,7 +41,7 @@ fn broken(task: Task<'_>, weights: &Table<u32>, levels: &Ways) -> u64 {
 // What the turns from a channel weigh that fall in an order.
 fn falling_after(task: Task<'_>, weights: &Table<u32>, order: &Order, channel: Channel) -> u64 {
     let mut weight = 0u64;
-    'exits: for number in task.channels.exits(task.channels.ends(channel).to) {
+    'exits: for number in task.channels.exits(task.channels.to(channel)) {
         let next = Channel(number);
         let own = weights.get(task.channels.turn(channel, next));
         if own > 0 && !order.rises(channel, next) {
@@ -102,19 +71,20 @@ fn busiest(alloc: Global, task: Task<'_>, weights: &Table<u32>) -> Result<Vec<u3
     Ok(switches)
 }
 
-/// Of the switches that routes pass most, one from which levels are broken least: by turns that lead up after they led
-/// down.
-pub fn find_root(alloc: Global, task: Task<'_>, weights: &Table<u32>) -> Result<u32, OutOfMemory> {
-    let mut levels = Ways::new(alloc, task.channels.switches())?;
-    let loads = Table::empty(alloc, 0u64);
-    let switches = busiest(alloc, task, weights)?;
+// Of the first of some switches one in whose order the given routes fall least.
+fn least_falling(
+    alloc: Global,
+    task: Task<'_>,
+    weights: &Table<u32>,
+    switches: &[u32],
+) -> Result<u32, OutOfMemory> {
     let tried = LOOKED_AT / task.channels.turns().max(1);
     let tried = tried.clamp(LEAST_TRIED, MOST_TRIED);
     let mut root = 0;
     let mut least = u64::MAX;
     'switches: for switch in switches.iter().take(tried as usize) {
-        levels.grow(task.channels, Rule::Any, &loads, *switch)?;
-        let weight = broken(task, weights, &levels);
+        let order = order_from_root(alloc, task.channels, *switch)?;
+        let weight = falling(task, weights, &order);
         if weight < least {
             root = *switch;
             least = weight;
@@ -123,40 +93,14 @@ pub fn find_root(alloc: Global, task: Task<'_>, weights: &Table<u32>) -> Result<
     Ok(root)
 }
 
-/// A switch with the most channels.
-pub fn widest(task: Task<'_>) -> u32 {
-    let mut widest = 0;
-    'switches: for switch in 0..task.channels.switches() {
-        if task.channels.degree(switch) > task.channels.degree(widest) {
-            widest = switch;
-        }
-    }
-    widest
-}
-
-/// An order by levels from a root, or by heights.
-pub fn order_by(
-    alloc: Global,
-    task: Task<'_>,
-    recipe: Recipe,
-    root: u32,
-) -> Result<Option<Order>, OutOfMemory> {
-    let mut materials = Materials::bare(alloc, task.channels, task.demand);
-    materials.root = root;
-    recipe.make(alloc, task.channels, task.demand, &materials)
+/// Of the switches that routes pass most, one in whose order, up to it and then down, the given routes fall least.
+pub fn find_root(alloc: Global, task: Task<'_>, weights: &Table<u32>) -> Result<u32, OutOfMemory> {
+    let switches = busiest(alloc, task, weights)?;
+    least_falling(alloc, task, weights, &switches)
 }
 
 /// Which channels are of a spanning tree, in breadth, from a root.
 pub fn tree_from(alloc: Global, task: Task<'_>, root: u32) -> Result<Table<bool>, OutOfMemory> {
-    let mut ways = Ways::new(alloc, task.channels.switches())?;
-    let loads = Table::empty(alloc, 0u64);
-    ways.grow(task.channels, Rule::Any, &loads, root)?;
-    let mut marks = Table::filled(alloc, task.channels.count(), false)?;
-    'switches: for switch in 0..task.channels.switches() {
-        if let Some(exit) = ways.exit(switch) {
-            marks.put(exit, true);
-            marks.put(task.channels.ends(exit).back, true);
-        }
-    }
-    Ok(marks)
+    let tree = Tree::wide(alloc, task.channels, root)?;
+    tree.marks(alloc, task.channels)
 }

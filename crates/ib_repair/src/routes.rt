@@ -9,7 +9,7 @@ use ib_channels::table::Table;
 use std::alloc::Global;
 
 /// What a route costs that there is not.
-pub const FAR: u64 = u64::MAX;
+pub const NO_ROUTE: u64 = u64::MAX;
 
 // What it costs to set a row that serves one switch of sources alone: more than all channels of a route.
 const ROW: u64 = 1 << 32;
@@ -87,12 +87,11 @@ impl Routes {
                 break;
             }
             self.last.put(switch, source);
-            let flow = self.flows.get(switch).wrapping_add(1);
-            self.flows.put(switch, flow);
+            self.flows.add(switch, 1);
             let Some(exit) = self.exits.get(switch) else {
                 break;
             };
-            switch = task.channels.ends(exit).to;
+            switch = task.channels.to(exit);
         }
     }
 
@@ -112,7 +111,7 @@ impl Routes {
         let Some(exit) = self.exits.get(switch) else {
             return switch == target;
         };
-        let to = task.channels.ends(exit).to;
+        let to = task.channels.to(exit);
         if to == target {
             return true;
         }

@@ -5,6 +5,7 @@ use ib_cells::cells::Cells;
 use ib_channels::channels::{Channel, Channels};
 use ib_channels::demand::{Demand, Target};
 use ib_channels::table::Table;
+use ib_rising::plan::{sends_from, sends_to};
 use ib_routes::traffic::Traffic;
 use std::alloc::Global;
 
@@ -28,8 +29,9 @@ impl Ports {
         let count = channels.switches().wrapping_mul(SLOTS);
         let mut slots = Table::filled(alloc, count, None)?;
         'channels: for number in 0..channels.count() {
-            let ends = channels.ends(Channel(number));
-            slots.put(slot_of(ends.from, ends.port), Some(Channel(number)));
+            let channel = Channel(number);
+            let slot = slot_of(channels.from(channel), channels.port(channel));
+            slots.put(slot, Some(channel));
         }
         Ok(Ports { slots })
     }
@@ -58,20 +60,12 @@ pub struct Task<'a> {
 impl Task<'_> {
     /// Whether routes of the traffic begin at a switch.
     pub fn sends_from(self, switch: u32) -> bool {
-        match self.traffic {
-            Traffic::Hosts => self.demand.hosts(switch) > 0,
-            Traffic::Lids => self.demand.hosts(switch) > 0,
-            Traffic::All => true,
-        }
+        sends_from(self.traffic, self.demand, switch)
     }
 
     /// Whether routes of the traffic lead to a target.
     pub fn sends_to(self, target: Target) -> bool {
-        match self.traffic {
-            Traffic::Hosts => target.is_host(),
-            Traffic::Lids => true,
-            Traffic::All => true,
-        }
+        sends_to(self.traffic, target)
     }
 
     // The port of a switch for a LID.

@@ -4,37 +4,36 @@ use crate::changes::Changes;
 use crate::routes::Routes;
 use crate::task::Task;
 use an_base::memory::OutOfMemory;
+use ib_channels::amount::Change;
 use ib_channels::channels::Channel;
 use ib_channels::table::Table;
 use std::alloc::Global;
 
-// One pair more, and one less: sums wrap.
-const MORE: u32 = 1;
-
-const LESS: u32 = u32::MAX;
-
-// Adds to the weight of the turn that the routes over a switch make at the next one, if they go on there.
-fn add_turn(task: Task<'_>, routes: &Routes, switch: u32, by: u32, weights: &mut Table<u32>) {
+// Changes the weight of the turn that the routes over a switch make at the next one, if they go on there.
+fn change_turn(
+    task: Task<'_>,
+    routes: &Routes,
+    switch: u32,
+    change: Change,
+    weights: &mut Table<u32>,
+) {
     let Some(exit) = routes.exit(switch) else {
         return;
     };
-    let ends = task.channels.ends(exit);
-    let Some(next) = routes.exit(ends.to) else {
+    let Some(next) = routes.exit(task.channels.to(exit)) else {
         return;
     };
-    if next != ends.back {
-        let turn = task.channels.turn(exit, next);
-        let weight = weights.get(turn).wrapping_add(by);
-        weights.put(turn, weight);
+    if next != task.channels.back(exit) {
+        weights.change(task.channels.turn(exit, next), 1, change);
     }
 }
 
-// Adds to the weights of the turns of the routes to a target.
-fn add_turns(task: Task<'_>, routes: &mut Routes, by: u32, weights: &mut Table<u32>) {
+// Changes the weights of the turns of the routes to a target: each by one for each switch that makes it.
+fn change_turns(task: Task<'_>, routes: &mut Routes, change: Change, weights: &mut Table<u32>) {
     routes.count(task);
     'switches: for switch in 0..task.channels.switches() {
         if routes.flow(switch) > 0 {
-            add_turn(task, routes, switch, by, weights);
+            change_turn(task, routes, switch, change, weights);
         }
     }
 }
@@ -47,7 +46,7 @@ pub fn weigh(alloc: Global, task: Task<'_>) -> Result<Table<u32>, OutOfMemory> {
     'targets: for target in task.demand.targets() {
         if task.sends_to(*target) {
             routes.read(task, *target);
-            add_turns(task, &mut routes, MORE, &mut weights);
+            change_turns(task, &mut routes, Change::Come, &mut weights);
         }
     }
     Ok(weights)
@@ -74,10 +73,10 @@ pub fn reweigh(
     'targets: for (place, target) in task.demand.targets().iter().enumerate() {
         if task.sends_to(*target) && changes.concerns(place) {
             routes.read(task, *target);
-            add_turns(task, &mut routes, LESS, &mut weights);
+            change_turns(task, &mut routes, Change::Go, &mut weights);
             changes.put_exits(task, place, routes.exits_mut());
             routes.put(target.switch, None);
-            add_turns(task, &mut routes, MORE, &mut weights);
+            change_turns(task, &mut routes, Change::Come, &mut weights);
         }
     }
     Ok(weights)

@@ -1,10 +1,10 @@
 //! Turns that do not rise in an order and with which fewer rows would have to be set.
 
 use crate::changes::Changes;
-use crate::routes::{FAR, Routes};
+use crate::routes::{NO_ROUTE, Routes};
 use crate::task::Task;
 use an_base::memory::OutOfMemory;
-use ib_channels::channels::{Channel, Ends};
+use ib_channels::channels::Channel;
 use ib_channels::demand::Target;
 use ib_channels::order::Order;
 use ib_channels::table::Table;
@@ -21,9 +21,10 @@ struct Onward {
     cost: u64,
 }
 
+// No route goes on.
 const NOWHERE: Onward = Onward {
     next: None,
-    cost: FAR,
+    cost: NO_ROUTE,
 };
 
 // Routes to one target of which few turns fall.
@@ -48,30 +49,25 @@ impl Wishing {
             given: Routes::new(alloc, switches)?,
             onward: Table::filled(alloc, channels, NOWHERE)?,
             starts: Table::filled(alloc, switches, NOWHERE)?,
-            costs_before: Table::filled(alloc, channels, FAR)?,
-            least_before: Table::filled(alloc, switches, FAR)?,
-            costs: Table::filled(alloc, channels, FAR)?,
+            costs_before: Table::filled(alloc, channels, NO_ROUTE)?,
+            least_before: Table::filled(alloc, switches, NO_ROUTE)?,
+            costs: Table::filled(alloc, channels, NO_ROUTE)?,
         })
     }
 
     // How the cheapest route goes on after a channel: by a later one, or by any that is not refused if that costs less.
-    fn best_onward(
-        &self,
-        task: Task<'_>,
-        refused: &Table<bool>,
-        channel: Channel,
-        ends: Ends,
-    ) -> Onward {
-        let mut best = self.starts.get(ends.to);
-        let toll = self.given.share(ends.to);
-        if self.least_before.get(ends.to).saturating_add(toll) >= best.cost {
+    fn best_onward(&self, task: Task<'_>, refused: &Table<bool>, channel: Channel) -> Onward {
+        let (to, back) = (task.channels.to(channel), task.channels.back(channel));
+        let mut best = self.starts.get(to);
+        let toll = self.given.share(to);
+        if self.least_before.get(to).saturating_add(toll) >= best.cost {
             return best;
         }
-        'exits: for number in task.channels.exits(ends.to) {
+        'exits: for number in task.channels.exits(to) {
             let next = Channel(number);
             let cost = self.costs_before.get(next).saturating_add(toll);
             let is_refused = refused.get(task.channels.turn(channel, next));
-            if cost < best.cost && next != ends.back && !is_refused {
+            if cost < best.cost && next != back && !is_refused {
                 best = Onward {
                     next: Some(next),
                     cost,
@@ -94,18 +90,18 @@ impl Wishing {
             },
         );
         'channels: for channel in order.sequence().iter().rev() {
-            let ends = task.channels.ends(*channel);
-            let onward = self.best_onward(task, refused, *channel, ends);
-            if ends.from == target || onward.cost == FAR {
+            let from = task.channels.from(*channel);
+            let onward = self.best_onward(task, refused, *channel);
+            if from == target || onward.cost == NO_ROUTE {
                 continue;
             }
-            let price = self.given.price(ends.from, *channel);
+            let price = self.given.price(from, *channel);
             let cost = onward.cost.wrapping_add(price).wrapping_add(1);
             self.costs.put(*channel, cost);
             self.onward.put(*channel, onward);
-            if cost < self.starts.get(ends.from).cost {
+            if cost < self.starts.get(from).cost {
                 let next = Some(*channel);
-                self.starts.put(ends.from, Onward { next, cost });
+                self.starts.put(from, Onward { next, cost });
             }
         }
     }
@@ -121,7 +117,7 @@ impl Wishing {
     // Whether there is a route from each switch of sources.
     fn reaches_all(&self, task: Task<'_>) -> bool {
         let mut switches = 0..task.channels.switches();
-        switches.all(|switch| !task.sends_from(switch) || self.starts.get(switch).cost < FAR)
+        switches.all(|switch| !task.sends_from(switch) || self.starts.get(switch).cost < NO_ROUTE)
     }
 
     // Finds the cheapest routes with at least one turn that may fall.
@@ -155,9 +151,7 @@ impl Wishing {
             at = self.onward.get(channel).next;
             if let Some(next) = at {
                 if !order.rises(channel, next) {
-                    let turn = task.channels.turn(channel, next);
-                    let wish = wishes.get(turn).wrapping_add(1);
-                    wishes.put(turn, wish);
+                    wishes.add(task.channels.turn(channel, next), 1);
                 }
             }
         }

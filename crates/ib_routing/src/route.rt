@@ -18,7 +18,7 @@ use an_base::memory::OutOfMemory;
 use calling::end::tell;
 use ib_answering::input::read_topology;
 use ib_answering::status::{Status, finish};
-use ib_laying::choice::{Made, Search, lay_tables};
+use ib_laying::choice::{Made, lay_tables};
 use ib_net::fabric::Fabric;
 use ib_routes::traffic::Traffic;
 use ib_tables_text::printer::print;
@@ -83,7 +83,7 @@ pub fn given_for(alloc: Global, fabric: &Fabric, traffic: Traffic) -> Result<Giv
 {
     match find_apart(alloc, fabric, traffic)? {
         Some(pair) => given_apart(alloc, fabric, traffic, pair),
-        None => match lay_tables(alloc, fabric, traffic, Search::Best)? {
+        None => match lay_tables(alloc, fabric, traffic)? {
             Some(made) => given_made(alloc, fabric, traffic, &made),
             None => given_none(alloc, fabric, traffic),
         },

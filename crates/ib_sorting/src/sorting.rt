@@ -37,7 +37,7 @@ fn find_wanted(
     channel: Channel,
     wanted: &mut Vec<Wanted>,
 ) -> Result<(), OutOfMemory> {
-    'exits: for number in channels.exits(channels.ends(channel).to) {
+    'exits: for number in channels.exits(channels.to(channel)) {
         let next = Channel(number);
         let turn = channels.turn(channel, next);
         let weight = weights.get(turn);
@@ -100,8 +100,8 @@ impl Sorting {
         last: u32,
         effort: &mut Effort,
     ) -> Result<bool, OutOfMemory> {
-        effort.spend(channels.degree(channels.ends(channel).to));
-        'exits: for number in channels.exits(channels.ends(channel).to) {
+        effort.spend(channels.degree(channels.to(channel)));
+        'exits: for number in channels.exits(channels.to(channel)) {
             let next = Channel(number);
             let place = self.places.get(next);
             if place > last || !self.turns.get(channels.turn(channel, next)) {
@@ -146,9 +146,9 @@ impl Sorting {
         first: u32,
         effort: &mut Effort,
     ) -> Result<(), OutOfMemory> {
-        effort.spend(channels.degree(channels.ends(channel).from));
-        'entries: for number in channels.exits(channels.ends(channel).from) {
-            let before = channels.ends(Channel(number)).back;
+        effort.spend(channels.degree(channels.from(channel)));
+        'entries: for number in channels.exits(channels.from(channel)) {
+            let before = channels.back(Channel(number));
             let is_after = self.places.get(before) > first;
             if is_after && self.turns.get(channels.turn(before, channel)) && self.mark(before) {
                 self.front.push(before)?;
@@ -254,7 +254,7 @@ impl Sorting {
     // Adds the turns from a channel that weigh something and rise.
     fn add_rising_after(&mut self, channels: &Channels, weights: &Table<u32>, channel: Channel) {
         let place = self.places.get(channel);
-        'exits: for number in channels.exits(channels.ends(channel).to) {
+        'exits: for number in channels.exits(channels.to(channel)) {
             let turn = channels.turn(channel, Channel(number));
             if weights.get(turn) > 0 && place < self.places.get(Channel(number)) {
                 self.turns.put(turn, true);

@@ -24,6 +24,7 @@ impl Rows {
     }
 
     // Where the exit of a switch stands.
+    #[inline]
     fn place(&self, row: u32, switch: u32) -> usize {
         (row as usize)
             .wrapping_mul(self.switches as usize)
@@ -31,16 +32,18 @@ impl Rows {
     }
 
     /// The exit of a switch in a row.
+    #[inline]
     pub fn exit(&self, channels: &Channels, row: u32, switch: u32) -> Option<Channel> {
         let byte = self.bytes.get(self.place(row, switch)).copied()?;
         channels.exit_at(switch, u32::from(byte))
     }
 
-    /// Puts the exit of a switch in a row.
-    pub fn put(&mut self, channels: &Channels, row: u32, switch: u32, exit: Option<Channel>) {
+    // Puts the exit of a switch in a row.
+    #[inline]
+    fn put(&mut self, channels: &Channels, row: u32, switch: u32, exit: Option<Channel>) {
         let place = self.place(row, switch);
         let byte = match exit {
-            Some(channel) => u8::try_from(channels.place(channel)).unwrap_or(NO_EXIT),
+            Some(channel) => u8::try_from(channels.place(switch, channel)).unwrap_or(NO_EXIT),
             None => NO_EXIT,
         };
         if let Some(item) = self.bytes.get_mut(place) {

@@ -1,6 +1,7 @@
 //! Ways for switches that have none along which an order rises from level to level.
 
 use crate::plan::Plan;
+use crate::raising::{extend, raise};
 use an_base::memory::OutOfMemory;
 use ib_channels::channels::Channel;
 use ib_channels::table::Table;
@@ -18,10 +19,13 @@ fn last_starts(
 ) -> Result<Table<Option<Channel>>, OutOfMemory> {
     let mut starts: Table<Option<Channel>> = Table::filled(alloc, plan.channels.switches(), None)?;
     'channels: for channel in plan.order.sequence().iter().rev() {
-        let ends = plan.channels.ends(*channel);
-        let goes_on = ends.to == target || starts.get(ends.to).is_some();
-        if goes_on && ends.from != target && starts.get(ends.from).is_none() {
-            starts.put(ends.from, Some(*channel));
+        let to = plan.channels.to(*channel);
+        if to != target && starts.get(to).is_none() {
+            continue;
+        }
+        let from = plan.channels.from(*channel);
+        if from != target && starts.get(from).is_none() {
+            starts.put(from, Some(*channel));
         }
     }
     Ok(starts)
@@ -44,8 +48,18 @@ fn close(
         if plan.may_follow(ways, target, channel) {
             break;
         }
-        switch = plan.channels.ends(channel).to;
+        switch = plan.channels.to(channel);
     }
+}
+
+// Whether some exit of a switch leads nearer than its own.
+fn has_nearer(plan: Plan<'_>, ways: &Ways, switch: u32) -> bool {
+    let depth = ways.depth(switch);
+    let leads_nearer = |number: u32| {
+        let to = plan.channels.to(Channel(number));
+        ways.depth(to).saturating_add(1) < depth
+    };
+    plan.channels.exits(switch).any(leads_nearer)
 }
 
 // A nearer exit of a switch that breaks no turn, if it has one.
@@ -55,10 +69,12 @@ fn nearer_exit(plan: Plan<'_>, ways: &Ways, target: u32, switch: u32) -> Option<
     let mut nearer = None;
     'exits: for number in plan.channels.exits(switch) {
         let channel = Channel(number);
-        let to = plan.channels.ends(channel).to;
+        let to = plan.channels.to(channel);
         let over = ways.depth(to).saturating_add(1);
-        let may_be = plan.order.place(channel) >= least && plan.may_follow(ways, target, channel);
-        if over < depth && may_be {
+        if over < depth
+            && plan.order.place(channel) >= least
+            && plan.may_follow(ways, target, channel)
+        {
             depth = over;
             nearer = Some(channel);
         }
@@ -70,7 +86,7 @@ fn nearer_exit(plan: Plan<'_>, ways: &Ways, target: u32, switch: u32) -> Option<
 fn shorten_once(plan: Plan<'_>, ways: &mut Ways, target: u32) -> bool {
     let mut is_shorter = false;
     'switches: for switch in 0..plan.channels.switches() {
-        if switch != target && ways.depth(switch) != FAR {
+        if switch != target && ways.depth(switch) != FAR && has_nearer(plan, ways, switch) {
             if let Some(channel) = nearer_exit(plan, ways, target, switch) {
                 ways.put_exit(switch, Some(channel));
                 is_shorter = true;
@@ -110,9 +126,14 @@ pub fn close_all(
     ways: &mut Ways,
     target: u32,
 ) -> Result<(), OutOfMemory> {
+    if plan.missing(ways) == 0 {
+        return Ok(());
+    }
+    raise(plan, ways, target);
+    extend(plan, ways, target)?;
     let missing = find_missing(alloc, plan, ways)?;
     if missing.is_empty() {
-        return Ok(());
+        return ways.arrange(plan.channels, target);
     }
     let starts = last_starts(alloc, plan, target)?;
     'missing: for switch in &missing {
