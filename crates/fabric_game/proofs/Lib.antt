@@ -1,5 +1,5 @@
 pub mod Firm
-pub mod JoinedLemmas
+pub mod RoutedLemmas
 pub mod EachLemmas
 pub mod HistoryLemmas
 pub mod BytesLemmas

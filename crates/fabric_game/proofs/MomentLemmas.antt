@@ -11,7 +11,7 @@ use Rattle.fabric_game.specs.Meeting.{Met}
 use Rattle.fabric_game.specs.Lives.{all_lives}
 use Rattle.fabric_game.proofs.LivesLemmas.{firm, lives_few}
 use Rattle.fabric_game.proofs.ClauseLemmas.{one_picture, topologies}
-use Rattle.fabric_game.proofs.JoinedLemmas.{all_joined}
+use Rattle.fabric_game.proofs.RoutedLemmas.{all_routed}
 use Rattle.fabric_game.proofs.OwnTables.{own_tables, none_is_older}
 use Rattle.fabric_game.proofs.SettledLemmas.{if_settled}
 use Rattle.fabric_game.proofs.TraceLemmas.{hops_by_tables}
@@ -28,7 +28,7 @@ holds_at script kept h =
     record {
       picture = one_picture script lives (lives_few script kept) kept (firm script kept) h;
       topologies = are;
-      joined = all_joined script h are;
+      routed = all_routed script h are;
       tables = own_tables script lives (lives_few script kept) kept (firm script kept) h;
       older = none_is_older script lives (lives_few script kept) kept (firm script kept) h;
       traces = record {

@@ -10,7 +10,7 @@ ghost use Rattle.switch_core.specs.Switch.{good_peer};
 ghost use Rattle.switch_game.specs.Playing.{Agrees};
 ghost use Rattle.fabric_state.specs.Fabric.{life_of};
 ghost use Rattle.fabric_world.specs.World.{world_after};
-ghost use Rattle.fabric_world.specs.Clauses.{AreAllJoined, AreOnePicture, AreOwnTables, AreTopologies, HoldsAtEachMoment, HoldsThroughout, IfSettled, NoneIsOlder};
+ghost use Rattle.fabric_world.specs.Clauses.{AreAllRouted, AreOnePicture, AreOwnTables, AreTopologies, HoldsAtEachMoment, HoldsThroughout, IfSettled, NoneIsOlder};
 ghost use Rattle.fabric_world.specs.Traces.{AreDelivered, AreHopsByTables, AreLegalRoutes};
 ghost use Rattle.fabric_world.specs.Heard.{IsHeard};
 ghost use Rattle.fabric_game.specs.Embedding.{IsEmbedded};
@@ -67,7 +67,7 @@ pub fn what_is_heard_was_sent()
 pub fn what_is_finished_is_one_picture()
     ensures picture { OfEachHistory AreOnePicture }
     ensures topologies { OfEachHistory AreTopologies }
-    ensures joined { OfEachHistory AreAllJoined }
+    ensures routed { OfEachHistory AreAllRouted }
     ensures tables { OfEachHistory AreOwnTables }
     ensures older { OfEachHistory NoneIsOlder }
     ensures moments { OfEachHistory HoldsAtEachMoment }

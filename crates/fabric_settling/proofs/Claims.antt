@@ -28,7 +28,7 @@ use Rattle.fabric_world.specs.Histories.{AreLawful, IsLawful, end_of}
 use Rattle.fabric_world.proofs.InductionLemmas.{world_script}
 use Rattle.fabric_world.proofs.WorldLemmas.{world_after-event, step-lawful, none_at_end}
 use Rattle.fabric_settling.specs.Disturbances.{is_told, is_for_room, is_either, is_lost_by, loses, is_of_script, disturbs, since, last_disturbance, NoneForRoom}
-use Rattle.fabric_settling.specs.Settling.{is_still, ports_shown, ArePortsFinal, AreBodiesThrough, PortsSettle, MomentsSettle, IsLimitLate, Settles, IfUndisturbed, last_told}
+use Rattle.fabric_settling.specs.Settling.{is_still, ports_shown, ArePortsFinal, AreBodiesThrough, PortsSettle, MomentsSettle, IsLimitLate, Settles, IfUnpacedAndRoomy, last_told}
 use Rattle.fabric_settling.proofs.Since.{step_tick, last_more, since_more, since_grows, disturbance_grows}
 use Rattle.fabric_settling.proofs.Times.{told_late}
 
@@ -252,7 +252,7 @@ ports_stay script (e ∷ later) h final lawful late =
     ∙ fixed
 
 -- what is claimed of the ports
-pub ports_settle : (script : ScriptOf) → IsScript script → ArePortsFinal script → (history : List Event) → IsLawful script history → IfUndisturbed script PortsSettle history
+pub ports_settle : (script : ScriptOf) → IsScript script → ArePortsFinal script → (history : List Event) → IsLawful script history → IfUnpacedAndRoomy script PortsSettle history
 ports_settle script kept final history lawful unpaced room before later parts late =
     let told = told_is script history room in
     let whole = ap (last_disturbance is_either script) parts in
@@ -338,7 +338,7 @@ in_time script h kept unpaced final lawful room late ends =
     let settled = settled_at script h final lawful done still (omega (arith, tick, limit, told, last)) in
     false≢true (sym e.0.not_settled ∙ settled)
 
-pub all_claims : (script : ScriptOf) → IsScript script → ArePortsFinal script → AreBodiesThrough script → (history : List Event) → IsLawful script history → IfUndisturbed script Settles history
+pub all_claims : (script : ScriptOf) → IsScript script → ArePortsFinal script → AreBodiesThrough script → (history : List Event) → IsLawful script history → IfUnpacedAndRoomy script Settles history
 all_claims script kept ports bodies history lawful unpaced room =
     let final : AreBoth script = record { ports = ports; bodies = bodies } in
     record {

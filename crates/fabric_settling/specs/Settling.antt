@@ -95,14 +95,14 @@ pub record Settles (script : ScriptOf) (history : List Event) : Type 0 where
   pub in_time : IsLimitLate script history → end_of script history ≢ Some ending.Unsettled
 
 -- It is claimed of histories without a pace in which no frame and no copy was lost for want of room.
-abbrev pub IfUndisturbed : ScriptOf → (ScriptOf → List Event → Type 0) → List Event → Type 0
-IfUndisturbed script claim history =
+abbrev pub IfUnpacedAndRoomy : ScriptOf → (ScriptOf → List Event → Type 0) → List Event → Type 0
+IfUnpacedAndRoomy script claim history =
     script.pace ≡ None → NoneForRoom script history → claim script history
 
 -- What is claimed of each lawful history of a script of how soon it settles: of its ports, and of all of it.
 pub record SettlesSoon (script : ScriptOf) (history : List Event) : Type 0 where
-  pub ports : IfUndisturbed script PortsSettle history
-  pub all : IfUndisturbed script Settles history
+  pub ports : IfUnpacedAndRoomy script PortsSettle history
+  pub all : IfUnpacedAndRoomy script Settles history
 
 -- The three conditions under which no lawful history ends unsettled: there is no pace, no frame and no copy
 -- was lost for want of room, and the limit on ticks is 1,024 or more above the times of all commands and the

@@ -18,7 +18,7 @@ ghost use Rattle.fabric_world.specs.World.{WorldOf, step, world_after};
 ghost use Rattle.fabric_world.specs.Histories.{IsLawful, end_of};
 ghost use Rattle.fabric_settling.specs.Views.{IsCut, IsRun, LinkOf, end_here, end_there, here, is_session, there, turned, view, way};
 ghost use Rattle.fabric_settling.specs.Disturbances.{is_either, last_disturbance};
-ghost use Rattle.fabric_settling.specs.Settling.{AreBodiesThrough, ArePortsFinal, HasTime, IfUndisturbed, PortsSettle, Settles};
+ghost use Rattle.fabric_settling.specs.Settling.{AreBodiesThrough, ArePortsFinal, HasTime, IfUnpacedAndRoomy, PortsSettle, Settles};
 ghost use Rattle.fabric_settling.specs.Claims.{HoldsAndSettles};
 
 /// The clock never goes back; the last disturbance is no later than the clock, and no earlier in a longer
@@ -79,7 +79,7 @@ pub fn each_link_is_cut()
 pub fn the_ports_are_final()
     ensures fixed { (script : ScriptOf) → IsScript script → script.pace ≡ None → ArePortsFinal script }
     ensures settle { (script : ScriptOf) → IsScript script → (history : List Event) → IsLawful script history
-        → IfUndisturbed script PortsSettle history }
+        → IfUnpacedAndRoomy script PortsSettle history }
 {}
 
 /// Without a pace, three ticks after the ports are final each body that was pushed is acknowledged, where
@@ -89,7 +89,7 @@ pub fn the_ports_are_final()
 pub fn all_settles()
     ensures through { (script : ScriptOf) → IsScript script → script.pace ≡ None → AreBodiesThrough script }
     ensures settles { (script : ScriptOf) → IsScript script → (history : List Event) → IsLawful script history
-        → IfUndisturbed script Settles history }
+        → IfUnpacedAndRoomy script Settles history }
 {}
 
 /// So no lawful history ends unsettled that had the time to settle: without a pace, without a frame or a copy lost

@@ -58,7 +58,7 @@ AreTopologies script history = (life : LifeId) (epoch : ℕ) (topo : TopoOf)
 -- The rows of a topology join all members, along the legal routes that the script's tables have, and no
 -- channel leads back to itself. Members are their places among the entries, and what starts at one comes in
 -- by entry 0.
-pub record AreJoined (entries : List EntryOf) (any : Bool) : Type 0 where
+pub record AreRouted (entries : List EntryOf) (any : Bool) : Type 0 where
   -- whoever follows the rows to a member and is not there finds an exit to it
   pub goes_on : (to from at entry : ℕ) (ports : List ℕ) → from < length entries → to < length entries
       → Follows entries any to from 0 ports at entry → at ≢ to
@@ -76,10 +76,10 @@ pub record AreJoined (entries : List EntryOf) (any : Bool) : Type 0 where
   -- no channel leads back to itself, by one step or more
   pub no_cycle : (steps : ℕ) (channel : ℕ × ℕ) → ChannelWalk entries any (suc steps) channel channel → ⊥
 
--- of whatever a life has finished an epoch with, all members are joined
-abbrev pub AreAllJoined : ScriptOf → List Event → Type 0
-AreAllJoined script history = (life : LifeId) (epoch : ℕ) (topo : TopoOf)
-    → FinishedAt script history life epoch topo → AreJoined topo.entries script.any_routes
+-- the members of whatever a life has finished an epoch with are joined so
+abbrev pub AreAllRouted : ScriptOf → List Event → Type 0
+AreAllRouted script history = (life : LifeId) (epoch : ℕ) (topo : TopoOf)
+    → FinishedAt script history life epoch topo → AreRouted topo.entries script.any_routes
 
 -- A table in use is the routing table, of the present life, of what that life finished with in the table's
 -- epoch.
@@ -108,7 +108,7 @@ NoneIsOlder script history = (before later : List Event) (place member : ℕ) (t
 pub record HoldsAt (script : ScriptOf) (history : List Event) : Type 0 where
   pub picture : AreOnePicture script history
   pub topologies : AreTopologies script history
-  pub joined : AreAllJoined script history
+  pub routed : AreAllRouted script history
   pub tables : AreOwnTables script history
   pub older : NoneIsOlder script history
   pub traces : AreTraced script history

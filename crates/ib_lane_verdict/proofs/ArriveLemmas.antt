@@ -19,7 +19,7 @@ use Rattle.ib_lane_routes.proofs.OneLaneLemmas.{start_begin}
 use Rattle.ib_lane_waves.proofs.FindLemmas.{first_is}
 use Rattle.ib_lane_verdict.specs.declared.verdict.LaneVerdict.{LaneVerdict}
 use Rattle.ib_lane_verdict.specs.declared.verdict.LaneVerdict.TheVariants.{Ranks, Cycle}
-use Rattle.ib_lane_verdict.specs.LaneJudgements.{LanePassesBy}
+use Rattle.ib_lane_verdict.specs.LaneJudgements.{LanePassesIfRanked}
 use Rattle.ib_lane_verdict.specs.LaneVerdict.{IsLaneVerdict, LaneAllArrive, LaneArrivesBy, LaneHasRanks, lane_rank_in}
 
 -- a source begins somewhere
@@ -89,7 +89,7 @@ module _ (fabric : FabricOf) (tables : TablesOf) (lanes : LanesOf) (traffic : Tr
     none_stops : (stops : Bool) → (IsTrue stops ↔ SomeIsLaneStopped fabric tables lanes traffic levels) → stops ≡ false → SomeIsLaneStopped fabric tables lanes traffic levels → ⊥
     none_stops stops tells none some = absurd (let told = tells.1 some in cc)
 
-    pub pass : (stops : Bool) → (IsTrue stops ↔ SomeIsLaneStopped fabric tables lanes traffic levels) → (verdict : LaneVerdict) → IsLaneVerdict fabric tables lanes traffic levels count verdict → stops ≡ false → LanePassesBy fabric tables lanes traffic levels count verdict
+    pub pass : (stops : Bool) → (IsTrue stops ↔ SomeIsLaneStopped fabric tables lanes traffic levels) → (verdict : LaneVerdict) → IsLaneVerdict fabric tables lanes traffic levels count verdict → stops ≡ false → LanePassesIfRanked fabric tables lanes traffic levels count verdict
     pass stops tells (Ranks ranks) is none = record {
       ranked = is;
       arrived = arrive (rank_of ranks.items) (ranks_fall ranks.items is) (λ lid source level stopped. none_stops stops tells none (lid, (source, (level, stopped))));

@@ -27,15 +27,15 @@ module _ (fabric : FabricOf) (tables : TablesOf) (lanes : LanesOf) (traffic : Tr
   IsLaneDependencyCount = IsCountOf IsLaneDependency
 
   -- if there is no credit loop, each route of the traffic arrives
-  abbrev pub LanePassesBy : ℕ → LaneVerdict → Type 0
-  LanePassesBy count (Ranks ranks) = LanePasses fabric tables lanes traffic levels count ranks.items
-  LanePassesBy count (Cycle channels) = Unit {0}
+  abbrev pub LanePassesIfRanked : ℕ → LaneVerdict → Type 0
+  LanePassesIfRanked count (Ranks ranks) = LanePasses fabric tables lanes traffic levels count ranks.items
+  LanePassesIfRanked count (Cycle channels) = Unit {0}
 
   -- The verdict on so many lanes; whether a route stops or is discarded, and if none does and there is no credit loop,
   -- all arrive; how many channels there are; and how many dependencies.
   pub record IsLaneJudgement (count : ℕ) (judged : LaneJudgement) : Type 0 where
     pub verdict : IsLaneVerdict fabric tables lanes traffic levels count judged.verdict
     pub stops : IsTrue judged.stops ↔ SomeIsLaneStopped fabric tables lanes traffic levels
-    pub passes : judged.stops ≡ false → LanePassesBy count judged.verdict
+    pub passes : judged.stops ≡ false → LanePassesIfRanked count judged.verdict
     pub channels : IsLaneChannelCount fabric count judged.channels
     pub dependencies : IsLaneDependencyCount judged.dependencies

@@ -7,14 +7,14 @@ use Rattle.ib_routes.specs.declared.traffic.Traffic.{Traffic}
 use Rattle.ib_routes.specs.Found.{SomeIsStopped}
 use Rattle.ib_verdict.specs.declared.verdict.Verdict.{Verdict}
 use Rattle.ib_verdict.specs.declared.verdict.Verdict.TheVariants.{Ranks, Cycle}
-use Rattle.ib_verdict.specs.Verdict.{IsVerdict, PassesBy}
+use Rattle.ib_verdict.specs.Verdict.{IsVerdict, PassesIfRanked}
 use Rattle.ib_verdict.proofs.ArriveLemmas.{arrive}
 use Rattle.ib_verdict.proofs.RankLemmas.{rank_of, ranks_fall}
 
 pub none_stops : (stops : Bool) (Some : Type 0) → (IsTrue stops ↔ Some) → stops ≡ false → Some → ⊥
 none_stops stops Some tells none some = absurd (let told = tells.1 some in cc)
 
-pub pass : (fabric : FabricOf) (tables : TablesOf) (traffic : Traffic) (stops : Bool) → (IsTrue stops ↔ SomeIsStopped fabric tables traffic) → (verdict : Verdict) → IsVerdict fabric tables traffic verdict → stops ≡ false → PassesBy fabric tables traffic verdict
+pub pass : (fabric : FabricOf) (tables : TablesOf) (traffic : Traffic) (stops : Bool) → (IsTrue stops ↔ SomeIsStopped fabric tables traffic) → (verdict : Verdict) → IsVerdict fabric tables traffic verdict → stops ≡ false → PassesIfRanked fabric tables traffic verdict
 pass fabric tables traffic stops tells (Ranks ranks) is none = record {
   ranked = is;
   arrived = arrive fabric tables traffic (rank_of fabric ranks.items) (ranks_fall fabric tables traffic ranks.items is) (λ lid source stopped. none_stops stops (SomeIsStopped fabric tables traffic) tells none (lid, (source, stopped)));

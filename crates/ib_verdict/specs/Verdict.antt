@@ -59,9 +59,9 @@ pub record Passes (fabric : FabricOf) (tables : TablesOf) (traffic : Traffic) (r
   pub arrived : AllArrive fabric tables traffic
 
 -- so by a verdict that is ranks; of one that is a loop nothing is said
-abbrev pub PassesBy : FabricOf → TablesOf → Traffic → Verdict → Type 0
-PassesBy fabric tables traffic (Ranks ranks) = Passes fabric tables traffic ranks.items
-PassesBy fabric tables traffic (Cycle channels) = Unit {0}
+abbrev pub PassesIfRanked : FabricOf → TablesOf → Traffic → Verdict → Type 0
+PassesIfRanked fabric tables traffic (Ranks ranks) = Passes fabric tables traffic ranks.items
+PassesIfRanked fabric tables traffic (Cycle channels) = Unit {0}
 
 -- the port of a place, if switches have at most so many
 abbrev pub spot_at : ℕ → ℕ → Spot

@@ -1,6 +1,6 @@
 use Rattle.fabric_game.specs.Lives.{all_lives}
 use Rattle.fabric_game.proofs.ClauseLemmas.{one_picture, topologies}
-use Rattle.fabric_game.proofs.JoinedLemmas.{all_joined}
+use Rattle.fabric_game.proofs.RoutedLemmas.{all_routed}
 use Rattle.fabric_game.proofs.OwnTables.{own_tables, none_is_older}
 use Rattle.fabric_game.proofs.MomentLemmas.{holds_at}
 use Rattle.fabric_game.proofs.LivesLemmas.{firm, lives_few}
@@ -12,8 +12,8 @@ returns-clause-picture c script kept = one_picture script (all_lives script) (li
 pub returns-clause-topologies : goal.returns-clause-topologies
 returns-clause-topologies c script kept = topologies script (all_lives script) (lives_few script kept) kept (firm script kept)
 
-pub returns-clause-joined : goal.returns-clause-joined
-returns-clause-joined c script kept h = all_joined script h (topologies script (all_lives script) (lives_few script kept) kept (firm script kept) h)
+pub returns-clause-routed : goal.returns-clause-routed
+returns-clause-routed c script kept h = all_routed script h (topologies script (all_lives script) (lives_few script kept) kept (firm script kept) h)
 
 pub returns-clause-older : goal.returns-clause-older
 returns-clause-older c script kept = none_is_older script (all_lives script) (lives_few script kept) kept (firm script kept)
