@@ -14,7 +14,7 @@ link_agrees-requires c =
     let kept = subst (λ (f : FabricOf). IsScript f.script) c.self.view_is c.links-link-items.ensures.kept in
     let are = c.links-link-items.ensures.links ∙ ap (λ (f : FabricOf). f.script.wires.links) c.self.view_is in
     subst (IsLink (count c.args.self.now)) (sym c.link-item.is)
-      (link_fits c.args.self.now.script c.links-link-items.result.now c.links.link-index c.link-item.result kept are c.links-test.true)
+    (link_fits c.args.self.now.script c.links-link-items.result.now c.links.link-index c.link-item.result kept are c.links-test.true)
 
 pub returns-then-not-link_agrees : goal.returns-then-not-link_agrees
 returns-then-not-link_agrees c =
