@@ -8,7 +8,7 @@ pub overflow_add-result : goal.overflow_add-result
 overflow_add-result c =
     let desk = c.in_ok-desk.desk in
     let few = place_few c.args.script.now [] desk c.in_ok-desk.papers desk.pending c.in_ok-desk.ensures.up in
-    omega (arith, few)
+    omega (arith, few, c.as_u8.ensures)
 
 pub invariant_of-result : goal.invariant_of-result
 invariant_of-result c =
