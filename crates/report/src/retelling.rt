@@ -35,7 +35,7 @@ fn owner_of(event: &Event) -> usize
         | Event::Take { s, port: _ }
         | Event::Handle { s }
         | Event::Load { s }
-        | Event::Restart { s } => usize::from(s) + 1,
+        | Event::Restart { s } => usize::from(s.as_u8()) + 1,
         _ => 0,
     }
 }
