@@ -1,4 +1,4 @@
-use Rattle.std.proofs.Common.{arith, refl, subst, List}
+use Rattle.std.proofs.Common.{arith, subst, List}
 use Rattle.std.proofs.lemmas.Result.{err_from_is_err_and}
 use Rattle.an_base.specs.declared.event.Event.{Event}
 use Rattle.replay.specs.Replays.{IsRefusal}
@@ -9,7 +9,7 @@ pub returns-in_err-step-clause-refused : goal.returns-in_err-step-clause-refused
 returns-in_err-step-clause-refused c =
     let script = c.args.net.now.script in
     let p = err_from_is_err_and c.from_residual.result c.from_residual.ensures.1 in
-    let refused = refused_at script c.as_slice-events.result.now c.events.event-index _ _ c.events.net c.in_err-step.field-0.0 c.events-test.true refl c.events.invariant c.in_err-step.ensures.refused in
+    let refused = refused_at script c.as_slice-events.result.now c.events.event-index c.event-item.result c.event-item.result c.events.net c.in_err-step.field-0.0 c.events-test.true c.event-item.is c.events.invariant c.in_err-step.ensures.refused in
     rw (p.1, p.2) (subst (λ (events : List Event). IsRefusal script events c.in_err-step.field-0.0) c.as_slice-events.ensures refused)
 
 pub returns-in_err-end_of-clause-refused : goal.returns-in_err-end_of-clause-refused
