@@ -215,15 +215,15 @@ module _ (script : ScriptOf) (before : List Event) (e : Event) (events : List Ev
 -- THE EVENTS OF A JOURNAL
 
 -- before the next event, and behind it
-pub at_event : (script own : ScriptOf) (journal : List Event) (k : ℕ) (d : Event) (course : CourseOf) (left : List AccountOf) (text : List ℕ) → own ≡ script → k < length journal → IsRetelling script (take k journal) (drop k journal) course left text → IsRetelling own (take k journal) (get_or journal k d ∷ drop (k + 1) journal) course left text
-at_event script own journal k d course left text same within is =
-    subst (λ (s : ScriptOf). IsRetelling s (take k journal) (get_or journal k d ∷ drop (k + 1) journal) course left text) (sym same)
-    (subst (λ (es : List Event). IsRetelling script (take k journal) es course left text) (drop_more journal k d within) is)
+pub at_event : (script own : ScriptOf) (journal : List Event) (k : ℕ) (event : Event) (course : CourseOf) (left : List AccountOf) (text : List ℕ) → own ≡ script → k < length journal → event ≡ get_or journal k event → IsRetelling script (take k journal) (drop k journal) course left text → IsRetelling own (take k journal) (event ∷ drop (k + 1) journal) course left text
+at_event script own journal k event course left text same within at is =
+    subst (λ (s : ScriptOf). IsRetelling s (take k journal) (event ∷ drop (k + 1) journal) course left text) (sym same)
+    (subst (λ (es : List Event). IsRetelling script (take k journal) es course left text) (drop_more journal k event within ∙ ap (λ (e : Event). e ∷ drop (k + 1) journal) (sym at)) is)
 
-pub past_event : (script own : ScriptOf) (journal : List Event) (k : ℕ) (d : Event) (course : CourseOf) (left : List AccountOf) (text : List ℕ) → own ≡ script → k < length journal → IsRetelling own (take k journal ++ get_or journal k d ∷ []) (drop (k + 1) journal) course left text → IsRetelling script (take (k + 1) journal) (drop (k + 1) journal) course left text
-past_event script own journal k d course left text same within is =
+pub past_event : (script own : ScriptOf) (journal : List Event) (k : ℕ) (event : Event) (course : CourseOf) (left : List AccountOf) (text : List ℕ) → own ≡ script → k < length journal → event ≡ get_or journal k event → IsRetelling own (take k journal ++ event ∷ []) (drop (k + 1) journal) course left text → IsRetelling script (take (k + 1) journal) (drop (k + 1) journal) course left text
+past_event script own journal k event course left text same within at is =
     subst (λ (s : ScriptOf). IsRetelling s (take (k + 1) journal) (drop (k + 1) journal) course left text) same
-    (subst (λ (es : List Event). IsRetelling own es (drop (k + 1) journal) course left text) (sym (take_more journal k d within)) is)
+    (subst (λ (es : List Event). IsRetelling own es (drop (k + 1) journal) course left text) (ap (λ (e : Event). take k journal ++ e ∷ []) at ∙ sym (take_more journal k event within)) is)
 
 -- AT THE BEGINNING
 

@@ -34,7 +34,7 @@ pub returns-in_err-hear_next-clause-refused : goal.returns-in_err-hear_next-clau
 returns-in_err-hear_next-clause-refused g c =
     let script = c.args.net.now.script in
     let p = err_from_is_err_and c.from_residual.result c.from_residual.ensures.1 in
-    let refused = refused_at script c.as_slice-events.result.now c.events.event-index _ _ c.events.net c.in_err-hear_next.field-0.0 c.events-test.true refl c.events.invariant.made c.in_err-hear_next.ensures.refused in
+    let refused = refused_at script c.as_slice-events.result.now c.events.event-index c.event-item.result c.event-item.result c.events.net c.in_err-hear_next.field-0.0 c.events-test.true c.event-item.is c.events.invariant.made c.in_err-hear_next.ensures.refused in
     rw (p.1, p.2) (subst (λ (events : List Event). IsRefusal script events c.in_err-hear_next.field-0.0) c.as_slice-events.ensures refused)
 
 pub events-preserved : goal.events-preserved
@@ -42,14 +42,15 @@ events-preserved g c =
     let script = c.args.net.now.script in
     let journal = c.as_slice-events.result.now in
     let k = c.events.event-index in
+    let event = c.event-item.result in
     let net = c.events.net in
     let new = c.hear_next.new in
     let before = c.events.invariant in
     let told = c.in_ok-hear_next.ensures in
     record {
-      made = next_at (λ s h. HasMade s h new.net) script journal k _ _ net c.events-test.true refl before.made told.made;
-      stands = next_at (g.L.Listener.stands new.listener) script journal k _ _ net c.events-test.true refl before.made told.stands;
-      says = next_says g.L.Listener.first g.L.Listener.told script journal k _ _ net c.events.text.items new.text.items c.events-test.true refl before.made before.says told.text;
+      made = next_at (λ s h. HasMade s h new.net) script journal k event event net c.events-test.true c.event-item.is before.made told.made;
+      stands = next_at (g.L.Listener.stands new.listener) script journal k event event net c.events-test.true c.event-item.is before.made told.stands;
+      says = next_says g.L.Listener.first g.L.Listener.told script journal k event event net c.events.text.items new.text.items c.events-test.true c.event-item.is before.made before.says told.text;
     }
 
 -- after the last one

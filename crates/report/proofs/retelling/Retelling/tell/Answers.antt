@@ -1,6 +1,5 @@
 use Rattle.std.proofs.Common.{◌≡◌, ◌∙◌, ◌++◌, ◌+◌, ap, drop, take, take_all}
 use Rattle.std.proofs.lemmas.Result.{IfOk-weaker, on_ok_weaker}
-use Rattle.an_base.specs.declared.event.Event.TheVariants.{Tick}
 use Rattle.net_script.specs.Scripts.{ScriptOf}
 use Rattle.report.specs.Events.{CourseOf, course_after, line_of_end}
 use Rattle.report.proofs.ReporterLemmas.{so_far, whole}
@@ -14,7 +13,7 @@ step-requires c =
     let k = c.events.event-index in
     let old = c.events.self in
     let is = c.events.invariant in
-    (take k journal, drop (k + 1) journal, at_event c.args.self.now.telling.script.now old.telling.script.now journal k Tick old.telling.course old.left.items old.text.items is.same c.events-test.true is.so_far)
+    (take k journal, drop (k + 1) journal, at_event c.args.self.now.telling.script.now old.telling.script.now journal k c.event-item.result old.telling.course old.left.items old.text.items is.same c.events-test.true c.event-item.is is.so_far)
 
 pub events-preserved : goal.events-preserved
 events-preserved c =
@@ -26,8 +25,8 @@ events-preserved c =
     let is = c.events.invariant in
     record {
       same = c.in_ok-step.ensures.script ∙ is.same;
-      so_far = past_event script old.telling.script.now journal k Tick new.telling.course new.left.items new.text.items is.same c.events-test.true
-          (c.in_ok-step.ensures.told (take k journal) (drop (k + 1) journal) (at_event script old.telling.script.now journal k Tick old.telling.course old.left.items old.text.items is.same c.events-test.true is.so_far));
+      so_far = past_event script old.telling.script.now journal k c.event-item.result new.telling.course new.left.items new.text.items is.same c.events-test.true c.event-item.is
+          (c.in_ok-step.ensures.told (take k journal) (drop (k + 1) journal) (at_event script old.telling.script.now journal k c.event-item.result old.telling.course old.left.items old.text.items is.same c.events-test.true c.event-item.is is.so_far));
     }
 
 -- behind the last one
