@@ -3,7 +3,7 @@
 use crate::plan::Plan;
 use crate::raising::{extend, raise};
 use an_base::memory::OutOfMemory;
-use ib_channels::channels::Channel;
+use ib_channels::channels::{Channel, Channels};
 use ib_channels::table::Table;
 use ib_channels::ways::{FAR, Ways};
 use std::alloc::Global;
@@ -11,44 +11,65 @@ use std::alloc::Global;
 // How often all exits are looked at for nearer ones.
 const PASSES: u32 = 4;
 
-// For each switch the last channel in the order with which a rising route to the target can begin.
-fn last_starts(
-    alloc: Global,
-    plan: Plan<'_>,
-    target: u32,
-) -> Result<Table<Option<Channel>>, OutOfMemory> {
-    let mut starts: Table<Option<Channel>> = Table::filled(alloc, plan.channels.switches(), None)?;
-    'channels: for channel in plan.order.sequence().iter().rev() {
-        let to = plan.channels.to(*channel);
-        if to != target && starts.get(to).is_none() {
-            continue;
-        }
-        let from = plan.channels.from(*channel);
-        if from != target && starts.get(from).is_none() {
-            starts.put(from, Some(*channel));
-        }
-    }
-    Ok(starts)
+// For each switch a shortest rising route to the target, whatever exits the others have.
+#[derive(Drop)]
+struct Shortest {
+    // How many channels the route of each switch has, and the first of them.
+    depths: Table<u32>,
+    exits: Table<Option<Channel>>,
+    // For each channel that is the first of a route, the one after it.
+    nexts: Table<Option<Channel>>,
 }
 
-// Gives to a switch, and to those on its way as far as they need it, the last starts.
-fn close(
-    plan: Plan<'_>,
-    ways: &mut Ways,
-    target: u32,
-    starts: &Table<Option<Channel>>,
-    missing: u32,
-) {
-    let mut switch = missing;
-    'links: for _ in 0..plan.channels.switches() {
-        let Some(channel) = starts.get(switch) else {
-            break;
-        };
-        ways.put_exit(switch, Some(channel));
-        if plan.may_follow(ways, target, channel) {
-            break;
+impl Shortest {
+    // The routes of no switch but the target.
+    fn none(alloc: Global, channels: &Channels, target: u32) -> Result<Shortest, OutOfMemory> {
+        let mut depths = Table::filled(alloc, channels.switches(), FAR)?;
+        depths.put(target, 0);
+        Ok(Shortest {
+            depths,
+            exits: Table::filled(alloc, channels.switches(), None)?,
+            nexts: Table::filled(alloc, channels.count(), None)?,
+        })
+    }
+
+    // Finds the routes, from the last channel in the order to the first.
+    fn find(&mut self, plan: Plan<'_>) {
+        'channels: for channel in plan.order.sequence().iter().rev() {
+            self.look(plan.channels, *channel);
         }
-        switch = plan.channels.to(channel);
+    }
+
+    // Looks at a channel, after all that stand after it in the order: a route begins with it, if that is shorter.
+    fn look(&mut self, channels: &Channels, channel: Channel) {
+        let (from, to) = (channels.from(channel), channels.to(channel));
+        let depth = self.depths.get(to).saturating_add(1);
+        if depth < self.depths.get(from) {
+            self.depths.put(from, depth);
+            self.nexts.put(channel, self.exits.get(to));
+            self.exits.put(from, Some(channel));
+        }
+    }
+
+    // Gives to a switch without an exit, and to those on its route as far as they need them, the exits of the route. An
+    // exit that is given in place of another one is later in the order.
+    fn close(&self, plan: Plan<'_>, ways: &mut Ways, target: u32, missing: u32) {
+        if ways.exit(missing).is_some() {
+            return;
+        }
+        let mut switch = missing;
+        let mut exit = self.exits.get(missing);
+        'links: for _ in 0..plan.channels.switches() {
+            let Some(channel) = exit else {
+                break;
+            };
+            ways.put_exit(switch, Some(channel));
+            if plan.may_follow(ways, target, channel) {
+                break;
+            }
+            switch = plan.channels.to(channel);
+            exit = self.nexts.get(channel);
+        }
     }
 }
 
@@ -135,9 +156,10 @@ pub fn close_all(
     if missing.is_empty() {
         return ways.arrange(plan.channels, target);
     }
-    let starts = last_starts(alloc, plan, target)?;
+    let mut routes = Shortest::none(alloc, plan.channels, target)?;
+    routes.find(plan);
     'missing: for switch in &missing {
-        close(plan, ways, target, &starts, *switch);
+        routes.close(plan, ways, target, *switch);
     }
     shorten(plan, ways, target)
 }
