@@ -18,8 +18,10 @@ use ib_rising::plan::Plan;
 use ib_routes::traffic::Traffic;
 use std::alloc::Global;
 
-// How many rounds the best orders get.
-const ROUNDS: u32 = 3;
+// How many rounds the best orders get, and how many in great fabrics.
+const ROUNDS: u32 = 4;
+
+const GREAT_ROUNDS: u32 = 3;
 
 // Up to how many steps of a round all orders are tried.
 const FEWEST: u64 = 1 << 20;
@@ -82,6 +84,8 @@ struct Effort {
     tried: usize,
     // How many of the best are laid in more rounds.
     finalists: usize,
+    // In how many rounds they are laid, the first among these.
+    rounds: u32,
     // Whether it is enough if no channel has more routes than lead to one LID.
     is_small: bool,
     // How many exits there are: one of each switch for each target.
@@ -110,6 +114,7 @@ impl Effort {
         Effort {
             tried,
             finalists,
+            rounds: if steps > FEW { GREAT_ROUNDS } else { ROUNDS },
             is_small: steps > FEW,
             exits,
         }
@@ -131,7 +136,7 @@ impl Finalist {
             return Ok(());
         }
         let plan = ground.plan(&self.order);
-        self.laying.lay(alloc, plan, 1..ROUNDS)?;
+        self.laying.lay(alloc, plan, 1..ground.effort.rounds)?;
         let measures = self.laying.measures();
         if !ground.is_good(measures) && ground.may_polish(measures) {
             self.laying.polish(plan)?;
