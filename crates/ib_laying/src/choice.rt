@@ -32,7 +32,7 @@ const FEW: u64 = 1 << 24;
 // Up to how many some are tried.
 const SOME: u64 = 1 << 28;
 
-// Up to how many more than one is tried.
+// Up to how many more than one are tried in any case.
 const MANY: u64 = 1 << 31;
 
 // What is added to the score of routes that are too long.
@@ -46,8 +46,8 @@ const FIRST: [Recipe; 12] = [
     Recipe::LevelsFromLeaf,
     Recipe::Heights,
     Recipe::FirstPorts,
-    Recipe::Tree(Shape::Wide, Wanted::Spread),
     Recipe::Tree(Shape::Deep(1), Wanted::FirstPorts),
+    Recipe::Tree(Shape::Wide, Wanted::Spread),
     Recipe::Tree(Shape::Deep(0), Wanted::Spread),
     Recipe::BetterHeights,
     Recipe::Tree(Shape::Deep(1), Wanted::Spread),
@@ -80,7 +80,9 @@ fn recipe_at(place: usize) -> Recipe {
 // How much is done to find good tables.
 #[derive(Clone, Copy)]
 struct Effort {
-    // How many orders are tried, if one of them has all ways.
+    // How many orders are tried, if one of them has all ways, and no route that is too long.
+    least: usize,
+    // How many are tried, if one of them has all ways.
     tried: usize,
     // How many of the best are laid in more rounds.
     finalists: usize,
@@ -100,18 +102,19 @@ impl Effort {
         let looks = leaves.saturating_mul(u64::from(channels.count()));
         let exits = targets.saturating_mul(u64::from(channels.switches()));
         let steps = looks.saturating_add(exits);
-        let (tried, finalists) = if steps <= FEWEST {
-            (RECIPES, 8)
+        let (least, tried, finalists) = if steps <= FEWEST {
+            (RECIPES, RECIPES, 8)
         } else if steps <= FEW {
-            (16, 4)
+            (16, 16, 4)
         } else if steps <= SOME {
-            (6, 1)
+            (6, 6, 1)
         } else if steps <= MANY {
-            (5, 1)
+            (4, 5, 1)
         } else {
-            (1, 1)
+            (1, 5, 1)
         };
         Effort {
+            least,
             tried,
             finalists,
             rounds: if steps > FEW { GREAT_ROUNDS } else { ROUNDS },
@@ -259,11 +262,21 @@ impl Ground {
         }
     }
 
+    // Whether enough orders were tried, so many.
+    fn has_enough(&self, tried: usize, finalists: &[Finalist]) -> bool {
+        match finalists.first() {
+            Some(best) => {
+                let is_short = best.score < TOO_LONG;
+                tried >= self.effort.tried || is_short && tried >= self.effort.least
+            }
+            None => false,
+        }
+    }
+
     // Tries orders, and keeps the best.
     fn try_orders(&self, alloc: Global, finalists: &mut Vec<Finalist>) -> Result<(), OutOfMemory> {
         'recipes: for place in 0..RECIPES {
-            let is_late = place >= self.effort.tried && !finalists.is_empty();
-            if is_late || self.has_good(finalists) {
+            if self.has_enough(place, finalists) || self.has_good(finalists) {
                 break;
             }
             if let Some(finalist) = self.try_recipe(alloc, recipe_at(place))? {
