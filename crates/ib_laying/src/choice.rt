@@ -18,10 +18,11 @@ use ib_rising::plan::Plan;
 use ib_routes::traffic::Traffic;
 use std::alloc::Global;
 
-// How many rounds the best orders get, and how many in great fabrics.
-const ROUNDS: u32 = 4;
+// How many rounds the best orders get.
+const ROUNDS: u32 = 3;
 
-const GREAT_ROUNDS: u32 = 3;
+// How many they get if no routes are shorter, but in great fabrics: whole trees need them.
+const SHORT_ROUNDS: u32 = 4;
 
 // Up to how many steps of a round all orders are tried.
 const FEWEST: u64 = 1 << 20;
@@ -86,8 +87,6 @@ struct Effort {
     tried: usize,
     // How many of the best are laid in more rounds.
     finalists: usize,
-    // In how many rounds they are laid, the first among these.
-    rounds: u32,
     // Whether it is enough if no channel has more routes than lead to one LID.
     is_small: bool,
     // How many exits there are: one of each switch for each target.
@@ -117,7 +116,6 @@ impl Effort {
             least,
             tried,
             finalists,
-            rounds: if steps > FEW { GREAT_ROUNDS } else { ROUNDS },
             is_small: steps > FEW,
             exits,
         }
@@ -139,7 +137,8 @@ impl Finalist {
             return Ok(());
         }
         let plan = ground.plan(&self.order);
-        self.laying.lay(alloc, plan, 1..ground.effort.rounds)?;
+        let rounds = ground.rounds(self.laying.measures());
+        self.laying.lay(alloc, plan, 1..rounds)?;
         let measures = self.laying.measures();
         if !ground.is_good(measures) && ground.may_polish(measures) {
             self.laying.polish(plan)?;
@@ -203,6 +202,15 @@ impl Ground {
     fn is_short(&self, measures: Measures) -> bool {
         let least = self.materials.least_mean;
         measures.mean() <= least.saturating_add(least / 1000)
+    }
+
+    // In how many rounds routes are laid, the first among these.
+    fn rounds(&self, measures: Measures) -> u32 {
+        if self.is_short(measures) && !self.effort.is_small {
+            SHORT_ROUNDS
+        } else {
+            ROUNDS
+        }
     }
 
     // Whether no routes can be much better: none are shorter, and the greatest load is at most an eighth above the mean.
