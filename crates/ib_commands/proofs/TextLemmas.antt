@@ -10,11 +10,12 @@ use Rattle.std.proofs.lemmas.List.Elements.{All-append}
 use Rattle.text_lines.specs.Words.{hex_text, is_number, is_number_in, number_value}
 use Rattle.text_lines.proofs.SpellLemmas.{IsPrinted, IsWord, decimal_number, decimal_value, decimal_word, fixed_word, ge_test, hex_digits, hex_printed, hex_says, le_test, length-hex_text, line_short, line_words, words_cons, words_nil}
 use Rattle.ib_words.specs.Cuts.{after}
-use Rattle.ib_words.specs.Digits.{hex, is_hex}
+use Rattle.ib_words.specs.Digits.{hex, hex_after, is_hex, number_to}
+use Rattle.ib_words.specs.Says.{or_cause}
 use Rattle.ib_words.proofs.DigitLemmas.{hex_of_digits}
 use Rattle.ib_words.specs.declared.ranks_cause.RanksCause.TheVariants.{BadGuid, BadPort, BadRank}
 use Rattle.ib_ranks.specs.declared.line.RankLine.TheVariants.{Head, Rank as RankSaid}
-use Rattle.ib_ranks.specs.RankLines.{guid_in, number_to, or_cause, said_in}
+use Rattle.ib_ranks.specs.RankLines.{said_in}
 use Rattle.ib_ranks.proofs.RankLemmas.{said_words}
 use Rattle.ib_lines.specs.declared.ranks.Rank.{Rank}
 use Rattle.ib_lines.specs.Answers.{Row, guid_word}
@@ -47,7 +48,7 @@ hex_back guid low =
     pick (is_hex (hex_text 16 guid)) (Some (digits_value 16 (hex_text 16 guid))) (hex_of_digits (hex_text 16 guid) (omega arith) (omega arith) (hex_digits 16 guid))
     ∙ ap (λ (n : ℕ). Some n) (hex_says 16 guid (omega arith))
 
-guid_back : (guid : ℕ) → guid < 2 ^ 64 → guid_in (guid_word guid) ≡ Some guid
+guid_back : (guid : ℕ) → guid < 2 ^ 64 → hex_after (guid_word guid) ≡ Some guid
 guid_back guid low = ap (option_and_then hex) (after_back (codes "0x") (hex_text 16 guid) refl) ∙ hex_back guid low
 
 number_back : (most n : ℕ) → n < 2 ^ 64 → n ≤ most → number_to most (decimal n) ≡ Some n
@@ -84,4 +85,4 @@ module _ (of : Rank) (guid : of.guid < 2 ^ 64) (port : of.port ≤ 255) (own : o
   row_said =
       let short = line_short (rank_row of) row_words in
       said_words (join_with_byte 32 (rank_row of)) (rank_row of) (omega arith) (sym (line_words (rank_row of) (omega arith) row_words))
-      ∙ said_with (guid_in (guid_word of.guid)) (number_to 255 (decimal of.port)) (number_to (2 ^ 32 - 1) (decimal of.rank)) of.guid of.port of.rank (guid_back of.guid guid) (number_back 255 of.port (omega arith) port) (number_back (2 ^ 32 - 1) of.rank (omega arith) (omega arith))
+      ∙ said_with (hex_after (guid_word of.guid)) (number_to 255 (decimal of.port)) (number_to (2 ^ 32 - 1) (decimal of.rank)) of.guid of.port of.rank (guid_back of.guid guid) (number_back 255 of.port (omega arith) port) (number_back (2 ^ 32 - 1) of.rank (omega arith) (omega arith))

@@ -1,11 +1,10 @@
 -- The lines of which texts of ranks consist, and what each says.
 use Rattle.std.specs.Prelude.{◌&&◌, ◌-◌, ◌^◌, ℕ, List, [], ◌∷◌, length, codes, nat_lt, if◌then◌else◌}
-use Rattle.std.specs.Prelude.{Option, Some, None, Result, Ok, Err, option_and_then}
+use Rattle.std.specs.Prelude.{Result, Ok, Err}
 use Rattle.std.specs.Str.{bytes_eq}
 use Rattle.text_lines.specs.Lines.{words_of}
-use Rattle.text_lines.specs.Words.{is_number_in, number_value}
-use Rattle.ib_words.specs.Cuts.{after}
-use Rattle.ib_words.specs.Digits.{hex}
+use Rattle.ib_words.specs.Digits.{hex_after, number_to}
+use Rattle.ib_words.specs.Says.{or_cause}
 use Rattle.ib_ranks.specs.declared.line.RankLine.{RankLine}
 use Rattle.ib_ranks.specs.declared.line.RankLine.TheVariants.{Nothing, Head, Rank}
 use Rattle.ib_words.specs.declared.ranks_cause.RanksCause.{RanksCause}
@@ -15,23 +14,10 @@ use Rattle.ib_words.specs.declared.ranks_cause.RanksCause.TheVariants.{LineTooLo
 abbrev pub Said : Type 0
 Said = Result RankLine RanksCause
 
--- a value, or the cause why there is none
-abbrev pub or_cause : {A : Type 0} → Option A → RanksCause → (A → Said) → Said
-or_cause None cause says = Err cause
-or_cause (Some value) cause says = says value
-
--- a GUID: 1 to 16 hexadecimal digits after `0x`
-abbrev pub guid_in : List ℕ → Option ℕ
-guid_in word = option_and_then hex (after (codes "0x") word)
-
--- a number in decimal, up to a greatest one
-abbrev pub number_to : (most : ℕ) → List ℕ → Option ℕ
-number_to most word = if is_number_in 0 most word then Some (number_value word) else None
-
 -- the rank of the channel out of a port of a switch
 abbrev pub rank_said : (guid port rank : List ℕ) → Said
 rank_said guid port rank =
-    or_cause (guid_in guid) BadGuid (λ switch.
+    or_cause (hex_after guid) BadGuid (λ switch.
     or_cause (number_to 255 port) BadPort (λ out.
     or_cause (number_to (2 ^ 32 - 1) rank) BadRank (λ own. Ok (Rank switch out own))))
 

@@ -8,6 +8,7 @@ use Rattle.ib_net.specs.declared.node.Side.TheVariants.{Bare, To, End}
 use Rattle.ib_net.specs.Fabric.{FabricOf, side_of, switch_count, switch_with}
 use Rattle.ib_routes.specs.Routes.{Channel}
 use Rattle.ib_routes.specs.Found.{number}
+use Rattle.ib_words.specs.Says.{and_then}
 use Rattle.ib_words.specs.declared.ranks_cause.RanksCause.{RanksCause}
 use Rattle.ib_words.specs.declared.ranks_cause.RanksCause.TheVariants.{OutOfPlace, UnknownSwitch, NoChannel, RankTold, NoHead}
 use Rattle.ib_ranks.specs.declared.line.RankLine.{RankLine}
@@ -60,8 +61,7 @@ told_with fabric told (Rank guid port rank) =
     if told.begun then switch_told fabric told port rank (switch_with fabric guid) else Err OutOfPlace
 
 abbrev pub told_by : FabricOf → Told → Result RankLine RanksCause → Step
-told_by fabric told (Ok said) = told_with fabric told said
-told_by fabric told (Err cause) = Err cause
+told_by fabric told said = and_then said (told_with fabric told)
 
 -- a line is good after what was told, and leads to more; or it is faulty, first by this cause
 abbrev pub AddsTo : FabricOf → Told → List ℕ → Told → Type 0

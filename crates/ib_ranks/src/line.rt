@@ -1,12 +1,11 @@
 //! What a line of a text of ranks says.
 
-ghost use Rattle.std.specs.Prelude.{◌≡◌, ◌≤◌, map, IfSome};
-ghost use Rattle.ib_ranks.specs.RankLines.{guid_in, number_to, rank_said, said_by, said_by_four, said_by_two};
+ghost use Rattle.std.specs.Prelude.{◌≡◌, map};
+ghost use Rattle.ib_ranks.specs.RankLines.{rank_said, said_by, said_by_four, said_by_two};
 
-use ib_words::cut::after;
-use ib_words::digits::hex;
+use ib_words::digits::{hex_after, number_to};
 use ib_words::ranks_cause::RanksCause;
-use text_lines::word::{is, number_between};
+use text_lines::word::is;
 
 /// What a line says.
 #[derive(Clone, Copy)]
@@ -53,7 +52,7 @@ fn said_by_four(first: &[u8], guid: &[u8], port: &[u8], rank: &[u8]) -> Result<R
 fn rank_said(guid: &[u8], port: &[u8], rank: &[u8]) -> Result<RankLine, RanksCause>
     ensures { result ≡ rank_said guid.now port.now rank.now }
 {
-    let Some(guid) = guid_in(guid) else {
+    let Some(guid) = hex_after(guid) else {
         return Err(RanksCause::BadGuid);
     };
     let Some(port) = number_to(port, 255) else {
@@ -63,19 +62,4 @@ fn rank_said(guid: &[u8], port: &[u8], rank: &[u8]) -> Result<RankLine, RanksCau
         return Err(RanksCause::BadRank);
     };
     Ok(RankLine::Rank(guid, port as u8, rank as u32))
-}
-
-// A GUID of 1 to 16 digits after `0x`.
-fn guid_in(word: &[u8]) -> Option<u64>
-    ensures { result ≡ guid_in word.now }
-{
-    hex(after(word, "0x")?)
-}
-
-// A number in decimal, up to a greatest one.
-fn number_to(word: &[u8], most: u64) -> Option<u64>
-    ensures number { result ≡ number_to most word.now }
-    ensures range { IfSome result (λ number. number ≤ most) }
-{
-    number_between(word, 0, most)
 }

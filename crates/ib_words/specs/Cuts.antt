@@ -1,5 +1,5 @@
 use Rattle.std.specs.Prelude.{◌==◌, ◌+◌, ℕ, zero, suc, Bool, List, length, take, drop, position}
-use Rattle.std.specs.Prelude.{Option, Some, None, option_map, option_and_then, if◌then◌else◌, find}
+use Rattle.std.specs.Prelude.{Option, Some, None, is_some, option_map, option_and_then, if◌then◌else◌, find}
 use Rattle.std.specs.List.{range_with_len}
 use Rattle.std.specs.Str.{bytes_eq}
 use Rattle.memchr.specs.Find.{occurs_at}
@@ -14,6 +14,10 @@ found >>= next = option_and_then next found
 -- what stands after a front with which the text begins
 unfoldable pub after : (front text : List ℕ) → Option (List ℕ)
 after front text = if bytes_eq (take (length front) text) front then Some (drop (length front) text) else None
+
+-- whether a text begins with a front
+abbrev pub begins : (front text : List ℕ) → Bool
+begins front text = is_some (after front text)
 
 -- what stands before the first such byte, and after it
 unfoldable pub cut : ℕ → List ℕ → Option (List ℕ × List ℕ)

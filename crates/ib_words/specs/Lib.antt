@@ -3,3 +3,4 @@ pub mod Digits
 pub mod LaneCauses
 pub mod RanksCauses
 pub mod Rows
+pub mod Says

@@ -2,7 +2,7 @@
 
 ghost use Rattle.std.specs.Prelude.{◌≡◌, Some, None, MatchOption};
 ghost use Rattle.memchr.specs.Find.{FindsLastNeedle};
-ghost use Rattle.ib_words.specs.Cuts.{after, cut, cut_first, cut_last};
+ghost use Rattle.ib_words.specs.Cuts.{after, begins, cut, cut_first, cut_last};
 
 use memchr::arch::all::is_prefix;
 use memchr::memmem;
@@ -15,6 +15,13 @@ pub fn after<'a>(text: &'a [u8], front: &str) -> Option<&'a [u8]>
         (λ rest. after front.now text.now ≡ Some rest.now) }
 {
     text.strip_prefix(front.as_bytes())
+}
+
+/// Whether a text begins with these bytes.
+pub fn begins(text: &[u8], front: &str) -> bool
+    ensures { result ≡ begins front.now text.now }
+{
+    after(text, front).is_some()
 }
 
 /// What stands before the first such byte, and after it. In a line it is a few bytes away.

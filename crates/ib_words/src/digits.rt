@@ -3,8 +3,9 @@
 ghost use Rattle.std.specs.Prelude.{◌≡◌, ◌<◌, ◌≤◌, ◌^◌, true, false, MatchOption, IfSome};
 ghost use Rattle.std.specs.Char.{is_digit, digit_value};
 ghost use Rattle.std.specs.Str.Parse.{digits_value};
-ghost use Rattle.ib_words.specs.Digits.{digit_or_more, is_hex, hex, guid, decimal};
+ghost use Rattle.ib_words.specs.Digits.{digit_or_more, is_hex, hex, guid, hex_after, number_to, decimal};
 
+use crate::cut::after;
 use text_lines::word::number_between;
 
 /// What a word of 1 to 16 hexadecimal digits says, in either case.
@@ -36,6 +37,21 @@ pub fn guid(word: &[u8]) -> Option<u64>
     ensures { result ≡ guid word.now }
 {
     if word.len() == 16 { hex(word) } else { None }
+}
+
+/// What 1 to 16 hexadecimal digits after `0x` say.
+pub fn hex_after(word: &[u8]) -> Option<u64>
+    ensures { result ≡ hex_after word.now }
+{
+    hex(after(word, "0x")?)
+}
+
+/// What a number in decimal says, up to a greatest one; only a lone `0` begins with 0.
+pub fn number_to(word: &[u8], most: u64) -> Option<u64>
+    ensures number { result ≡ number_to most word.now }
+    ensures range { IfSome result (λ number. number ≤ most) }
+{
+    number_between(word, 0, most)
 }
 
 /// What a number in decimal says, below 2^64; only a lone `0` begins with 0.
