@@ -10,9 +10,10 @@ use Rattle.calling.specs.Inputs.{IsInput, IsUnread}
 use Rattle.ib_net.specs.Fabric.{FabricOf}
 use Rattle.ib_fabric.specs.declared.cause.FabricCause.{FabricCause}
 use Rattle.ib_fabric.specs.Fabrics.{IsFabricText, IsFault}
+use Rattle.ib_reader.specs.declared.reader.TextRefusal.{TextRefusal}
+use Rattle.ib_reader.specs.declared.reader.TextRefusal.TheVariants as tables_refusal
+use Rattle.ib_tables.specs.declared.cause.TablesCause.{TablesCause}
 use Rattle.ib_tables.specs.declared.reader.Tables.{Tables}
-use Rattle.ib_tables.specs.declared.reader.TablesRefusal.{TablesRefusal}
-use Rattle.ib_tables.specs.declared.reader.TablesRefusal.TheVariants as tables_refusal
 use Rattle.ib_tables.specs.Reads.{GaveTables, IsRefusedBy}
 use Rattle.ib_answering.specs.declared.status.Status.{Status}
 use Rattle.ib_answering.specs.declared.status.Status.TheVariants.{Ok, Usage, TopologyRefused, TopologyTooLong, TablesRefused, ReadFault, WriteFault, RoutesLost, Cycle, OutOfMemory}
@@ -67,7 +68,7 @@ abbrev pub fabric_refused : Refusal FabricCause → Status
 fabric_refused (topology_refusal.Fault line cause) = TopologyRefused line cause
 fabric_refused topology_refusal.OutOfMemory = OutOfMemory
 
-abbrev pub tables_refused : TablesRefusal → Status
+abbrev pub tables_refused : TextRefusal TablesCause → Status
 tables_refused (tables_refusal.Fault line cause) = TablesRefused line cause
 tables_refused tables_refusal.ReadFault = ReadFault
 tables_refused tables_refusal.OutOfMemory = OutOfMemory
@@ -77,7 +78,7 @@ pub record AreNoTables (old new : Sources) (status : Status) : Type 0 where
   pub text : List ℕ
   pub fabric : FabricOf
   pub gave : GaveFabric old.topology new.topology text fabric
-  pub refusal : TablesRefusal
+  pub refusal : TextRefusal TablesCause
   pub refused : IsRefusedBy fabric old.tables new.tables refusal
   pub status_is : status ≡ tables_refused refusal
 

@@ -9,6 +9,7 @@ ghost use Rattle.ib_answering.specs.Status.{IsToldOf, code_of, line_of, refusal_
 use an_base::memory::OutOfMemory;
 use calling::end::tell;
 use ib_fabric::cause::FabricCause;
+use ib_reader::reader::TextRefusal;
 use ib_tables::cause::TablesCause;
 use ib_tables::reader::TablesRefusal;
 use ib_words::lane_cause::LaneCause;
@@ -114,9 +115,9 @@ impl From<TablesRefusal> for Status {
 
     fn from(refusal: TablesRefusal) -> Self {
         match refusal {
-            TablesRefusal::Fault { line, cause } => Status::TablesRefused { line, cause },
-            TablesRefusal::ReadFault => Status::ReadFault,
-            TablesRefusal::OutOfMemory => Status::OutOfMemory,
+            TextRefusal::Fault { line, cause } => Status::TablesRefused { line, cause },
+            TextRefusal::ReadFault => Status::ReadFault,
+            TextRefusal::OutOfMemory => Status::OutOfMemory,
         }
     }
 }

@@ -3,9 +3,10 @@
 use Rattle.std.specs.Prelude.{◌≡◌, ℕ, List}
 use Rattle.outside.specs.Told.{Seen, Failed, Gains, GainsFront, IsKept}
 use Rattle.ib_net.specs.Fabric.{FabricOf}
+use Rattle.ib_reader.specs.declared.reader.TextRefusal.{TextRefusal}
+use Rattle.ib_reader.specs.declared.reader.TextRefusal.TheVariants as refusal
+use Rattle.ib_tables.specs.declared.cause.TablesCause.{TablesCause}
 use Rattle.ib_tables.specs.declared.reader.Tables.{Tables}
-use Rattle.ib_tables.specs.declared.reader.TablesRefusal.{TablesRefusal}
-use Rattle.ib_tables.specs.declared.reader.TablesRefusal.TheVariants as refusal
 use Rattle.ib_tables.specs.Reads.{GaveTables, IsRefusedBy}
 use Rattle.ib_answering.specs.declared.status.Status.{Status}
 use Rattle.ib_answering.specs.declared.status.Status.TheVariants.{NewTablesRefused, OutOfMemory, ReadFault, WriteFault}
@@ -23,7 +24,7 @@ abbrev pub sources : (topology old new : Seen) → Sources
 sources topology old new = record { topology = topology; old = old; new = new }
 
 -- the status of new tables that are refused
-abbrev pub new_refused : TablesRefusal → Status
+abbrev pub new_refused : TextRefusal TablesCause → Status
 new_refused (refusal.Fault line cause) = NewTablesRefused line cause
 new_refused refusal.ReadFault = ReadFault
 new_refused refusal.OutOfMemory = OutOfMemory
@@ -33,7 +34,7 @@ pub record AreNoOldTables (was is : Sources) (status : Status) : Type 0 where
   pub text : List ℕ
   pub fabric : FabricOf
   pub gave : GaveFabric was.topology is.topology text fabric
-  pub cause : TablesRefusal
+  pub cause : TextRefusal TablesCause
   pub refused : IsRefusedBy fabric was.old is.old cause
   pub status_is : status ≡ tables_refused cause
   pub kept : is.new ≡ was.new
@@ -45,7 +46,7 @@ pub record AreNoNewTables (was is : Sources) (status : Status) : Type 0 where
   pub old : Tables
   pub gave : GaveFabric was.topology is.topology text fabric
   pub gave_old : GaveTables fabric was.old is.old old
-  pub cause : TablesRefusal
+  pub cause : TextRefusal TablesCause
   pub refused : IsRefusedBy fabric was.new is.new cause
   pub status_is : status ≡ new_refused cause
 

@@ -10,6 +10,7 @@ use crate::answer::given_for;
 use ib_answering::command::Given;
 use ib_answering::input::{Topology, read_topology};
 use ib_answering::status::{Status, finish};
+use ib_reader::reader::TextRefusal;
 use ib_tables::reader::{Tables, TablesRefusal, read_tables};
 use outside::all::write_all;
 use outside::sink::Sink;
@@ -126,8 +127,8 @@ fn new_refused(refusal: TablesRefusal) -> Status
     ensures { result ≡ new_refused refusal }
 {
     match refusal {
-        TablesRefusal::Fault { line, cause } => Status::NewTablesRefused { line, cause },
-        TablesRefusal::ReadFault => Status::ReadFault,
-        TablesRefusal::OutOfMemory => Status::OutOfMemory,
+        TextRefusal::Fault { line, cause } => Status::NewTablesRefused { line, cause },
+        TextRefusal::ReadFault => Status::ReadFault,
+        TextRefusal::OutOfMemory => Status::OutOfMemory,
     }
 }

@@ -6,8 +6,9 @@ use Rattle.text_lines.specs.Words.{is_number_in, number_value}
 use Rattle.ib_net.specs.Fabric.{FabricOf}
 use Rattle.ib_rows.specs.declared.levels.LevelRows.{LevelRows}
 use Rattle.ib_rows.specs.PathLevels.{LevelsOf, told_levels}
-use Rattle.ib_lane_text.specs.declared.reader.LaneRefusal.{LaneRefusal}
-use Rattle.ib_lane_text.specs.declared.reader.LaneRefusal.TheVariants as refusal
+use Rattle.ib_words.specs.declared.lane_cause.LaneCause.{LaneCause}
+use Rattle.ib_reader.specs.declared.reader.TextRefusal.{TextRefusal}
+use Rattle.ib_reader.specs.declared.reader.TextRefusal.TheVariants as refusal
 use Rattle.ib_levels.specs.Reads.{GaveLevels, IsRefusedBy}
 use Rattle.ib_lane_lines.specs.declared.answer.LevelsAsked.{LevelsAsked}
 use Rattle.ib_lane_lines.specs.declared.answer.LevelsAsked.TheVariants.{File, Same, Any}
@@ -44,7 +45,7 @@ GaveLevelsFor fabric (Same level) old new levels = (new ≡ old) × (levels ≡ 
 GaveLevelsFor fabric Any old new levels = (new ≡ old) × (levels ≡ any_level)
 
 -- the status of levels that are refused
-abbrev pub levels_refused : LaneRefusal → Status
+abbrev pub levels_refused : TextRefusal LaneCause → Status
 levels_refused (refusal.Fault line cause) = LevelsRefused line cause
 levels_refused refusal.ReadFault = ReadFault
 levels_refused refusal.OutOfMemory = OutOfMemory
@@ -52,6 +53,6 @@ levels_refused refusal.OutOfMemory = OutOfMemory
 -- the source of levels was refused
 pub record AreLevelsRefused (fabric : FabricOf) (asked : LevelsAsked) (old new : Seen) (status : Status) : Type 0 where
   pub file : asked ≡ File
-  pub refusal : LaneRefusal
+  pub refusal : TextRefusal LaneCause
   pub refused : IsRefusedBy fabric old new refusal
   pub status_is : status ≡ levels_refused refusal

@@ -8,8 +8,9 @@ use Rattle.ib_tables.specs.Reads.{GaveTables, HasCells}
 use Rattle.ib_rows.specs.declared.lanes.LaneRows.{LaneRows}
 use Rattle.ib_rows.specs.Levels.{levels_of}
 use Rattle.ib_rows.specs.PathLevels.{LevelsOf}
-use Rattle.ib_lane_text.specs.declared.reader.LaneRefusal.{LaneRefusal}
-use Rattle.ib_lane_text.specs.declared.reader.LaneRefusal.TheVariants as refusal
+use Rattle.ib_words.specs.declared.lane_cause.LaneCause.{LaneCause}
+use Rattle.ib_reader.specs.declared.reader.TextRefusal.{TextRefusal}
+use Rattle.ib_reader.specs.declared.reader.TextRefusal.TheVariants as refusal
 use Rattle.ib_sl2vl.specs.Reads.{GaveLanes, HasRows, IsRefusedBy}
 use Rattle.ib_lane_lines.specs.declared.answer.LevelsAsked.{LevelsAsked}
 use Rattle.ib_answering.specs.declared.status.Status.{Status}
@@ -64,14 +65,14 @@ pub record HasPlaces (input : Input) : Type 0 where
   pub rows : HasRows input.topology.fabric input.lanes
 
 -- the status of lanes that are refused
-abbrev pub lanes_refused : LaneRefusal → Status
+abbrev pub lanes_refused : TextRefusal LaneCause → Status
 lanes_refused (refusal.Fault line cause) = LanesRefused line cause
 lanes_refused refusal.ReadFault = ReadFault
 lanes_refused refusal.OutOfMemory = OutOfMemory
 
 -- the source of lanes was refused
 pub record AreLanesRefused (fabric : FabricOf) (old new : Seen) (status : Status) : Type 0 where
-  pub refusal : LaneRefusal
+  pub refusal : TextRefusal LaneCause
   pub refused : IsRefusedBy fabric old new refusal
   pub status_is : status ≡ lanes_refused refusal
 

@@ -8,10 +8,11 @@ ghost use Rattle.ib_lane_commands.specs.Asked.{AreLevelsRefused, GaveLevelsFor, 
 use an_base::text::Word;
 use ib_answering::status::Status;
 use ib_lane_lines::answer::LevelsAsked;
-use ib_lane_text::reader::LaneRefusal;
 use ib_levels::reader::read_levels;
 use ib_net::fabric::Fabric;
+use ib_reader::reader::TextRefusal;
 use ib_rows::levels::Levels;
+use ib_words::lane_cause::LaneCause;
 use outside::source::Source;
 use std::alloc::Global;
 use text_lines::word::{is, number_between};
@@ -33,13 +34,13 @@ pub fn asked_by(word: &Word) -> LevelsAsked
 }
 
 // The status of levels that are refused.
-fn levels_refused(refusal: LaneRefusal) -> Status
+fn levels_refused(refusal: TextRefusal<LaneCause>) -> Status
     ensures { result ≡ levels_refused refusal }
 {
     match refusal {
-        LaneRefusal::Fault { line, cause } => Status::LevelsRefused { line, cause },
-        LaneRefusal::ReadFault => Status::ReadFault,
-        LaneRefusal::OutOfMemory => Status::OutOfMemory,
+        TextRefusal::Fault { line, cause } => Status::LevelsRefused { line, cause },
+        TextRefusal::ReadFault => Status::ReadFault,
+        TextRefusal::OutOfMemory => Status::OutOfMemory,
     }
 }
 

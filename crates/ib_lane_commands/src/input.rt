@@ -12,12 +12,13 @@ use crate::asked::read_asked;
 use ib_answering::input::{Topology, read_topology};
 use ib_answering::status::Status;
 use ib_lane_lines::answer::LevelsAsked;
-use ib_lane_text::reader::LaneRefusal;
 use ib_net::fabric::Fabric;
+use ib_reader::reader::TextRefusal;
 use ib_rows::lanes::LaneRows;
 use ib_rows::levels::Levels;
 use ib_sl2vl::reader::read_lanes;
 use ib_tables::reader::{Tables, read_tables};
+use ib_words::lane_cause::LaneCause;
 use outside::source::Source;
 use std::alloc::Global;
 
@@ -35,13 +36,13 @@ pub struct Input {
 }
 
 // The status of lanes that are refused.
-fn lanes_refused(refusal: LaneRefusal) -> Status
+fn lanes_refused(refusal: TextRefusal<LaneCause>) -> Status
     ensures { result ≡ lanes_refused refusal }
 {
     match refusal {
-        LaneRefusal::Fault { line, cause } => Status::LanesRefused { line, cause },
-        LaneRefusal::ReadFault => Status::ReadFault,
-        LaneRefusal::OutOfMemory => Status::OutOfMemory,
+        TextRefusal::Fault { line, cause } => Status::LanesRefused { line, cause },
+        TextRefusal::ReadFault => Status::ReadFault,
+        TextRefusal::OutOfMemory => Status::OutOfMemory,
     }
 }
 

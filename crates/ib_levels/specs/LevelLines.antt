@@ -1,25 +1,20 @@
 -- The lines of which texts of levels consist, and what each says.
 use Rattle.std.specs.Prelude.{◌≤◌, ℕ, List, [], ◌∷◌, codes, nat_lt, if◌then◌else◌}
-use Rattle.std.specs.Prelude.{Option, Some, None, Result, Ok, Err, option_and_then}
+use Rattle.std.specs.Prelude.{Option, Some, None, Result, Ok, Err}
 use Rattle.std.specs.Str.{bytes_eq}
 use Rattle.text_lines.specs.Lines.{words_of}
-use Rattle.ib_words.specs.Cuts.{after}
-use Rattle.ib_words.specs.Digits.{decimal, hex}
-use Rattle.ib_lane_text.specs.Heads.{node_head}
-use Rattle.ib_lane_text.specs.Says.{number_to, or_cause}
-use Rattle.ib_lane_text.specs.declared.head.NodeHead.{NodeHead}
+use Rattle.ib_words.specs.Digits.{decimal, hex_after, number_to}
+use Rattle.ib_words.specs.Heads.{node_head}
+use Rattle.ib_words.specs.Says.{or_cause, unless_long}
+use Rattle.ib_words.specs.declared.head.NodeHead.{NodeHead}
 use Rattle.ib_words.specs.declared.lane_cause.LaneCause.{LaneCause}
-use Rattle.ib_words.specs.declared.lane_cause.LaneCause.TheVariants.{UnknownLine, BadRow, LidRange}
+use Rattle.ib_words.specs.declared.lane_cause.LaneCause.TheVariants.{LineTooLong, UnknownLine, BadRow, LidRange}
 use Rattle.ib_levels.specs.declared.line.LevelLine.{LevelLine}
 use Rattle.ib_levels.specs.declared.line.LevelLine.TheVariants.{Nothing, Head, Level, Path}
 
 -- what a line says, or the cause why it says nothing
 abbrev pub Said : Type 0
 Said = Result LevelLine LaneCause
-
--- a number of 1 to 16 hexadecimal digits after `0x`
-abbrev pub hex_after : List ℕ → Option ℕ
-hex_after word = option_and_then hex (after (codes "0x") word)
 
 -- a level is a number up to 15
 abbrev pub level_in : List ℕ → Option ℕ
@@ -59,7 +54,7 @@ said_or_head words (Some head) = Ok (Head head)
 
 -- what a line says: one that begins with `#` has no words
 unfoldable pub said_in : List ℕ → Said
-said_in line = said_or_head (words_of line) (node_head line)
+said_in line = unless_long line LineTooLong (said_or_head (words_of line) (node_head line))
 
 -- the level of a line is one of sixteen
 abbrev pub HasLowLevel : LevelLine → Type 0

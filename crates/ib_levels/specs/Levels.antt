@@ -1,16 +1,20 @@
 -- The text of the service levels of the paths of a fabric.
-use Rattle.std.specs.Prelude.{◌≡◌, ℕ, Bool, true, false, List, Option, Some, None, Result, Ok, Err, is_none}
+use Rattle.std.specs.Prelude.{◌≡◌, ◌<◌, ℕ, Bool, true, false, List, length, Option, Some, None, Result, Ok, Err}
+use Rattle.std.specs.Prelude.{is_none}
 use Rattle.std.specs.Prelude.{if◌then◌else◌}
 use Rattle.ib_net.specs.declared.node.EndPort.{EndPort}
 use Rattle.ib_net.specs.declared.node.EndPort.TheVariants as port
 use Rattle.ib_net.specs.Fabric.{FabricOf, end_with, owner_of, switch_with}
 use Rattle.ib_rows.specs.PathLevels.{LevelsOf, with_level}
-use Rattle.ib_lane_text.specs.Says.{and_then}
-use Rattle.ib_lane_text.specs.Texts.{IsFaultFrom, IsTextOf}
-use Rattle.ib_lane_text.specs.declared.head.NodeHead.{NodeHead}
-use Rattle.ib_lane_text.specs.declared.head.NodeHead.TheVariants as head
+use Rattle.std.proofs.Common.{ap}
+use Rattle.text_lines.specs.Chains.{IsFaultOf}
+use Rattle.ib_words.specs.Says.{and_then}
+use Rattle.ib_words.proofs.StepLemmas.{long_err}
+use Rattle.ib_words.specs.declared.head.NodeHead.{NodeHead}
+use Rattle.ib_words.specs.declared.head.NodeHead.TheVariants as head
+use Rattle.ib_reader.specs.Texts.{IsTextOf}
 use Rattle.ib_words.specs.declared.lane_cause.LaneCause.{LaneCause}
-use Rattle.ib_words.specs.declared.lane_cause.LaneCause.TheVariants.{UnknownSwitch, UnknownEnd, OutOfPlace}
+use Rattle.ib_words.specs.declared.lane_cause.LaneCause.TheVariants.{LineTooLong, UnknownSwitch, UnknownEnd, OutOfPlace, NoEnd}
 use Rattle.ib_levels.specs.declared.line.LevelLine.{LevelLine}
 use Rattle.ib_levels.specs.declared.line.LevelLine.TheVariants.{Nothing, Head, Level, Path}
 use Rattle.ib_levels.specs.declared.reading.Part.{Part}
@@ -88,6 +92,12 @@ AddsTo fabric told line after = told_after fabric told line ≡ Ok after
 abbrev pub IsFaultyAfter : FabricOf → Told → List ℕ → LaneCause → Type 0
 IsFaultyAfter fabric told line cause = told_after fabric told line ≡ Err cause
 
+-- a line that is too long is faulty by that
+pub long_line : (fabric : FabricOf) (told : Told) (line : List ℕ) → 4096 < length line
+    → IsFaultyAfter fabric told line LineTooLong
+unfolding said_in told_after
+long_line fabric told line long = ap (λ said. and_then said (told_with fabric told)) (long_err line LineTooLong _ long)
+
 -- a part or a path was told: a text without any is cut off
 abbrev pub is_begun : Part → Bool
 is_begun Start = false
@@ -106,4 +116,4 @@ pub record IsLevelsText (fabric : FabricOf) (bytes : List ℕ) (levels : LevelsO
 
 -- the first fault of the bytes, as the text of levels of the fabric, is in this line and of this cause
 abbrev pub IsLevelsFault : FabricOf → List ℕ → ℕ → LaneCause → Type 0
-IsLevelsFault fabric = IsFaultFrom (AddsTo fabric) (IsFaultyAfter fabric) IsEnded none_told
+IsLevelsFault fabric = IsFaultOf none_told (AddsTo fabric) (IsFaultyAfter fabric) IsEnded NoEnd

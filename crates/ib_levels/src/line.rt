@@ -1,15 +1,14 @@
 //! What a line of levels says.
 
 ghost use Rattle.std.specs.Prelude.{◌≡◌, ◌≤◌, map, IfOk, IfSome};
-ghost use Rattle.ib_lane_text.specs.Says.{IsSaid};
-ghost use Rattle.ib_levels.specs.LevelLines.{HasLowLevel, hex_after, level_in, level_said, path_said};
+ghost use Rattle.ib_words.specs.Says.{IsSaid};
+ghost use Rattle.ib_levels.specs.LevelLines.{HasLowLevel, level_in, level_said, path_said};
 ghost use Rattle.ib_levels.specs.LevelLines.{said_by, said_by_three, said_in};
 
-use ib_lane_text::head::{NodeHead, node_head};
-use ib_lane_text::takes::LaneStop;
-use ib_words::cut::after;
-use ib_words::digits::{decimal, hex};
-use ib_words::lane_cause::LaneCause;
+use ib_reader::reader::MOST_LINE;
+use ib_words::digits::{decimal, hex_after};
+use ib_words::head::{NodeHead, node_head};
+use ib_words::lane_cause::{LaneCause, LaneStop};
 use std::alloc::Global;
 use text_lines::line::words;
 use text_lines::stop::Stop;
@@ -34,6 +33,9 @@ pub fn level_line(alloc: Global, line: &[u8]) -> Result<LevelLine, LaneStop>
     ensures said { IsSaid result (said_in line.now) }
     ensures low { IfOk result HasLowLevel }
 {
+    if line.len() > MOST_LINE {
+        return Err(Stop::Fault(LaneCause::LineTooLong));
+    }
     if let Some(head) = node_head(line) {
         return Ok(LevelLine::Head(head));
     }
@@ -101,13 +103,6 @@ fn path_said(guid: &[u8], lid: &[u8], level: &[u8]) -> Result<LevelLine, LaneCau
         return Err(LaneCause::LidRange);
     }
     Ok(LevelLine::Path(guid, lid as u16, level))
-}
-
-// A number of 1 to 16 hexadecimal digits after `0x`.
-fn hex_after(word: &[u8]) -> Option<u64>
-    ensures { result ≡ hex_after word.now }
-{
-    hex(after(word, "0x")?)
 }
 
 // A service level, at most 15.

@@ -1,19 +1,19 @@
 //! What the lines of levels say so far.
 
 ghost use Rattle.std.specs.Prelude.{◌≡◌, ◌<◌, ◌≤◌, IfOk, OnOk};
-ghost use Rattle.ib_lane_text.specs.Says.{LedTo};
+ghost use Rattle.ib_words.specs.Says.{LedToOrWant};
 ghost use Rattle.ib_levels.specs.LevelLines.{HasLowLevel};
 ghost use Rattle.ib_levels.specs.Levels.{any_source, level_told, none_told, source_of, told_with};
 ghost use Rattle.ib_levels.specs.Readings.{IsEndOf, IsFit, told_of};
 
 use crate::line::{LevelLine, level_line};
 use an_base::memory::OutOfMemory;
-use ib_lane_text::head::NodeHead;
-use ib_lane_text::takes::{LaneStop, TakesLines};
 use ib_net::fabric::Fabric;
 use ib_net::node::EndPort;
+use ib_reader::takes::TakesLines;
 use ib_rows::levels::LevelRows;
-use ib_words::lane_cause::LaneCause;
+use ib_words::head::NodeHead;
+use ib_words::lane_cause::{LaneCause, LaneStop};
 use std::alloc::Global;
 use text_lines::stop::Stop;
 
@@ -37,17 +37,21 @@ pub struct Reading {
     pub rows: LevelRows,
 }
 
-impl TakesLines for Reading {
-    ghost use Rattle.ib_levels.specs.Levels.{AddsTo, IsEnded, IsFaultyAfter};
+impl TakesLines<LaneCause> for Reading {
+    ghost use Rattle.ib_levels.specs.Levels.{AddsTo, IsEnded, IsFaultyAfter, long_line};
     ghost use Rattle.ib_levels.specs.Readings.{IsFit, told_of};
 
     ghost is_fit = { IsFit };
+
+    ghost count = { λ reading. 0 };
 
     ghost adds = { λ fabric old line new. AddsTo fabric (told_of old) line (told_of new) };
 
     ghost is_faulty = { λ fabric old line cause. IsFaultyAfter fabric (told_of old) line cause };
 
     ghost is_ended = { λ reading. IsEnded (told_of reading) };
+
+    ghost long = { λ fabric told line. long_line fabric (told_of told) line };
 
     fn take(&mut self, alloc: Global, fabric: &Fabric, line: &[u8]) -> Result<(), LaneStop> {
         let said = level_line(alloc, line)?;
@@ -78,7 +82,7 @@ impl Reading {
     fn add(&mut self, fabric: &Fabric, said: LevelLine) -> Result<(), LaneStop>
         requires fit { IsFit fabric.now self.old }
         requires low { HasLowLevel said }
-        ensures step { LedTo result (told_of self.new) (told_with fabric.now (told_of self.old) said) }
+        ensures step { LedToOrWant result (told_of self.new) (told_with fabric.now (told_of self.old) said) }
         ensures fit { OnOk result (IsFit fabric.now self.new) }
     {
         match said {
@@ -92,7 +96,7 @@ impl Reading {
     // Begins the part of a node.
     fn begin(&mut self, fabric: &Fabric, head: NodeHead) -> Result<(), LaneStop>
         requires { IsFit fabric.now self.old }
-        ensures step { LedTo result (told_of self.new)
+        ensures step { LedToOrWant result (told_of self.new)
             (told_with fabric.now (told_of self.old) (LevelLine.Head head)) }
         ensures fit { OnOk result (IsFit fabric.now self.new) }
     {
@@ -109,7 +113,7 @@ impl Reading {
     fn add_level(&mut self, fabric: &Fabric, lid: u16, level: u8) -> Result<(), LaneStop>
         requires fit { IsFit fabric.now self.old }
         requires low { level ≤ 15 }
-        ensures step { LedTo result (told_of self.new)
+        ensures step { LedToOrWant result (told_of self.new)
             (told_with fabric.now (told_of self.old) (LevelLine.Level lid level)) }
         ensures fit { OnOk result (IsFit fabric.now self.new) }
     {
@@ -123,7 +127,7 @@ impl Reading {
     fn add_path(&mut self, fabric: &Fabric, guid: u64, lid: u16, level: u8) -> Result<(), LaneStop>
         requires fit { IsFit fabric.now self.old }
         requires low { level ≤ 15 }
-        ensures step { LedTo result (told_of self.new)
+        ensures step { LedToOrWant result (told_of self.new)
             (told_with fabric.now (told_of self.old) (LevelLine.Path guid lid level)) }
         ensures fit { OnOk result (IsFit fabric.now self.new) }
     {
@@ -141,7 +145,7 @@ impl Reading {
         requires fit { IsFit fabric.now self.old }
         requires source { IsEndOf fabric.now source }
         requires low { level ≤ 15 }
-        ensures step { LedTo result (told_of self.new)
+        ensures step { LedToOrWant result (told_of self.new)
             (level_told fabric.now (told_of self.old) lid level source) }
         ensures fit { OnOk result (IsFit fabric.now self.new) }
     {

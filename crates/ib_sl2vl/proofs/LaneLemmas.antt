@@ -5,7 +5,7 @@ use Rattle.std.proofs.lemmas.Option.{same_Some, none-some}
 use Rattle.std.proofs.lemmas.Nat.{div-mul-add, shr-shr}
 use Rattle.ib_words.specs.Cuts.{◌>>=◌}
 use Rattle.ib_rows.specs.Lanes.{lane_in}
-use Rattle.ib_lane_text.specs.Says.{number_to}
+use Rattle.ib_words.specs.Digits.{number_to}
 use Rattle.ib_sl2vl.specs.LaneLines.{lanes_in, packed}
 use Rattle.ib_sl2vl.proofs.LineLemmas.{number_low}
 

@@ -3,7 +3,8 @@ use Rattle.std.proofs.Common.{◌≡◌, ◌∙◌, sym, ap, refl, ℕ, ◌⊎�
 use Rattle.ib_net.specs.Fabric.{FabricOf}
 use Rattle.ib_rows.specs.Lanes.{LanesOf, lanes_by}
 use Rattle.ib_words.specs.declared.lane_cause.LaneCause.{LaneCause}
-use Rattle.ib_lane_text.proofs.TextLaws as laws
+use Rattle.ib_words.specs.declared.lane_cause.LaneCause.TheVariants.{NoEnd}
+use Rattle.ib_reader.proofs.TextLaws as laws
 use Rattle.ib_sl2vl.specs.declared.reading.Part.{Part}
 use Rattle.ib_sl2vl.specs.declared.reading.Part.TheVariants.{Start, Between, Switch, SwitchRows, Adapter, AdapterRows}
 use Rattle.ib_sl2vl.specs.Lanes.{IsEnded, IsLanesFault, IsLanesText, Told, none_told, told_after}
@@ -21,16 +22,16 @@ ended_or told = ended_at told.part
 
 module _ (fabric : FabricOf) (bytes : List ℕ) where
   pub one_text : (lanes others : LanesOf) → IsLanesText fabric bytes lanes → IsLanesText fabric bytes others → lanes ≡ others
-  one_text lanes others is too = is.says ∙ ap (λ (t : Told). lanes_by t.rows) (laws.one_text (told_after fabric) IsEnded ended_or none_told bytes is.last too.last is.text too.text) ∙ sym too.says
+  one_text lanes others is too = is.says ∙ ap (λ (t : Told). lanes_by t.rows) (laws.one_text (told_after fabric) IsEnded ended_or NoEnd none_told bytes is.last too.last is.text too.text) ∙ sym too.says
 
   pub one_fault : (line other : ℕ) (cause also : LaneCause) → IsLanesFault fabric bytes line cause → IsLanesFault fabric bytes other also → (line ≡ other) × (cause ≡ also)
-  one_fault line other cause also is too = laws.one_fault (told_after fabric) IsEnded ended_or none_told bytes line other cause also is too
+  one_fault line other cause also is too = laws.one_fault (told_after fabric) IsEnded ended_or NoEnd none_told bytes line other cause also is too
 
   pub not_both : (lanes : LanesOf) (line : ℕ) (cause : LaneCause) → IsLanesText fabric bytes lanes → IsLanesFault fabric bytes line cause → ⊥
-  not_both lanes line cause is fault = laws.text_or (told_after fabric) IsEnded ended_or none_told bytes is.last line cause is.text fault
+  not_both lanes line cause is fault = laws.text_or (told_after fabric) IsEnded ended_or NoEnd none_told bytes is.last line cause is.text fault
 
   pub either : ((lanes : LanesOf) × IsLanesText fabric bytes lanes) ⊎ ((line : ℕ) × (cause : LaneCause) × IsLanesFault fabric bytes line cause)
-  either = elim (laws.either (told_after fabric) IsEnded ended_or none_told bytes) [
+  either = elim (laws.either (told_after fabric) IsEnded ended_or NoEnd none_told bytes) [
     | inl text ↦ inl (lanes_by text.0.rows, record { last = text.0; text = text.1; says = refl })
     | inr fault ↦ inr fault
   ]

@@ -10,7 +10,7 @@ use Rattle.std.proofs.Math.Nat.{pow-le-pow_right}
 use Rattle.std.specs.Prelude.{nat_le, ◌&&◌}
 use Rattle.text_lines.specs.Words.{is_number, is_number_in, number_value}
 use Rattle.ib_words.specs.Cuts.{◌>>=◌}
-use Rattle.ib_lane_text.specs.Says.{number_to}
+use Rattle.ib_words.specs.Digits.{number_to}
 use Rattle.ib_sl2vl.specs.LaneLines.{packed}
 
 -- a number is in its range

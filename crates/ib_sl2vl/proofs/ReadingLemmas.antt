@@ -2,9 +2,11 @@
 use Rattle.std.proofs.Common.{◌≡◌, subst, refl}
 use Rattle.outside.specs.Told.{Seen}
 use Rattle.ib_net.specs.Fabric.{FabricOf}
-use Rattle.ib_lane_text.specs.declared.reader.LaneRefusal.{LaneRefusal}
-use Rattle.ib_lane_text.specs.Texts.{GaveText, IsTextOf, IsRefusedBy as IsRefusedFrom}
-use Rattle.ib_lane_text.proofs.MapLemmas.{text_told, refused_told}
+use Rattle.ib_words.specs.declared.lane_cause.LaneCause.{LaneCause}
+use Rattle.ib_words.specs.declared.lane_cause.LaneCause.TheVariants.{NoEnd, TooMany}
+use Rattle.ib_reader.specs.declared.reader.TextRefusal.{TextRefusal}
+use Rattle.ib_reader.specs.Texts.{GaveText, IsTextOf, IsRefusedBy as IsRefusedFrom}
+use Rattle.ib_reader.proofs.MapLemmas.{text_told, refused_told}
 use Rattle.ib_sl2vl.specs.declared.reading.Reading.{Reading}
 use Rattle.ib_sl2vl.specs.Lanes.{AddsTo, IsEnded, IsFaultyAfter, Told, none_told}
 use Rattle.ib_sl2vl.specs.Readings.{told_of}
@@ -18,10 +20,10 @@ module _ (fabric : FabricOf) (old new : Seen) (first last : Reading) (none : tol
     end = gave.end;
     text = record {
       last = told_of last;
-      text = subst (λ (t : Told). IsTextOf (AddsTo fabric) IsEnded t gave.bytes (told_of last)) none (text_told told_of (AddsTo fabric) (IsFaultyAfter fabric) IsEnded first last gave.bytes gave.text);
+      text = subst (λ (t : Told). IsTextOf (AddsTo fabric) IsEnded t gave.bytes (told_of last)) none (text_told told_of (AddsTo fabric) IsEnded first last gave.bytes gave.text);
       says = refl;
     };
   }
 
-  pub lanes_refused : (refused : LaneRefusal) → IsRefusedFrom (λ at line to. AddsTo fabric (told_of at) line (told_of to)) (λ at line cause. IsFaultyAfter fabric (told_of at) line cause) (λ reading. IsEnded (told_of reading)) old new first refused → IsRefusedBy fabric old new refused
-  lanes_refused refused is = subst (λ (t : Told). IsRefusedFrom (AddsTo fabric) (IsFaultyAfter fabric) IsEnded old new t refused) none (refused_told told_of (AddsTo fabric) (IsFaultyAfter fabric) IsEnded old new first refused is)
+  pub lanes_refused : (refused : TextRefusal LaneCause) → IsRefusedFrom (λ at line to. AddsTo fabric (told_of at) line (told_of to)) (λ at line cause. IsFaultyAfter fabric (told_of at) line cause) (λ reading. IsEnded (told_of reading)) NoEnd TooMany old new first refused → IsRefusedBy fabric old new refused
+  lanes_refused refused is = subst (λ (t : Told). IsRefusedFrom (AddsTo fabric) (IsFaultyAfter fabric) IsEnded NoEnd TooMany old new t refused) none (refused_told told_of (AddsTo fabric) IsEnded (IsFaultyAfter fabric) NoEnd TooMany old new first refused is)

@@ -1,20 +1,17 @@
 -- The lines of which texts of lanes consist, and what each says.
-use Rattle.std.specs.Prelude.{◌==◌, ◌+◌, ◌*◌, ℕ, Bool, List, [], ◌∷◌, length, codes, if◌then◌else◌}
-use Rattle.std.specs.Prelude.{Option, Some, None, Result, Ok, Err, is_some}
+use Rattle.std.specs.Prelude.{◌==◌, ◌+◌, ◌*◌, ℕ, List, [], ◌∷◌, length, codes, if◌then◌else◌}
+use Rattle.std.specs.Prelude.{Option, Some, None, Result, Ok, Err}
 use Rattle.std.specs.Str.{bytes_eq}
 use Rattle.text_lines.specs.Lines.{words_of}
-use Rattle.ib_words.specs.Cuts.{after, ◌>>=◌}
-use Rattle.ib_lane_text.specs.Heads.{node_head}
-use Rattle.ib_lane_text.specs.Says.{number_to, or_cause}
-use Rattle.ib_lane_text.specs.declared.head.NodeHead.{NodeHead}
+use Rattle.ib_words.specs.Cuts.{begins, ◌>>=◌}
+use Rattle.ib_words.specs.Digits.{number_to}
+use Rattle.ib_words.specs.Heads.{node_head}
+use Rattle.ib_words.specs.Says.{or_cause, unless_long}
+use Rattle.ib_words.specs.declared.head.NodeHead.{NodeHead}
 use Rattle.ib_words.specs.declared.lane_cause.LaneCause.{LaneCause}
-use Rattle.ib_words.specs.declared.lane_cause.LaneCause.TheVariants.{UnknownLine, BadRow}
+use Rattle.ib_words.specs.declared.lane_cause.LaneCause.TheVariants.{LineTooLong, UnknownLine, BadRow}
 use Rattle.ib_sl2vl.specs.declared.line.LaneLine.{LaneLine}
 use Rattle.ib_sl2vl.specs.declared.line.LaneLine.TheVariants.{Nothing, Dashes, Head, Row}
-
--- whether a line begins with these bytes
-abbrev pub begins : (front line : List ℕ) → Bool
-begins front line = is_some (after front line)
 
 -- what a line says, or the cause why it says nothing
 abbrev pub Said : Type 0
@@ -59,4 +56,6 @@ said_or_head words (Some head) = Ok (Head head)
 
 -- what a line says: dashes begin and end rows, and any other line that begins with `#` has no words
 unfoldable pub said_in : List ℕ → Said
-said_in line = if begins (codes "#-") line then Ok Dashes else said_or_head (words_of line) (node_head line)
+said_in line =
+    unless_long line LineTooLong
+    (if begins (codes "#-") line then Ok Dashes else said_or_head (words_of line) (node_head line))

@@ -1,16 +1,19 @@
 -- The text of the lanes of a fabric.
-use Rattle.std.specs.Prelude.{◌≡◌, ◌==◌, ◌||◌, ℕ, Bool, true, false, List, Option, Some, None, Result, Ok}
-use Rattle.std.specs.Prelude.{Err}
+use Rattle.std.specs.Prelude.{◌≡◌, ◌<◌, ◌==◌, ◌||◌, ℕ, Bool, true, false, List, length, Option, Some, None, Result}
+use Rattle.std.specs.Prelude.{Ok, Err}
 use Rattle.std.specs.Prelude.{if◌then◌else◌, nat_lt}
 use Rattle.ib_net.specs.Fabric.{FabricOf, ports_of, switch_with}
 use Rattle.ib_rows.specs.Lanes.{LanesOf, RowsOf, lanes_by, with_row}
-use Rattle.ib_lane_text.specs.Says.{and_then}
-use Rattle.ib_lane_text.specs.Texts.{IsFaultFrom, IsTextOf}
-use Rattle.ib_lane_text.specs.declared.head.NodeHead.{NodeHead}
-use Rattle.ib_lane_text.specs.declared.head.NodeHead.TheVariants as head
+use Rattle.std.proofs.Common.{ap}
+use Rattle.text_lines.specs.Chains.{IsFaultOf}
+use Rattle.ib_words.specs.Says.{and_then}
+use Rattle.ib_words.proofs.StepLemmas.{long_err}
+use Rattle.ib_words.specs.declared.head.NodeHead.{NodeHead}
+use Rattle.ib_words.specs.declared.head.NodeHead.TheVariants as head
+use Rattle.ib_reader.specs.Texts.{IsTextOf}
 use Rattle.ib_words.specs.declared.lane_cause.LaneCause.{LaneCause}
 use Rattle.ib_words.specs.declared.lane_cause.LaneCause.TheVariants.{UnknownSwitch, NoSuchPort, OutOfPlace}
-use Rattle.ib_words.specs.declared.lane_cause.LaneCause.TheVariants.{NoEnd}
+use Rattle.ib_words.specs.declared.lane_cause.LaneCause.TheVariants.{LineTooLong, NoEnd}
 use Rattle.ib_words.specs.declared.lane_cause.LaneCause.TheVariants.{LanesDiffer}
 use Rattle.ib_sl2vl.specs.declared.line.LaneLine.{LaneLine}
 use Rattle.ib_sl2vl.specs.declared.line.LaneLine.TheVariants.{Nothing, Dashes, Head, Row}
@@ -109,6 +112,12 @@ AddsTo fabric told line after = told_after fabric told line ≡ Ok after
 abbrev pub IsFaultyAfter : FabricOf → Told → List ℕ → LaneCause → Type 0
 IsFaultyAfter fabric told line cause = told_after fabric told line ≡ Err cause
 
+-- a line that is too long is faulty by that
+pub long_line : (fabric : FabricOf) (told : Told) (line : List ℕ) → 4096 < length line
+    → IsFaultyAfter fabric told line LineTooLong
+unfolding said_in told_after
+long_line fabric told line long = ap (λ said. and_then said (told_with fabric told)) (long_err line LineTooLong _ long)
+
 -- the last part ended
 abbrev pub IsEnded : Told → Type 0
 IsEnded told = told.part ≡ Between
@@ -122,4 +131,4 @@ pub record IsLanesText (fabric : FabricOf) (bytes : List ℕ) (lanes : LanesOf) 
 
 -- the first fault of the bytes, as the text of lanes of the fabric, is in this line and of this cause
 abbrev pub IsLanesFault : FabricOf → List ℕ → ℕ → LaneCause → Type 0
-IsLanesFault fabric = IsFaultFrom (AddsTo fabric) (IsFaultyAfter fabric) IsEnded none_told
+IsLanesFault fabric = IsFaultOf none_told (AddsTo fabric) (IsFaultyAfter fabric) IsEnded NoEnd

@@ -4,8 +4,10 @@ use Rattle.outside.specs.Told.{Seen, Gave, IsAtEnd}
 use Rattle.ib_net.specs.Fabric.{FabricOf, switch_count}
 use Rattle.ib_rows.specs.Lanes.{lanes_of}
 use Rattle.ib_rows.specs.declared.lanes.LaneRows.{LaneRows}
-use Rattle.ib_lane_text.specs.Texts.{IsRefusedBy as IsRefusedFrom}
-use Rattle.ib_lane_text.specs.declared.reader.LaneRefusal.{LaneRefusal}
+use Rattle.ib_words.specs.declared.lane_cause.LaneCause.{LaneCause}
+use Rattle.ib_words.specs.declared.lane_cause.LaneCause.TheVariants.{NoEnd, TooMany}
+use Rattle.ib_reader.specs.Texts.{IsRefusedBy as IsRefusedFrom}
+use Rattle.ib_reader.specs.declared.reader.TextRefusal.{TextRefusal}
 use Rattle.ib_sl2vl.specs.Lanes.{AddsTo, IsEnded, IsFaultyAfter, IsLanesText, none_told}
 
 -- a source was read to its end, and what it gave is the text of these lanes
@@ -21,5 +23,6 @@ pub record HasRows (fabric : FabricOf) (found : LaneRows) : Type 0 where
   pub most : found.most ≡ fabric.most
 
 -- why there are no lanes: what the source gave has this fault, it failed, or no memory was found
-abbrev pub IsRefusedBy : FabricOf → (old new : Seen) → LaneRefusal → Type 0
-IsRefusedBy fabric old new = IsRefusedFrom (AddsTo fabric) (IsFaultyAfter fabric) IsEnded old new none_told
+abbrev pub IsRefusedBy : FabricOf → (old new : Seen) → TextRefusal LaneCause → Type 0
+IsRefusedBy fabric old new =
+    IsRefusedFrom (AddsTo fabric) (IsFaultyAfter fabric) IsEnded NoEnd TooMany old new none_told

@@ -3,7 +3,7 @@
 ghost use Rattle.std.specs.Prelude.{◌≡◌, ◌<◌, ◌⊎◌, ℕ, List, [], Some, slice_index_or};
 ghost use Rattle.ib_net.specs.Fabric.{FabricOf};
 ghost use Rattle.ib_rows.specs.Lanes.{LanesOf, lane_in};
-ghost use Rattle.ib_lane_text.specs.Says.{number_to};
+ghost use Rattle.ib_words.specs.Digits.{number_to};
 ghost use Rattle.ib_words.specs.declared.lane_cause.LaneCause.{LaneCause};
 ghost use Rattle.ib_sl2vl.specs.LaneLines.{lanes_in};
 ghost use Rattle.ib_sl2vl.specs.Lanes.{IsLanesFault, IsLanesText};

@@ -1,6 +1,6 @@
 //! The lanes of a fabric, read from `opensm-sl2vl.dump`.
 //!
-//! It stands on `ib_lane_text` and `ib_rows`. Its one contract: `reader` says of which lanes of a fabric
+//! It stands on `ib_reader` and `ib_rows`. Its one contract: `reader` says of which lanes of a fabric
 //! the bytes that a source gave are the text, or which of their lines is the first that is faulty, and by
 //! which cause. No bytes are the text of two lanes, or have two first faults, or are a text and have a
 //! fault (`law`).

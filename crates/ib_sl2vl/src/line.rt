@@ -1,14 +1,14 @@
 //! What a line of lanes says.
 
 ghost use Rattle.std.specs.Prelude.{◌≡◌, ◌≤◌, length, map};
-ghost use Rattle.ib_lane_text.specs.Says.{IsSaid};
-ghost use Rattle.ib_sl2vl.specs.LaneLines.{begins, lanes_in, packed, port_in, row_said, said_after};
+ghost use Rattle.ib_words.specs.Says.{IsSaid};
+ghost use Rattle.ib_sl2vl.specs.LaneLines.{lanes_in, packed, port_in, row_said, said_after};
 ghost use Rattle.ib_sl2vl.specs.LaneLines.{said_by, said_in};
 
-use ib_lane_text::head::{NodeHead, node_head};
-use ib_lane_text::takes::LaneStop;
-use ib_words::cut::after;
-use ib_words::lane_cause::LaneCause;
+use ib_reader::reader::MOST_LINE;
+use ib_words::cut::begins;
+use ib_words::head::{NodeHead, node_head};
+use ib_words::lane_cause::{LaneCause, LaneStop};
 use std::alloc::Global;
 use text_lines::line::words;
 use text_lines::stop::Stop;
@@ -33,6 +33,9 @@ pub enum LaneLine {
 pub fn lane_line(alloc: Global, line: &[u8]) -> Result<LaneLine, LaneStop>
     ensures { IsSaid result (said_in line.now) }
 {
+    if line.len() > MOST_LINE {
+        return Err(Stop::Fault(LaneCause::LineTooLong));
+    }
     if begins(line, "#-") {
         return Ok(LaneLine::Dashes);
     }
@@ -44,13 +47,6 @@ pub fn lane_line(alloc: Global, line: &[u8]) -> Result<LaneLine, LaneStop>
         Ok(said) => Ok(said),
         Err(cause) => Err(Stop::Fault(cause)),
     }
-}
-
-// Whether a line begins with these bytes.
-fn begins(line: &[u8], front: &str) -> bool
-    ensures { result ≡ begins front.now line.now }
-{
-    after(line, front).is_some()
 }
 
 // What words say.

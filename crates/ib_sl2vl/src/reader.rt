@@ -5,9 +5,10 @@ ghost use Rattle.outside.specs.Told.{IsNoLess};
 ghost use Rattle.ib_sl2vl.specs.Reads.{GaveLanes, HasRows, IsRefusedBy};
 
 use crate::reading::Reading;
-use ib_lane_text::reader::{LaneRefusal, read_text};
 use ib_net::fabric::Fabric;
+use ib_reader::reader::{TextRefusal, read_text};
 use ib_rows::lanes::LaneRows;
+use ib_words::lane_cause::LaneCause;
 use outside::source::Source;
 use std::alloc::Global;
 
@@ -17,7 +18,7 @@ pub fn read_lanes<S: Source>(
     alloc: Global,
     source: &mut S,
     fabric: &Fabric,
-) -> Result<LaneRows, LaneRefusal>
+) -> Result<LaneRows, TextRefusal<LaneCause>>
     ensures text { IfOk result (GaveLanes fabric.now (S.seen source.old) (S.seen source.new)) }
     ensures rows { IfOk result (HasRows fabric.now) }
     ensures refused { IfErr result (IsRefusedBy fabric.now (S.seen source.old) (S.seen source.new)) }

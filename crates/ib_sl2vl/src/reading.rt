@@ -3,18 +3,18 @@
 ghost use Rattle.std.specs.Prelude.{◌≡◌, ◌<◌, ◌≤◌, IfOk, IfSome, OnOk};
 ghost use Rattle.ib_net.specs.Fabric.{ports_of, switch_count};
 ghost use Rattle.ib_rows.specs.Lanes.{told_row};
-ghost use Rattle.ib_lane_text.specs.Says.{LedTo};
+ghost use Rattle.ib_words.specs.Says.{LedToOrWant};
 ghost use Rattle.ib_sl2vl.specs.Lanes.{dashes_told, head_told, is_open, none_told, opened, row_put};
 ghost use Rattle.ib_sl2vl.specs.Lanes.{row_told, told_with};
 ghost use Rattle.ib_sl2vl.specs.Readings.{IsFit, KeepsSize, switch_in, told_of};
 
 use crate::line::{LaneLine, lane_line};
 use an_base::memory::OutOfMemory;
-use ib_lane_text::head::NodeHead;
-use ib_lane_text::takes::{LaneStop, TakesLines};
 use ib_net::fabric::Fabric;
+use ib_reader::takes::TakesLines;
 use ib_rows::lanes::LaneRows;
-use ib_words::lane_cause::LaneCause;
+use ib_words::head::NodeHead;
+use ib_words::lane_cause::{LaneCause, LaneStop};
 use std::alloc::Global;
 use text_lines::stop::Stop;
 
@@ -56,17 +56,21 @@ pub struct Reading {
     pub rows: LaneRows,
 }
 
-impl TakesLines for Reading {
-    ghost use Rattle.ib_sl2vl.specs.Lanes.{AddsTo, IsEnded, IsFaultyAfter};
+impl TakesLines<LaneCause> for Reading {
+    ghost use Rattle.ib_sl2vl.specs.Lanes.{AddsTo, IsEnded, IsFaultyAfter, long_line};
     ghost use Rattle.ib_sl2vl.specs.Readings.{IsFit, told_of};
 
     ghost is_fit = { IsFit };
+
+    ghost count = { λ reading. 0 };
 
     ghost adds = { λ fabric old line new. AddsTo fabric (told_of old) line (told_of new) };
 
     ghost is_faulty = { λ fabric old line cause. IsFaultyAfter fabric (told_of old) line cause };
 
     ghost is_ended = { λ reading. IsEnded (told_of reading) };
+
+    ghost long = { λ fabric told line. long_line fabric (told_of told) line };
 
     fn take(&mut self, alloc: Global, fabric: &Fabric, line: &[u8]) -> Result<(), LaneStop> {
         let said = lane_line(alloc, line)?;
@@ -100,7 +104,7 @@ impl Reading {
     // Adds what a line says.
     fn add(&mut self, fabric: &Fabric, said: LaneLine) -> Result<(), LaneStop>
         requires { IsFit fabric.now self.old }
-        ensures step { LedTo result (told_of self.new) (told_with fabric.now (told_of self.old) said) }
+        ensures step { LedToOrWant result (told_of self.new) (told_with fabric.now (told_of self.old) said) }
         ensures fit { OnOk result (IsFit fabric.now self.new) }
     {
         match said {
@@ -114,7 +118,7 @@ impl Reading {
     // Begins the rows of a part, or ends them.
     fn add_dashes(&mut self, fabric: &Fabric) -> Result<(), LaneStop>
         requires { IsFit fabric.now self.old }
-        ensures step { LedTo result (told_of self.new) (dashes_told (told_of self.old)) }
+        ensures step { LedToOrWant result (told_of self.new) (dashes_told (told_of self.old)) }
         ensures fit { OnOk result (IsFit fabric.now self.new) }
     {
         match self.part {
@@ -129,7 +133,7 @@ impl Reading {
     // Begins the part of a node.
     fn begin(&mut self, fabric: &Fabric, head: NodeHead) -> Result<(), LaneStop>
         requires { IsFit fabric.now self.old }
-        ensures step { LedTo result (told_of self.new) (head_told fabric.now (told_of self.old) head) }
+        ensures step { LedToOrWant result (told_of self.new) (head_told fabric.now (told_of self.old) head) }
         ensures fit { OnOk result (IsFit fabric.now self.new) }
     {
         if self.part.is_open() {
@@ -147,7 +151,7 @@ impl Reading {
     // Adds a row, if one may stand here.
     fn add_row(&mut self, fabric: &Fabric, entry: u8, port: u8, row: u64) -> Result<(), LaneStop>
         requires { IsFit fabric.now self.old }
-        ensures step { LedTo result (told_of self.new) (row_told fabric.now (told_of self.old) entry port row) }
+        ensures step { LedToOrWant result (told_of self.new) (row_told fabric.now (told_of self.old) entry port row) }
         ensures fit { OnOk result (IsFit fabric.now self.new) }
     {
         match self.part {
@@ -170,7 +174,7 @@ impl Reading {
         requires switch { switch < self.old.rows.switches }
         requires entry { entry ≤ self.old.rows.most }
         requires port { port ≤ self.old.rows.most }
-        ensures step { LedTo result (told_of self.new) (row_put (told_of self.old) switch entry port row
+        ensures step { LedToOrWant result (told_of self.new) (row_put (told_of self.old) switch entry port row
             (told_row self.old.rows switch entry port)) }
         ensures size { OnOk result (KeepsSize self.old self.new) }
     {

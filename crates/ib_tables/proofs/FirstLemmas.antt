@@ -11,12 +11,12 @@ use Rattle.std.proofs.lemmas.List.Quantifiers.{position-Some}
 use Rattle.memchr.specs.Find.{IsFirstByte, TakesFirst, is_byte, places, first_of}
 use Rattle.memchr.proofs.lemmas.ValueLemmas.{IsFirstByte-value}
 use Rattle.text_lines.proofs.LineLemmas.{first_position, position_none}
-use Rattle.ib_words.specs.Cuts.{after}
+use Rattle.ib_words.specs.Cuts.{after, begins}
 use Rattle.ib_words.specs.Rows.{row}
 use Rattle.ib_words.proofs.RowLemmas.{row_parts, row_front, row_free, row_space, row_by_front}
 use Rattle.ib_tables.specs.declared.line.TableLine.TheVariants.{Row}
-use Rattle.ib_tables.specs.TableLines.{begins, said_in}
-use Rattle.ib_tables.specs.Pieces.{is_feed}
+use Rattle.ib_reader.specs.Pieces.{is_feed}
+use Rattle.ib_tables.specs.TableLines.{said_in}
 
 -- the first of the places at which a byte stands
 is_first : (byte : ℕ) (xs : List ℕ) (r : Option ℕ) → position (λ c. eqb c byte) xs ≡ r → IsFirstByte (is_byte byte) xs r

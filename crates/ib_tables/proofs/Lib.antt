@@ -1,5 +1,4 @@
 pub mod FirstLemmas
-pub mod PieceLemmas
-pub mod ReadLemmas
+pub mod ReadingLemmas
 pub mod SaidLemmas
 pub mod TableLaws

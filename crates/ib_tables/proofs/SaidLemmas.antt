@@ -1,17 +1,14 @@
 -- What lines say, and what they add.
-use Rattle.std.proofs.Common.{◌≡◌, ◌∙◌, sym, ap, refl, ℕ, ◌≤◌, inl, inr, List, arith, length, take, min, Ok, Err, false, ltb}
+use Rattle.std.proofs.Common.{◌≡◌, ◌∙◌, sym, ap, refl, ℕ, ◌≤◌, inl, inr, List, arith, length, take, min, Ok, false, ltb}
 use Rattle.std.specs.Prelude.{codes}
 use Rattle.std.proofs.lemmas.Bool.{cases_lt}
 use Rattle.std.proofs.lemmas.Bool.Decides.{nat_tests}
 use Rattle.std.proofs.lemmas.List.{take_all}
 use Rattle.text_lines.specs.Lines.{words_of}
-use Rattle.text_lines.specs.declared.stop.Stop.{Stop}
-use Rattle.text_lines.specs.declared.stop.Stop.TheVariants.{Fault, OutOfMemory}
+use Rattle.ib_words.specs.Cuts.{begins}
 use Rattle.ib_net.specs.Fabric.{FabricOf}
-use Rattle.ib_tables.specs.declared.cause.TablesCause.{TablesCause}
 use Rattle.ib_tables.specs.declared.line.TableLine.{TableLine}
-use Rattle.ib_tables.specs.Answers.{IsSaid, LedToOrWant}
-use Rattle.ib_tables.specs.TableLines.{begins, said_by, said_in}
+use Rattle.ib_tables.specs.TableLines.{said_by, said_in}
 use Rattle.ib_tables.specs.Tables.{Told, told_with, told_after}
 
 -- a front of as many bytes as there are, and sixteen at most
@@ -27,12 +24,6 @@ unfolding said_in
 said_by_words line words short row head warning are =
     let t : ltb 4096 (length line) ≡ false = grind (arith, nat_tests) in
     rw (t, row, head, warning, are) refl
-
--- a line that says nothing that is known
-pub stopped_by : (fabric : FabricOf) (told after : Told) (line : List ℕ) (stop : Stop TablesCause) → IsSaid {A = TableLine} (Err stop) (said_in line) → LedToOrWant {Done = Unit {0}} (Err stop) after (told_after fabric told line)
-unfolding told_after
-stopped_by fabric told after line (Fault cause) said = rw said refl
-stopped_by fabric told after line OutOfMemory said = tt
 
 -- what a line says leads to what is told after the line
 pub told_by : (fabric : FabricOf) (told : Told) (line : List ℕ) (said : TableLine) → said_in line ≡ Ok said → told_after fabric told line ≡ told_with fabric told said

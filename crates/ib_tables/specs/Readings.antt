@@ -1,6 +1,6 @@
 -- What a reader keeps of the lines so far. Only private functions cite this.
 
-use Rattle.std.specs.Prelude.{◌≡◌, ◌<◌, ◌≤◌, ◌+◌, ◌*◌, ℕ, length, Option, Some, None, IfSome}
+use Rattle.std.specs.Prelude.{◌≡◌, ◌<◌, ◌≤◌, ◌*◌, ℕ, length, Option, Some, None, IfSome}
 use Rattle.ib_net.specs.Fabric.{FabricOf, switch_count}
 use Rattle.ib_cells.specs.Cells.{tables_of}
 use Rattle.ib_tables.specs.declared.reading.Reading.{Reading}
@@ -24,24 +24,16 @@ switch_in (Dumped switch) = Some switch
 switch_in (PlainOf switch) = Some switch
 switch_in part = None
 
--- there is a cell for each switch and each LID that has an owner, and rows belong to a switch that there is
+-- there is a cell for each switch and each LID that has an owner, and rows belong to a switch that there is; rows for
+-- LIDs that nobody owns are among all
 pub record IsFit (fabric : FabricOf) (reading : Reading) : Type 0 where
   pub switches : reading.cells.switches ≡ switch_count fabric
   pub lids : length fabric.owners ≤ 64 * reading.cells.blocks
   pub within : IfSome (switch_in reading.part) (λ switch. switch < switch_count fabric)
+  pub unowned : reading.unowned ≤ reading.rows
 
--- there are fewer rows than this
-pub record AreFewRows (reading : Reading) (most : ℕ) : Type 0 where
-  pub rows : reading.rows < most
-  pub unowned : reading.unowned < most
-
--- .. and than lines
-pub record IsReady (fabric : FabricOf) (reading : Reading) : Type 0 where
-  pub fit : IsFit fabric reading
-  pub few : AreFewRows reading reading.line
-
--- a line adds a row at most
-pub record GrewByOne (old new : Reading) : Type 0 where
-  pub rows : new.rows ≤ old.rows + 1
-  pub unowned : new.unowned ≤ old.unowned + 1
-  pub line : new.line ≡ old.line
+-- a line adds no row
+pub record KeepsRows (old new : Reading) : Type 0 where
+  pub cells : new.cells ≡ old.cells
+  pub rows : new.rows ≡ old.rows
+  pub unowned : new.unowned ≡ old.unowned

@@ -1,14 +1,15 @@
 -- The lines of which texts of tables consist, and what each says.
 
-use Rattle.std.specs.Prelude.{◌&&◌, ℕ, Bool, List, [], ◌∷◌, length, take, codes, nat_lt, if◌then◌else◌}
-use Rattle.std.specs.Prelude.{Option, Some, None, Result, Ok, Err, option_and_then, is_some}
+use Rattle.std.specs.Prelude.{◌&&◌, ℕ, Bool, List, [], ◌∷◌, take, codes, nat_lt, if◌then◌else◌}
+use Rattle.std.specs.Prelude.{Option, Result, Ok, Err, option_and_then}
 use Rattle.std.specs.List.{list_all}
 use Rattle.std.specs.Str.{bytes_eq}
 use Rattle.std.specs.Char.{is_ascii_digit}
 use Rattle.text_lines.specs.Lines.{words_of}
-use Rattle.ib_words.specs.Cuts.{after, cut_first}
-use Rattle.ib_words.specs.Digits.{hex, guid, decimal}
+use Rattle.ib_words.specs.Cuts.{begins, cut_first}
+use Rattle.ib_words.specs.Digits.{guid, hex_after, decimal}
 use Rattle.ib_words.specs.Rows.{row}
+use Rattle.ib_words.specs.Says.{or_cause, unless_long}
 use Rattle.ib_tables.specs.declared.line.TableLine.{TableLine}
 use Rattle.ib_tables.specs.declared.line.TableLine.TheVariants.{Nothing, Head, Row, End, PlainHead, PlainSwitch}
 use Rattle.ib_tables.specs.declared.line.TableLine.TheVariants.{PlainRow, PlainEnd}
@@ -16,18 +17,9 @@ use Rattle.ib_tables.specs.declared.cause.TablesCause.{TablesCause}
 use Rattle.ib_tables.specs.declared.cause.TablesCause.TheVariants.{LineTooLong, UnknownLine, BadRow, BadGuid}
 use Rattle.ib_tables.specs.declared.cause.TablesCause.TheVariants.{LidRange, PortRange}
 
--- whether a line begins with these bytes
-abbrev pub begins : (front line : List ℕ) → Bool
-begins front line = is_some (after front line)
-
 -- what a line says, or the first cause why it says nothing
 abbrev pub Said : Type 0
 Said = Result TableLine TablesCause
-
--- a value, or the cause why there is none
-abbrev pub or_cause : {A : Type 0} → Option A → TablesCause → (A → Said) → Said
-or_cause None cause says = Err cause
-or_cause (Some value) cause says = says value
 
 -- what says something of a LID: unicast LIDs end with 0xbfff
 abbrev pub unicast : ℕ → TableLine → Said
@@ -53,11 +45,8 @@ plain_row lid port =
     or_cause (decimal lid) UnknownLine (λ to. or_cause (decimal port) UnknownLine (λ by. plain_port to by))
 
 -- the switch to which the next plain rows belong: its GUID has 1 to 16 digits after `0x`
-abbrev pub plain_guid : List ℕ → Option ℕ
-plain_guid word = option_and_then hex (after (codes "0x") word)
-
 abbrev pub plain_switch : List ℕ → Said
-plain_switch word = or_cause (plain_guid word) BadGuid (λ found. Ok (PlainSwitch found))
+plain_switch word = or_cause (hex_after word) BadGuid (λ found. Ok (PlainSwitch found))
 
 -- whether a word is one of digits
 abbrev pub is_count : List ℕ → Bool
@@ -99,7 +88,7 @@ said_by words = Err UnknownLine
 -- what a line says, or why it is none of a text of tables
 unfoldable pub said_in : List ℕ → Said
 said_in line =
-    if nat_lt 4096 (length line) then Err LineTooLong
-    else (if begins (codes "0x") line then dumped_row line
+    unless_long line LineTooLong
+    (if begins (codes "0x") line then dumped_row line
     else (if begins (codes "Unicast lids ") line then head line
     else (if begins (codes "*** WARNING ***") line then Ok Nothing else said_by (words_of line))))

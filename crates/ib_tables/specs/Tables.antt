@@ -1,9 +1,12 @@
 -- The text of the tables of a fabric.
 
-use Rattle.std.specs.Prelude.{◌≡◌, ◌+◌, ◌==◌, ◌^◌, ℕ, Bool, true, false, List, ⊤, if◌then◌else◌}
+use Rattle.std.specs.Prelude.{◌≡◌, ◌+◌, ◌<◌, ◌==◌, ℕ, Bool, true, false, List, length, ⊤, if◌then◌else◌}
 use Rattle.std.specs.Prelude.{Option, Some, None, is_none, Result, Ok, Err}
+use Rattle.std.proofs.Common.{ap}
 use Rattle.text_lines.specs.Lines.{lines_of}
 use Rattle.text_lines.specs.Chains.{LeadsBy, IsFaultOf}
+use Rattle.ib_words.specs.Says.{and_then}
+use Rattle.ib_words.proofs.StepLemmas.{long_err}
 use Rattle.ib_net.specs.Fabric.{FabricOf, owner_of, switch_with}
 use Rattle.ib_cells.specs.Cells.{TablesOf, with_port}
 use Rattle.ib_tables.specs.declared.line.TableLine.{TableLine}
@@ -12,7 +15,7 @@ use Rattle.ib_tables.specs.declared.line.TableLine.TheVariants.{PlainRow, PlainE
 use Rattle.ib_tables.specs.declared.reading.Part.{Part}
 use Rattle.ib_tables.specs.declared.reading.Part.TheVariants.{Start, Between, Dumped, Plain, PlainOf}
 use Rattle.ib_tables.specs.declared.cause.TablesCause.{TablesCause}
-use Rattle.ib_tables.specs.declared.cause.TablesCause.TheVariants.{UnknownLine, UnknownSwitch, OutOfPlace, NoEnd}
+use Rattle.ib_tables.specs.declared.cause.TablesCause.TheVariants.{LineTooLong, UnknownLine, UnknownSwitch, OutOfPlace, NoEnd}
 use Rattle.ib_tables.specs.declared.cause.TablesCause.TheVariants.{PortDiffers}
 use Rattle.ib_tables.specs.TableLines.{said_in}
 
@@ -55,11 +58,6 @@ switch_plain part = if is_dump part then Err UnknownLine else Err OutOfPlace
 -- what is told after a line, or why the line is faulty
 abbrev pub Step : Type 0
 Step = Result Told TablesCause
-
-abbrev pub and_then :
-    {A B : Type 0} → Result A TablesCause → (A → Result B TablesCause) → Result B TablesCause
-and_then (Ok found) next = next found
-and_then (Err cause) next = Err cause
 
 abbrev pub at_part : Told → Part → Told
 at_part told part = record told { part = part }
@@ -123,6 +121,12 @@ AddsTo fabric told line after = told_after fabric told line ≡ Ok after
 abbrev pub IsFaultyAfter : FabricOf → Told → List ℕ → TablesCause → Type 0
 IsFaultyAfter fabric told line cause = told_after fabric told line ≡ Err cause
 
+-- a line that is too long is faulty by that
+pub long_line : (fabric : FabricOf) (told : Told) (line : List ℕ) → 4096 < length line
+    → IsFaultyAfter fabric told line LineTooLong
+unfolding said_in told_after
+long_line fabric told line long = ap (λ said. and_then said (told_with fabric told)) (long_err line LineTooLong _ long)
+
 -- the last part ended
 abbrev pub IsEnded : Told → Type 0
 IsEnded told = told.part ≡ Between
@@ -142,7 +146,3 @@ pub record IsTablesText (fabric : FabricOf) (bytes : List ℕ) (tables : TablesO
 -- the first fault of the bytes, as the text of tables of the fabric, is in this line and of this cause
 abbrev pub IsTablesFault : FabricOf → List ℕ → ℕ → TablesCause → Type 0
 IsTablesFault fabric = IsFaultOf none_told (AddsTo fabric) (IsFaultyAfter fabric) IsEnded NoEnd
-
--- the most bytes of a text of tables
-abbrev pub most_bytes : ℕ
-most_bytes = 2 ^ 62

@@ -3,6 +3,8 @@
 ghost use Rattle.std.specs.Prelude.{◌≡◌};
 ghost use Rattle.ib_tables.specs.Causes.{cause_text};
 
+use ib_words::text_cause::TextCause;
+
 /// What is wrong with a line of tables.
 #[derive(Clone, Copy)]
 pub enum TablesCause {
@@ -48,5 +50,27 @@ impl TablesCause {
             TablesCause::PortDiffers => "port differs",
             TablesCause::TooMany => "too many",
         }
+    }
+}
+
+impl TextCause for TablesCause {
+    ghost use Rattle.ib_tables.specs.declared.cause.TablesCause.TheVariants.{LineTooLong, NoEnd, TooMany};
+
+    ghost too_long = { LineTooLong };
+
+    ghost no_end = { NoEnd };
+
+    ghost too_many = { TooMany };
+
+    fn too_long() -> TablesCause {
+        TablesCause::LineTooLong
+    }
+
+    fn no_end() -> TablesCause {
+        TablesCause::NoEnd
+    }
+
+    fn too_many() -> TablesCause {
+        TablesCause::TooMany
     }
 }

@@ -1,11 +1,12 @@
 //! The first line of bytes: where it ends, and the row that it may be.
 
-ghost use Rattle.std.specs.Prelude.{◌≡◌, ◌≤◌, Some, IfSome, IsSome, length, position};
+ghost use Rattle.std.specs.Prelude.{◌≡◌, ◌≤◌, Ok, Some, IfSome, IsSome, length, position};
 ghost use Rattle.ib_words.specs.Rows.{row};
-ghost use Rattle.ib_tables.specs.Pieces.{is_feed, BeginsWith};
+ghost use Rattle.ib_reader.specs.Pieces.{is_feed, BeginsWith};
+ghost use Rattle.ib_tables.specs.TableLines.{said_in};
 ghost use Rattle.ib_tables.specs.declared.line.TableLine.TheVariants.{Row};
 
-use crate::line::MOST_LINE;
+use ib_reader::reader::MOST_LINE;
 use ib_words::row::row;
 use memchr::memchr_iter;
 
@@ -24,7 +25,8 @@ pub struct FirstRow {
 /// its place, before the end of the line is known.
 #[inline]
 pub fn first_row(bytes: &[u8]) -> Option<FirstRow>
-    ensures { IfSome result (λ found. BeginsWith bytes.now found.end (Row found.lid found.port)) }
+    ensures { IfSome result (λ found.
+        BeginsWith bytes.now found.end (λ line. said_in line ≡ Ok (Row found.lid found.port))) }
 {
     if bytes.len() < 13 {
         return None;
@@ -55,9 +57,9 @@ fn row_end(bytes: &[u8]) -> Option<usize>
     if end > MOST_LINE { None } else { Some(end) }
 }
 
-/// Where the first line feed stands. The next bytes are looked at first, since lines are short.
+// Where the first line feed stands. The next bytes are looked at first, since lines are short.
 #[inline]
-pub fn first_feed(bytes: &[u8]) -> Option<usize>
+fn first_feed(bytes: &[u8]) -> Option<usize>
     ensures { result ≡ position is_feed bytes.now }
 {
     memchr_iter(b'\n', bytes).next()

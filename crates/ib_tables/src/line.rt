@@ -1,22 +1,21 @@
 //! What a line of a text of tables says.
 
 ghost use Rattle.std.specs.Prelude.{◌≡◌, ◌≤◌, codes, false, length, map};
-ghost use Rattle.ib_tables.specs.Answers.{IsSaid};
-ghost use Rattle.ib_tables.specs.TableLines.{begins, dumped_row, unicast, head, head_guid, plain_guid, plain_row, plain_switch};
+ghost use Rattle.ib_words.specs.Cuts.{begins};
+ghost use Rattle.ib_words.specs.Says.{IsSaid};
+ghost use Rattle.ib_tables.specs.TableLines.{dumped_row, unicast, head, head_guid, plain_row, plain_switch};
 ghost use Rattle.ib_tables.specs.declared.line.TableLine.TheVariants.{Row};
 ghost use Rattle.ib_tables.specs.TableLines.{is_count, said_by, said_by_one, said_by_two, said_by_three, said_by_four, said_in};
 
 use crate::cause::TablesCause;
-use ib_words::cut::{after, cut_first};
-use ib_words::digits::{decimal, guid, hex};
+use ib_reader::reader::MOST_LINE;
+use ib_words::cut::{begins, cut_first};
+use ib_words::digits::{decimal, guid, hex_after};
 use ib_words::row::row;
 use std::alloc::Global;
 use text_lines::line::words;
 use text_lines::stop::Stop;
 use text_lines::word::is;
-
-/// The most bytes of a line, without what ends it.
-pub const MOST_LINE: usize = 4096;
 
 /// What a line says.
 #[derive(Clone, Copy)]
@@ -81,13 +80,6 @@ fn or_stop(said: Result<TableLine, TablesCause>) -> Result<TableLine, TablesStop
         Ok(said) => Ok(said),
         Err(cause) => Err(Stop::Fault(cause)),
     }
-}
-
-// Whether a line begins with these bytes.
-fn begins(line: &[u8], front: &str) -> bool
-    ensures { result ≡ begins front.now line.now }
-{
-    after(line, front).is_some()
 }
 
 // What a row says that is printed as the tools do.
@@ -204,17 +196,10 @@ fn is_count(word: &[u8]) -> bool
 fn plain_switch(word: &[u8]) -> Result<TableLine, TablesCause>
     ensures { result ≡ plain_switch word.now }
 {
-    match plain_guid(word) {
+    match hex_after(word) {
         Some(guid) => Ok(TableLine::PlainSwitch(guid)),
         None => Err(TablesCause::BadGuid),
     }
-}
-
-// A GUID of 1 to 16 digits after `0x`.
-fn plain_guid(word: &[u8]) -> Option<u64>
-    ensures { result ≡ plain_guid word.now }
-{
-    hex(after(word, "0x")?)
 }
 
 // What a row of two plain words says.

@@ -1,20 +1,21 @@
 //! What the lines of tables say so far.
 
-ghost use Rattle.std.specs.Prelude.{◌≡◌, ◌+◌, ◌<◌, ◌≤◌, ◌^◌, ◌-◌, ◌↔◌, IfOk, OnOk, OnErr, IsTrue, None, Some, Ok, MatchResult};
+ghost use Rattle.std.specs.Prelude.{◌≡◌, ◌+◌, ◌<◌, ◌≤◌, ◌^◌, ◌-◌, IfOk, OnOk, None, Some, Ok, MatchResult};
+ghost use Rattle.ib_words.specs.Says.{and_then, LedTo};
 ghost use Rattle.ib_net.specs.Fabric.{switch_count, switch_with};
 ghost use Rattle.ib_tables.specs.declared.cause.TablesCause.TheVariants.{UnknownSwitch};
-ghost use Rattle.ib_tables.specs.declared.line.TableLine.TheVariants.{Row};
 ghost use Rattle.ib_tables.specs.declared.reading.Part.TheVariants.{Between, Dumped, Plain, PlainOf};
-ghost use Rattle.ib_tables.specs.Answers.{LedTo, LedToOrWant};
-ghost use Rattle.ib_tables.specs.Tables.{is_dump, is_plain, may_begin, none_told, told_with, told_after, IsEnded};
-ghost use Rattle.ib_tables.specs.Tables.{and_then, at_part, begins_told, if_open, row_told, rows_of, switch_dumped, switch_plain};
-ghost use Rattle.ib_tables.specs.Readings.{switch_in, told_of, IsFit, IsReady, AreFewRows, GrewByOne};
+ghost use Rattle.ib_tables.specs.Tables.{is_dump, is_plain, may_begin, none_told, told_with};
+ghost use Rattle.ib_tables.specs.Tables.{at_part, begins_told, if_open, row_told, rows_of, switch_dumped, switch_plain};
+ghost use Rattle.ib_tables.specs.Readings.{switch_in, told_of, IsFit, KeepsRows};
 
 use crate::cause::TablesCause;
+use crate::first::first_row;
 use crate::line::{TableLine, TablesStop, table_line};
 use an_base::memory::OutOfMemory;
 use ib_cells::cells::Cells;
 use ib_net::fabric::Fabric;
+use ib_reader::takes::TakesLines;
 use std::alloc::Global;
 use text_lines::stop::Stop;
 
@@ -104,8 +105,6 @@ pub struct Reading {
     pub rows: u64,
     /// How many of these are for LIDs that nobody owns.
     pub unowned: u64,
-    /// The number of the next line, from 1.
-    pub line: u64,
 }
 
 // The place of the switch with this GUID.
@@ -120,80 +119,76 @@ fn known(fabric: &Fabric, guid: u64) -> Result<usize, TablesCause>
     }
 }
 
+impl TakesLines<TablesCause> for Reading {
+    ghost use Rattle.ib_tables.specs.Tables.{AddsTo, IsEnded, IsFaultyAfter, long_line};
+    ghost use Rattle.ib_tables.specs.Readings.{IsFit, told_of};
+
+    ghost is_fit = { IsFit };
+
+    ghost count = { λ reading. reading.rows };
+
+    ghost adds = { λ fabric old line new. AddsTo fabric (told_of old) line (told_of new) };
+
+    ghost is_faulty = { λ fabric old line cause. IsFaultyAfter fabric (told_of old) line cause };
+
+    ghost is_ended = { λ reading. IsEnded (told_of reading) };
+
+    ghost long = { λ fabric told line. long_line fabric (told_of told) line };
+
+    #[inline(never)]
+    fn take(&mut self, alloc: Global, fabric: &Fabric, line: &[u8]) -> Result<(), TablesStop> {
+        let said = table_line(alloc, line)?;
+        if let Err(cause) = self.add(fabric, said) {
+            return Err(Stop::Fault(cause));
+        }
+        Ok(())
+    }
+
+    // Nearly all lines are rows, so a row is looked for first.
+    #[inline]
+    fn take_in_place(
+        &mut self,
+        fabric: &Fabric,
+        bytes: &[u8],
+    ) -> Result<Option<usize>, TablesStop> {
+        let Some(row) = first_row(bytes) else {
+            return Ok(None);
+        };
+        if let Err(cause) = self.add_row(fabric, self.part.switch_dumped(), row.lid, row.port) {
+            return Err(Stop::Fault(cause));
+        }
+        Ok(Some(row.end))
+    }
+
+    fn may_end(&self) -> bool {
+        match self.part {
+            Part::Between => true,
+            Part::Start | Part::Dumped(_) | Part::Plain | Part::PlainOf(_) => false,
+        }
+    }
+}
+
 impl Reading {
     /// What no lines of tables of the fabric say.
     pub fn new(alloc: Global, fabric: &Fabric) -> Result<Reading, OutOfMemory>
         ensures none { IfOk result (λ reading. told_of reading ≡ none_told) }
-        ensures ready { IfOk result (IsReady fabric.now) }
-        ensures first { IfOk result (λ reading. reading.line ≡ 1) }
+        ensures fit { IfOk result (IsFit fabric.now) }
     {
         Ok(Reading {
             part: Part::Start,
             cells: Cells::new(alloc, fabric.switches(), fabric.lids())?,
             rows: 0,
             unowned: 0,
-            line: 1,
         })
-    }
-
-    /// Whether the last part ended.
-    pub fn is_ended(&self) -> bool
-        ensures { IsTrue result ↔ IsEnded (told_of self.now) }
-    {
-        match self.part {
-            Part::Between => true,
-            Part::Start | Part::Dumped(_) | Part::Plain | Part::PlainOf(_) => false,
-        }
-    }
-
-    /// Adds what the next line says, without what ends it.
-    #[inline(never)]
-    pub fn add_line(
-        &mut self,
-        alloc: Global,
-        fabric: &Fabric,
-        line: &[u8],
-    ) -> Result<(), TablesStop>
-        requires ready { IsReady fabric.now self.old }
-        requires few { self.old.line < 2 ^ 64 - 1 }
-        ensures step { LedToOrWant result (told_of self.new) (told_after fabric.now (told_of self.old) line.now) }
-        ensures ready { OnOk result (IsReady fabric.now self.new) }
-        ensures next { OnOk result (self.new.line ≡ self.old.line + 1) }
-        ensures here { OnErr result (self.new.line ≡ self.old.line) }
-    {
-        let said = table_line(alloc, line)?;
-        if let Err(cause) = self.add(fabric, said) {
-            return Err(Stop::Fault(cause));
-        }
-        self.line += 1;
-        Ok(())
-    }
-
-    /// Adds what the next line says, which is this row.
-    #[inline]
-    pub fn add_row_line(&mut self, fabric: &Fabric, lid: u16, port: u8) -> Result<(), TablesStop>
-        requires ready { IsReady fabric.now self.old }
-        requires few { self.old.line < 2 ^ 64 - 1 }
-        ensures step { LedToOrWant result (told_of self.new)
-            (told_with fabric.now (told_of self.old) (Row lid port)) }
-        ensures ready { OnOk result (IsReady fabric.now self.new) }
-        ensures next { OnOk result (self.new.line ≡ self.old.line + 1) }
-        ensures here { OnErr result (self.new.line ≡ self.old.line) }
-    {
-        if let Err(cause) = self.add_row(fabric, self.part.switch_dumped(), lid, port) {
-            return Err(Stop::Fault(cause));
-        }
-        self.line += 1;
-        Ok(())
     }
 
     // Adds what a line says.
     fn add(&mut self, fabric: &Fabric, said: TableLine) -> Result<(), TablesCause>
         requires fit { IsFit fabric.now self.old }
-        requires few { AreFewRows self.old (2 ^ 64 - 1) }
+        requires few { self.old.rows < 2 ^ 64 - 1 }
         ensures step { LedTo result (told_of self.new) (told_with fabric.now (told_of self.old) said) }
         ensures fit { OnOk result (IsFit fabric.now self.new) }
-        ensures rows { GrewByOne self.old self.new }
+        ensures rows { self.new.rows ≤ self.old.rows + 1 }
     {
         match said {
             TableLine::Nothing => Ok(()),
@@ -222,12 +217,12 @@ impl Reading {
         port: u8,
     ) -> Result<(), TablesCause>
         requires fit { IsFit fabric.now self.old }
-        requires few { AreFewRows self.old (2 ^ 64 - 1) }
+        requires few { self.old.rows < 2 ^ 64 - 1 }
         requires here { IfOk switch (λ switch. switch_in self.old.part ≡ Some switch) }
         ensures step { LedTo result (told_of self.new)
             (and_then switch (row_told fabric.now (told_of self.old) lid port)) }
         ensures fit { OnOk result (IsFit fabric.now self.new) }
-        ensures rows { GrewByOne self.old self.new }
+        ensures rows { self.new.rows ≤ self.old.rows + 1 }
     {
         let switch = switch?;
         if port == 255 {
@@ -251,7 +246,7 @@ impl Reading {
         ensures step { LedTo result (told_of self.new)
             (begins_told (told_of self.old) (rows_of (told_of self.old) Dumped (switch_with fabric.now guid))) }
         ensures fit { OnOk result (IsFit fabric.now self.new) }
-        ensures rows { GrewByOne self.old self.new }
+        ensures rows { KeepsRows self.old self.new }
     {
         self.part.may_begin()?;
         self.part = Part::Dumped(known(fabric, guid)?);
@@ -262,9 +257,8 @@ impl Reading {
     fn end_dump(&mut self) -> Result<(), TablesCause>
         ensures step { LedTo result (told_of self.new)
             (if_open (is_dump self.old.part) (Ok (at_part (told_of self.old) Between))) }
-        ensures cells { self.new.cells ≡ self.old.cells }
         ensures part { OnOk result (self.new.part ≡ Between) }
-        ensures rows { GrewByOne self.old self.new }
+        ensures rows { KeepsRows self.old self.new }
     {
         if !self.part.is_dump() {
             return Err(TablesCause::OutOfPlace);
@@ -277,9 +271,8 @@ impl Reading {
     fn begin_plain(&mut self) -> Result<(), TablesCause>
         ensures step { LedTo result (told_of self.new)
             (begins_told (told_of self.old) (Ok (at_part (told_of self.old) Plain))) }
-        ensures cells { self.new.cells ≡ self.old.cells }
         ensures part { OnOk result (self.new.part ≡ Plain) }
-        ensures rows { GrewByOne self.old self.new }
+        ensures rows { KeepsRows self.old self.new }
     {
         self.part.may_begin()?;
         self.part = Part::Plain;
@@ -292,7 +285,7 @@ impl Reading {
         ensures step { LedTo result (told_of self.new)
             (if_open (is_plain self.old.part) (rows_of (told_of self.old) PlainOf (switch_with fabric.now guid))) }
         ensures fit { OnOk result (IsFit fabric.now self.new) }
-        ensures rows { GrewByOne self.old self.new }
+        ensures rows { KeepsRows self.old self.new }
     {
         if !self.part.is_plain() {
             return Err(TablesCause::OutOfPlace);
@@ -305,9 +298,8 @@ impl Reading {
     fn end_plain(&mut self) -> Result<(), TablesCause>
         ensures step { LedTo result (told_of self.new)
             (if_open (is_plain self.old.part) (Ok (at_part (told_of self.old) Between))) }
-        ensures cells { self.new.cells ≡ self.old.cells }
         ensures part { OnOk result (self.new.part ≡ Between) }
-        ensures rows { GrewByOne self.old self.new }
+        ensures rows { KeepsRows self.old self.new }
     {
         if !self.part.is_plain() {
             return Err(TablesCause::OutOfPlace);

@@ -22,7 +22,7 @@ use Rattle.ib_cells.specs.Cells.{CellsOf, TablesOf, port_of, tables_of, with_por
 use Rattle.ib_tables.specs.declared.line.TableLine.TheVariants.{Head, Row, End}
 use Rattle.ib_tables.specs.declared.reading.Part.{Part}
 use Rattle.ib_tables.specs.declared.reading.Part.TheVariants.{Start, Between, Dumped}
-use Rattle.ib_tables.specs.Pieces.{AreLinesOf}
+use Rattle.ib_reader.specs.Pieces.{AreLinesOf}
 use Rattle.ib_tables.specs.Tables.{Told, AddsTo, at_part, may_begin, none_told, owned_row, told_after, told_with}
 use Rattle.ib_tables.proofs.SaidLemmas.{told_by}
 use Rattle.ib_tables_text.specs.Texts.{HasOwnedAlone, IsTextOf}

@@ -14,12 +14,12 @@ use Rattle.text_lines.specs.Lines.{line_text}
 use Rattle.text_lines.specs.Words.{hex_glyph, hex_text}
 use Rattle.text_lines.proofs.SpellLemmas.{IsPrinted, IsWord, decimal_word, fixed_word, glyph_digit, glyph_value, hex_digits, hex_printed, hex_says, length-hex_text, line_short, line_words, words_cons, words_nil}
 use Rattle.text_lines.proofs.WordLemmas.{own}
-use Rattle.ib_words.specs.Cuts.{after, cut_first}
+use Rattle.ib_words.specs.Cuts.{after, begins, cut_first}
 use Rattle.ib_words.specs.Digits.{guid, hex}
 use Rattle.ib_words.specs.Rows.{row}
 use Rattle.ib_words.proofs.RowLemmas.{four, row_is, three}
 use Rattle.ib_tables.specs.declared.line.TableLine.TheVariants.{Head, Row, End}
-use Rattle.ib_tables.specs.TableLines.{begins, head_guid, said_by, said_in}
+use Rattle.ib_tables.specs.TableLines.{head_guid, said_by, said_in}
 use Rattle.ib_tables.proofs.SaidLemmas.{said_by_words}
 use Rattle.ib_tables_text.specs.Printed.{end_words, head_words, lid_word, port_word, row_words}
 use Rattle.ib_tables_text.specs.Texts.{guid_word}

@@ -8,7 +8,7 @@ use Rattle.ib_net.specs.Fabric.{FabricOf}
 use Rattle.ib_cells.specs.Cells.{TablesOf}
 use Rattle.ib_tables.specs.declared.reading.Part.{Part}
 use Rattle.ib_tables.specs.declared.reading.Part.TheVariants.{Start, Between}
-use Rattle.ib_tables.specs.Pieces.{AreLinesOf}
+use Rattle.ib_reader.specs.Pieces.{AreLinesOf}
 use Rattle.ib_tables.specs.Tables.{Told, none_told, AddsTo}
 use Rattle.ib_tables_text.specs.Texts.{guid_word}
 

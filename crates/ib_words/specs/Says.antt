@@ -1,7 +1,11 @@
 -- What lines say, step by step, and how it is answered.
-use Rattle.std.specs.Prelude.{◌≡◌, Option, Some, None, Result, Ok, Err, ⊤}
+use Rattle.std.specs.Prelude.{◌≡◌, ℕ, List, length, nat_lt, Option, Some, None, Result, Ok, Err, ⊤, if◌then◌else◌}
 use Rattle.text_lines.specs.declared.stop.Stop.{Stop}
 use Rattle.text_lines.specs.declared.stop.Stop.TheVariants.{Fault, OutOfMemory}
+
+-- what a line says; or this cause, if it has more than 4,096 bytes
+abbrev pub unless_long : {A Cause : Type 0} → List ℕ → Cause → Result A Cause → Result A Cause
+unless_long line cause said = if nat_lt 4096 (length line) then Err cause else said
 
 -- a value, or the cause why there is none
 abbrev pub or_cause : {A B Cause : Type 0} → Option A → Cause → (A → Result B Cause) → Result B Cause

@@ -3,6 +3,9 @@
 ghost use Rattle.std.specs.Prelude.{◌≡◌};
 ghost use Rattle.ib_words.specs.LaneCauses.{cause_text};
 
+use crate::text_cause::TextCause;
+use text_lines::stop::Stop;
+
 /// What is wrong with a line of lanes or of service levels.
 #[derive(Clone, Copy)]
 pub enum LaneCause {
@@ -30,6 +33,9 @@ pub enum LaneCause {
     TooMany,
 }
 
+/// Why a line is not taken.
+pub type LaneStop = Stop<LaneCause>;
+
 impl LaneCause {
     /// The words for it in messages.
     pub fn text(self) -> &'static str
@@ -48,5 +54,27 @@ impl LaneCause {
             LaneCause::LanesDiffer => "lanes differ",
             LaneCause::TooMany => "too many",
         }
+    }
+}
+
+impl TextCause for LaneCause {
+    ghost use Rattle.ib_words.specs.declared.lane_cause.LaneCause.TheVariants.{LineTooLong, NoEnd, TooMany};
+
+    ghost too_long = { LineTooLong };
+
+    ghost no_end = { NoEnd };
+
+    ghost too_many = { TooMany };
+
+    fn too_long() -> LaneCause {
+        LaneCause::LineTooLong
+    }
+
+    fn no_end() -> LaneCause {
+        LaneCause::NoEnd
+    }
+
+    fn too_many() -> LaneCause {
+        LaneCause::TooMany
     }
 }

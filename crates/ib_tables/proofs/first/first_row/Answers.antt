@@ -5,5 +5,5 @@ use Rattle.ib_tables.proofs.first.first_row.Goals as goal
 pub returns : goal.returns
 returns c = record {
   ends = c.in_ok-end.ensures.0;
-  says = row_begins c.args.bytes.now c.in_ok-end.end c.in_ok-lid.lid c.in_ok-lid.port (sym c.in_ok-lid.ensures) c.in_ok-end.ensures.0 (omega arith) c.in_ok-end.ensures.1;
+  here = row_begins c.args.bytes.now c.in_ok-end.end c.in_ok-lid.lid c.in_ok-lid.port (sym c.in_ok-lid.ensures) c.in_ok-end.ensures.0 (omega arith) c.in_ok-end.ensures.1;
 }

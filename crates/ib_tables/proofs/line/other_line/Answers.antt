@@ -1,5 +1,5 @@
 use Rattle.std.proofs.Common.{◌∙◌, sym, ap, subst, map}
-use Rattle.ib_tables.specs.Answers.{IsSaid}
+use Rattle.ib_words.specs.Says.{IsSaid}
 use Rattle.ib_tables.specs.TableLines.{Said}
 use Rattle.ib_tables.proofs.SaidLemmas.{said_by_words}
 use Rattle.ib_tables.proofs.line.other_line.Goals as goal

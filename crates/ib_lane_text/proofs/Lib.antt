@@ -1,5 +1,0 @@
-pub mod PieceLemmas
-pub mod ReadLemmas
-pub mod TextLaws
-pub mod MapLemmas
-pub mod StepLemmas

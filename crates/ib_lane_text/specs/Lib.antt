@@ -1,4 +1,0 @@
-pub mod Heads
-pub mod Says
-pub mod Texts
-pub mod Pieces

@@ -1,0 +1,4 @@
+pub mod PieceLemmas
+pub mod ReadLemmas
+pub mod TextLaws
+pub mod MapLemmas
