@@ -5,7 +5,7 @@ use an_base::memory::OutOfMemory;
 use ib_channels::channels::Channels;
 use ib_channels::demand::Demand;
 use ib_channels::table::Table;
-use ib_channels::ways::Rule;
+use ib_channels::ways::{Rule, Ways};
 use std::alloc::Global;
 
 /// What orders of the channels of a fabric are made of.
@@ -33,6 +33,22 @@ pub enum Wanted {
     FirstPorts,
 }
 
+// Adds routes to all switches with end ports: those that are spread, and those that leave by first ports.
+fn add_all(
+    alloc: Global,
+    channels: &Channels,
+    demand: &Demand,
+    spread: &mut Weights,
+    first_ports: &mut Weights,
+) -> Result<(), OutOfMemory> {
+    let mut ways = Ways::new(alloc, channels.switches())?;
+    'leaves: for leaf in demand.leaves() {
+        spread.add_shortest(channels, demand, Rule::Any, &mut ways, *leaf)?;
+        first_ports.add_first_ports(channels, demand, &mut ways, *leaf);
+    }
+    Ok(())
+}
+
 impl Materials {
     /// The materials of a fabric.
     pub fn of(
@@ -40,8 +56,9 @@ impl Materials {
         channels: &Channels,
         demand: &Demand,
     ) -> Result<Materials, OutOfMemory> {
-        let spread = Weights::shortest(alloc, channels, demand, Rule::Any)?;
-        let first_ports = Weights::first_ports(alloc, channels, demand)?;
+        let mut spread = Weights::none(alloc, channels)?;
+        let mut first_ports = Weights::none(alloc, channels)?;
+        add_all(alloc, channels, demand, &mut spread, &mut first_ports)?;
         let root = channels.widest();
         Ok(Materials {
             root,
