@@ -21,8 +21,8 @@ use std::alloc::Global;
 // How many rounds the best orders get.
 const ROUNDS: u32 = 3;
 
-// How many they get if no routes are shorter, but in great fabrics: whole trees need them.
-const SHORT_ROUNDS: u32 = 4;
+// How many they get if exits are taken in turn: whole trees of many levels need them.
+const TURNS: u32 = 6;
 
 // Up to how many steps of a round all orders are tried.
 const FEWEST: u64 = 1 << 20;
@@ -76,6 +76,11 @@ fn recipe_at(place: usize) -> Recipe {
             Wanted::Spread,
         ),
     }
+}
+
+// In how many rounds routes are laid, the first among these.
+fn rounds(laying: &Laying) -> u32 {
+    if laying.is_in_turn() { TURNS } else { ROUNDS }
 }
 
 // How much is done to find good tables.
@@ -137,7 +142,7 @@ impl Finalist {
             return Ok(());
         }
         let plan = ground.plan(&self.order);
-        let rounds = ground.rounds(self.laying.measures());
+        let rounds = rounds(&self.laying);
         self.laying.lay(alloc, plan, 1..rounds)?;
         let measures = self.laying.measures();
         if !ground.is_good(measures) && ground.may_polish(measures) {
@@ -204,15 +209,6 @@ impl Ground {
         measures.mean() <= least.saturating_add(least / 1000)
     }
 
-    // In how many rounds routes are laid, the first among these.
-    fn rounds(&self, measures: Measures) -> u32 {
-        if self.is_short(measures) && !self.effort.is_small {
-            SHORT_ROUNDS
-        } else {
-            ROUNDS
-        }
-    }
-
     // Whether no routes can be much better: none are shorter, and the greatest load is at most an eighth above the mean.
     fn is_good(&self, measures: Measures) -> bool {
         let channels = u64::from(self.channels.count());
@@ -235,9 +231,23 @@ impl Ground {
         self.effort.is_small && self.is_short(measures) && measures.greatest <= most
     }
 
+    // Whether exits that cost the same are taken in turn along the order that a recipe makes: if it leads up in a tree,
+    // but not in great fabrics, where one round can be enough.
+    fn is_in_turn(&self, recipe: Recipe) -> bool {
+        !self.effort.is_small && matches!(recipe, Recipe::LevelsFromLeaf | Recipe::Heights)
+    }
+
     // Tries an order: its routes in one round, if the traffic has all its ways.
-    fn try_order(&self, alloc: Global, order: Order) -> Result<Option<Finalist>, OutOfMemory> {
+    fn try_order(
+        &self,
+        alloc: Global,
+        order: Order,
+        is_in_turn: bool,
+    ) -> Result<Option<Finalist>, OutOfMemory> {
         let mut laying = Laying::new(alloc, &self.channels, &self.demand)?;
+        if is_in_turn {
+            laying.take_turns(alloc, &self.channels, &self.demand)?;
+        }
         laying.lay(alloc, self.plan(&order), 0..1)?;
         let measures = laying.measures();
         if !measures.is_complete() {
@@ -254,7 +264,7 @@ impl Ground {
     // Tries the order that a recipe makes, if it makes one.
     fn try_recipe(&self, alloc: Global, recipe: Recipe) -> Result<Option<Finalist>, OutOfMemory> {
         match recipe.make(alloc, &self.channels, &self.demand, &self.materials)? {
-            Some(order) => self.try_order(alloc, order),
+            Some(order) => self.try_order(alloc, order, self.is_in_turn(recipe)),
             None => Ok(None),
         }
     }

@@ -4,12 +4,13 @@ use crate::measures::Measures;
 use crate::polish::polish;
 use an_base::memory::OutOfMemory;
 use ib_channels::amount::Change;
-use ib_channels::channels::Channels;
+use ib_channels::channels::{Channel, Channels};
 use ib_channels::demand::{Demand, Target};
 use ib_channels::table::{Table, narrow};
 use ib_channels::ways::Rule;
+use ib_orders::levels::heights;
 use ib_rising::closure::close_all;
-use ib_rising::fans::Fans;
+use ib_rising::fans::{Fans, Step};
 use ib_rising::loads::Loads;
 use ib_rising::plan::Plan;
 use ib_rising::rows::Rows;
@@ -21,6 +22,47 @@ use std::ops::Range;
 #[inline]
 fn cost_of(load: u64) -> u64 {
     load.wrapping_mul(load).wrapping_add(64)
+}
+
+// How many digits a number of LIDs has at most, whatever the base.
+const DIGITS: u32 = 32;
+
+// Which of the exits of a switch has its turn.
+#[derive(Clone, Copy)]
+struct Turn {
+    // The least number of an exit, and how many exits there are.
+    lowest: u32,
+    count: u32,
+    // How many of them do not have it before one has.
+    turn: u32,
+}
+
+impl Turn {
+    // The turn at a height, after so many LIDs. At the leaves it goes on with each LID, and at each height above when all
+    // exits below had it. A switch that is joined to no leaf is `FAR` above.
+    fn of(exits: &[Step], height: u32, lids: u32) -> Turn {
+        let count = narrow(exits.len());
+        let mut lowest = u32::MAX;
+        'exits: for step in exits {
+            lowest = step.exit.0.min(lowest);
+        }
+        let mut turn = lids;
+        'heights: for _ in 0..height.min(DIGITS) {
+            turn /= count.max(1);
+        }
+        Turn {
+            lowest,
+            count,
+            turn: turn % count.max(1),
+        }
+    }
+
+    // How long an exit waits for its turn.
+    fn wait(self, exit: Channel) -> u32 {
+        let count = self.count.max(1);
+        let place = exit.0.wrapping_sub(self.lowest) % count;
+        place.wrapping_add(count).wrapping_sub(self.turn) % count
+    }
 }
 
 /// Routes that are being laid.
@@ -35,6 +77,10 @@ pub struct Laying {
     fans: Fans,
     // For one target: what the routes from each switch cost.
     costs: Table<u64>,
+    // How far each switch is from the leaves, if exits that cost the same are taken in turn; and to how many LIDs of
+    // adapters and routers routes were laid in this round.
+    heights: Option<Table<u32>>,
+    lids: u32,
     measures: Measures,
 }
 
@@ -49,6 +95,8 @@ impl Laying {
             loads: Loads::new(alloc, channels)?,
             fans: Fans::new(alloc, switches)?,
             costs: Table::filled(alloc, switches, 0u64)?,
+            heights: None,
+            lids: 0,
             measures: Measures::NONE,
         })
     }
@@ -56,6 +104,22 @@ impl Laying {
     /// The exits of all switches for all targets.
     pub fn rows(&self) -> &Rows {
         &self.rows
+    }
+
+    /// Lets exits that cost the same be taken in turn.
+    pub fn take_turns(
+        &mut self,
+        alloc: Global,
+        channels: &Channels,
+        demand: &Demand,
+    ) -> Result<(), OutOfMemory> {
+        self.heights = Some(heights(alloc, channels, demand)?);
+        Ok(())
+    }
+
+    /// Whether exits that cost the same are taken in turn.
+    pub fn is_in_turn(&self) -> bool {
+        self.heights.is_some()
     }
 
     /// How good the routes of the traffic are.
@@ -94,19 +158,32 @@ impl Laying {
         Ok(())
     }
 
-    // Chooses for a switch the exit from which on routes cost least.
+    // Which exit of a switch has its turn, if they are taken in turn.
+    fn turn(&self, switch: u32) -> Option<Turn> {
+        match &self.heights {
+            Some(heights) => {
+                let exits = self.fans.exits(switch);
+                Some(Turn::of(exits, heights.get(switch), self.lids))
+            }
+            None => None,
+        }
+    }
+
+    // Chooses for a switch the exit from which on routes cost least; of several the first, or the first in turn.
     fn choose_exit(&mut self, switch: u32) {
-        let mut least = u64::MAX;
+        let turn = self.turn(switch);
+        let mut least = (u64::MAX, u32::MAX);
         let mut best = None;
         'exits: for step in self.fans.exits(switch) {
             let cost = cost_of(self.loads.of(step.exit)).saturating_add(self.costs.get(step.to));
-            if best.is_none() || cost < least {
-                least = cost;
+            let wait = turn.map_or(0, |turn| turn.wait(step.exit));
+            if best.is_none() || (cost, wait) < least {
+                least = (cost, wait);
                 best = Some(step.exit);
             }
         }
         self.loads.ways.put_exit(switch, best);
-        self.costs.put(switch, least);
+        self.costs.put(switch, least.0);
     }
 
     // Chooses exits for a target at a switch.
@@ -132,6 +209,7 @@ impl Laying {
         self.rows.keep(plan.channels, row, &self.loads.ways);
         if target.is_host() {
             self.loads.change_all(plan, Change::Come);
+            self.lids = self.lids.wrapping_add(1);
         }
     }
 
@@ -200,6 +278,7 @@ impl Laying {
 
     // Lays the routes once.
     fn lay_round(&mut self, alloc: Global, plan: Plan<'_>, round: u32) -> Result<(), OutOfMemory> {
+        self.lids = 0;
         'switches: for switch in 0..plan.channels.switches() {
             if plan.sends_to_some(switch) {
                 self.lay_switch(alloc, plan, switch, round)?;

@@ -76,13 +76,22 @@ fn greatest(channels: &Channels, levels: &Table<u32>) -> u32 {
     greatest
 }
 
+/// How far each switch is from the nearest one with end ports of adapters and routers, `FAR` if it is joined to none.
+pub fn heights(
+    alloc: Global,
+    channels: &Channels,
+    demand: &Demand,
+) -> Result<Table<u32>, OutOfMemory> {
+    distances(alloc, channels, demand.leaves())
+}
+
 // Levels by height: those that are farthest from all leaves have level 0. None where each switch is a leaf, or none.
 fn by_height(
     alloc: Global,
     channels: &Channels,
     demand: &Demand,
 ) -> Result<Option<Table<u32>>, OutOfMemory> {
-    let heights = distances(alloc, channels, demand.leaves())?;
+    let heights = heights(alloc, channels, demand)?;
     let top = greatest(channels, &heights);
     if top == 0 {
         return Ok(None);
