@@ -190,14 +190,19 @@ impl Ground {
             demand: &self.demand,
             order,
             traffic: self.traffic,
+            most: self.most(),
         }
     }
 
-    // The less, the better: routes that have more than twice the channels of the longest shortest one come last.
+    // The most channels that a route is to have: twice those of the longest shortest one.
+    fn most(&self) -> u32 {
+        self.materials.least_longest.saturating_mul(2)
+    }
+
+    // The less, the better: routes that are too long come last.
     fn score(&self, measures: Measures) -> u64 {
-        let most = self.materials.least_longest.saturating_mul(2);
         let score = measures.score();
-        if measures.longest > most {
+        if measures.longest > self.most() {
             return score.wrapping_add(TOO_LONG);
         }
         score
@@ -237,17 +242,23 @@ impl Ground {
         !self.effort.is_small && matches!(recipe, Recipe::LevelsFromLeaf | Recipe::Heights)
     }
 
+    // No routes yet along the order that a recipe makes.
+    fn begin(&self, alloc: Global, recipe: Recipe) -> Result<Laying, OutOfMemory> {
+        if self.is_in_turn(recipe) {
+            Laying::in_turn(alloc, &self.channels, &self.demand)
+        } else {
+            Laying::new(alloc, &self.channels, &self.demand)
+        }
+    }
+
     // Tries an order: its routes in one round, if the traffic has all its ways.
     fn try_order(
         &self,
         alloc: Global,
         order: Order,
-        is_in_turn: bool,
+        recipe: Recipe,
     ) -> Result<Option<Finalist>, OutOfMemory> {
-        let mut laying = Laying::new(alloc, &self.channels, &self.demand)?;
-        if is_in_turn {
-            laying.take_turns(alloc, &self.channels, &self.demand)?;
-        }
+        let mut laying = self.begin(alloc, recipe)?;
         laying.lay(alloc, self.plan(&order), 0..1)?;
         let measures = laying.measures();
         if !measures.is_complete() {
@@ -264,7 +275,7 @@ impl Ground {
     // Tries the order that a recipe makes, if it makes one.
     fn try_recipe(&self, alloc: Global, recipe: Recipe) -> Result<Option<Finalist>, OutOfMemory> {
         match recipe.make(alloc, &self.channels, &self.demand, &self.materials)? {
-            Some(order) => self.try_order(alloc, order, self.is_in_turn(recipe)),
+            Some(order) => self.try_order(alloc, order, recipe),
             None => Ok(None),
         }
     }

@@ -106,15 +106,15 @@ impl Laying {
         &self.rows
     }
 
-    /// Lets exits that cost the same be taken in turn.
-    pub fn take_turns(
-        &mut self,
+    /// No routes yet; exits that cost the same will be taken in turn.
+    pub fn in_turn(
         alloc: Global,
         channels: &Channels,
         demand: &Demand,
-    ) -> Result<(), OutOfMemory> {
-        self.heights = Some(heights(alloc, channels, demand)?);
-        Ok(())
+    ) -> Result<Laying, OutOfMemory> {
+        let mut laying = Laying::new(alloc, channels, demand)?;
+        laying.heights = Some(heights(alloc, channels, demand)?);
+        Ok(laying)
     }
 
     /// Whether exits that cost the same are taken in turn.

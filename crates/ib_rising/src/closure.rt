@@ -17,7 +17,8 @@ struct Shortest {
     // How many channels the route of each switch has, and the first of them.
     depths: Table<u32>,
     exits: Table<Option<Channel>>,
-    // For each channel that is the first of a route, the one after it.
+    // How many channels a shortest one has that begins with each channel, and the second of them.
+    lengths: Table<u32>,
     nexts: Table<Option<Channel>>,
 }
 
@@ -29,6 +30,7 @@ impl Shortest {
         Ok(Shortest {
             depths,
             exits: Table::filled(alloc, channels.switches(), None)?,
+            lengths: Table::filled(alloc, channels.count(), FAR)?,
             nexts: Table::filled(alloc, channels.count(), None)?,
         })
     }
@@ -44,9 +46,10 @@ impl Shortest {
     fn look(&mut self, channels: &Channels, channel: Channel) {
         let (from, to) = (channels.from(channel), channels.to(channel));
         let depth = self.depths.get(to).saturating_add(1);
+        self.lengths.put(channel, depth);
+        self.nexts.put(channel, self.exits.get(to));
         if depth < self.depths.get(from) {
             self.depths.put(from, depth);
-            self.nexts.put(channel, self.exits.get(to));
             self.exits.put(from, Some(channel));
         }
     }
@@ -71,6 +74,103 @@ impl Shortest {
             exit = self.nexts.get(channel);
         }
     }
+}
+
+impl Shortest {
+    // The first channel of a shortest route of a switch that breaks no turn to it, if that is shorter than its way.
+    fn start(&self, plan: Plan<'_>, ways: &Ways, switch: u32) -> Option<Channel> {
+        let least = plan.least_place(ways, switch);
+        let mut length = ways.depth(switch);
+        let mut start = None;
+        'exits: for number in plan.channels.exits(switch) {
+            let channel = Channel(number);
+            let over = self.lengths.get(channel);
+            if over < length && plan.order.place(channel) >= least {
+                length = over;
+                start = Some(channel);
+            }
+        }
+        start
+    }
+
+    // How many channels of a route from one on have to become exits, so that the way of its switch has fewer channels than
+    // so many; none where that breaks a turn.
+    fn needed(
+        &self,
+        plan: Plan<'_>,
+        ways: &Ways,
+        target: u32,
+        start: Channel,
+        own: u32,
+    ) -> Option<u32> {
+        let mut channel = start;
+        'links: for count in 1..own {
+            let to = plan.channels.to(channel);
+            let over = ways.depth(to).saturating_add(count);
+            if over < own && plan.may_follow(ways, target, channel) {
+                return Some(count);
+            }
+            let next = self.nexts.get(channel)?;
+            if plan.order.place(next) < plan.least_place(ways, to) {
+                return None;
+            }
+            channel = next;
+        }
+        None
+    }
+
+    // Gives to a switch a shorter way, if one breaks no turn. Answers whether it did.
+    fn reroute(&self, plan: Plan<'_>, ways: &mut Ways, target: u32, switch: u32) -> bool {
+        let Some(start) = self.start(plan, ways, switch) else {
+            return false;
+        };
+        let own = ways.depth(switch);
+        let Some(needed) = self.needed(plan, ways, target, start, own) else {
+            return false;
+        };
+        let mut exit = Some(start);
+        'links: for _ in 0..needed {
+            let Some(channel) = exit else {
+                break;
+            };
+            ways.put_exit(plan.channels.from(channel), Some(channel));
+            exit = self.nexts.get(channel);
+        }
+        true
+    }
+}
+
+// Gives shorter ways to the switches whose way is too long, so far as there are some. Answers whether there were any.
+fn spare_once(
+    plan: Plan<'_>,
+    ways: &mut Ways,
+    target: u32,
+    routes: &Shortest,
+) -> Result<bool, OutOfMemory> {
+    let mut is_shorter = false;
+    'switches: for switch in 0..plan.channels.switches() {
+        let depth = ways.depth(switch);
+        if depth != FAR && depth > plan.most && routes.reroute(plan, ways, target, switch) {
+            ways.arrange(plan.channels, target)?;
+            is_shorter = true;
+        }
+    }
+    Ok(is_shorter)
+}
+
+// Gives shorter ways to the switches whose way is too long, a few times.
+fn spare(alloc: Global, plan: Plan<'_>, ways: &mut Ways, target: u32) -> Result<(), OutOfMemory> {
+    if plan.longest(ways) <= plan.most {
+        return Ok(());
+    }
+    let mut routes = Shortest::none(alloc, plan.channels, target)?;
+    routes.find(plan);
+    'passes: for _ in 0..PASSES {
+        if !spare_once(plan, ways, target, &routes)? {
+            break;
+        }
+    }
+    Ok(())
 }
 
 // Whether some exit of a switch leads nearer than its own.
@@ -139,9 +239,21 @@ fn find_missing(alloc: Global, plan: Plan<'_>, ways: &Ways) -> Result<Vec<u32>, 
     Ok(missing)
 }
 
-/// Gives ways to the switches that are to have one and have none, so far as the order has rising ones. All turns rise
-/// after it that rose before: a later exit breaks no turn to it.
+/// Gives ways to the switches that are to have one and have none, so far as the order has rising ones, and shorter ways
+/// to those whose way is too long. All turns rise after it.
 pub fn close_all(
+    alloc: Global,
+    plan: Plan<'_>,
+    ways: &mut Ways,
+    target: u32,
+) -> Result<(), OutOfMemory> {
+    close_missing(alloc, plan, ways, target)?;
+    spare(alloc, plan, ways, target)
+}
+
+// Gives ways to the switches that are to have one and have none, so far as the order has rising ones. All turns rise
+// after it that rose before: a later exit breaks no turn to it.
+fn close_missing(
     alloc: Global,
     plan: Plan<'_>,
     ways: &mut Ways,

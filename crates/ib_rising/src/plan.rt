@@ -18,6 +18,8 @@ pub struct Plan<'a> {
     pub order: &'a Order,
     /// The traffic.
     pub traffic: Traffic,
+    /// The most channels that a route is to have.
+    pub most: u32,
 }
 
 /// Whether routes of a traffic begin at a switch.
