@@ -6,6 +6,7 @@ ghost use Rattle.wire_set.specs.WireState.{has_frame_on, place, side_at};
 ghost use Rattle.fabric_state.specs.Fabric.{is_external, sample_of, switch_behind};
 ghost use Rattle.fabric_state.specs.PortStates.{is_dead, is_good, is_host, is_loop};
 
+use an_base::limits::LAST_PORT;
 use an_base::place::Place;
 use an_base::port::{Port, PortState, Sample};
 use net_graph::wiring::Far;
@@ -44,7 +45,7 @@ pub fn is_good(state: PortState) -> bool
 pub fn is_external(port: Port) -> bool
     ensures { result ≡ is_external port }
 {
-    1 <= port.as_u8() && port.as_u8() <= 12
+    1 <= port.as_u8() && port.as_u8() <= LAST_PORT
 }
 
 /// The switch and port behind a link of two switch ports.
@@ -76,7 +77,7 @@ pub fn samples(wires: &WireSet, s: Place) -> [Sample; 12]
     ensures { result ≡ map (λ port. sample_of (side_at wires.now (place s port))) externals }
 {
     let mut samples = [Sample::Down; 12];
-    'ports: for port in 1..13u8 {
+    'ports: for port in 1..LAST_PORT + 1 {
         samples[usize::from(port - 1)] = sample_of(wires.side(s, Port(port)));
     }
     samples
@@ -93,7 +94,7 @@ fn is_next(wires: &WireSet, s: Place, last: Port, port: Port) -> bool
 pub fn port_above(wires: &WireSet, s: Place, last: Port) -> Option<Port>
     ensures { result ≡ find (λ port. nat_lt last port && has_frame_on wires.now (place s port)) externals }
 {
-    'ports: for port in last.as_u8().min(12) + 1..13u8 {
+    'ports: for port in last.as_u8().min(LAST_PORT) + 1..LAST_PORT + 1 {
         if is_next(wires, s, last, Port(port)) {
             return Some(Port(port));
         }
