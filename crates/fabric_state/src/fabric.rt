@@ -10,7 +10,7 @@ ghost use Rattle.net_script.specs.Scripts.{IsScript};
 ghost use Rattle.wire_set.specs.WireState.{again_on, dropped_at, fail_at, lose_on, place, repair_at, swap_on};
 ghost use Rattle.wire_set.specs.WireState.{hand_of, what_becomes, wire_out};
 ghost use Rattle.switch_core.specs.Bytes.{IsFrameOut};
-ghost use Rattle.host_traffic.specs.Packets.{first_packet, packet_of, place_now};
+ghost use Rattle.host_traffic.specs.Packets.{first_packet, packet_of};
 ghost use Rattle.fabric_state.specs.Fabric.{are_wires_empty, clock_due_at, count, due_command, end_shown, full_hands};
 ghost use Rattle.fabric_state.specs.Fabric.{held_bytes, host_at, host_on, is_full_at, is_switch, is_up, port_shown, room};
 ghost use Rattle.fabric_state.specs.Fabric.{samples_of, side_of_port, station, switch_behind, table_at};
@@ -215,13 +215,6 @@ impl Fabric {
         ensures rising { AllPairs (λ one other. one.packet < other.packet) self.now.packets }
     {
         self.traffic.first()
-    }
-
-    // The switch at which a packet is, and the port by which it came in; none exactly where it is not under way.
-    fn packet_place(&self, packet: u32) -> Option<(Place, Port)>
-        ensures { result ≡ option_map place_now (packet_of packet self.now.packets) }
-    {
-        self.traffic.place(packet)
     }
 
     // The switch and port behind a link of two switch ports, up or down. It answers for all values.
@@ -849,7 +842,7 @@ impl Fabric {
         ensures moved { self.new ≡ after_move packet self.old }
         ensures told { result ∷ [] ≡ move_lines (packet_of packet self.old.packets) self.old }
     {
-        let (s, entry) = self.packet_place(packet).unwrap();
+        let (s, entry) = self.traffic.place(packet).unwrap();
         let epoch = self.stations.epoch_in_use(s);
         let hop = self.make_hop(packet);
         hop_line(packet, s, epoch, entry, hop)
