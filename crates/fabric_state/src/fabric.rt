@@ -7,8 +7,7 @@ ghost use Rattle.an_base.specs.declared.event.Event.TheVariants as events;
 ghost use Rattle.net_graph.specs.Wires.{IsLink};
 ghost use Rattle.net_script.specs.Commands.{is_restart};
 ghost use Rattle.net_script.specs.Scripts.{IsScript};
-ghost use Rattle.wire_set.specs.WireState.{again_on, dropped_at, fail_at, lose_on, place, repair_at, swap_on};
-ghost use Rattle.wire_set.specs.WireState.{hand_of, what_becomes, wire_out};
+ghost use Rattle.wire_set.specs.WireState.{hand_of};
 ghost use Rattle.switch_core.specs.Bytes.{IsFrameOut};
 ghost use Rattle.host_traffic.specs.Packets.{first_packet, packet_of};
 ghost use Rattle.fabric_state.specs.Fabric.{are_wires_empty, clock_due_at, count, due_command, end_shown, full_hands};
@@ -19,7 +18,7 @@ ghost use Rattle.fabric_state.specs.Agree.{is_settled, is_unsettled, link_agrees
 ghost use Rattle.fabric_state.specs.Lawful.{is_barred, is_command, is_lawful, is_paced, is_ready, is_tick_due};
 ghost use Rattle.fabric_state.specs.Effects.{address_for, admitted_as, after_clock, after_command, after_load, after_move};
 ghost use Rattle.fabric_state.specs.Effects.{after_restart, after_send, after_take, after_tick, emptied};
-ghost use Rattle.fabric_state.specs.Effects.{hop_of, noise, noise_out, on_wires, put_out, released, shows};
+ghost use Rattle.fabric_state.specs.Effects.{hop_of, put_out, released, shows};
 ghost use Rattle.fabric_state.specs.Effects.{ShowsOnly};
 ghost use Rattle.fabric_state.specs.Lines.{command_lines, lost_line, move_lines, send_line, take_lines};
 ghost use Rattle.fabric_state.specs.declared.line.Line.TheVariants as line;
@@ -56,7 +55,7 @@ use std::marker::Model;
 use switch_core::out::FrameOut;
 use switch_core::switch::TableFor;
 use table_build::table::Table;
-use wire_set::side::{Put, is_link};
+use wire_set::side::is_link;
 use wire_set::wires::WireSet;
 
 // Bytes that are no frame.
@@ -734,65 +733,6 @@ impl Fabric {
         sent_line(self.sent, host, to, address)
     }
 
-    // The link of a port goes down, as the next command says. Answers how many frames were dropped.
-    fn fail(&mut self, s: Place, port: Port) -> u32
-        requires { is_lawful self.old (events.Fail s port) ≡ true }
-        ensures failed { self.new ≡ on_wires (fail_at (place s port)) self.old }
-        ensures dropped { result ≡ dropped_at (place s port) self.old.wires }
-    {
-        let dropped = self.wires.fail(s, port);
-        self.past.command();
-        dropped
-    }
-
-    // The link of a port comes up, as the next command says.
-    fn repair(&mut self, s: Place, port: Port)
-        requires { is_lawful self.old (events.Repair s port) ≡ true }
-        ensures { self.new ≡ on_wires (repair_at (place s port)) self.old }
-    {
-        self.wires.repair(s, port);
-        self.past.command();
-    }
-
-    // So many more losses are told, as the next command says.
-    fn lose(&mut self, s: Place, port: Port, n: u32)
-        requires { is_lawful self.old (events.Lose s port n) ≡ true }
-        ensures { self.new ≡ on_wires (lose_on (wire_out self.old.wires s port) n) self.old }
-    {
-        self.wires.lose(s, port, n);
-        self.past.command();
-    }
-
-    // So many more copies are told, as the next command says.
-    fn again(&mut self, s: Place, port: Port, n: u32)
-        requires { is_lawful self.old (events.Again s port n) ≡ true }
-        ensures { self.new ≡ on_wires (again_on (wire_out self.old.wires s port) n) self.old }
-    {
-        self.wires.again(s, port, n);
-        self.past.command();
-    }
-
-    // So many more exchanges are told, as the next command says.
-    fn swap(&mut self, s: Place, port: Port, n: u32)
-        requires { is_lawful self.old (events.Swap s port n) ≡ true }
-        ensures { self.new ≡ on_wires (swap_on (wire_out self.old.wires s port) n) self.old }
-    {
-        self.wires.swap(s, port, n);
-        self.past.command();
-    }
-
-    // Bytes that are no frame are put on the wire out of a port, as the next command says.
-    fn noise(&mut self, s: Place, port: Port, bytes: u32) -> Put
-        requires { is_lawful self.old (events.Noise s port bytes) ≡ true }
-        ensures put { self.new ≡ on_wires (noise_out s port bytes) self.old }
-        ensures what { result
-            ≡ what_becomes (place s port) (wire_out self.old.wires s port) (noise bytes) self.old.wires }
-    {
-        let put = self.wires.put(s, port, &NOISE[..bytes as usize]);
-        self.past.command();
-        put
-    }
-
     /// The next command is done, which is due and is no restart. Answers what is told of it.
     pub fn command(&mut self, event: &Event) -> Option<Line>
         requires lawful { is_lawful self.old event.now ≡ true }
@@ -801,23 +741,37 @@ impl Fabric {
         ensures done { self.new ≡ after_command event.now self.old }
         ensures told { option_to_list result ≡ command_lines event.now self.old }
     {
+        if let Event::Send { host, to } = *event {
+            return Some(self.send(host, to));
+        }
+        self.past.command();
         match *event {
             Event::Fail { s, port } => {
-                let dropped = self.fail(s, port);
-                return Some(Line::Cut { s, port, dropped });
+                let dropped = self.wires.fail(s, port);
+                Some(Line::Cut { s, port, dropped })
             }
             Event::Repair { s, port } => {
-                self.repair(s, port);
-                return Some(Line::Mended { s, port });
+                self.wires.repair(s, port);
+                Some(Line::Mended { s, port })
             }
-            Event::Noise { s, port, n } => return loss_line(s, port, self.noise(s, port, n)),
-            Event::Send { host, to } => return Some(self.send(host, to)),
-            Event::Lose { s, port, n } => self.lose(s, port, n),
-            Event::Again { s, port, n } => self.again(s, port, n),
-            Event::Swap { s, port, n } => self.swap(s, port, n),
-            _ => {}
+            Event::Noise { s, port, n } => {
+                let put = self.wires.put(s, port, &NOISE[..n as usize]);
+                loss_line(s, port, put)
+            }
+            Event::Lose { s, port, n } => {
+                self.wires.lose(s, port, n);
+                None
+            }
+            Event::Again { s, port, n } => {
+                self.wires.again(s, port, n);
+                None
+            }
+            Event::Swap { s, port, n } => {
+                self.wires.swap(s, port, n);
+                None
+            }
+            _ => unreachable!(),
         }
-        None
     }
 
     // A packet makes one hop. Answers which.
