@@ -7,7 +7,8 @@ use Rattle.tree_position.specs.declared.offers.Offer.{Offer}
 use Rattle.tree_position.specs.Position.{OffersOf, position_of, noted}
 use Rattle.epoch_core.specs.declared.ports.Ports.{Ports}
 use Rattle.epoch_core.specs.Log.{CardOf, OnPort, Log}
-use Rattle.epoch_core.specs.Epoch.{position, version, is_same, has_moved, is_stable, is_root, is_named, finish, finished_as_root, given_by, or_else, positions_of, positions, told, answer_to, answers, sent_up, sent_down, stable_to_parent, topo_down, passed_on, claiming_among, adds}
+use Rattle.std.specs.Option.{option_or}
+use Rattle.epoch_core.specs.Epoch.{position, version, is_same, has_moved, is_stable, is_root, is_named, finish, finished_as_root, given_by, positions_of, positions, told, answer_to, answers, sent_up, sent_down, stable_to_parent, topo_down, passed_on, claiming_among, adds}
 use Rattle.epoch_core.specs.Heard.{HasHeard}
 use Rattle.epoch_core.specs.StandsFor.{CoreOf, StandsFor, Accepts, offers_of}
 use Rattle.epoch_core.specs.Steps.{HasNoted, IsNoTopo, Settles, best_of, is_moved, repositioned, told_by}
@@ -166,18 +167,18 @@ stands-topo core port t log f st done =
     }
 
 -- the finish with a topology more
-first_stays : (f g : Option TopoOf) → is_some f ≡ true → or_else f g ≡ f
+first_stays : (f g : Option TopoOf) → is_some f ≡ true → option_or f g ≡ f
 first_stays None g some = absurd (cc)
 first_stays (Some t) g some = refl
 
 pub finish-finished : (c : CardOf) (x : OnPort) (log : Log) → is_some (finish c log) ≡ true → finish c (x ∷ log) ≡ finish c log
-finish-finished c x log some = first_stays (finish c log) (or_else (finished_as_root c (x ∷ log)) (given_by c.me x.body)) some
+finish-finished c x log some = first_stays (finish c log) (option_or (finished_as_root c (x ∷ log)) (given_by c.me x.body)) some
 
 pub finish-topo : (c : CardOf) (port : ℕ) (t : TopoOf) (log : Log) → finish c log ≡ None → finish c (record { port = port; body = Topo t } ∷ log) ≡ cond (is_named c.me t) (Some t) None
 finish-topo c port t log none =
     let x : OnPort = record { port = port; body = Topo t } in
-    ap (λ (f : Option TopoOf). or_else f (or_else (finished_as_root c (x ∷ log)) (given_by c.me x.body))) none
-    ∙ ap (λ (f : Option TopoOf). or_else f (given_by c.me x.body)) (finished_as_root-topo c port t log none)
+    ap (λ (f : Option TopoOf). option_or f (option_or (finished_as_root c (x ∷ log)) (given_by c.me x.body))) none
+    ∙ ap (λ (f : Option TopoOf). option_or f (given_by c.me x.body)) (finished_as_root-topo c port t log none)
 
 down_finished : (c : CardOf) (x : OnPort) (log : Log) (f : Option TopoOf) → is_some f ≡ true → cond (is_some f) [] (topo_down c (x ∷ log) (finish c (x ∷ log))) ≡ []
 down_finished c x log f some = ap (λ (b : Bool). cond b [] (topo_down c (x ∷ log) (finish c (x ∷ log)))) some

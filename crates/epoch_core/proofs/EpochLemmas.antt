@@ -13,7 +13,8 @@ use Rattle.tree_position.specs.Position.{OffersOf, position_of, noted, self_root
 use Rattle.epoch_core.specs.declared.ports.Heard.{Heard}
 use Rattle.epoch_core.specs.declared.ports.Ports.{Ports}
 use Rattle.epoch_core.specs.Log.{CardOf, OnPort, Log, on_port, last_pos, last_report}
-use Rattle.epoch_core.specs.Epoch.{offer_of, offer_on, position, version, has_moved, told, positions, names, is_settled, is_stable, is_root, is_same, finish, finished_as_root, given_by, or_else, topology_of, report}
+use Rattle.std.specs.Option.{option_or}
+use Rattle.epoch_core.specs.Epoch.{offer_of, offer_on, position, version, has_moved, told, positions, names, is_settled, is_stable, is_root, is_same, finish, finished_as_root, given_by, topology_of, report}
 use Rattle.epoch_core.specs.Heard.{heard_of, HasHeard}
 use Rattle.epoch_core.specs.StandsFor.{offers_of}
 
@@ -111,13 +112,13 @@ pub is_root-topo : (c : CardOf) (port : ℕ) (t : TopoOf) (log : Log) → is_roo
 is_root-topo c port t log = ap (λ (p : Place). is_same p (self_root c.me)) (position-quiet c (record { port = port; body = Topo t }) log (quiet-topo t))
 
 -- a life that has not finished is no stable root
-or_else-first : {A : Type 0} (a b : Option A) → or_else a b ≡ None → a ≡ None
-or_else-first None b e = refl
-or_else-first (Some a) b e = absurd (cc)
+option_or-first : {A : Type 0} (a b : Option A) → option_or a b ≡ None → a ≡ None
+option_or-first None b e = refl
+option_or-first (Some a) b e = absurd (cc)
 
-or_else-second : {A : Type 0} (a b : Option A) → or_else a b ≡ None → b ≡ None
-or_else-second None b e = e
-or_else-second (Some a) b e = absurd (cc)
+option_or-second : {A : Type 0} (a b : Option A) → option_or a b ≡ None → b ≡ None
+option_or-second None b e = e
+option_or-second (Some a) b e = absurd (cc)
 
 if_none : {A : Type 0} (b : Bool) (a : A) → cond b (Some a) None ≡ None → b ≡ false
 if_none true a e = absurd (cc)
@@ -127,7 +128,7 @@ pub stable_root-unfinished : (c : CardOf) (log : Log) → finish c log ≡ None 
 stable_root-unfinished c [] none = if_none (is_stable c [] && is_root c []) (topology_of (report c [])) none
 stable_root-unfinished c (x ∷ log) none =
     if_none (is_stable c (x ∷ log) && is_root c (x ∷ log)) (topology_of (report c (x ∷ log)))
-    (or_else-first (finished_as_root c (x ∷ log)) (given_by c.me x.body) (or_else-second (finish c log) (or_else (finished_as_root c (x ∷ log)) (given_by c.me x.body)) none))
+    (option_or-first (finished_as_root c (x ∷ log)) (given_by c.me x.body) (option_or-second (finish c log) (option_or (finished_as_root c (x ∷ log)) (given_by c.me x.body)) none))
 
 -- so a topology makes it no stable root either
 pub finished_as_root-topo : (c : CardOf) (port : ℕ) (t : TopoOf) (log : Log) → finish c log ≡ None → finished_as_root c (record { port = port; body = Topo t } ∷ log) ≡ None

@@ -7,7 +7,8 @@ use Rattle.tree_position.specs.declared.offers.Offer.{Offer}
 use Rattle.tree_position.specs.Position.{OffersOf, candidates, least, self_root}
 use Rattle.topo_report.specs.Report.{report_of}
 use Rattle.epoch_core.specs.Log.{CardOf, OnPort}
-use Rattle.epoch_core.specs.Epoch.{offer_on, position, is_same, is_settled, is_root, finish, topology_of, or_else, report, reported, positions_of, passed_on, claiming_among, adds}
+use Rattle.std.specs.Option.{option_or}
+use Rattle.epoch_core.specs.Epoch.{offer_on, position, is_same, is_settled, is_root, finish, topology_of, report, reported, positions_of, passed_on, claiming_among, adds}
 use Rattle.epoch_core.specs.Heard.{HasHeard}
 use Rattle.epoch_core.specs.StandsFor.{CoreOf, StandsFor}
 use Rattle.epoch_core.specs.Steps.{FinishesAsRoot, topology_by, unless_finished}
@@ -75,7 +76,7 @@ pub stands_alone : (core new : CoreOf) (before after : List OnPort) → HasJoine
 stands_alone core new before after j none f =
     subst (λ (o : CoreOf). StandsFor o []) (sym f.rest) (joined_stands core new.finish j (
     f.finish [] j.ports
-    ∙ ap (λ (g : Option TopoOf). or_else g (Some (topology_by core []))) j.finish
+    ∙ ap (λ (g : Option TopoOf). option_or g (Some (topology_by core []))) j.finish
     ∙ ap (λ (t : TopoOf). Some t) (topology_alone core j)
     ∙ sym (alone core j none)))
 

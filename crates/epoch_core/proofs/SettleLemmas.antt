@@ -6,7 +6,8 @@ use Rattle.an_base.specs.Values.{Place, EntryOf, TopoOf}
 use Rattle.tree_position.specs.Position.{self_root}
 use Rattle.topo_report.specs.Report.{report_of}
 use Rattle.epoch_core.specs.Log.{CardOf, OnPort, Log}
-use Rattle.epoch_core.specs.Epoch.{is_settled, is_stable, is_root, is_same, finish, given_by, or_else, topology_of, report, reported, reported_on, passed_on, claiming, claiming_among, topo_down, sent_up, sent_down, stable_to_parent}
+use Rattle.std.specs.Option.{option_or}
+use Rattle.epoch_core.specs.Epoch.{is_settled, is_stable, is_root, is_same, finish, given_by, topology_of, report, reported, reported_on, passed_on, claiming, claiming_among, topo_down, sent_up, sent_down, stable_to_parent}
 use Rattle.epoch_core.specs.Heard.{HasHeard}
 use Rattle.epoch_core.specs.StandsFor.{CoreOf, StandsFor}
 use Rattle.epoch_core.specs.Steps.{HasNoted, Settles, FinishesAsRoot, entry_of, topology_by, unless_finished}
@@ -31,11 +32,11 @@ topology_now core x log n =
     ap (λ (p : Place). topology_of (report_of core.card.me (own p ∷ reported core.card (x ∷ log)))) n.position
 
 -- the finish of a stable root
-pub finish_root : (c : CardOf) (x : OnPort) (log : Log) → is_stable c (x ∷ log) ≡ true → is_root c (x ∷ log) ≡ true → finish c (x ∷ log) ≡ or_else (finish c log) (Some (topology_of (report c (x ∷ log))))
+pub finish_root : (c : CardOf) (x : OnPort) (log : Log) → is_stable c (x ∷ log) ≡ true → is_root c (x ∷ log) ≡ true → finish c (x ∷ log) ≡ option_or (finish c log) (Some (topology_of (report c (x ∷ log))))
 finish_root c x log stable root =
-    ap (or_else (finish c log)) (
-    ap (λ (b : Bool). or_else (cond (b && is_root c (x ∷ log)) (Some (topology_of (report c (x ∷ log)))) None) (given_by c.me x.body)) stable
-    ∙ ap (λ (b : Bool). or_else (cond (true && b) (Some (topology_of (report c (x ∷ log)))) None) (given_by c.me x.body)) root)
+    ap (option_or (finish c log)) (
+    ap (λ (b : Bool). option_or (cond (b && is_root c (x ∷ log)) (Some (topology_of (report c (x ∷ log)))) None) (given_by c.me x.body)) stable
+    ∙ ap (λ (b : Bool). option_or (cond (true && b) (Some (topology_of (report c (x ∷ log)))) None) (given_by c.me x.body)) root)
 
 -- a root sends nothing up
 up_none : (a b r : Bool) (up : List OnPort) → r ≡ true → cond (a && not b && not r) up [] ≡ []
@@ -49,7 +50,7 @@ none_left None none = refl
 none_left (Some t) none = absurd (cc)
 
 -- what goes down where the life finishes, unless it had
-down_is : (c : CardOf) (l : Log) (f : Option TopoOf) (t : TopoOf) → cond (is_some f) [] (topo_down c l (or_else f (Some t))) ≡ unless_finished f (map (passed_on t) (claiming c l))
+down_is : (c : CardOf) (l : Log) (f : Option TopoOf) (t : TopoOf) → cond (is_some f) [] (topo_down c l (option_or f (Some t))) ≡ unless_finished f (map (passed_on t) (claiming c l))
 down_is c l None t = refl
 down_is c l (Some u) t = refl
 
@@ -72,8 +73,8 @@ settles_as_root old now new before after settled stable is_own f = record {
     finished : (x : OnPort) (log : Log) → HasNoted old x log → new.finish ≡ finish old.card (x ∷ log)
     finished x log n =
         f.finish (x ∷ log) n.ports
-        ∙ ap (λ (g : Option TopoOf). or_else g (Some (topology_by old (x ∷ log)))) n.finish
-        ∙ ap (λ (t : TopoOf). or_else (finish old.card log) (Some t)) (topology_now old x log n)
+        ∙ ap (λ (g : Option TopoOf). option_or g (Some (topology_by old (x ∷ log)))) n.finish
+        ∙ ap (λ (t : TopoOf). option_or (finish old.card log) (Some t)) (topology_now old x log n)
         ∙ sym (finish_root old.card x log (ours x log n) (top x log n))
 
     sent : (x : OnPort) (log : Log) → HasNoted old x log → unless_finished old.finish (map (passed_on (topology_by old (x ∷ log))) (claiming old.card (x ∷ log))) ≡ sent_up old.card x log ++ sent_down old.card x log
@@ -96,7 +97,7 @@ pub finishes_as_root : (old new : CoreOf) (entries : List EntryOf) (numbers : Li
     → ((log : Log) → HasHeard old.ports log → after ≡ before ++ map (passed_on t) (claiming_among old.card.links log)) → FinishesAsRoot old new before after
 finishes_as_root old new entries numbers t before after none entries_are numbers_are t_is is passes = record {
   rest = is ∙ ap (λ (f : Option TopoOf). with_finish f) (sym (ap (λ (o : CoreOf). o.finish) is));
-  finish = λ log h. ap (λ (o : CoreOf). o.finish) is ∙ ap (λ (u : TopoOf). Some u) (topo_is log h) ∙ sym (ap (λ (f : Option TopoOf). or_else f (Some (topology_by old log))) (none_left old.finish none));
+  finish = λ log h. ap (λ (o : CoreOf). o.finish) is ∙ ap (λ (u : TopoOf). Some u) (topo_is log h) ∙ sym (ap (λ (f : Option TopoOf). option_or f (Some (topology_by old log))) (none_left old.finish none));
   sends = λ log h. passes log h ∙ ap (λ (u : TopoOf). before ++ map (passed_on u) (claiming_among old.card.links log)) (topo_is log h) ∙ sym (ap (λ (f : Option TopoOf). before ++ unless_finished f (map (passed_on (topology_by old log)) (claiming_among old.card.links log))) (none_left old.finish none));
 }
   where

@@ -4,6 +4,7 @@
 use Rattle.std.specs.Prelude.{◌==◌, ◌&&◌, ◌||◌, ℕ, suc, List, [], ◌∷◌, ◌++◌, map, filter, reverse, Option}
 use Rattle.std.specs.Prelude.{Some, None, is_some, Bool, false, not, if◌then◌else◌}
 use Rattle.std.specs.List.{list_all, list_any, flat_map}
+use Rattle.std.specs.Option.{option_or}
 use Rattle.std.specs.Ordering.{is_eq}
 use Rattle.an_base.specs.Values.{LifeId, Place, PeerAt, EntryOf, PosOf, TopoOf}
 use Rattle.an_base.specs.Order.{life_cmp, position_cmp}
@@ -105,16 +106,12 @@ abbrev pub finished_as_root : CardOf → Log → Option TopoOf
 finished_as_root card log =
     if is_stable card log && is_root card log then Some (topology_of (report card log)) else None
 
-abbrev pub or_else : {A : Type 0} → Option A → Option A → Option A
-or_else None other = other
-or_else (Some first) other = Some first
-
 -- what the life finished with: from the first moment at which it is a stable root, or receives a topology
 -- that names it
 abbrev pub finish : CardOf → Log → Option TopoOf
 finish card [] = finished_as_root card []
 finish card (item ∷ log) =
-    or_else (finish card log) (or_else (finished_as_root card (item ∷ log)) (given_by card.me item.body))
+    option_or (finish card log) (option_or (finished_as_root card (item ∷ log)) (given_by card.me item.body))
 
 -- What goes out. A position on a link says whether the link is the one to the parent.
 abbrev pub pos_at : ℕ → Place → PeerAt → OnPort

@@ -9,7 +9,8 @@ use Rattle.an_base.specs.declared.body.Body.TheVariants.{Pos, Answer, Stable, To
 use Rattle.tree_position.specs.Position.{position_of}
 use Rattle.epoch_core.specs.Log.{OnPort, Log}
 use Rattle.topo_report.specs.Report.{report_of}
-use Rattle.epoch_core.specs.Epoch.{position, version, is_same, is_stable, finish, or_else, topology_of}
+use Rattle.std.specs.Option.{option_or}
+use Rattle.epoch_core.specs.Epoch.{position, version, is_same, is_stable, finish, topology_of}
 use Rattle.epoch_core.specs.Epoch.{reported_on, claiming_among, passed_on, positions_of, sent_up, sent_down}
 use Rattle.epoch_core.specs.Heard.{HasHeard}
 use Rattle.epoch_core.specs.StandsFor.{CoreOf, StandsFor, offers_of}
@@ -78,7 +79,7 @@ topology_by core log =
 -- a finish stays, and if there is none it becomes the report and its numbering, which goes to the links
 -- that claim
 abbrev pub finish_or : CoreOf → Log → Option TopoOf
-finish_or core log = or_else core.finish (Some (topology_by core log))
+finish_or core log = option_or core.finish (Some (topology_by core log))
 
 abbrev pub unless_finished : Option TopoOf → List OnPort → List OnPort
 unless_finished None down = down

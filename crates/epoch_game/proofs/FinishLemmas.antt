@@ -12,7 +12,8 @@ use Rattle.tree_position.specs.Position.{self_root}
 use Rattle.topo_report.proofs.Members.{In, in_from, contains_from}
 use Rattle.topo_report.proofs.ReportLaws.{report_is_report}
 use Rattle.epoch_core.specs.Log.{CardOf, OnPort, Log, on_port}
-use Rattle.epoch_core.specs.Epoch.{version, position, is_stable, is_root, is_named, own_entry, reported, report, topology_of, finished_as_root, given_by, or_else, finish, sent}
+use Rattle.std.specs.Option.{option_or}
+use Rattle.epoch_core.specs.Epoch.{version, position, is_stable, is_root, is_named, own_entry, reported, report, topology_of, finished_as_root, given_by, finish, sent}
 use Rattle.epoch_core.specs.Laws.{IsAtMost}
 use Rattle.epoch_game.specs.Slice.{Earlier, Node, Slice, nobody, with_node, Names, IsCardOf, Run, none, joins, accepts}
 use Rattle.epoch_game.specs.Streams.{Shows, ShowsFar}
@@ -278,7 +279,7 @@ topo_sent lives s run z m q x p sz back r t e i = by (shown m.card q (has_link z
     by (inr w) = finish_earlier m.card w.0 m.log t w.1 (w.2.topology t i)
 
 -- the three ways to finish
-either_finish : {A : Type 0} (a b c : Option A) (t : A) → or_else a (or_else b c) ≡ Some t → (a ≡ Some t) ⊎ ((b ≡ Some t) ⊎ (c ≡ Some t))
+either_finish : {A : Type 0} (a b c : Option A) (t : A) → option_or a (option_or b c) ≡ Some t → (a ≡ Some t) ⊎ ((b ≡ Some t) ⊎ (c ≡ Some t))
 either_finish (Some v) b c t e = inl e
 either_finish None (Some v) c t e = inr (inl e)
 either_finish None None c t e = inr (inr e)

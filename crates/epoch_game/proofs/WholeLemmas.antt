@@ -10,7 +10,8 @@ use Rattle.an_base.proofs.LifeLemmas.{life_passes}
 use Rattle.tree_position.specs.Position.{self_root}
 use Rattle.topo_report.proofs.Members.{In, in_right}
 use Rattle.epoch_core.specs.Log.{CardOf, OnPort, Log, on_port, is_claimed, answered, fresh_report}
-use Rattle.epoch_core.specs.Epoch.{version, position, report, is_same, is_stable, is_root, is_named, has_moved, finish, finished_as_root, given_by, or_else, sent}
+use Rattle.std.specs.Option.{option_or}
+use Rattle.epoch_core.specs.Epoch.{version, position, report, is_same, is_stable, is_root, is_named, has_moved, finish, finished_as_root, given_by, sent}
 use Rattle.epoch_core.proofs.EpochLemmas.{IsQuiet, has_moved-quiet, is_same-itself, stable_root-unfinished}
 use Rattle.epoch_core.proofs.AcceptLemmas.{finish-finished}
 use Rattle.epoch_game.specs.Slice.{Earlier}
@@ -163,7 +164,7 @@ entry_names me (f ∷ es) e (inr j) is = more (is_eq (life_cmp f.life me)) (entr
     more true rest = refl
     more false rest = rest
 
-some_last : {A : Type 0} (a b c : Option A) (t : A) → c ≡ Some t → is_some (or_else a (or_else b c)) ≡ true
+some_last : {A : Type 0} (a b c : Option A) (t : A) → c ≡ Some t → is_some (option_or a (option_or b c)) ≡ true
 some_last (Some v) b c t e = refl
 some_last None (Some v) c t e = refl
 some_last None None c t e = ap is_some e

@@ -17,12 +17,13 @@ use Rattle.topo_report.proofs.Members.{in_from}
 use Rattle.topo_report.proofs.ReportLaws.{report_is_report, report_of-some, report_of-most}
 use Rattle.switch_numbering.proofs.Differing.{numbers_are, length-numbering}
 use Rattle.epoch_core.specs.Log.{CardOf, OnPort, Log, on_port, last_pos, last_report}
-use Rattle.epoch_core.specs.Epoch.{offer_of, offer_on, position, version, own_entry, entries_in, reported_on, reported, report, claiming, given_by, is_named, topology_of, finished_as_root, or_else, finish, is_stable, is_root, has_moved, positions_of, positions, told, answer_to, answers, stable_to_parent, sent_up, passed_on, topo_down, sent_down, adds, sent}
+use Rattle.std.specs.Option.{option_or}
+use Rattle.epoch_core.specs.Epoch.{offer_of, offer_on, position, version, own_entry, entries_in, reported_on, reported, report, claiming, given_by, is_named, topology_of, finished_as_root, finish, is_stable, is_root, has_moved, positions_of, positions, told, answer_to, answers, stable_to_parent, sent_up, passed_on, topo_down, sent_down, adds, sent}
 use Rattle.epoch_core.proofs.LawLemmas.{version-length}
 use Rattle.epoch_game.proofs.Basics.{some_same, none_some}
 use Rattle.epoch_game.proofs.Moments.{version_least}
 use Rattle.switch_game.proofs.Streams.{stream}
-use Rattle.switch_core.proofs.FinishLemmas.{first_or_else}
+use Rattle.switch_core.proofs.FinishLemmas.{option_or-Some}
 use Rattle.fabric_game.proofs.EachLemmas.{Each, each_append, each_in, each_reverse, each_from}
 
 -- what a life joins with, within its ranges
@@ -130,9 +131,9 @@ given_ranged me (Topo u) t ok is = cond_both (is_named me u) (Some u) None (λ (
 pub finish_ranged : (c : CardOf) (log : Log) (t : TopoOf) → IsRangedCard c → AreRanged log → finish c log ≡ Some t → IsTopo t
 finish_ranged c [] t card all is = root_ranged c [] t card all is
 finish_ranged c (x ∷ log) t card all is =
-    elim (first_or_else (finish c log) (or_else (finished_as_root c (x ∷ log)) (given_by c.me x.body)) t is) [
+    elim (option_or-Some (finish c log) (option_or (finished_as_root c (x ∷ log)) (given_by c.me x.body)) t is) [
       | inl old ↦ finish_ranged c log t card all.1 old
-      | inr new ↦ elim (first_or_else (finished_as_root c (x ∷ log)) (given_by c.me x.body) t new) [
+      | inr new ↦ elim (option_or-Some (finished_as_root c (x ∷ log)) (given_by c.me x.body) t new) [
         | inl root ↦ root_ranged c (x ∷ log) t card all root
         | inr given ↦ given_ranged c.me x.body t all.0 given
       ]

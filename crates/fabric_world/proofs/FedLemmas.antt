@@ -27,7 +27,8 @@ use Rattle.ordered_link.specs.Receiving.{Receiving, last, has_come, accept, hold
 use Rattle.ordered_link.specs.declared.receiver.Verdict.{Verdict}
 use Rattle.ordered_link.specs.declared.receiver.Verdict.TheVariants as said
 use Rattle.epoch_core.specs.Log.{CardOf, Log, OnPort, on_port, last_report}
-use Rattle.epoch_core.specs.Epoch.{adds, claiming, entries_in, finish, finished_as_root, given_by, is_named, is_root, is_stable, or_else, own_entry, report, reported, reported_on, topology_of}
+use Rattle.std.specs.Option.{option_or}
+use Rattle.epoch_core.specs.Epoch.{adds, claiming, entries_in, finish, finished_as_root, given_by, is_named, is_root, is_stable, own_entry, report, reported, reported_on, topology_of}
 use Rattle.epoch_core.proofs.SettleLemmas.{length-numbering}
 use Rattle.switch_numbering.proofs.Differing.{numbers_are}
 use Rattle.switch_core.proofs.FinishLemmas.{root_names}
@@ -219,7 +220,7 @@ as_root_fits c log topo number all is =
 pub finish_fits : (c : CardOf) (log : Log) (topo : TopoOf) → IsNumber c.proposed → ByRecursion ItemFits log → finish c log ≡ Some topo → TopoFits topo
 finish_fits c [] topo number all is = as_root_fits c [] topo number all is
 finish_fits c (x ∷ log) topo number all is = first (finish c log) (finished_as_root c (x ∷ log)) (λ t e. finish_fits c log t number all.1 e) (λ t e. as_root_fits c (x ∷ log) t number all e) is where
-  first : (a b : Option TopoOf) → ((t : TopoOf) → a ≡ Some t → TopoFits t) → ((t : TopoOf) → b ≡ Some t → TopoFits t) → or_else a (or_else b (given_by c.me x.body)) ≡ Some topo → TopoFits topo
+  first : (a b : Option TopoOf) → ((t : TopoOf) → a ≡ Some t → TopoFits t) → ((t : TopoOf) → b ≡ Some t → TopoFits t) → option_or a (option_or b (given_by c.me x.body)) ≡ Some topo → TopoFits topo
   first (Some t) b before root is = before topo is
   first None (Some t) before root is = root topo is
   first None None before root is = given_fits c.me x.body topo all.0 is

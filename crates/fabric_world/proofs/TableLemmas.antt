@@ -16,7 +16,8 @@ use Rattle.connectivity.specs.Connections.{is_same_end}
 use Rattle.port_monitor.specs.Histories.{Replied, with_happening}
 use Rattle.net_script.specs.Scripts.{ScriptOf, IsScript}
 use Rattle.epoch_core.specs.Log.{CardOf, Log}
-use Rattle.epoch_core.specs.Epoch.{finish, or_else, finished_as_root, given_by}
+use Rattle.std.specs.Option.{option_or}
+use Rattle.epoch_core.specs.Epoch.{finish, finished_as_root, given_by}
 use Rattle.frame_codec.specs.Reading.{frame_of}
 use Rattle.switch_core.specs.Switch.{SwitchOf, counts, end_at, finish_of, note_of}
 use Rattle.switch_core.specs.Steps.{Step, after, all_added, all_resent, answers_body, clocked, framed, goes_on, is_change_due, is_spent_by, joins, loaded, log_with, on_ack, on_carry, probes, receives, sampled_by, still}
@@ -46,7 +47,7 @@ Finishes old new = new.epoch ≡ old.epoch → (topo : TopoOf) → finish_of old
 pub finish_more : (c : CardOf) (port : ℕ) (bodies : List Body) (log : Log) (topo : TopoOf) → finish c log ≡ Some topo → finish c (log_with port bodies log) ≡ Some topo
 finish_more c port [] log topo is = is
 finish_more c port (body ∷ bodies) log topo is =
-    finish_more c port bodies (record { port = port; body = body } ∷ log) topo (ap (λ o. or_else o (or_else (finished_as_root c (record { port = port; body = body } ∷ log)) (given_by c.me body))) is)
+    finish_more c port bodies (record { port = port; body = body } ∷ log) topo (ap (λ o. option_or o (option_or (finished_as_root c (record { port = port; body = body } ∷ log)) (given_by c.me body))) is)
 
 if_joined : (b : Bool) (x y : Option TopoOf) (topo : TopoOf) → (x ≡ Some topo → y ≡ Some topo) → cond b x None ≡ Some topo → cond b y None ≡ Some topo
 if_joined true x y topo more is = more is

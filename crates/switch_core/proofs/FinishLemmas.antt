@@ -8,7 +8,8 @@ use Rattle.topo_report.specs.Report.{is_of}
 use Rattle.topo_report.proofs.LifeLaws.{is_of-life}
 use Rattle.topo_report.proofs.ReportLaws.{report_is_report}
 use Rattle.epoch_core.specs.Log.{CardOf, Log, OnPort}
-use Rattle.epoch_core.specs.Epoch.{finish, finished_as_root, given_by, is_named, is_root, is_stable, or_else, own_entry, report, reported, topology_of}
+use Rattle.std.specs.Option.{option_or}
+use Rattle.epoch_core.specs.Epoch.{finish, finished_as_root, given_by, is_named, is_root, is_stable, own_entry, report, reported, topology_of}
 use Rattle.epoch_core.proofs.AcceptLemmas.{finish-finished}
 use Rattle.switch_core.specs.Switch.{SwitchOf, finish_of}
 use Rattle.switch_core.specs.Steps.{log_with}
@@ -55,6 +56,6 @@ given_names me (Topo t) topo is =
     subst (λ (u : TopoOf). Any (λ e. e.life ≡ me) u.entries) named.1 (found.0, found.1, found.2, found.3, is_of-life me found.1 found.4)
 
 -- of two the first that is there
-pub first_or_else : {A : Type 0} (a b : Option A) (x : A) → or_else a b ≡ Some x → (a ≡ Some x) ⊎ (b ≡ Some x)
-first_or_else None b x is = inr is
-first_or_else (Some a) b x is = inl is
+pub option_or-Some : {A : Type 0} (a b : Option A) (x : A) → option_or a b ≡ Some x → (a ≡ Some x) ⊎ (b ≡ Some x)
+option_or-Some None b x is = inr is
+option_or-Some (Some a) b x is = inl is

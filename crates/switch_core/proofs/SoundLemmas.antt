@@ -8,14 +8,15 @@ use Rattle.an_base.specs.declared.port.Sample.{Sample}
 use Rattle.an_base.specs.Frames.{CarryOf}
 use Rattle.connectivity.specs.Connections.{is_end, is_same_end}
 use Rattle.epoch_core.specs.Log.{CardOf, Log, on_port}
-use Rattle.epoch_core.specs.Epoch.{adds, finish, finished_as_root, given_by, or_else}
+use Rattle.std.specs.Option.{option_or}
+use Rattle.epoch_core.specs.Epoch.{adds, finish, finished_as_root, given_by}
 use Rattle.switch_core.specs.Switch.{SwitchOf, counts, end_at, finish_of, good_links, good_peer, port_of, ports_of, started}
 use Rattle.ordered_link.specs.Receiving.{accepted_by}
 use Rattle.switch_core.specs.Steps.{after, are_same_links, all_added, all_pushed, all_resent, answers_body, begun, clocked, framed, goes_on, is_change_due, is_spent_by, joins, loaded, on_ack, on_carry, probes, receives, sample_at, sampled_by, still}
 use Rattle.switch_core.specs.Sound.{IsSound, IsSoundBy, all_held, carries, counted}
 use Rattle.switch_core.proofs.CountLemmas.{added_few, joining_few, log_length, one_from}
 use Rattle.switch_core.proofs.FarLemmas.{hears, hears_nonce, hears_peer, sampled_nonce}
-use Rattle.switch_core.proofs.FinishLemmas.{first_or_else, given_names, root_names}
+use Rattle.switch_core.proofs.FinishLemmas.{option_or-Some, given_names, root_names}
 use Rattle.switch_core.proofs.HeldLemmas.{came_more}
 use Rattle.switch_core.proofs.LinkLemmas.{hears_links, links_are}
 use Rattle.switch_core.proofs.ReceiveLemmas.{sound_receives}
@@ -285,9 +286,9 @@ sound_loaded works number s least most h = loaded_by works works number s least 
 pub finish_named : (c : CardOf) (log : Log) (topo : TopoOf) → finish c log ≡ Some topo → Any (λ e. e.life ≡ c.me) topo.entries
 finish_named c [] topo is = root_names c [] topo is
 finish_named c (x ∷ log) topo is =
-    elim (first_or_else (finish c log) (or_else (finished_as_root c (x ∷ log)) (given_by c.me x.body)) topo is) [
+    elim (option_or-Some (finish c log) (option_or (finished_as_root c (x ∷ log)) (given_by c.me x.body)) topo is) [
       | inl before ↦ finish_named c log topo before
-      | inr now ↦ elim (first_or_else (finished_as_root c (x ∷ log)) (given_by c.me x.body) topo now) [
+      | inr now ↦ elim (option_or-Some (finished_as_root c (x ∷ log)) (given_by c.me x.body) topo now) [
         | inl root ↦ root_names c (x ∷ log) topo root
         | inr given ↦ given_names c.me x.body topo given
       ]
