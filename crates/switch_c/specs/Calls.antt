@@ -79,36 +79,36 @@ abbrev pub samples_of : ℕ → ℕ → List Sample
 samples_of up hosts = map (sample_of up hosts) externals
 
 -- a clock, which brings no body, and may begin an epoch
-abbrev pub brings_none : KeptOf → KeptOf → Type 0
-brings_none old new = carried new ≡ counted (epoch_of old) (epoch_of new) (carried old) 0
+abbrev pub BringsNone : KeptOf → KeptOf → Type 0
+BringsNone old new = carried new ≡ counted (epoch_of old) (epoch_of new) (carried old) 0
 
 -- a clock that finds no epoch left, and begins none
-abbrev pub keeps_count : KeptOf → KeptOf → Type 0
-keeps_count old new = carried new ≡ carried old
+abbrev pub KeepsCount : KeptOf → KeptOf → Type 0
+KeepsCount old new = carried new ≡ carried old
 
 -- a clock came at this tick; `up` is the set of the ports with a link, `hosts` that of the ports to hosts
 pub record Clocks (now up hosts : ℕ) (old new : Instance) (status : Status) : Type 0 where
   pub over : is_over old ≡ true → Refuses Over old new status
   pub taken : is_over old ≡ false → (status ≡ Done) ⊎ ((status ≡ Spent) ⊎ (status ≡ OutOfMemory))
   pub done : status ≡ Done
-      → IsTaken (λ switch Is out. Ticks now (samples_of up hosts) switch Is out false) brings_none old new
+      → IsTaken (λ switch Is out. Ticks now (samples_of up hosts) switch Is out false) BringsNone old new
   pub spent : status ≡ Spent
-      → IsTaken (λ switch Is out. Ticks now (samples_of up hosts) switch Is out true) keeps_count old new
+      → IsTaken (λ switch Is out. Ticks now (samples_of up hosts) switch Is out true) KeepsCount old new
   pub lost : status ≡ OutOfMemory → IsLost old new
 
 abbrev pub is_port : ℕ → Bool
 is_port port = nat_lt 0 port && nat_lt port 13
 
 -- bytes come by a port
-abbrev pub comes_with : List ℕ → KeptOf → KeptOf → Type 0
-comes_with bytes old new = Counts bytes (epoch_of old) (epoch_of new) (carried old) (carried new)
+abbrev pub ComesWith : List ℕ → KeptOf → KeptOf → Type 0
+ComesWith bytes old new = Counts bytes (epoch_of old) (epoch_of new) (carried old) (carried new)
 
 -- bytes came by a port; they are refused if that is no external port, or if the life is over
 pub record TakesFrame (port : ℕ) (bytes : List ℕ) (old new : Instance) (status : Status) : Type 0 where
   pub argument : is_port port ≡ false → Refuses Argument old new status
   pub over : is_port port ≡ true → is_over old ≡ true → Refuses Over old new status
   pub taken : is_port port ≡ true → is_over old ≡ false → (status ≡ Done) ⊎ (status ≡ OutOfMemory)
-  pub done : status ≡ Done → IsTaken (λ switch Is out. Handles port bytes switch Is out) (comes_with bytes) old new
+  pub done : status ≡ Done → IsTaken (λ switch Is out. Handles port bytes switch Is out) (ComesWith bytes) old new
   pub lost : status ≡ OutOfMemory → IsLost old new
 
 -- a frame is told: its port, its length, and its bytes at the front of those that C passed
