@@ -15,7 +15,7 @@ use Rattle.switch_core.specs.Switch.{SwitchOf, at_port}
 use Rattle.switch_core.specs.declared.control.Control.{Control}
 use Rattle.switch_core.specs.Sessions.{AreSessions, Receives, wanted}
 use Rattle.switch_core.specs.Steps.{accepts, after, all_added, log_with, receives}
-use Rattle.switch_core.specs.Stands.{Accepts as AcceptsBody, AcceptsInTurn, HasAccepting, HasCore, HasJoined, Receives as ReceivesBody, Stands, accepting, in_turn}
+use Rattle.switch_core.specs.Stands.{Accepts as AcceptsBody, AcceptsInTurn, HasAccepting, HasCore, HasJoined, ReceivesBody, Stands, accepting, in_turn}
 use Rattle.switch_core.proofs.SessionLemmas.{at_the_port}
 use Rattle.switch_core.proofs.TurnLemmas.{changed_twice}
 

@@ -13,7 +13,7 @@ use Rattle.switch_core.specs.declared.control.Control.{Control}
 use Rattle.switch_core.specs.Steps.{Sent, Step, ack_to, acks, after, all_pushed, answers_body, joins, on_carry, receives, still}
 use Rattle.switch_core.specs.Sound.{all_held}
 use Rattle.switch_core.specs.Bytes.{BytesOut, all_spelled}
-use Rattle.switch_core.specs.Stands.{Does, Done, HasAccepting, HasJoined, HasNumbers, HasRoom, Receives as ReceivesBody, Stands, answered}
+use Rattle.switch_core.specs.Stands.{Does, Done, HasAccepting, HasJoined, HasNumbers, HasRoom, ReceivesBody, Stands, answered}
 use Rattle.switch_core.proofs.SessionLemmas.{at_the_port}
 use Rattle.switch_core.proofs.SoundLemmas.{counted_joined, joins_joined, joins_spent, numbers_of_body, sound_joins}
 use Rattle.switch_core.proofs.StandsLemmas.{does_nothing, does_then}

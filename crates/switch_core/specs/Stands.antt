@@ -92,7 +92,7 @@ abbrev pub HasAccepting : Option CoreOf → Type 0
 HasAccepting core = (found : CoreOf) × (core ≡ Some found) × (found.version + 8 ≤ 2 ^ 30)
 
 -- a body came to a session, and the bodies that were accepted by it added what they add
-pub record Receives (port number : ℕ) (body : Body) (old new : Control) (before after : List OnPort)
+pub record ReceivesBody (port number : ℕ) (body : Body) (old new : Control) (before after : List OnPort)
     (answer : Bool) : Type 0 where
   pub stands : (switch : SwitchOf) → Stands old switch → Stands new (receives port number body switch)
   pub sends : (switch : SwitchOf) → Stands old switch

@@ -8,7 +8,7 @@ ghost use Rattle.switch_core.specs.Switch.{CameBy, counts, finish_of, good_links
 ghost use Rattle.switch_core.specs.Steps.{all_pushed, all_resent, answers_body, are_same_links, fills, framed, joins, on_ack, on_carry, peer_among, pushed, resends_on};
 ghost use Rattle.switch_core.specs.Bytes.{BytesOut};
 ghost use Rattle.switch_core.specs.Sessions.{IsOutAt};
-ghost use Rattle.switch_core.specs.Stands.{answered, Accepts, AcceptsInTurn, Clocks, Does, HasAccepting, HasNumbers, HasRoom, HasState, HasWindows, IsSame, MayJoin, Carries, probed, Receives, Stands};
+ghost use Rattle.switch_core.specs.Stands.{answered, Accepts, AcceptsInTurn, Clocks, Does, HasAccepting, HasNumbers, HasRoom, HasState, HasWindows, IsSame, MayJoin, Carries, probed, ReceivesBody, Stands};
 ghost use Rattle.switch_core.specs.Kept.{Counts, Handles, Loads, bodies, is_noframe};
 ghost use Rattle.switch_core.specs.Sound.{carries, counted};
 
@@ -332,7 +332,7 @@ impl Control {
         requires least { 1 ≤ port }
         requires most { port ≤ LAST_PORT }
         requires core { HasAccepting self.old.core }
-        ensures { IfOk result (Receives port k body self.old self.new sends.old sends.new) }
+        ensures { IfOk result (ReceivesBody port k body self.old self.new sends.old sends.new) }
     {
         match self.sessions.on_carry(port, k, body) {
             Verdict::Accepted(body) => {
