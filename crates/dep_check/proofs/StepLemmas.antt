@@ -8,7 +8,7 @@ use Rattle.dep_check.specs.declared.channel.Channel.{Channel}
 use Rattle.dep_check.specs.declared.steps.Steps.{Steps}
 use Rattle.dep_check.specs.Ports.{HasOnlyPorts}
 use Rattle.dep_check.specs.Tables.{IsSpot, wire_at, has_at, has_port}
-use Rattle.dep_check.specs.Search.{ComesIn, Depends, GoesBy, HasLoose, IsEnd, IsStepOf, Step}
+use Rattle.dep_check.specs.Search.{ComesIn, Depends, GoesBy, HasLoosePort, IsEnd, IsStepOf, Step}
 use Rattle.dep_check.proofs.PortLemmas.{bit_of, port_of}
 
 -- where each answer is a spot, the answer is one
@@ -82,10 +82,10 @@ end_empty wires exits to s set before none told = record {
       omega arith));
 }
 
-pub end_loose : (wires : List (Option Channel)) (exits : List ℕ) (to : ℕ) (s : Channel) (set : ℕ) → s.at ≢ to → HasOnlyPorts set → ((p : ℕ) → p < 13 → has_port set p ≡ has_at exits s p) → HasLoose wires s.at set → IsEnd wires exits to s
+pub end_loose : (wires : List (Option Channel)) (exits : List ℕ) (to : ℕ) (s : Channel) (set : ℕ) → s.at ≢ to → HasOnlyPorts set → ((p : ℕ) → p < 13 → has_port set p ≡ has_at exits s p) → HasLoosePort wires s.at set → IsEnd wires exits to s
 end_loose wires exits to s set before ports told (p, has, none) = record { before = before; gap = inr (p, ports p has, sym (told p (ports p has)) ∙ port_of set p has, none) }
 
-pub loose_end : (wires : List (Option Channel)) (exits : List ℕ) (to : ℕ) (s : Channel) (set : ℕ) → set ≢ 0 → HasOnlyPorts set → ((p : ℕ) → p < 13 → has_port set p ≡ has_at exits s p) → IsEnd wires exits to s → HasLoose wires s.at set
+pub loose_end : (wires : List (Option Channel)) (exits : List ℕ) (to : ℕ) (s : Channel) (set : ℕ) → set ≢ 0 → HasOnlyPorts set → ((p : ℕ) → p < 13 → has_port set p ≡ has_at exits s p) → IsEnd wires exits to s → HasLoosePort wires s.at set
 loose_end wires exits to s set some ports told end = elim end.gap [
   | inl none ↦ absurd (some (same_from_bits set 0 (λ i. elim (cases_eq (bit_at set i) 1) [
     | inl has ↦ absurd (none i (ports i has) (sym (told i (ports i has)) ∙ port_of set i has))

@@ -17,14 +17,14 @@ pub record GoesOn (far : Channel → Option Channel) (rows : List RowOf) (to : �
   pub link : far (record { at = here.at; port = exit }) ≡ Some next
 
 -- some exit of the row has no link
-abbrev pub HasLoose : (Channel → Option Channel) → List RowOf → ℕ → Channel → Type 0
-HasLoose far rows to here =
+abbrev pub HasLooseExit : (Channel → Option Channel) → List RowOf → ℕ → Channel → Type 0
+HasLooseExit far rows to here =
     (exit : ℕ) × HasExit rows here.at here.port to exit × (far (record { at = here.at; port = exit }) ≡ None)
 
 -- before the target, the row has no exits, or one without a link
 pub record IsGap (far : Channel → Option Channel) (rows : List RowOf) (to : ℕ) (here : Channel) : Type 0 where
   pub before : here.at ≢ to
-  pub gap : ((exit : ℕ) → HasExit rows here.at here.port to exit → ⊥) ⊎ HasLoose far rows to here
+  pub gap : ((exit : ℕ) → HasExit rows here.at here.port to exit → ⊥) ⊎ HasLooseExit far rows to here
 
 -- some following of the rows from entry 0 of a switch towards a number meets a gap there
 pub record MeetsGap (far : Channel → Option Channel) (rows : List RowOf) (from to : ℕ) (end : Channel)

@@ -52,8 +52,8 @@ pub record AreSteps (wires : List (Option Channel)) (rows : List RowOf) (number 
   pub to : steps.to ≡ number
 
 -- one of some ports of a switch has no link
-abbrev pub HasLoose : List (Option Channel) → ℕ → ℕ → Type 0
-HasLoose wires at ports =
+abbrev pub HasLoosePort : List (Option Channel) → ℕ → ℕ → Type 0
+HasLoosePort wires at ports =
     (port : ℕ) × (bit_at ports port ≡ 1) × (wire_at wires (record { at = at; port = port }) ≡ None)
 
 -- the steps are between these far sides, whatever their exits are

@@ -31,7 +31,7 @@ pub struct Steps {
 }
 
 impl Steps {
-    ghost use Rattle.dep_check.specs.Search.{AreBetween, AreSteps, ComesIn, Depends, GoesBy, HasLoose, IsEnd, IsStep, IsStuck};
+    ghost use Rattle.dep_check.specs.Search.{AreBetween, AreSteps, ComesIn, Depends, GoesBy, HasLoosePort, IsEnd, IsStep, IsStuck};
 
     /// The steps of channels, by these rows.
     pub fn of(alloc: Global, wires: &[Option<Channel>], rows: &[Row]) -> Result<Steps, OutOfMemory>
@@ -195,7 +195,7 @@ impl Steps {
     fn has_loose(&self, at: u8, ports: u16) -> bool
         requires at { at < 127 }
         requires ports { HasOnlyPorts ports }
-        ensures { IsTrue result ↔ HasLoose self.now.wires.items at ports }
+        ensures { IsTrue result ↔ HasLoosePort self.now.wires.items at ports }
     {
         let mut left = ports;
         'ports: while left > 0 {
