@@ -11,7 +11,7 @@ use Rattle.dep_check.specs.Packets.{AllAreJoined}
 use Rattle.dep_check.proofs.SpotLemmas.{option_cases}
 use Rattle.flow_channels.specs.Layout.{LayoutOf, spot, exits_of, IsWired}
 use Rattle.flow_channels.specs.Flows.{FlowOf, PacketOf, WaitOf, asks, waiting_at}
-use Rattle.flow_channels.specs.Sound.{IsSound, IsIn, IsInOne, WaitApart, WaitsThere}
+use Rattle.flow_channels.specs.Sound.{IsSound, IsIn, IsInIfStarts, WaitApart, WaitsThere}
 use Rattle.flow_channels.proofs.ExitLemmas.{Exit, exit_has, has_way_on, no_gap}
 use Rattle.flow_channels.proofs.FewLaws.{few_waiting}
 use Rattle.flow_channels.proofs.SoundLaws.{brought, near, not_start, starts_there}
@@ -24,7 +24,7 @@ module _ (layout : LayoutOf) (wired : IsWired layout) (joined : AllAreJoined lay
     place : sound_place w.packet.packet ≡ channel
     is : (channel ≡ spot at 0) ⊎ (layout.far channel ≡ Some (spot at w.entry))
 
-  at_of : (flow : FlowOf) (at : ℕ) (w : WaitOf) → (sound : IsSound layout known flow) → WaitsThere layout flow at w → IsInOne known sound.place at w → IsAt sound.place at w
+  at_of : (flow : FlowOf) (at : ℕ) (w : WaitOf) → (sound : IsSound layout known flow) → WaitsThere layout flow at w → IsInIfStarts known sound.place at w → IsAt sound.place at w
   at_of flow at w sound there one = elim (option_cases (layout.far (spot at w.entry))) [
     | inl none ↦ record { channel = spot at 0; place = (one (starts_there layout wired known flow at w none there)).1; is = inl refl }
     | inr (c, by) ↦ (
@@ -40,7 +40,7 @@ module _ (layout : LayoutOf) (wired : IsWired layout) (joined : AllAreJoined lay
   one_switch c a b v w (inr e) (inl f) = absurd (not_start layout wired known c (spot a v.entry) b e f)
   one_switch c a b v w (inr e) (inr f) = ap (λ (s : Channel). s.at) (same_Some (spot a v.entry) (spot b w.entry) (sym e ∙ f))
 
-  pub waits_once : (flow : FlowOf) (a b : ℕ) (v w : WaitOf) → (sound : IsSound layout known flow) → WaitsThere layout flow a v → IsInOne known sound.place a v → WaitsThere layout flow b w → IsInOne known sound.place b w → v.packet.packet ≡ w.packet.packet → a ≡ b
+  pub waits_once : (flow : FlowOf) (a b : ℕ) (v w : WaitOf) → (sound : IsSound layout known flow) → WaitsThere layout flow a v → IsInIfStarts known sound.place a v → WaitsThere layout flow b w → IsInIfStarts known sound.place b w → v.packet.packet ≡ w.packet.packet → a ≡ b
   waits_once flow a b v w sound there one there' one' same =
       let x = at_of flow a v sound there one in
       let y = at_of flow b w sound there' one' in
@@ -69,8 +69,8 @@ module _ (layout : LayoutOf) (wired : IsWired layout) (joined : AllAreJoined lay
     pub it_waits : WaitsThere layout (asks at w flow) at w
     it_waits = subst (λ (v : WaitOf). WaitsThere layout (asks at w flow) at v) last_is (sound.waits at (length (waiting_at flow at)) w last_low)
 
-    it_is_one : IsInOne known sound.place at w
-    it_is_one = subst (λ (v : WaitOf). IsInOne known sound.place at v) last_is (sound.starts at (length (waiting_at flow at)) w last_low)
+    it_is_one : IsInIfStarts known sound.place at w
+    it_is_one = subst (λ (v : WaitOf). IsInIfStarts known sound.place at v) last_is (sound.starts at (length (waiting_at flow at)) w last_low)
 
     pub way_on : Exit layout (spot at w.entry) w.packet.to
     way_on = has_way_on layout wired joined w.packet.to (spot at w.entry) it_waits.1 it_waits.0
@@ -107,7 +107,7 @@ module _ (layout : LayoutOf) (wired : IsWired layout) (joined : AllAreJoined lay
         let list = waiting_there flow at b (waiting_at flow at ++ (w ∷ [])) other in
         let v = get_or (waiting_at flow b) k d in
         let there = subst (λ (vs : List WaitOf). All (WaitsThere layout (asks at w flow) b) vs) list (sound.waits b) k d below in
-        let one = subst (λ (vs : List WaitOf). All (IsInOne known sound.place b) vs) list (sound.starts b) k d below in
+        let one = subst (λ (vs : List WaitOf). All (IsInIfStarts known sound.place b) vs) list (sound.starts b) k d below in
         other (waits_once (asks at w flow) b at v w sound there one it_waits it_is_one same)
 
     pub waits_nowhere : (b : ℕ) → All (λ v. v.packet.packet ≢ w.packet.packet) (waiting_at flow b)

@@ -16,7 +16,7 @@ use Rattle.flow_channels.specs.Moves.{Move, IsPossible, went_by}
 use Rattle.flow_channels.specs.Moves.Move.{Arrives, Goes}
 use Rattle.flow_channels.specs.Runs.{Act, Comes, entered, greatest, hops_in, hops_of}
 use Rattle.flow_channels.specs.Runs.Act.{Enter, Turn}
-use Rattle.flow_channels.specs.Sound.{IsInOne, IsSound, WaitsThere}
+use Rattle.flow_channels.specs.Sound.{IsInIfStarts, IsSound, WaitsThere}
 use Rattle.flow_channels.proofs.StateLemmas.{waiting_each}
 use Rattle.flow_channels.proofs.SoundLaws.{comes_sound, got, wait_known}
 use Rattle.flow_channels.proofs.HopLaws.{Few, Starts, all_few, hops_first, move_few}
@@ -31,7 +31,7 @@ module _ (layout : LayoutOf) (ranks : List (Option ℕ)) (wired : IsWired layout
       let w = can.wait in
       let g = got layout wired known (waiting_at flow at) i w can.there in
       let waits : WaitsThere layout flow at w = subst (λ (v : WaitOf). WaitsThere layout flow at v) g.1 (sound.waits at i w g.0) in
-      let one : IsInOne known sound.place at w = subst (λ (v : WaitOf). IsInOne known sound.place at v) g.1 (sound.starts at i w g.0) in
+      let one : IsInIfStarts known sound.place at w = subst (λ (v : WaitOf). IsInIfStarts known sound.place at v) g.1 (sound.starts at i w g.0) in
       let has = wait_known layout wired known flow at w sound waits one in
       let other : w.packet.packet ≢ k = (λ same. unknown (subst (λ (j : ℕ). Contains known j) same has)) in
       let test : (w.packet.packet == k) ≡ false = (grind (arith, nat_tests)) in

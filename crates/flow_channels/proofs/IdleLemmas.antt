@@ -22,7 +22,7 @@ use Rattle.flow_channels.specs.Layout.{spot}
 use Rattle.flow_channels.specs.Moves.{HasRoom}
 use Rattle.flow_channels.specs.Queue.{QueueOf}
 use Rattle.flow_channels.specs.Turns.{AreFree, IsSame, NoneGoes, NoneGoesAt, router_at}
-use Rattle.flow_channels.specs.Watch.{AreAwake, AreFreePorts, IsIdle, IsIn, IsWatched}
+use Rattle.flow_channels.specs.Watch.{AreAwake, AreFreePorts, IsIdle, HasPlace, IsWatched}
 use Rattle.flow_channels.proofs.BoardLemmas.{made, waiting_is}
 use Rattle.flow_channels.proofs.DepartLemmas.{same_flow}
 use Rattle.flow_channels.proofs.TurnLemmas.{all_free, AreFreeBelow, free_at, none_free, one_free, one_full}
@@ -107,7 +107,7 @@ free_here tables board sets at free are low is port =
     subst (λ (set : ℕ). (bit_at set port ≡ 1) ↔ HasRoom (ways tables) (flow_of board) (spot at port)) (sym (get_or_read sets at free (omega arith) is 0)) (are.each at port low)
 
 -- where the first switch that is awake is found, or none
-pub none_before : (tables : Tables) (board : Board) (sets : List ℕ) (end : ℕ) → IsKept tables board → AreAwake tables (flow_of board) sets → end ≤ 127 → ((other : ℕ) → other < end → IsIn sets other → ⊥) → NoneGoes tables board end
+pub none_before : (tables : Tables) (board : Board) (sets : List ℕ) (end : ℕ) → IsKept tables board → AreAwake tables (flow_of board) sets → end ≤ 127 → ((other : ℕ) → other < end → HasPlace sets other → ⊥) → NoneGoes tables board end
 none_before tables board sets end kept are low out at below = refused_idle tables board kept at (omega arith) (are.others at (omega arith) (out at below))
 
 -- as seen from the start
@@ -132,7 +132,7 @@ module _ (tables : Tables) (p : Vec Packet Global) (e : Vec ℕ Global) (q : Vec
   others_wait : (b : ℕ) → b ≢ place → waiting_at (flow_of (made p e q (with_item r place new))) b ≡ waiting_at (flow_of (made p e q r)) b
   others_wait b other = ap (λ (wss : List (List WaitOf)). get_or wss b []) (map-set (waits_at p.items e.items) r.items place new) ∙ get_or-set_other (map (waits_at p.items e.items) r.items) place b (waits_at p.items e.items new) [] other
 
-  pub let_go : IsWatched tables (flow_of (made p e q r)) watch → IsIn watch.awake at → IsWatched tables (flow_of (made p e q (with_item r place new))) watch
+  pub let_go : IsWatched tables (flow_of (made p e q r)) watch → HasPlace watch.awake at → IsWatched tables (flow_of (made p e q (with_item r place new))) watch
   let_go watched has =
       let a = watched.arriving in
       let w = watched.awake in
@@ -142,12 +142,12 @@ module _ (tables : Tables) (p : Vec Packet Global) (e : Vec ℕ Global) (q : Vec
         awake = record {
           count = w.count;
           low = w.low;
-          others = λ b low out. idle_as tables (flow_of (made p e q r)) (flow_of (made p e q (with_item r place new))) b (others_wait b (λ same. out (subst (λ (n : ℕ). IsIn watch.awake n) (sym (same ∙ place_is)) has))) (λ port is. refl) (w.others b low out);
+          others = λ b low out. idle_as tables (flow_of (made p e q r)) (flow_of (made p e q (with_item r place new))) b (others_wait b (λ same. out (subst (λ (n : ℕ). HasPlace watch.awake n) (sym (same ∙ place_is)) has))) (λ port is. refl) (w.others b low out);
         };
       }
 
 -- a place that is taken out makes the sum less
-pub taken_out : (sets : List ℕ) (k : ℕ) → k < length sets → IsIn sets k → sum (set sets k 0) < sum sets
+pub taken_out : (sets : List ℕ) (k : ℕ) → k < length sets → HasPlace sets k → sum (set sets k 0) < sum sets
 taken_out [] k low has = absurd (omega arith)
 taken_out (x ∷ sets) zero low has =
     let some : x ≢ 0 = (λ none. has (ap (λ (n : ℕ). bit_and n 1) none)) in

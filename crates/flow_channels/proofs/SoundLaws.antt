@@ -20,7 +20,7 @@ use Rattle.flow_channels.specs.Moves.{Move, CanArrive, CanGo, IsPossible, IsTurn
 use Rattle.flow_channels.specs.Moves.Move.{Arrives, Goes}
 use Rattle.flow_channels.specs.Runs.{Act, Comes, entered}
 use Rattle.flow_channels.specs.Runs.Act.{Enter, Turn}
-use Rattle.flow_channels.specs.Sound.{IsSound, IsOnWay, IsFirst, IsBroughtBy, WaitsThere, FirstWaits, ComesBy, IsIn, IsInOne, AreApart, WaitApart}
+use Rattle.flow_channels.specs.Sound.{IsSound, IsOnWay, IsFirst, IsBroughtBy, WaitsThere, FirstWaits, ComesBy, IsIn, IsInIfStarts, AreApart, WaitApart}
 use Rattle.flow_channels.proofs.ExitLemmas.{list_cases, exit_has, first_in}
 use Rattle.flow_channels.proofs.StateLemmas.{spot_cases, queue_here, queue_there, waiting_here, queue_each, waiting_each, all_remove, contains_remove, apart_remove}
 
@@ -33,7 +33,7 @@ module _ (layout : LayoutOf) (wired : IsWired layout) (known : List ℕ) where
     moving : (channel : Channel) → IsSpot channel → All (ComesBy layout channel) (queue_at flow channel)
     waits : (at : ℕ) → All (WaitsThere layout flow at) (waiting_at flow at)
     in_queue : (channel : Channel) → IsSpot channel → All (IsIn known place channel) (queue_at flow channel)
-    starts : (at : ℕ) → All (IsInOne known place at) (waiting_at flow at)
+    starts : (at : ℕ) → All (IsInIfStarts known place at) (waiting_at flow at)
     once : (channel : Channel) → IsSpot channel → AreApart (queue_at flow channel)
     apart : (at : ℕ) → WaitApart (waiting_at flow at)
 
@@ -76,7 +76,7 @@ module _ (layout : LayoutOf) (wired : IsWired layout) (known : List ℕ) where
       (All-head (IsIn known place c) packet others (subst (λ (ps : List PacketOf). All (IsIn known place c) ps) queue (rest.in_queue c is))).1
 
   -- one more asks
-  asks_rest : (place : ℕ → Channel) (flow : FlowOf) (at : ℕ) (w : WaitOf) → at < 127 → Rest place flow → WaitsThere layout flow at w → IsInOne known place at w → All (λ v. v.packet.packet ≢ w.packet.packet) (waiting_at flow at) → Rest place (asks at w flow)
+  asks_rest : (place : ℕ → Channel) (flow : FlowOf) (at : ℕ) (w : WaitOf) → at < 127 → Rest place flow → WaitsThere layout flow at w → IsInIfStarts known place at w → All (λ v. v.packet.packet ≢ w.packet.packet) (waiting_at flow at) → Rest place (asks at w flow)
   asks_rest place flow at w low rest there one new =
       let ws = waiting_at flow at ++ (w ∷ []) in
       let same : (b : ℕ) (v : WaitOf) → WaitsThere layout flow b v → WaitsThere layout (asks at w flow) b v = (λ b v is. still_there flow (asks at w flow) b v (λ c e first. first) is) in
@@ -89,7 +89,7 @@ module _ (layout : LayoutOf) (wired : IsWired layout) (known : List ℕ) where
             (All-weaker (WaitsThere layout flow at) (WaitsThere layout (asks at w flow) at) (same at) ws (All-push (WaitsThere layout flow at) (waiting_at flow at) w (rest.waits at) there))
             (λ b other. All-weaker (WaitsThere layout flow b) (WaitsThere layout (asks at w flow) b) (same b) (waiting_at flow b) (rest.waits b));
         in_queue = rest.in_queue;
-        starts = waiting_each (λ b vs. All (IsInOne known place b) vs) flow at ws rest.waiting low (All-push (IsInOne known place at) (waiting_at flow at) w (rest.starts at) one) (λ b other. rest.starts b);
+        starts = waiting_each (λ b vs. All (IsInIfStarts known place b) vs) flow at ws rest.waiting low (All-push (IsInIfStarts known place at) (waiting_at flow at) w (rest.starts at) one) (λ b other. rest.starts b);
         once = rest.once;
         apart = waiting_each (λ b vs. WaitApart vs) flow at ws rest.waiting low (all_pairs_push (λ (a b : WaitOf). a.packet.packet ≢ b.packet.packet) (waiting_at flow at) w (rest.apart at) new) (λ b other. rest.apart b);
       }
@@ -130,7 +130,7 @@ module _ (layout : LayoutOf) (wired : IsWired layout) (known : List ℕ) where
       let on : IsOnWay layout p.to end = subst (λ (e : Channel). IsOnWay layout p.to e) same_end by.2 in
       let mine = in_place place flow c p but.rest is (others, queue) in
       let waits : WaitsThere layout flow end.at w = (before, on, subst (λ (o : Option Channel). IsBroughtBy flow w o) (sym back) (others, queue)) in
-      let one : IsInOne known place end.at w = (λ (first : end.port ≡ 0). absurd (not_start end c end.at back (ap (λ (q : ℕ). spot end.at q) first))) in
+      let one : IsInIfStarts known place end.at w = (λ (first : end.port ≡ 0). absurd (not_start end c end.at back (ap (λ (q : ℕ). spot end.at q) first))) in
       let new : All (λ v. v.packet.packet ≢ w.packet.packet) (waiting_at flow end.at) = (λ k d below same.
       other_packet place flow c end p (get_or (waiting_at flow end.at) k d) but.rest far mine (but.rest.waits end.at k d below) (but.rest.starts end.at k d below) (but.none end far k d below) same) in
       let rest = asks_rest place flow end.at w low but.rest waits one new in
@@ -140,7 +140,7 @@ module _ (layout : LayoutOf) (wired : IsWired layout) (known : List ℕ) where
       subst (λ (ws : List WaitOf). Contains ws w) (sym (waiting_here flow end.at (waiting_at flow end.at ++ (w ∷ [])) but.rest.waiting low))
       (Contains-append_right (waiting_at flow end.at) (w ∷ []) w (zero, omega arith, refl))))))
     where
-      other_packet : (place : ℕ → Channel) (flow : FlowOf) (c end : Channel) (p : PacketOf) (v : WaitOf) → Rest place flow → layout.far c ≡ Some end → place p.packet ≡ c → WaitsThere layout flow end.at v → IsInOne known place end.at v → v.entry ≢ end.port → v.packet.packet ≡ p.packet → ⊥
+      other_packet : (place : ℕ → Channel) (flow : FlowOf) (c end : Channel) (p : PacketOf) (v : WaitOf) → Rest place flow → layout.far c ≡ Some end → place p.packet ≡ c → WaitsThere layout flow end.at v → IsInIfStarts known place end.at v → v.entry ≢ end.port → v.packet.packet ≡ p.packet → ⊥
       other_packet place flow c end p v rest far mine there one other same = elim (option_cases (layout.far (spot end.at v.entry))) [
         | inl none ↦ (
             let starts = starts_there flow end.at v none there in
@@ -239,7 +239,7 @@ module _ (layout : LayoutOf) (wired : IsWired layout) (known : List ℕ) where
             (all_remove (WaitsThere layout new at) (waiting_at flow at) i (All-weaker (WaitsThere layout flow at) (WaitsThere layout new at) (same at) (waiting_at flow at) (rest.waits at)))
             (λ b other. All-weaker (WaitsThere layout flow b) (WaitsThere layout new b) (same b) (waiting_at flow b) (rest.waits b));
         in_queue = rest.in_queue;
-        starts = waiting_each (λ b vs. All (IsInOne known place b) vs) flow at ws rest.waiting low (all_remove (IsInOne known place at) (waiting_at flow at) i (rest.starts at)) (λ b other. rest.starts b);
+        starts = waiting_each (λ b vs. All (IsInIfStarts known place b) vs) flow at ws rest.waiting low (all_remove (IsInIfStarts known place at) (waiting_at flow at) i (rest.starts at)) (λ b other. rest.starts b);
         once = rest.once;
         apart = waiting_each (λ b vs. WaitApart vs) flow at ws rest.waiting low (all_pairs_remove (λ (a b : WaitOf). a.packet.packet ≢ b.packet.packet) (waiting_at flow at) i below (rest.apart at)) (λ b other. rest.apart b);
       }
@@ -342,7 +342,7 @@ module _ (layout : LayoutOf) (wired : IsWired layout) (known : List ℕ) where
       let new = with_waiting at (remove (waiting_at flow at) i) flow in
       let low : at < 127 = (let size = rest.waiting in let inside = within flow.waiting at i below in omega arith) in
       let first = starts_there flow at w none (subst (λ (v : WaitOf). WaitsThere layout flow at v) is (sound.waits at i w below)) in
-      let mine = (subst (λ (v : WaitOf). IsInOne known sound.place at v) is (sound.starts at i w below) first).1 in
+      let mine = (subst (λ (v : WaitOf). IsInIfStarts known sound.place at v) is (sound.starts at i w below) first).1 in
       record {
         sound = sound_of sound.place new (without_rest sound.place flow at i rest below) (λ d e far'.
             without_firsts flow at i w e (queue_at flow d) sound.waiting below is (λ same at_same.
@@ -518,7 +518,7 @@ module _ (layout : LayoutOf) (wired : IsWired layout) (known : List ℕ) where
   walk_end Step (suc n) a b c (d, first, rest) step = (d, first, walk_end Step n d b c rest step)
 
   -- who waits is known
-  pub wait_known : (flow : FlowOf) (at : ℕ) (w : WaitOf) → (sound : IsSound layout known flow) → WaitsThere layout flow at w → IsInOne known sound.place at w → Contains known w.packet.packet
+  pub wait_known : (flow : FlowOf) (at : ℕ) (w : WaitOf) → (sound : IsSound layout known flow) → WaitsThere layout flow at w → IsInIfStarts known sound.place at w → Contains known w.packet.packet
   wait_known flow at w sound there one = elim (option_cases (layout.far (spot at w.entry))) [
     | inl none ↦ (one (starts_there flow at w none there)).0
     | inr (c, by) ↦ (
@@ -533,7 +533,7 @@ module _ (layout : LayoutOf) (wired : IsWired layout) (known : List ℕ) where
       let w = can.wait in
       let g = got (waiting_at flow at) i w can.there in
       let waits : WaitsThere layout flow at w = subst (λ (v : WaitOf). WaitsThere layout flow at v) g.1 (sound.waits at i w g.0) in
-      let one : IsInOne known sound.place at w = subst (λ (v : WaitOf). IsInOne known sound.place at v) g.1 (sound.starts at i w g.0) in
+      let one : IsInIfStarts known sound.place at w = subst (λ (v : WaitOf). IsInIfStarts known sound.place at v) g.1 (sound.starts at i w g.0) in
       let left = left_by flow at i w sound g.0 g.1 in
       let d = spot at port in
       let end = can.room.0 in
@@ -613,7 +613,7 @@ module _ (layout : LayoutOf) (wired : IsWired layout) (known : List ℕ) (packet
       let low = wired.low from from_in in
       let on : IsOnWay layout to (spot from 0) = record { from = from; from_in = from_in; to_in = to_in; apart = apart; steps = 0; walk = refl } in
       let waits : WaitsThere layout flow from w = (apart, on, subst (λ (o : Option Channel). IsBroughtBy flow w o) (sym (wired.start from)) refl) in
-      let one : IsInOne (packet ∷ known) place_now from w = (λ entry. ((zero, omega arith, refl), own_place)) in
+      let one : IsInIfStarts (packet ∷ known) place_now from w = (λ entry. ((zero, omega arith, refl), own_place)) in
       let other : All (λ v. v.packet.packet ≢ packet) (waiting_at flow from) = (λ k v below same.
       new (subst (λ (x : ℕ). Contains known x) same (wait_known layout wired known flow from (get_or (waiting_at flow from) k v) sound (sound.waits from k v below) (sound.starts from k v below)))) in
       sound_of layout wired (packet ∷ known) place_now (enters packet from to flow)
@@ -642,7 +642,7 @@ start_sound layout = record {
   waits = λ at. subst (λ (ws : List WaitOf). All (WaitsThere layout empty_flow at) ws) (sym (no_waits at)) (All-nil (WaitsThere layout empty_flow at));
   place = λ j. spot 0 0;
   in_queue = λ c is. subst (λ (ps : List PacketOf). All (IsIn [] (λ j. spot 0 0) c) ps) (sym (no_packets c)) (All-nil (IsIn [] (λ j. spot 0 0) c));
-  starts = λ at. subst (λ (ws : List WaitOf). All (IsInOne [] (λ j. spot 0 0) at) ws) (sym (no_waits at)) (All-nil (IsInOne [] (λ j. spot 0 0) at));
+  starts = λ at. subst (λ (ws : List WaitOf). All (IsInIfStarts [] (λ j. spot 0 0) at) ws) (sym (no_waits at)) (All-nil (IsInIfStarts [] (λ j. spot 0 0) at));
   once = λ c is. subst (λ (ps : List PacketOf). AreApart ps) (sym (no_packets c)) (λ i j d less low. absurd (omega arith));
   apart = λ at. subst (λ (ws : List WaitOf). WaitApart ws) (sym (no_waits at)) (λ i j d less low. absurd (omega arith));
 }

@@ -20,7 +20,7 @@ use Rattle.flow_channels.specs.Board.{AreTablesOf, flow_of, IsKept, IsSoundOver}
 use Rattle.flow_channels.specs.Flows.{FlowOf, WaitOf, empty_flow, enters, left_of, waiting_at}
 use Rattle.flow_channels.specs.Layout.{LayoutOf, layout_of}
 use Rattle.flow_channels.specs.Runs.{MayEnter}
-use Rattle.flow_channels.specs.Sound.{IsIn, IsInOne, IsSound}
+use Rattle.flow_channels.specs.Sound.{IsIn, IsInIfStarts, IsSound}
 use Rattle.flow_channels.specs.Moves.{IsTurn}
 use Rattle.flow_channels.specs.Turns.{IsSame}
 use Rattle.flow_channels.specs.View.{FlowView, HasLeft, HasTurned, IsOver, IsRunning, IsStill, TurnsTo, view_of}
@@ -56,7 +56,7 @@ sound_known layout known other flow more sound = record {
   waits = sound.waits;
   place = sound.place;
   in_queue = λ channel is. All-weaker (IsIn known sound.place channel) (IsIn other sound.place channel) (λ p has. (more p.packet has.0, has.1)) (get_or flow.queues (place_of channel) []) (sound.in_queue channel is);
-  starts = λ at. All-weaker (IsInOne known sound.place at) (IsInOne other sound.place at) (λ w one first. let h = one first in (more w.packet.packet h.0, h.1)) (waiting_at flow at) (sound.starts at);
+  starts = λ at. All-weaker (IsInIfStarts known sound.place at) (IsInIfStarts other sound.place at) (λ w one first. let h = one first in (more w.packet.packet h.0, h.1)) (waiting_at flow at) (sound.starts at);
   once = sound.once;
   apart = sound.apart;
 }

@@ -20,40 +20,40 @@ use Rattle.flow_channels.specs.Flows.{FlowOf, PacketOf, WaitOf, asks, asks_at, c
 use Rattle.flow_channels.specs.Layout.{LayoutOf, spot}
 use Rattle.flow_channels.specs.Moves.{CanArrive, HasRoom}
 use Rattle.flow_channels.specs.Turns.{NoneArrives}
-use Rattle.flow_channels.specs.Watch.{AreArriving, AreAwake, AreFreePorts, HasPortIf, IsIdle, IsIn, IsTouched, NoneAsks}
+use Rattle.flow_channels.specs.Watch.{AreArriving, AreAwake, AreFreePorts, HasPortIf, IsIdle, HasPlace, IsTouched, NoneAsks}
 use Rattle.flow_channels.proofs.ComeLemmas.{asked_queues, came_behind, came_first}
 use Rattle.flow_channels.proofs.StateLemmas.{waiting_there}
 
 -- places that are put in, or taken out
-pub in_here : (sets : List ℕ) (k v : ℕ) → k < length sets → bit_and v 1 ≢ 0 → IsIn (set sets k v) k
+pub in_here : (sets : List ℕ) (k v : ℕ) → k < length sets → bit_and v 1 ≢ 0 → HasPlace (set sets k v) k
 in_here sets k v low has = subst (λ (n : ℕ). bit_and n 1 ≢ 0) (sym (get_or-set_same sets k v 0 low)) has
 
-pub of_in_here : (sets : List ℕ) (k v : ℕ) → k < length sets → IsIn (set sets k v) k → bit_and v 1 ≢ 0
+pub of_in_here : (sets : List ℕ) (k v : ℕ) → k < length sets → HasPlace (set sets k v) k → bit_and v 1 ≢ 0
 of_in_here sets k v low has = subst (λ (n : ℕ). bit_and n 1 ≢ 0) (get_or-set_same sets k v 0 low) has
 
-pub in_there : (sets : List ℕ) (k b v : ℕ) → b ≢ k → IsIn sets b → IsIn (set sets k v) b
+pub in_there : (sets : List ℕ) (k b v : ℕ) → b ≢ k → HasPlace sets b → HasPlace (set sets k v) b
 in_there sets k b v other has = subst (λ (n : ℕ). bit_and n 1 ≢ 0) (sym (get_or-set_other sets k b v 0 other)) has
 
-pub of_in_there : (sets : List ℕ) (k b v : ℕ) → b ≢ k → IsIn (set sets k v) b → IsIn sets b
+pub of_in_there : (sets : List ℕ) (k b v : ℕ) → b ≢ k → HasPlace (set sets k v) b → HasPlace sets b
 of_in_there sets k b v other has = subst (λ (n : ℕ). bit_and n 1 ≢ 0) (get_or-set_other sets k b v 0 other) has
 
 pub one_in : bit_and 1 1 ≢ 0
 one_in is = absurd (let e : bit_and 1 1 ≡ 1 = refl in omega arith)
 
-pub out_of : (sets : List ℕ) (k b : ℕ) → k < length sets → (IsIn (set sets k 1) b → ⊥) → (b ≢ k) × (IsIn sets b → ⊥)
+pub out_of : (sets : List ℕ) (k b : ℕ) → k < length sets → (HasPlace (set sets k 1) b → ⊥) → (b ≢ k) × (HasPlace sets b → ⊥)
 out_of sets k b low out = (other, λ has. out (in_there sets k b 1 other has))
   where
     other : b ≢ k
-    other same = out (subst (λ (n : ℕ). IsIn (set sets k 1) n) (sym same) (in_here sets k 1 low one_in))
+    other same = out (subst (λ (n : ℕ). HasPlace (set sets k 1) n) (sym same) (in_here sets k 1 low one_in))
 
-pub still_low : (sets : List ℕ) (k v b : ℕ) → k < 127 → ((at : ℕ) → IsIn sets at → at < 127) → IsIn (set sets k v) b → b < 127
+pub still_low : (sets : List ℕ) (k v b : ℕ) → k < 127 → ((at : ℕ) → HasPlace sets at → at < 127) → HasPlace (set sets k v) b → b < 127
 still_low sets k v b low lows has = elim (cases_eq b k) [
   | inl same ↦ omega arith
   | inr other ↦ lows b (of_in_there sets k b v other has)
 ]
 
 -- none is in
-pub nothing_in : (n b : ℕ) → IsIn (replicate n 0) b → ⊥
+pub nothing_in : (n b : ℕ) → HasPlace (replicate n 0) b → ⊥
 nothing_in zero b has = has refl
 nothing_in (suc n) zero has = has refl
 nothing_in (suc n) (suc b) has = nothing_in n b has
@@ -120,11 +120,11 @@ arriving_seen tables channel old new sets v are is touched only all = record {
   all = λ other spot can. elim (cases_eq (place_of other) (place_of channel)) [
     | inl same ↦ (
         let one = one_spot other channel spot is same in
-        subst (λ (n : ℕ). IsIn (set sets (place_of channel) v) n) (sym same) (in_here sets (place_of channel) v low (all (subst (λ (x : Channel). CanArrive (ways tables) new x) one can))))
+        subst (λ (n : ℕ). HasPlace (set sets (place_of channel) v) n) (sym same) (in_here sets (place_of channel) v low (all (subst (λ (x : Channel). CanArrive (ways tables) new x) one can))))
     | inr differs ↦ in_there sets (place_of channel) (place_of other) v differs (are.all other spot (arrives_as (ways tables) new old other (sym (touched.queues other differs)) can))
   ];
   only = λ place has. elim (cases_eq place (place_of channel)) [
-    | inl same ↦ (channel, is, sym same, only (of_in_here sets (place_of channel) v low (subst (λ (n : ℕ). IsIn (set sets (place_of channel) v) n) same has)))
+    | inl same ↦ (channel, is, sym same, only (of_in_here sets (place_of channel) v low (subst (λ (n : ℕ). HasPlace (set sets (place_of channel) v) n) same has)))
     | inr differs ↦ (
         let before = are.only place (of_in_there sets (place_of channel) place v differs has) in
         (before.0, before.1, before.2, arrives_as (ways tables) old new before.0 (touched.queues before.0 (λ at. differs (sym before.2 ∙ at))) before.3))
@@ -135,7 +135,7 @@ arriving_seen tables channel old new sets v are is touched only all = record {
     low = let p = place_low channel is in let n = are.count in omega arith
 
 module _ (tables : Tables) (channel : Channel) (old new : FlowOf) (sets : List ℕ) (are : AreAwake tables old sets) (is : IsSpot channel) (touched : IsTouched (ways tables) channel old new) where
-  others_idle : (at : ℕ) → at < 127 → at ≢ channel.at → waiting_at new at ≡ waiting_at old at → (IsIn sets at → ⊥) → IsIdle tables new at
+  others_idle : (at : ℕ) → at < 127 → at ≢ channel.at → waiting_at new at ≡ waiting_at old at → (HasPlace sets at → ⊥) → IsIdle tables new at
   others_idle at low here waits out = idle_as tables old new at waits (λ port spot_is. touched.queues (spot at port) (λ same. here (ap (λ (x : Channel). x.at) (one_spot (spot at port) channel spot_is is same)))) (are.others at low out)
 
   pub awake_here : NoneAsks (ways tables) new channel → AreAwake tables new (set sets channel.at 1)

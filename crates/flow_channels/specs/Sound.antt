@@ -47,8 +47,8 @@ abbrev pub IsIn : List ℕ → (ℕ → Channel) → Channel → PacketOf → Ty
 IsIn known place channel packet = Contains known packet.packet × (place packet.packet ≡ channel)
 
 -- so of one that waits at the switch at which it starts: its spot is entry 0 there
-abbrev pub IsInOne : List ℕ → (ℕ → Channel) → ℕ → WaitOf → Type 0
-IsInOne known place at wait = wait.entry ≡ 0 → IsIn known place (spot at 0) wait.packet
+abbrev pub IsInIfStarts : List ℕ → (ℕ → Channel) → ℕ → WaitOf → Type 0
+IsInIfStarts known place at wait = wait.entry ≡ 0 → IsIn known place (spot at 0) wait.packet
 
 -- no packet is twice in one channel, or twice among those that wait at a switch
 abbrev pub AreApart : List PacketOf → Type 0
@@ -73,6 +73,6 @@ pub record IsSound (layout : LayoutOf) (known : List ℕ) (flow : FlowOf) : Type
   -- each packet is in one place, once
   pub place : ℕ → Channel
   pub in_queue : (channel : Channel) → IsSpot channel → All (IsIn known place channel) (queue_at flow channel)
-  pub starts : (at : ℕ) → All (IsInOne known place at) (waiting_at flow at)
+  pub starts : (at : ℕ) → All (IsInIfStarts known place at) (waiting_at flow at)
   pub once : (channel : Channel) → IsSpot channel → AreApart (queue_at flow channel)
   pub apart : (at : ℕ) → WaitApart (waiting_at flow at)

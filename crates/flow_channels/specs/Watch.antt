@@ -12,9 +12,9 @@ use Rattle.flow_channels.specs.Flows.{FlowOf, PacketOf, first_of, queue_at, wait
 use Rattle.flow_channels.specs.Layout.{LayoutOf, spot}
 use Rattle.flow_channels.specs.Moves.{CanArrive, HasRoom}
 
--- a place is in a set of places
-abbrev pub IsIn : List ℕ → ℕ → Type 0
-IsIn sets place = bit_and (slice_index sets place) 1 ≢ 0
+-- a set of places has a place
+abbrev pub HasPlace : List ℕ → ℕ → Type 0
+HasPlace sets place = bit_and (slice_index sets place) 1 ≢ 0
 
 -- nobody who waits at a switch may go by a port whose channel has room
 abbrev pub IsIdle : Tables → FlowOf → ℕ → Type 0
@@ -26,16 +26,16 @@ IsIdle tables flow at =
 pub record AreArriving (tables : Tables) (flow : FlowOf) (sets : List ℕ) : Type 0 where
   pub count : length sets ≡ 2048
   pub all : (channel : Channel) → IsSpot channel → CanArrive (ways tables) flow channel
-      → IsIn sets (place_of channel)
-  pub only : (place : ℕ) → IsIn sets place
+      → HasPlace sets (place_of channel)
+  pub only : (place : ℕ) → HasPlace sets place
       → (channel : Channel) × IsSpot channel × (place_of channel ≡ place)
       × CanArrive (ways tables) flow channel
 
 -- at least the switches at which somebody can go
 pub record AreAwake (tables : Tables) (flow : FlowOf) (sets : List ℕ) : Type 0 where
   pub count : length sets ≡ 2048
-  pub low : (at : ℕ) → IsIn sets at → at < 127
-  pub others : (at : ℕ) → at < 127 → (IsIn sets at → ⊥) → IsIdle tables flow at
+  pub low : (at : ℕ) → HasPlace sets at → at < 127
+  pub others : (at : ℕ) → at < 127 → (HasPlace sets at → ⊥) → IsIdle tables flow at
 
 -- for each switch the ports whose channels have room, by the numbers below an end
 pub record AreFreePorts (tables : Tables) (flow : FlowOf) (end : ℕ) (sets : List ℕ) : Type 0 where
