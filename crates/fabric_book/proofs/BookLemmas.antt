@@ -47,7 +47,7 @@ use Rattle.fabric_world.specs.Accounts.{placed, placed_lines}
 use Rattle.fabric_state.specs.Lines.{command_lines, move_lines, take_lines}
 use Rattle.host_traffic.specs.Packets.{packet_of}
 use Rattle.fabric_world.specs.Lines.{all_lines, lines_of}
-use Rattle.fabric_book.specs.Kept.{HasSamples, IsKept, with_events}
+use Rattle.fabric_book.specs.Kept.{HasSamples, IsKept, history_with}
 use Rattle.fabric_book.proofs.HandLemmas.{hand_port, shows_only}
 use Rattle.fabric_book.proofs.TellLemmas.{command_told}
 use Rattle.fabric_book.proofs.WorldFacts.{event_more, step_makes, begun_is, fits_after, work_may_come, world_script, place_sound, boot_most, command_fits, emptied_note, emptied_room, handle_may_come, lawful_more, ready_is, room_is, handled_parts}
@@ -346,21 +346,21 @@ taken_here f es taken room s d kept below =
     ap (λ (xs : List ℕ). slice_index_or xs s d) kept.taken_is ∙ get_or-map-range_with_len (λ place. last_taken place es) 0 (count f) s s d below (omega arith)
 
 -- what is told of the event that came, with its place
-one_told : (h : HistoryOf) (e : Event) (told : Option PlacedLine) (line : Option Line) → option_to_list told ≡ placed (fabric_of (with_events (e ∷ []) h)).events (option_to_list line) → option_to_list line ≡ lines_of (world_of h) e ++ []
+one_told : (h : HistoryOf) (e : Event) (told : Option PlacedLine) (line : Option Line) → option_to_list told ≡ placed (fabric_of (history_with (e ∷ []) h)).events (option_to_list line) → option_to_list line ≡ lines_of (world_of h) e ++ []
     → option_to_list told ≡ placed_lines (world_of h) e ++ []
 one_told h e told line placed_is line_is =
-    let place : (fabric_of (with_events (e ∷ []) h)).events ≡ (step (world_of h) e).fabric.events = ap (λ (w : WorldOf). w.fabric.events) (event_more h.script h.events e) in
+    let place : (fabric_of (history_with (e ∷ []) h)).events ≡ (step (world_of h) e).fabric.events = ap (λ (w : WorldOf). w.fabric.events) (event_more h.script h.events e) in
     placed_is ∙ ap (λ (n : ℕ). placed n (option_to_list line)) place ∙ ap (placed (step (world_of h) e).fabric.events) (line_is ∙ append-nil (lines_of (world_of h) e))
     ∙ sym (append-nil (placed_lines (world_of h) e))
 
-pub work_told : (h : HistoryOf) (s : ℕ) (job : Work) (told : Option PlacedLine) (line : Option Line) → option_to_list told ≡ placed (fabric_of (with_events (event_of_work s job) h)).events (option_to_list line)
+pub work_told : (h : HistoryOf) (s : ℕ) (job : Work) (told : Option PlacedLine) (line : Option Line) → option_to_list told ≡ placed (fabric_of (history_with (event_of_work s job) h)).events (option_to_list line)
     → option_to_list line ≡ all_lines (world_of h) (event_of_work s job) → IsTold h.script h.events (event_of_work s job) told
 work_told h s (work.Restart life) told line placed_is line_is = one_told h (Restart s) told line placed_is line_is
 work_told h s (work.Clock now samples) told line placed_is line_is = one_told h (Clock s) told line placed_is line_is
 work_told h s (work.Frame port) told line placed_is line_is = one_told h (Take s port) told line placed_is line_is
-work_told h s (work.Nothing reason) told line placed_is line_is = placed_is ∙ ap (placed (fabric_of (with_events [] h)).events) line_is
+work_told h s (work.Nothing reason) told line placed_is line_is = placed_is ∙ ap (placed (fabric_of (history_with [] h)).events) line_is
 
-pub drive_told : (h : HistoryOf) (e : Event) (told : Option PlacedLine) (line : Option Line) → option_to_list told ≡ placed (fabric_of (with_events (e ∷ []) h)).events (option_to_list line) → option_to_list line ≡ lines_of (world_of h) e
+pub drive_told : (h : HistoryOf) (e : Event) (told : Option PlacedLine) (line : Option Line) → option_to_list told ≡ placed (fabric_of (history_with (e ∷ []) h)).events (option_to_list line) → option_to_list line ≡ lines_of (world_of h) e
     → IsTold h.script h.events (e ∷ []) told
 drive_told h e told line placed_is line_is = one_told h e told line placed_is (line_is ∙ sym (append-nil (lines_of (world_of h) e)))
 
@@ -412,7 +412,7 @@ module _ (f : FabricOf) (es : List Event) (taken : List ℕ) (room : ℕ) (kept 
   work_at s last job is below empty =
       subst (λ (j : Work). AllMayCome (fabric_of h) (event_of_work s j)) (sym (is ∙ ap (λ (x : FabricOf). next_work x s last) (fabric_at f es taken room kept h view_is))) (work_may_come h.script h.events s last below empty)
 
-  pub takes_at : (s last : ℕ) (job : Work) (out : List ℕ) (told : Option PlacedLine) (line : Option Line) (new : HistoryOf) → job ≡ next_work f s last → last ≡ slice_index_or taken s last → s < length h.script.wires.switches → new ≡ with_events (event_of_work s job) h
+  pub takes_at : (s last : ℕ) (job : Work) (out : List ℕ) (told : Option PlacedLine) (line : Option Line) (new : HistoryOf) → job ≡ next_work f s last → last ≡ slice_index_or taken s last → s < length h.script.wires.switches → new ≡ history_with (event_of_work s job) h
       → HasBytes job (fabric_of new) s out → option_to_list told ≡ placed (fabric_of new).events (option_to_list line) → option_to_list line ≡ all_lines (world_of h) (event_of_work s job) → TakesWork h.script h.events s job out told new.events
   takes_at s last job out told line new is at below event bytes placed_is line_is =
       let last_is : last ≡ last_taken s h.events = at ∙ taken_here f es taken room s last kept (below_at s below) ∙ ap (last_taken s) (events_at f es taken room kept h view_is) in

@@ -17,7 +17,7 @@ use Rattle.fabric_state.specs.Lawful.{is_command, is_lawful}
 use Rattle.fabric_world.specs.World.{begun, first_station, start_of, world_after}
 use Rattle.net_script.specs.Commands.{is_restart}
 use Rattle.fabric_world.specs.Histories.{HistoryOf, IsLawful, fabric_of, owner_of, with_event, world_of}
-use Rattle.fabric_book.specs.Kept.{IsPlainCommand, with_events as more_events}
+use Rattle.fabric_book.specs.Kept.{IsPlainCommand, history_with}
 use Rattle.fabric_book.specs.Nets.{AreStarted, HasFrame, IsNetKept, IsSameOrNext, IsStarted, IsSwitchKept, NetOf, PowerOf, all_powers, history_of, power_of, start_with, with_events, with_step}
 use Rattle.fabric_book.proofs.DriveLemmas.{driver_owns, plain_is}
 use Rattle.fabric_world.proofs.CountLemmas.{world_counts}
@@ -171,7 +171,7 @@ module _ (book : HistoryOf) (lost : Bool) (net : NetOf) (view_is : record { scri
   pub steps_at : (e : Event) (g : HistoryOf) (now : Bool) → g ≡ with_event e book → now ≡ lost → record { script = g.script; events = g.events; lost = now } ≡ with_step e net
   steps_at e g now is same = (λ i. record { script = (is i).script; events = (is i).events; lost = same i }) ∙ ap (with_step e) view_is
 
-  pub goes_at : (es : List Event) (g : HistoryOf) (now : Bool) → g ≡ more_events es book → now ≡ lost → record { script = g.script; events = g.events; lost = now } ≡ with_events es net
+  pub goes_at : (es : List Event) (g : HistoryOf) (now : Bool) → g ≡ history_with es book → now ≡ lost → record { script = g.script; events = g.events; lost = now } ≡ with_events es net
   goes_at es g now is same = (λ i. record { script = (is i).script; events = (is i).events; lost = same i }) ∙ ap (with_events es) view_is
 
   pub good_at : IsScript book.script → IsScript net.script

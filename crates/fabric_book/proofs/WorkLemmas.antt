@@ -24,9 +24,9 @@ use Rattle.fabric_world.specs.Sound.{AllMayCome}
 use Rattle.fabric_state.specs.declared.line.PlacedLine.{PlacedLine}
 use Rattle.fabric_world.specs.Turns.{HasBytes, TakesWork}
 use Rattle.fabric_world.specs.World.{WorldOf}
-use Rattle.fabric_book.specs.Kept.{with_events}
+use Rattle.fabric_book.specs.Kept.{history_with}
 use Rattle.fabric_book.specs.Nets.{IsNetKept, IsStarted, NetOf, PowerOf, history_of, start_with}
-use Rattle.fabric_book.specs.Nets.{with_events as more_events}
+use Rattle.fabric_book.specs.Nets.{with_events}
 use Rattle.fabric_book.proofs.NetLemmas.{book_at, goes_at, net_as, net_filled, net_lost_on, net_refilled, net_room, net_switched, power_here}
 use Rattle.fabric_book.proofs.OwnLemmas.{clock_own, refill_own, restart_own, take_own}
 use Rattle.fabric_book.proofs.RoundLemmas.{IsAtMostOne}
@@ -48,11 +48,11 @@ life_next f s last life is = by (is_some_spent f) (nat_lt (room f) 2) (is_comman
 module _ (h : HistoryOf) (lost : Bool) (power : List PowerOf) (switches : List KeptOf) (buffers : List (List ℕ)) (kept : IsNetKept h lost power switches buffers) (here : lost ≡ false)
     (s : ℕ) (below : s < length h.script.wires.switches) (empty : is_full_at (fabric_of h) s ≡ false) (job : Work) (book : HistoryOf) (out : List ℕ) (scripts : book.script ≡ h.script)
     (told : Option PlacedLine) (takes : TakesWork h.script h.events s job out told book.events) where
-  book_is : book ≡ with_events (event_of_work s job) h
+  book_is : book ≡ history_with (event_of_work s job) h
   book_is = λ i. record { script = scripts i; events = takes.event i }
 
-  job_book : (other : Work) → job ≡ other → book ≡ with_events (event_of_work s other) h
-  job_book other is = book_is ∙ ap (λ (j : Work). with_events (event_of_work s j) h) is
+  job_book : (other : Work) → job ≡ other → book ≡ history_with (event_of_work s other) h
+  job_book other is = book_is ∙ ap (λ (j : Work). history_with (event_of_work s j) h) is
 
   may : (other : Work) → job ≡ other → AllMayCome (fabric_of h) (event_of_work s other)
   may other is = subst (λ (j : Work). AllMayCome (fabric_of h) (event_of_work s j)) (sym takes.work_is ∙ is) (work_may_come h.script h.events s (last_taken s h.events) below empty)
@@ -105,12 +105,12 @@ module _ (h : HistoryOf) (lost : Bool) (power : List PowerOf) (switches : List K
 -- and is what was to be done next
 pub work_view : (book : HistoryOf) (lost : Bool) (net : NetOf) → record { script = book.script; events = book.events; lost = lost } ≡ net → (s : ℕ) (job : Work) (g : HistoryOf) (out : List ℕ) (told : Option PlacedLine) (now : Bool) → g.script ≡ book.script
     → TakesWork book.script book.events s job out told g.events → now ≡ lost
-    → record { script = g.script; events = g.events; lost = now } ≡ more_events (event_of_work s (next_work (fabric_of (history_of net)) s (last_taken s net.events))) net
+    → record { script = g.script; events = g.events; lost = now } ≡ with_events (event_of_work s (next_work (fabric_of (history_of net)) s (last_taken s net.events))) net
 work_view book lost net view_is s job g out told now scripts takes same =
-    let done : g ≡ with_events (event_of_work s job) book = λ i. record { script = scripts i; events = takes.event i } in
-    let next : g ≡ with_events (event_of_work s (next_work (fabric_of book) s (last_taken s book.events))) book = done ∙ ap (λ (j : Work). with_events (event_of_work s j) book) takes.work_is in
+    let done : g ≡ history_with (event_of_work s job) book = λ i. record { script = scripts i; events = takes.event i } in
+    let next : g ≡ history_with (event_of_work s (next_work (fabric_of book) s (last_taken s book.events))) book = done ∙ ap (λ (j : Work). history_with (event_of_work s j) book) takes.work_is in
     goes_at book lost net view_is (event_of_work s (next_work (fabric_of book) s (last_taken s book.events))) g now next same
-    ∙ ap (λ (x : HistoryOf). more_events (event_of_work s (next_work (fabric_of x) s (last_taken s x.events))) net) (book_at book lost net view_is)
+    ∙ ap (λ (x : HistoryOf). with_events (event_of_work s (next_work (fabric_of x) s (last_taken s x.events))) net) (book_at book lost net view_is)
 
 pub work_some : (book : HistoryOf) (lost : Bool) (net : NetOf) → record { script = book.script; events = book.events; lost = lost } ≡ net → (s : ℕ) (job other : Work) (out : List ℕ) (told : Option PlacedLine) (after : List Event)
     → TakesWork book.script book.events s job out told after → job ≡ other
@@ -154,7 +154,7 @@ room_then h lost power switches buffers kept xs (inr one) may =
     omega (arith, some, counted, limit, long)
 
 pub turn_room : (book : HistoryOf) (lost : Bool) (power : List PowerOf) (switches : List KeptOf) (buffers : List (List ℕ)) → IsNetKept book lost power switches buffers → (net : NetOf)
-    → record { script = book.script; events = book.events; lost = lost } ≡ net → (xs : List Event) → IsAtMostOne xs → AllMayCome (fabric_of (history_of net)) xs → (new : NetOf) → new ≡ more_events xs net → length new.events ≤ new.script.limits.events
+    → record { script = book.script; events = book.events; lost = lost } ≡ net → (xs : List Event) → IsAtMostOne xs → AllMayCome (fabric_of (history_of net)) xs → (new : NetOf) → new ≡ with_events xs net → length new.events ≤ new.script.limits.events
 turn_room book lost power switches buffers kept net view_is xs one may new is =
     subst (λ (n : NetOf). length n.events ≤ n.script.limits.events) (sym is)
     (subst (λ (n : NetOf). length (n.events ++ xs) ≤ n.script.limits.events) view_is

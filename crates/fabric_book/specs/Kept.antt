@@ -22,8 +22,8 @@ pub record IsKept (fabric : FabricOf) (events : List Event) (taken : List ℕ) (
   pub taken_is : taken ≡ map (λ place. last_taken place events) (places fabric)
   pub room : fabric.script.limits.events ≤ capacity
 
-abbrev pub with_events : List Event → HistoryOf → HistoryOf
-with_events events history = record history { events = history.events ++ events }
+abbrev pub history_with : List Event → HistoryOf → HistoryOf
+history_with events history = record history { events = history.events ++ events }
 
 -- the samples of a clock are those of this moment
 abbrev pub HasSamples : Work → FabricOf → ℕ → Type 0

@@ -24,7 +24,7 @@ ghost use Rattle.fabric_world.specs.Sound.{AllMayCome};
 ghost use Rattle.fabric_world.specs.Turns.{AnswersAsk, AreTold, Drives, Handled, HasBytes, IsDone, IsFit, IsToLoad, LoadsOrNot, TakesWork};
 ghost use Rattle.fabric_world.proofs.FitLemmas.{fit_stays};
 ghost use Rattle.fabric_settling.specs.Settling.{HasTime, SettlesSoon};
-ghost use Rattle.fabric_book.specs.Kept.{HasSamples, IsDrivers, with_events};
+ghost use Rattle.fabric_book.specs.Kept.{HasSamples, IsDrivers, history_with};
 
 use an_base::event::{Event, Journal};
 use an_base::life::Life;
@@ -177,7 +177,7 @@ impl Book {
     fn begin_work(&mut self, s: Place, work: &Work, out: &mut FrameBuf) -> Option<Line>
         requires next { AllMayCome (fabric_of self.old) (event_of_work s work.now) }
         requires samples { HasSamples work.now (fabric_of self.old) s }
-        ensures event { self.new ≡ with_events (event_of_work s work.now) self.old }
+        ensures event { self.new ≡ history_with (event_of_work s work.now) self.old }
         ensures bytes { HasBytes work.now (fabric_of self.new) s out.new }
         ensures told { option_to_list result ≡ all_lines (world_of self.old) (event_of_work s work.now) }
     {
