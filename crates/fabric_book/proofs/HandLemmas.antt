@@ -32,7 +32,7 @@ use Rattle.fabric_state.specs.Fabric.{count, held_bytes, is_empty, is_full_at, i
 use Rattle.fabric_state.specs.Fits.{IsHandPort}
 use Rattle.fabric_state.specs.Lawful.{is_lawful}
 use Rattle.fabric_state.specs.Lines.{lost_lines}
-use Rattle.fabric_world.specs.Lines.{finish_line, finish_lines, has_joined, join_lines, lines_of, load_lines, no_frame_lines, port_line, spent_lines}
+use Rattle.fabric_world.specs.Lines.{finish_line, finish_lines, has_joined, join_lines, lines_of, load_lines, no_frame_lines, port_line, no_epoch_lines}
 use Rattle.fabric_world.specs.Turns.{AreTold, Handled, IsToLoad}
 use Rattle.fabric_world.specs.World.{WorldOf, handled, handles, handles_bytes, world_after}
 use Rattle.fabric_state.specs.declared.line.Line.TheVariants as line
@@ -114,16 +114,16 @@ same_no_frame place (hand.Frame port) held bytes has = ap (λ (b : List ℕ). no
 -- The lines of epochs
 pub epochs_told : (s before epoch : ℕ) (had joined spent : Bool) (old new : SwitchOf) (first second third last : List Line) → before ≡ old.epoch → epoch ≡ new.epoch → had ≡ is_some (finish_of old) → joined ≡ not (epoch == before) → spent ≡ new.spent
     → second ≡ first ++ line_if joined (line.Join s epoch) → third ≡ second ++ line_if spent (line.Spent s) → last ≡ third ++ cond (not joined && had) [] (finish_line s epoch (finish_of new))
-    → last ≡ first ++ join_lines s old new ++ spent_lines s new ++ finish_lines s old new
+    → last ≡ first ++ join_lines s old new ++ no_epoch_lines s new ++ finish_lines s old new
 epochs_told s before epoch had joined spent old new first second third last before_is epoch_is had_is joined_is spent_is one two three =
     let joins : joined ≡ has_joined old new = joined_is ∙ ap (λ (n : ℕ). not (n == before)) epoch_is ∙ ap (λ (n : ℕ). not (new.epoch == n)) before_is in
     let join : line_if joined (line.Join s epoch) ≡ join_lines s old new = ap (λ (b : Bool). line_if b (line.Join s epoch)) joins ∙ ap (λ (n : ℕ). line_if (has_joined old new) (line.Join s n)) epoch_is in
-    let spend : line_if spent (line.Spent s) ≡ spent_lines s new = ap (λ (b : Bool). line_if b (line.Spent s)) spent_is in
+    let spend : line_if spent (line.Spent s) ≡ no_epoch_lines s new = ap (λ (b : Bool). line_if b (line.Spent s)) spent_is in
     let finish : cond (not joined && had) [] (finish_line s epoch (finish_of new)) ≡ finish_lines s old new =
     ap (λ (b : Bool). cond (not b && had) [] (finish_line s epoch (finish_of new))) joins ∙ ap (λ (b : Bool). cond (not (has_joined old new) && b) [] (finish_line s epoch (finish_of new))) had_is
     ∙ ap (λ (n : ℕ). cond (not (has_joined old new) && is_some (finish_of old)) [] (finish_line s n (finish_of new))) epoch_is in
     three ∙ ap (λ (xs : List Line). third ++ xs) finish ∙ ap (λ (xs : List Line). xs ++ finish_lines s old new) (two ∙ ap (λ (xs : List Line). second ++ xs) spend)
-    ∙ ap (λ (xs : List Line). xs ++ spent_lines s new ++ finish_lines s old new) (one ∙ ap (λ (xs : List Line). first ++ xs) join)
+    ∙ ap (λ (xs : List Line). xs ++ no_epoch_lines s new ++ finish_lines s old new) (one ∙ ap (λ (xs : List Line). first ++ xs) join)
 
 -- Of the switch at a place, which has something in hand
 module _ (w : WorldOf) (s : ℕ) (h : Hand) (bytes : List ℕ) (is : h ≡ (station w.fabric s).hand) (has : HasFrame (station w.fabric s).hand (held_bytes w.fabric s) bytes) where
@@ -147,7 +147,7 @@ module _ (w : WorldOf) (s : ℕ) (h : Hand) (bytes : List ℕ) (is : h ≡ (stat
       let x = w.switches s in
       let y = (handled s w).switch in
       ap (λ (t : Step). hand_lines s h bytes x t.switch) step_is ∙ ap (λ (k : Hand). hand_lines s k bytes x y) is
-      ∙ ap (λ (xs : List Line). flat_map (port_line s (note_of x) (note_of y)) externals ++ xs ++ join_lines s x y ++ spent_lines s y ++ finish_lines s x y)
+      ∙ ap (λ (xs : List Line). flat_map (port_line s (note_of x) (note_of y)) externals ++ xs ++ join_lines s x y ++ no_epoch_lines s y ++ finish_lines s x y)
       (same_no_frame s (station w.fabric s).hand (held_bytes w.fabric s) bytes has)
 
   pub handled_told : (frames : List BytesOut) (puts : List (Option Line)) (old mid new : List Line) → frames ≡ all_spelled (handles h bytes (w.switches s)).frames → AreTold w.fabric s frames puts

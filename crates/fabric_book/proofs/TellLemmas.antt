@@ -24,7 +24,7 @@ use Rattle.fabric_state.specs.Fabric.{no_view}
 use Rattle.fabric_state.specs.declared.line.Line.{Line}
 use Rattle.fabric_state.specs.declared.line.Line.TheVariants as line
 use Rattle.fabric_state.specs.Lines.{command_lines}
-use Rattle.fabric_world.specs.Lines.{lines_of, finish_lines, join_lines, no_frame_lines, port_line, shown_in, spent_lines}
+use Rattle.fabric_world.specs.Lines.{lines_of, finish_lines, join_lines, no_frame_lines, port_line, shown_in, no_epoch_lines}
 use Rattle.fabric_world.specs.Turns.{is_noise}
 use Rattle.fabric_world.specs.World.{WorldOf}
 use Rattle.fabric_book.specs.Told.{hand_lines, line_if, noise_lines}
@@ -41,7 +41,7 @@ noise_is place (hand.Frame port) bytes = by (is_some (frame_of bytes)) where
 -- all that is told of what was in hand, and then of the frames that were lost
 pub handled_lines : (place : ℕ) (h : Hand) (bytes : List ℕ) (before after : SwitchOf) (lost lines : List Line)
     → (lines ++ hand_lines place h bytes before after) ++ lost
-    ≡ lines ++ (flat_map (port_line place (note_of before) (note_of after)) externals ++ no_frame_lines place h bytes ++ join_lines place before after ++ spent_lines place after ++ finish_lines place before after ++ lost)
+    ≡ lines ++ (flat_map (port_line place (note_of before) (note_of after)) externals ++ no_frame_lines place h bytes ++ join_lines place before after ++ no_epoch_lines place after ++ finish_lines place before after ++ lost)
 handled_lines place h bytes before after lost lines = append_assoc lines (hand_lines place h bytes before after) lost
 
 -- what is told in turn

@@ -8,7 +8,7 @@ use Rattle.fabric_state.specs.declared.hand.Hand.{Hand}
 use Rattle.fabric_state.specs.declared.hand.Hand.TheVariants as hand
 use Rattle.fabric_state.specs.declared.line.Line.{Line}
 use Rattle.fabric_state.specs.declared.line.Line.TheVariants as line
-use Rattle.fabric_world.specs.Lines.{finish_lines, join_lines, no_frame_lines, port_line, spent_lines}
+use Rattle.fabric_world.specs.Lines.{finish_lines, join_lines, no_frame_lines, port_line, no_epoch_lines}
 
 -- a line if something is so
 abbrev pub line_if : Bool → Line → List Line
@@ -26,5 +26,5 @@ hand_lines place hand bytes before after =
     flat_map (port_line place (note_of before) (note_of after)) externals
     ++ no_frame_lines place hand bytes
     ++ join_lines place before after
-    ++ spent_lines place after
+    ++ no_epoch_lines place after
     ++ finish_lines place before after

@@ -11,7 +11,7 @@ ghost use Rattle.fabric_state.specs.Fabric.{is_empty};
 ghost use Rattle.fabric_state.specs.Fits.{IsHandPort};
 ghost use Rattle.fabric_state.specs.Lawful.{is_lawful};
 ghost use Rattle.fabric_world.specs.Histories.{fabric_of, with_event, world_of};
-ghost use Rattle.fabric_world.specs.Lines.{finish_lines, join_lines, lines_of, port_line, spent_lines};
+ghost use Rattle.fabric_world.specs.Lines.{finish_lines, join_lines, lines_of, port_line, no_epoch_lines};
 ghost use Rattle.fabric_world.specs.World.{handles};
 ghost use Rattle.fabric_book.specs.Nets.{IsHandled, IsSameOrNext, IsSwitchKept};
 ghost use Rattle.fabric_book.specs.Told.{hand_lines};
@@ -64,7 +64,7 @@ fn tell_epochs(
 ) -> Result<(), OutOfMemory>
     ensures { (old new : SwitchOf) → StandsFor switch.now new → before ≡ old.epoch → epoch ≡ new.epoch
         → had_finished ≡ is_some (finish_of old) → OnOk result (lines.new ≡ lines.old
-        ++ join_lines s old new ++ spent_lines s new ++ finish_lines s old new) }
+        ++ join_lines s old new ++ no_epoch_lines s new ++ finish_lines s old new) }
 {
     let joined = epoch != before;
     lines.push_if(joined, Line::Join { s, epoch })?;

@@ -29,7 +29,7 @@ use Rattle.fabric_state.proofs.FitsLemmas.{switch_below}
 use Rattle.fabric_state.proofs.HoldLemmas.{empty_hand}
 use Rattle.fabric_state.proofs.QueueLemmas.{hands_differ, port_is_no_hand, take_elsewhere}
 use Rattle.fabric_state.specs.Lines.{lost_lines}
-use Rattle.fabric_world.specs.Lines.{lines_of, port_line, no_frame_lines, join_lines, spent_lines, finish_lines}
+use Rattle.fabric_world.specs.Lines.{lines_of, port_line, no_frame_lines, join_lines, no_epoch_lines, finish_lines}
 use Rattle.fabric_world.specs.World.{WorldOf, effect, handled, loads_with, world_after}
 use Rattle.fabric_world.proofs.FabricLemmas.{world_fits}
 use Rattle.fabric_world.proofs.InductionLemmas.{world_script}
@@ -242,7 +242,7 @@ handle_lost : (w : WorldOf) (s : ℕ) → loses is_either w (Handle s) ≡ false
 unfolding lines_of
 handle_lost w s none = last_any (is_lost_by is_either)
     (flat_map (port_line s (note_of (w.switches s)) (note_of (handled s w).switch)) externals)
-    (no_frame_lines s (station w.fabric s).hand (held_bytes w.fabric s)) (join_lines s (w.switches s) (handled s w).switch) (spent_lines s (handled s w).switch) (finish_lines s (w.switches s) (handled s w).switch)
+    (no_frame_lines s (station w.fabric s).hand (held_bytes w.fabric s)) (join_lines s (w.switches s) (handled s w).switch) (no_epoch_lines s (handled s w).switch) (finish_lines s (w.switches s) (handled s w).switch)
     (lost_lines s (all_spelled (handled s w).frames) (released (station w.fabric s).hand s w.fabric.wires)) none
 
 spelled_in : (x : Sent) (xs : List Sent) → In x xs → In (spelled_out x) (all_spelled xs)

@@ -33,7 +33,7 @@ use Rattle.fabric_state.specs.Effects.{address_for, released, put_out, noise, ho
 use Rattle.fabric_state.specs.declared.line.Line.{Line}
 use Rattle.fabric_state.specs.declared.line.Line.TheVariants as line
 use Rattle.fabric_state.specs.Lines.{epoch_in_use, loss_line, lost_line, lost_lines, copy_line, sent_line, hop_line, move_lines}
-use Rattle.fabric_world.specs.Lines.{shown_in, port_line, no_frame_lines, has_joined, join_lines, spent_lines, finish_line, finish_lines, handle_lines, load_lines, lines_of, all_lines}
+use Rattle.fabric_world.specs.Lines.{shown_in, port_line, no_frame_lines, has_joined, join_lines, no_epoch_lines, finish_line, finish_lines, handle_lines, load_lines, lines_of, all_lines}
 use Rattle.fabric_world.specs.Histories.{AreLawful, IsLawful}
 use Rattle.fabric_world.specs.Traces.{event_hop, hopped_of, hopped_by, moved_line, tells_of_hop, trace_from, trace_of}
 use Rattle.fabric_world.specs.World.{WorldOf, begun, handled, step}
@@ -81,7 +81,7 @@ handle_other k s st w =
     let v = st.switch in
     let h = (station w.fabric s).hand in
     let c : List Line = join_lines s u v in
-    let d : List Line = spent_lines s v in
+    let d : List Line = no_epoch_lines s v in
     let e : List Line = finish_lines s u v in
     let f : List Line = lost_lines s (all_spelled st.frames) (released h s w.fabric.wires) in
     let a : List Line = flat_map (port_line s (note_of u) (note_of v)) externals in

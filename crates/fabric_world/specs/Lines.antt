@@ -51,8 +51,8 @@ abbrev pub join_lines : ℕ → SwitchOf → SwitchOf → List Line
 join_lines place before after = if has_joined before after then line.Join place after.epoch ∷ [] else []
 
 -- no epoch is left for a change that is due
-abbrev pub spent_lines : ℕ → SwitchOf → List Line
-spent_lines place after = if after.spent then line.Spent place ∷ [] else []
+abbrev pub no_epoch_lines : ℕ → SwitchOf → List Line
+no_epoch_lines place after = if after.spent then line.Spent place ∷ [] else []
 
 -- the life under which a topology was built
 abbrev pub root_of : TopoOf → LifeId
@@ -76,7 +76,7 @@ handle_lines place step world =
     flat_map (port_line place (note_of (world.switches place)) (note_of step.switch)) externals
     ++ no_frame_lines place (station world.fabric place).hand (held_bytes world.fabric place)
     ++ join_lines place (world.switches place) step.switch
-    ++ spent_lines place step.switch
+    ++ no_epoch_lines place step.switch
     ++ finish_lines place (world.switches place) step.switch
     ++ lost_lines place (all_spelled step.frames)
     (released (station world.fabric place).hand place world.fabric.wires)

@@ -26,7 +26,7 @@ use Rattle.fabric_state.specs.Effects.{released, put_out}
 use Rattle.fabric_state.specs.declared.line.Line.{Line}
 use Rattle.fabric_state.specs.declared.line.Line.TheVariants as line
 use Rattle.fabric_state.specs.Lines.{loss_line, lost_line, lost_lines, copy_line}
-use Rattle.fabric_world.specs.Lines.{shown_in, port_line, no_frame_lines, has_joined, join_lines, spent_lines, finish_line, finish_lines, handle_lines, load_lines, lines_of, all_lines}
+use Rattle.fabric_world.specs.Lines.{shown_in, port_line, no_frame_lines, has_joined, join_lines, no_epoch_lines, finish_line, finish_lines, handle_lines, load_lines, lines_of, all_lines}
 use Rattle.fabric_world.specs.World.{WorldOf, handled, step}
 use Rattle.fabric_book.specs.Nets.{driver_line, driver_lines}
 use Rattle.fabric_book.proofs.DriverLemmas.{not_first}
@@ -94,7 +94,7 @@ module _ (p : Line → Bool) (of : IsOfPackets p) where
       let a : List Line = flat_map (port_line s (note_of u) (note_of v)) externals in
       let b : List Line = no_frame_lines s h (held_bytes w.fabric s) in
       let c : List Line = join_lines s u v in
-      let d : List Line = spent_lines s v in
+      let d : List Line = no_epoch_lines s v in
       let e : List Line = finish_lines s u v in
       let f : List Line = lost_lines s (all_spelled st.frames) (released h s w.fabric.wires) in
       both (a ++ b ++ c ++ d ++ e) f
