@@ -18,7 +18,7 @@ use Rattle.net_script.proofs.TextFormLemmas.{text_is_forms}
 use Rattle.journal.specs.Events.{events_text, first_words, journal_text, last_words}
 use Rattle.journal.specs.Texts.{IsJournal}
 use Rattle.fabric_world.specs.World.{world_after}
-use Rattle.replay.specs.Division.{behind_end, from_words, has_words, is_end_line}
+use Rattle.replay.specs.Division.{after_end, from_words, has_words, is_end_line}
 use Rattle.check_text.proofs.OwnTold.{lines_on}
 use Rattle.answering.specs.declared.status.Status.{Status}
 use Rattle.answering.specs.Answer.{Streams, IsAnswer, input_limit, refuses_nothing}
@@ -74,12 +74,12 @@ past_blanks (line ∷ lines) more none begin = go (words_of line) refl (λ later
   go (w ∷ ws) is later = let some : (w ∷ ws) ∷ with_words lines ≡ [] = sym (word_line line lines w ws is) ∙ none in absurd (cc)
 
 -- behind the last line of a script stand the lines that follow
-past_end : (lines more : List (List ℕ)) (rows : List (List (List ℕ))) → with_words lines ≡ rows ++ form_words End ∷ [] → All (λ words. is_end words ≡ false) rows → BeginWithWords more → behind_end (lines ++ more) ≡ more
+past_end : (lines more : List (List ℕ)) (rows : List (List (List ℕ))) → with_words lines ≡ rows ++ form_words End ∷ [] → All (λ words. is_end words ≡ false) rows → BeginWithWords more → after_end (lines ++ more) ≡ more
 past_end [] more [] same others begin = absurd (cc)
 past_end [] more (row ∷ rows) same others begin = absurd (cc)
 past_end (line ∷ lines) more rows same others begin = go (words_of line) refl rows same others (λ rest is plain. past_end lines more rest is plain begin) where
   go : (ws : List (List ℕ)) → words_of line ≡ ws → (rows : List (List (List ℕ))) → with_words (line ∷ lines) ≡ rows ++ form_words End ∷ [] → All (λ words. is_end words ≡ false) rows
-      → ((rest : List (List (List ℕ))) → with_words lines ≡ rest ++ form_words End ∷ [] → All (λ words. is_end words ≡ false) rest → behind_end (lines ++ more) ≡ more) → behind_end (line ∷ lines ++ more) ≡ more
+      → ((rest : List (List (List ℕ))) → with_words lines ≡ rest ++ form_words End ∷ [] → All (λ words. is_end words ≡ false) rest → after_end (lines ++ more) ≡ more) → after_end (line ∷ lines ++ more) ≡ more
   go [] is rows same others later =
       let plain : is_end_line line ≡ false = ap is_end is in
       rw plain (later rows (sym (blank_line line lines is) ∙ same) others)
@@ -97,7 +97,7 @@ past_end (line ∷ lines) more rows same others begin = go (words_of line) refl 
       rw plain (later rows rest (All-tail (λ words. is_end words ≡ false) row rows others))
 
 -- so the lines of a script are divided from those that follow
-divided : (bytes text : List ℕ) (script : ScriptOf) → IsText bytes script → BeginWithWords (lines_of text) → behind_end (lines_of bytes ++ lines_of text) ≡ lines_of text
+divided : (bytes text : List ℕ) (script : ScriptOf) → IsText bytes script → BeginWithWords (lines_of text) → after_end (lines_of bytes ++ lines_of text) ≡ lines_of text
 divided bytes text script is begin =
     let (forms, of) = (text_is_forms bytes script).0 is in
     past_end (lines_of bytes) (lines_of text) (header_words ∷ map form_words forms) of.rows
@@ -129,7 +129,7 @@ script_with bytes text script journal is_text is_journal = record {
   first = bytes ++ 10 ∷ [];
   division = record {
     parts = sym (append_assoc bytes (10 ∷ []) text);
-    behind = sym (ap behind_end (lines_on bytes text) ∙ divided (bytes ++ 10 ∷ []) text script is_text (journal_begins script text journal is_journal));
+    after = sym (ap after_end (lines_on bytes text) ∙ divided (bytes ++ 10 ∷ []) text script is_text (journal_begins script text journal is_journal));
   };
   is_text = is_text;
 }

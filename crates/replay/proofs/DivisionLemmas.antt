@@ -2,7 +2,7 @@
 use Rattle.std.proofs.Common.{◌≡◌, ◌∙◌, sym, ap, refl, ℕ, List, [], ◌∷◌, ◌++◌, ◌-◌, append_assoc, arith, length, true, false, take, drop}
 use Rattle.std.proofs.lemmas.List.{length-drop, take_all, take-append-drop}
 use Rattle.text_lines.specs.Lines.{lines_of}
-use Rattle.replay.specs.Division.{IsBack, behind_end, from_words, has_words, is_end_line}
+use Rattle.replay.specs.Division.{IsBack, after_end, from_words, has_words, is_end_line}
 
 -- what ends bytes
 pub back_itself : (bytes : List ℕ) → IsBack bytes bytes
@@ -49,15 +49,15 @@ no_words bytes rest ahead none = along_none from_words bytes rest ahead none ref
 
 -- the lines behind the end
 abbrev pub IsBefore : List ℕ → List ℕ → Type 0
-IsBefore = IsAlong behind_end
+IsBefore = IsAlong after_end
 
-pub at_end : (bytes rest line behind : List ℕ) → IsBefore bytes rest → lines_of rest ≡ line ∷ lines_of behind → is_end_line line ≡ true → from_words (lines_of behind) ≡ behind_end (lines_of bytes)
+pub at_end : (bytes rest line behind : List ℕ) → IsBefore bytes rest → lines_of rest ≡ line ∷ lines_of behind → is_end_line line ≡ true → from_words (lines_of behind) ≡ after_end (lines_of bytes)
 at_end bytes rest line behind before is end =
-    let e : behind_end (line ∷ lines_of behind) ≡ from_words (lines_of behind) = rw end refl in
-    sym e ∙ ap behind_end (sym is) ∙ before.same
+    let e : after_end (line ∷ lines_of behind) ≡ from_words (lines_of behind) = rw end refl in
+    sym e ∙ ap after_end (sym is) ∙ before.same
 
 pub before_end : (bytes rest line behind : List ℕ) → IsBefore bytes rest → lines_of rest ≡ line ∷ lines_of behind → IsBack rest behind → is_end_line line ≡ false → IsBefore bytes behind
-before_end bytes rest line behind before is back other = along_more behind_end bytes rest line behind before is back (rw other refl)
+before_end bytes rest line behind before is back other = along_more after_end bytes rest line behind before is back (rw other refl)
 
-pub no_end : (bytes rest : List ℕ) → IsBefore bytes rest → lines_of rest ≡ [] → lines_of rest ≡ behind_end (lines_of bytes)
-no_end bytes rest before none = along_none behind_end bytes rest before none refl
+pub no_end : (bytes rest : List ℕ) → IsBefore bytes rest → lines_of rest ≡ [] → lines_of rest ≡ after_end (lines_of bytes)
+no_end bytes rest before none = along_none after_end bytes rest before none refl

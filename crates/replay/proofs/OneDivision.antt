@@ -6,7 +6,7 @@ use Rattle.std.proofs.lemmas.Bool.Decides.{nat_tests}
 use Rattle.std.proofs.lemmas.List.Splits.{length-slice_split}
 use Rattle.text_lines.specs.Lines.{lines_of, words_of}
 use Rattle.text_lines.proofs.LineLemmas.{is_feed}
-use Rattle.replay.specs.Division.{IsDivision, behind_end, from_words, has_words, is_end_line}
+use Rattle.replay.specs.Division.{IsDivision, after_end, from_words, has_words, is_end_line}
 
 -- BYTES BEFORE OTHERS MAKE THE LINES LONGER
 
@@ -121,9 +121,9 @@ from_begins : (lines : List (List ℕ)) → Begins (from_words lines)
 from_begins [] = inl refl
 from_begins (line ∷ lines) = if_begins (has_words line) (line ∷ lines) (from_words lines) (λ has. inr (line, lines, refl, has_bytes line has)) (from_begins lines)
 
-behind_begins : (lines : List (List ℕ)) → Begins (behind_end lines)
+behind_begins : (lines : List (List ℕ)) → Begins (after_end lines)
 behind_begins [] = inl refl
-behind_begins (line ∷ lines) = if_begins (is_end_line line) (from_words lines) (behind_end lines) (λ end. from_begins lines) (behind_begins lines)
+behind_begins (line ∷ lines) = if_begins (is_end_line line) (from_words lines) (after_end lines) (λ end. from_begins lines) (behind_begins lines)
 
 -- ONE DIVISION
 
@@ -152,7 +152,7 @@ two_fronts (x ∷ one) back (y ∷ other) rest same =
 
 one_of : (bytes one two three four : List ℕ) → IsDivision bytes one two → IsDivision bytes three four → GoesOn one two three four → (one ≡ three) × (two ≡ four)
 one_of bytes one two three four first second (more, is, behind) =
-    let none = none_between more four (subst Begins (sym second.behind) (behind_begins (lines_of bytes))) (ap lines_of (sym behind) ∙ first.behind ∙ sym second.behind) in
+    let none = none_between more four (subst Begins (sym second.after) (behind_begins (lines_of bytes))) (ap lines_of (sym behind) ∙ first.after ∙ sym second.after) in
     (sym (append-nil one) ∙ ap (λ (m : List ℕ). one ++ m) (sym none) ∙ sym is, behind ∙ ap (λ (m : List ℕ). m ++ four) none)
 
 -- an input has one division

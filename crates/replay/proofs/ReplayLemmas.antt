@@ -16,7 +16,7 @@ use Rattle.fabric_world.specs.Histories.{AreLawful, IsLawful, IsLegal}
 use Rattle.fabric_world.proofs.CountLemmas.{lawful_events}
 use Rattle.fabric_world.proofs.InductionLemmas.{world_script}
 use Rattle.fabric_book.specs.Nets.{NetOf, history_of, with_step}
-use Rattle.replay.specs.Replays.{HasMade, HasNoEnd, IfIllegal, IsIllegal, IsNoReplay, IsRefusal, IsUnlawfulNext, as_replayed, line_behind, no_journal, not_legal, unended, unlawful}
+use Rattle.replay.specs.Replays.{HasMade, HasNoEnd, IfIllegal, IsIllegal, IsNoReplay, IsRefusal, IsUnlawfulNext, as_replayed, line_after, no_journal, not_legal, unended, unlawful}
 use Rattle.replay.specs.declared.refusal.ReplayRefusal.{ReplayRefusal}
 use Rattle.replay.specs.declared.refusal.ReplayRefusal.TheVariants as refusal
 
@@ -28,7 +28,7 @@ kept_there script events fabric is kept =
     subst IsScript (ap (λ (f : FabricOf). f.script) is ∙ world_script script events) kept
 
 -- the line of the next event, by how many there were
-pub line_is : (script : ScriptOf) (events : List Event) (fabric : FabricOf) (count : ℕ) → IsLawful script events → fabric ≡ (world_after script events).fabric → IsScript fabric.script → count ≡ fabric.events → count + 2 ≡ line_behind events
+pub line_is : (script : ScriptOf) (events : List Event) (fabric : FabricOf) (count : ℕ) → IsLawful script events → fabric ≡ (world_after script events).fabric → IsScript fabric.script → count ≡ fabric.events → count + 2 ≡ line_after events
 line_is script events fabric count lawful is kept counted =
     ap (λ (n : ℕ). n + 2) (counted ∙ ap (λ (f : FabricOf). f.events) is ∙ lawful_events script (kept_there script events fabric is kept) events lawful)
 

@@ -18,9 +18,9 @@ from_words [] = []
 from_words (line ∷ lines) = if has_words line then line ∷ lines else from_words lines
 
 -- the lines after the first that is `end` and those without words that follow it directly
-abbrev pub behind_end : List (List ℕ) → List (List ℕ)
-behind_end [] = []
-behind_end (line ∷ lines) = if is_end_line line then from_words lines else behind_end lines
+abbrev pub after_end : List (List ℕ) → List (List ℕ)
+after_end [] = []
+after_end (line ∷ lines) = if is_end_line line then from_words lines else after_end lines
 
 -- bytes end with these
 abbrev pub IsBack : List ℕ → List ℕ → Type 0
@@ -30,4 +30,4 @@ IsBack bytes back = (front : List ℕ) × (bytes ≡ front ++ back)
 -- journal. If no line is `end`, there are none of a journal.
 pub record IsDivision (bytes script journal : List ℕ) : Type 0 where
   pub parts : bytes ≡ script ++ journal
-  pub behind : lines_of journal ≡ behind_end (lines_of bytes)
+  pub after : lines_of journal ≡ after_end (lines_of bytes)

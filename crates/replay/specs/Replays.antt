@@ -21,8 +21,8 @@ pub record HasMade (script : ScriptOf) (events : List Event) (net : NetOf) : Typ
 
 -- The line of the event after so many, in the text of a journal, whose first line is `journal 1`; or of the
 -- `end` after them all.
-abbrev pub line_behind : List Event → ℕ
-line_behind events = length events + 2
+abbrev pub line_after : List Event → ℕ
+line_after events = length events + 2
 
 -- of the line and the cause of a refusal, unless memory was wanting
 abbrev pub IfIllegal : ReplayRefusal → (ℕ → JournalCause → Type 0) → Type 0
@@ -32,22 +32,22 @@ IfIllegal refusal.OutOfMemory Holds = ⊤
 -- the next event is not lawful
 pub record IsUnlawfulNext (history : HistoryOf) (event : Event) (line : ℕ) (why : JournalCause) : Type 0 where
   pub fault : is_lawful (fabric_of history) event ≡ false
-  pub stands : line ≡ line_behind history.events
+  pub stands : line ≡ line_after history.events
   pub cause_is : why ≡ cause.NotLawful
 
 -- a history has come to no end
 pub record HasNoEnd (history : HistoryOf) (line : ℕ) (why : JournalCause) : Type 0 where
   pub none : end_of history.script history.events ≡ None
-  pub stands : line ≡ line_behind history.events
+  pub stands : line ≡ line_after history.events
   pub cause_is : why ≡ cause.Unfinished
 
 -- Why a journal is refused: an event is not lawful, the first of these, and stands in this line; or all are
 -- lawful, they come to no end, and this is the last line.
 pub data IsIllegal (script : ScriptOf) (journal : List Event) (line : ℕ) (why : JournalCause) : Type 0 where
   unlawful : (before after : List Event) (event : Event) → IsFirstFault script journal before event after
-      → line ≡ line_behind before → why ≡ cause.NotLawful → IsIllegal script journal line why
+      → line ≡ line_after before → why ≡ cause.NotLawful → IsIllegal script journal line why
   unended : IsLawful script journal → end_of script journal ≡ None
-      → line ≡ line_behind journal → why ≡ cause.Unfinished → IsIllegal script journal line why
+      → line ≡ line_after journal → why ≡ cause.Unfinished → IsIllegal script journal line why
 
 abbrev pub IsRefusal : ScriptOf → List Event → ReplayRefusal → Type 0
 IsRefusal script journal refused = IfIllegal refused (IsIllegal script journal)

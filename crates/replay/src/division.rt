@@ -5,7 +5,7 @@
 
 ghost use Rattle.std.specs.Prelude.{◌≡◌, ◌<◌, ◌∷◌, [], ℕ, List, length, map, take, IfNone, IfOk, IfSome};
 ghost use Rattle.text_lines.specs.Lines.{is_blank, lines_of, without_comment, words_of};
-ghost use Rattle.replay.specs.Division.{IsBack, IsDivision, behind_end, from_words, has_words, is_end_line};
+ghost use Rattle.replay.specs.Division.{IsBack, IsDivision, after_end, from_words, has_words, is_end_line};
 
 use an_base::memory::OutOfMemory;
 use std::alloc::Global;
@@ -56,8 +56,8 @@ fn is_end_line(alloc: Global, line: &[u8]) -> Result<bool, OutOfMemory>
     Ok(words.len() == 1 && words[0] == b"end".as_slice())
 }
 
-// What stands behind the first line feed, or nothing where there is none.
-fn behind_first(bytes: &[u8]) -> &[u8]
+// What stands after the first line feed, or nothing where there is none.
+fn after_first(bytes: &[u8]) -> &[u8]
     ensures lines { 0 < length bytes.now
         → (line : List ℕ) × (lines_of bytes.now ≡ line ∷ lines_of result.now) }
     ensures back { IsBack bytes.now result.now }
@@ -69,7 +69,7 @@ fn behind_first(bytes: &[u8]) -> &[u8]
     }
 }
 
-// The first line, without what ends it, and what stands behind it. There is none where there are no bytes.
+// The first line, without what ends it, and what stands after it. There is none where there are no bytes.
 fn next_line(bytes: &[u8]) -> Option<(&[u8], &[u8])>
     ensures some { IfSome result (λ r. lines_of bytes.now ≡ r.0.now ∷ lines_of r.1.now) }
     ensures back { IfSome result (λ r. IsBack bytes.now r.1.now) }
@@ -77,7 +77,7 @@ fn next_line(bytes: &[u8]) -> Option<(&[u8], &[u8])>
     ensures none { IfNone result (lines_of bytes.now ≡ []) }
 {
     match first_line(bytes) {
-        Some((line, _)) => Some((line, behind_first(bytes))),
+        Some((line, _)) => Some((line, after_first(bytes))),
         None => None,
     }
 }
@@ -88,23 +88,23 @@ fn from_words(alloc: Global, bytes: &[u8]) -> Result<&[u8], OutOfMemory>
     ensures back { IfOk result (λ rest. IsBack bytes.now rest.now) }
 {
     let mut rest = bytes;
-    'lines: while let Some((line, behind)) = next_line(rest) {
+    'lines: while let Some((line, after)) = next_line(rest) {
         if has_words(alloc, line)? {
             return Ok(rest);
         }
-        rest = behind;
+        rest = after;
     }
     Ok(rest)
 }
 
-// What stands behind the first line that is `end` and the lines without words that follow it.
-fn behind_end(alloc: Global, bytes: &[u8]) -> Result<&[u8], OutOfMemory>
-    ensures lines { IfOk result (λ rest. lines_of rest.now ≡ behind_end (lines_of bytes.now)) }
+// What stands after the first line that is `end` and the lines without words that follow it.
+fn after_end(alloc: Global, bytes: &[u8]) -> Result<&[u8], OutOfMemory>
+    ensures lines { IfOk result (λ rest. lines_of rest.now ≡ after_end (lines_of bytes.now)) }
     ensures back { IfOk result (λ rest. IsBack bytes.now rest.now) }
 {
     let mut rest = bytes;
-    'lines: while let Some((line, behind)) = next_line(rest) {
-        rest = behind;
+    'lines: while let Some((line, after)) = next_line(rest) {
+        rest = after;
         if is_end_line(alloc, line)? {
             return from_words(alloc, rest);
         }
@@ -112,11 +112,11 @@ fn behind_end(alloc: Global, bytes: &[u8]) -> Result<&[u8], OutOfMemory>
     Ok(rest)
 }
 
-/// The part of an input that is to be a script, and behind it that of a journal. Where no line is `end`, all
+/// The part of an input that is to be a script, and after it that of a journal. Where no line is `end`, all
 /// is the script.
 pub fn divide(alloc: Global, bytes: &[u8]) -> Result<(&[u8], &[u8]), OutOfMemory>
     ensures { IfOk result (λ parts. IsDivision bytes.now parts.0.now parts.1.now) }
 {
-    let journal = behind_end(alloc, bytes)?;
+    let journal = after_end(alloc, bytes)?;
     Ok((&bytes[..bytes.len() - journal.len()], journal))
 }

@@ -8,7 +8,7 @@ ghost use Rattle.fabric_world.specs.Histories.{IsLawful, IsLegal, world_of};
 ghost use Rattle.fabric_world.specs.Lines.{lines_of};
 ghost use Rattle.fabric_settling.specs.Claims.{HoldsAndSettles};
 ghost use Rattle.fabric_book.specs.Nets.{history_of, with_step};
-ghost use Rattle.replay.specs.Replays.{HasMade, HasNoEnd, IfIllegal, IsNoReplay, IsRefusal, IsUnlawfulNext, line_behind};
+ghost use Rattle.replay.specs.Replays.{HasMade, HasNoEnd, IfIllegal, IsNoReplay, IsRefusal, IsUnlawfulNext, line_after};
 
 use crate::refusal::ReplayRefusal;
 use an_base::event::{Event, Journal};
@@ -44,10 +44,10 @@ impl World {
     }
 }
 
-// The line of the next event in the text of a journal, or of the `end` behind them all.
+// The line of the next event in the text of a journal, or of the `end` after them all.
 fn next_line(net: &Net) -> u32
     requires { IsLawful net.now.script net.now.events }
-    ensures line { result ≡ line_behind net.now.events }
+    ensures line { result ≡ line_after net.now.events }
     ensures kept { IsScript net.now.script }
 {
     net.fabric().events() + 2
@@ -95,8 +95,8 @@ pub fn end_of(net: &Net) -> Result<Ending, ReplayRefusal>
     }
 }
 
-/// Why the journal of a text is refused, an event of which was refused, where the reader stands behind that event:
-/// for the first fault that the text has behind it, and else for the event. The rest of the text is read and
+/// Why the journal of a text is refused, an event of which was refused, where the reader stands after that event:
+/// for the first fault that the text has after it, and else for the event. The rest of the text is read and
 /// nothing of it is kept.
 pub fn refused(reader: &mut Reader, why: ReplayRefusal) -> ReplayRefusal
     ensures { (script : ScriptOf) (bytes : List ℕ) (before : List Event) (event : Event)

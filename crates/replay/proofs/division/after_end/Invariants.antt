@@ -1,6 +1,6 @@
 use Rattle.std.proofs.Common.{length}
 use Rattle.replay.proofs.DivisionLemmas.{IsBefore}
-use Rattle.replay.proofs.division.behind_end.Given as goal
+use Rattle.replay.proofs.division.after_end.Given as goal
 
 -- none of the lines before the rest is the end
 abbrev pub invariant-lines : goal.invariant-lines

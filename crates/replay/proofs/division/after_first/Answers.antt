@@ -2,7 +2,7 @@ use Rattle.std.proofs.Common.{◌+◌, ◌∙◌, refl, sym, length, take}
 use Rattle.std.specs.Str.Lines.{strip_carriage_return}
 use Rattle.text_lines.proofs.LineLemmas.{first_at_feed, first_is_all}
 use Rattle.replay.proofs.DivisionLemmas.{back_sliced}
-use Rattle.replay.proofs.division.behind_first.Goals as goal
+use Rattle.replay.proofs.division.after_first.Goals as goal
 
 pub returns-in-Some-clause-lines : goal.returns-in-Some-clause-lines
 returns-in-Some-clause-lines c = λ some.
