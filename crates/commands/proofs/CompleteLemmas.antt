@@ -41,20 +41,20 @@ journal_not_refused JournalFull Holds none refused = refused
 journal_not_refused OutOfMemory Holds none refused = refused
 
 -- the bytes have one division, and the script and the journal in it are the only ones
-module _ (bytes behind : List ℕ) (script : ScriptOf) (journal : List Event) (end : Ending)
-    (input : IsScriptWith bytes script behind) (is_journal : IsJournal script behind journal) (legal : IsLegal script journal end) where
-  same_script : (other : ScriptOf) (rest : List ℕ) → IsScriptWith bytes other rest → (other ≡ script) × (rest ≡ behind)
+module _ (bytes after : List ℕ) (script : ScriptOf) (journal : List Event) (end : Ending)
+    (input : IsScriptWith bytes script after) (is_journal : IsJournal script after journal) (legal : IsLegal script journal end) where
+  same_script : (other : ScriptOf) (rest : List ℕ) → IsScriptWith bytes other rest → (other ≡ script) × (rest ≡ after)
   same_script other rest is =
-      let parts = one_division bytes is.first rest input.first behind is.division input.division in
+      let parts = one_division bytes is.first rest input.first after is.division input.division in
       (one_text input.first other script (subst (λ (b : List ℕ). IsText b other) parts.0 is.is_text) input.is_text, parts.1)
 
-  same_journal : (other : List Event) → IsJournal script behind other → other ≡ journal
-  same_journal other is = one_journal script behind other journal (text_kept input.first script input.is_text) is is_journal
+  same_journal : (other : List Event) → IsJournal script after other → other ≡ journal
+  same_journal other is = one_journal script after other journal (text_kept input.first script input.is_text) is is_journal
 
   same_read : (other : ScriptOf) (events : List Event) → IsJournaled bytes other events → (other ≡ script) × (events ≡ journal)
   same_read other events read =
-      let same = same_script other read.behind read.input in
-      (same.0, same_journal events (subst (λ (b : List ℕ). IsJournal script b events) same.1 (subst (λ (s : ScriptOf). IsJournal s read.behind events) same.0 read.is_journal)))
+      let same = same_script other read.after read.input in
+      (same.0, same_journal events (subst (λ (b : List ℕ). IsJournal script b events) same.1 (subst (λ (s : ScriptOf). IsJournal s read.after events) same.0 read.is_journal)))
 
   -- so what is said of the ones that were read is said of them
   said_same : (says : ScriptOf → List Event → Type 0) (other : ScriptOf) (events : List Event) → IsJournaled bytes other events → says other events → says script journal
@@ -64,11 +64,11 @@ module _ (bytes behind : List ℕ) (script : ScriptOf) (journal : List Event) (e
 
   has_script : (status : Status) → IsNoScript bytes status → ⊥
   has_script status none =
-      let parts = one_division bytes none.first none.behind input.first behind none.division input.division in
+      let parts = one_division bytes none.first none.after input.first after none.division input.division in
       not_refused status (IsFault none.first) (λ line cause fault. no_fault input.first script line cause input.is_text (subst (λ (b : List ℕ). IsFault b line cause) parts.0 fault)) none.fault
 
-  is_replayed : (line : ℕ) (why : JournalCause) → IsNoReplay script behind line why → ⊥
-  is_replayed line why (no_journal fault) = no_journal_fault script behind journal line why (text_kept input.first script input.is_text) is_journal fault
+  is_replayed : (line : ℕ) (why : JournalCause) → IsNoReplay script after line why → ⊥
+  is_replayed line why (no_journal fault) = no_journal_fault script after journal line why (text_kept input.first script input.is_text) is_journal fault
   is_replayed line why (not_legal other is illegal) =
       never_illegal script journal end line why legal (subst (λ (j : List Event). IsIllegal script j line why) (same_journal other is) illegal)
 
@@ -76,8 +76,8 @@ module _ (bytes behind : List ℕ) (script : ScriptOf) (journal : List Event) (e
   not_refused_here status refused = elim refused [
     | inl none ↦ has_script status none
     | inr illegal ↦ journal_not_refused status (IsUnreplayed bytes) (λ line why un.
-        let same = same_script un.script un.behind un.input in
-        is_replayed line why (subst (λ (b : List ℕ). IsNoReplay script b line why) same.1 (subst (λ (s : ScriptOf). IsNoReplay s un.behind line why) same.0 un.refused))) illegal
+        let same = same_script un.script un.after un.input in
+        is_replayed line why (subst (λ (b : List ℕ). IsNoReplay script b line why) same.1 (subst (λ (s : ScriptOf). IsNoReplay s un.after line why) same.0 un.refused))) illegal
   ]
 
   pub legal_is_replayed : (answer : ℕ) (old new : Streams) → old.source.told ≡ Some bytes → length bytes ≤ input_limit → IsReplayAnswer old new answer → IsAnswer input_limit (gives_report_of script journal) refuses_nothing old new answer

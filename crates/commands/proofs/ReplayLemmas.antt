@@ -8,6 +8,6 @@ use Rattle.answering.specs.declared.status.Status.TheVariants as ended
 use Rattle.commands.specs.Replay.{IsScriptWith, refuses_journal, replay_refused_as}
 
 -- the status of a refused journal says why
-pub unreplayed : (bytes behind : List ℕ) (script : ScriptOf) (refusal : ReplayRefusal) → IsScriptWith bytes script behind → IfIllegal refusal (IsNoReplay script behind) → refuses_journal bytes (replay_refused_as refusal) ⊎ (replay_refused_as refusal ≡ ended.OutOfMemory)
-unreplayed bytes behind script (Illegal line why) input refused = inl (inr (record { script = script; behind = behind; input = input; refused = refused }))
-unreplayed bytes behind script OutOfMemory input refused = inr refl
+pub unreplayed : (bytes after : List ℕ) (script : ScriptOf) (refusal : ReplayRefusal) → IsScriptWith bytes script after → IfIllegal refusal (IsNoReplay script after) → refuses_journal bytes (replay_refused_as refusal) ⊎ (replay_refused_as refusal ≡ ended.OutOfMemory)
+unreplayed bytes after script (Illegal line why) input refused = inl (inr (record { script = script; after = after; input = input; refused = refused }))
+unreplayed bytes after script OutOfMemory input refused = inr refl

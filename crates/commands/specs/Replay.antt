@@ -16,16 +16,16 @@ use Rattle.answering.specs.Answer.{Gives, IfRefused, Refuses}
 use Rattle.commands.specs.Reported.{IsReported}
 
 -- the bytes are the text of a script, and after it these
-pub record IsScriptWith (bytes : List ℕ) (script : ScriptOf) (behind : List ℕ) : Type 0 where
+pub record IsScriptWith (bytes : List ℕ) (script : ScriptOf) (after : List ℕ) : Type 0 where
   pub first : List ℕ
-  pub division : IsDivision bytes first behind
+  pub division : IsDivision bytes first after
   pub is_text : IsText first script
 
 -- they begin with the text of this journal
 pub record IsJournaled (bytes : List ℕ) (script : ScriptOf) (journal : List Event) : Type 0 where
-  pub behind : List ℕ
-  pub input : IsScriptWith bytes script behind
-  pub is_journal : IsJournal script behind journal
+  pub after : List ℕ
+  pub input : IsScriptWith bytes script after
+  pub is_journal : IsJournal script after journal
 
 -- after a script stands a legal journal, and this is its report
 pub record IsReplayedOf (status : Status) (text bytes : List ℕ) : Type 0 where
@@ -41,16 +41,16 @@ gives_replayed bytes status text = IsReplayedOf status text bytes
 -- the first part of the bytes is no script
 pub record IsNoScript (bytes : List ℕ) (status : Status) : Type 0 where
   pub first : List ℕ
-  pub behind : List ℕ
-  pub division : IsDivision bytes first behind
+  pub after : List ℕ
+  pub division : IsDivision bytes first after
   pub fault : IfRefused status (IsFault first)
 
 -- after a script stands no legal journal
 pub record IsUnreplayed (bytes : List ℕ) (line : ℕ) (why : JournalCause) : Type 0 where
   pub script : ScriptOf
-  pub behind : List ℕ
-  pub input : IsScriptWith bytes script behind
-  pub refused : IsNoReplay script behind line why
+  pub after : List ℕ
+  pub input : IsScriptWith bytes script after
+  pub refused : IsNoReplay script after line why
 
 -- the line and the cause of a refused journal
 abbrev pub IfJournalRefused : Status → (ℕ → JournalCause → Type 0) → Type 0

@@ -24,24 +24,24 @@ pub fn a_script_is_run()
         → IsRunAnswer old new answer → IsAnswer input_limit (gives_run_of script) refuses_nothing old new answer }
 {}
 
-/// A source that tells its bytes has the text of a script with a legal journal behind it, within the limit. Then
+/// A source that tells its bytes has the text of a script with a legal journal after it, within the limit. Then
 /// `replay` and `names` do not refuse it: out gains the text that the definition gives for it, a front of it where
 /// out fails, or nothing where the source fails or memory is wanting; and with the text comes its own status, for
 /// `replay` that of the journal's end.
 pub fn a_journal_is_answered()
-    ensures replay { (answer : ℕ) (bytes behind : List ℕ) (script : ScriptOf) (journal : List Event)
-        (end : Ending) (old new : Streams) → IsScriptWith bytes script behind
-        → IsJournal script behind journal → IsLegal script journal end
+    ensures replay { (answer : ℕ) (bytes after : List ℕ) (script : ScriptOf) (journal : List Event)
+        (end : Ending) (old new : Streams) → IsScriptWith bytes script after
+        → IsJournal script after journal → IsLegal script journal end
         → old.source.told ≡ Some bytes → length bytes ≤ input_limit → IsReplayAnswer old new answer
         → IsAnswer input_limit (gives_report_of script journal) refuses_nothing old new answer }
-    ensures names { (answer : ℕ) (bytes behind : List ℕ) (script : ScriptOf) (journal : List Event)
-        (end : Ending) (old new : Streams) → IsScriptWith bytes script behind
-        → IsJournal script behind journal → IsLegal script journal end
+    ensures names { (answer : ℕ) (bytes after : List ℕ) (script : ScriptOf) (journal : List Event)
+        (end : Ending) (old new : Streams) → IsScriptWith bytes script after
+        → IsJournal script after journal → IsLegal script journal end
         → old.source.told ≡ Some bytes → length bytes ≤ input_limit → IsNamesAnswer old new answer
         → IsAnswer input_limit (gives_names_of script journal) refuses_nothing old new answer }
 {}
 
-/// A source that tells its bytes has a network file whose last line is ended by a line feed (10), and behind
+/// A source that tells its bytes has a network file whose last line is ended by a line feed (10), and after
 /// it the output of a run of its network, both together within the limit. Then `replay` refuses neither: out
 /// gains the report that stands in that output, a front of it where out fails, or nothing where the source
 /// fails or memory is wanting; and with the report comes the status of the run.

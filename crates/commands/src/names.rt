@@ -17,18 +17,18 @@ use replay::refusal::ReplayRefusal;
 use report::naming;
 use std::alloc::Global;
 
-// The command `names`: for a script with a journal behind it, what hosts believe about where others are.
+// The command `names`: for a script with a journal after it, what hosts believe about where others are.
 #[derive(Clone, Copy)]
 struct Names;
 
-// What hosts believe in what stands behind a script.
+// What hosts believe in what stands after a script.
 fn named(alloc: Global, input: Journaled) -> Result<Vec<u8>, ReplayRefusal>
-    requires few { length input.behind.now ≤ input_limit }
-    ensures names { IfOk result (λ text. AreNamesIn input.entry.script input.entry.behind.now text.items) }
+    requires few { length input.after.now ≤ input_limit }
+    ensures names { IfOk result (λ text. AreNamesIn input.entry.script input.entry.after.now text.items) }
     ensures refused { IfErr result (λ why. IfIllegal why
-        (IsNoReplay input.entry.script input.entry.behind.now)) }
+        (IsNoReplay input.entry.script input.entry.after.now)) }
 {
-    naming::names(alloc, &input.script, input.behind)
+    naming::names(alloc, &input.script, input.after)
 }
 
 impl Command for Names {
@@ -48,7 +48,7 @@ impl Command for Names {
     }
 }
 
-/// Answers `names`: reads a script with a journal behind it from the source, and writes what hosts believe in it to
+/// Answers `names`: reads a script with a journal after it from the source, and writes what hosts believe in it to
 /// out. The answer is the number of a status, whose line goes to err.
 pub fn autonet_names<S: Source, O: Sink, E: Sink>(
     alloc: Global,

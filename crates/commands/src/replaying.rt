@@ -19,7 +19,7 @@ use replay::division::divide;
 use replay::refusal::ReplayRefusal;
 use std::alloc::Global;
 
-// The command `replay`: for a script with a journal behind it, the report of the journal.
+// The command `replay`: for a script with a journal after it, the report of the journal.
 #[derive(Clone, Copy)]
 struct Replay;
 
@@ -33,38 +33,38 @@ pub(crate) fn refused(refusal: ReplayRefusal) -> Status
     }
 }
 
-// A script, and the bytes that stand behind it.
+// A script, and the bytes that stand after it.
 #[derive(Drop)]
 pub(crate) struct Journaled<'a> {
     // The script.
     pub(crate) script: Script,
     // The bytes that are to begin with the text of a journal.
-    pub(crate) behind: &'a [u8],
+    pub(crate) after: &'a [u8],
 }
 
-// The script with which an input begins, and what stands behind it.
+// The script with which an input begins, and what stands after it.
 pub(crate) fn read_first(alloc: Global, bytes: &[u8]) -> Result<Journaled, Status>
     requires few { length bytes.now ≤ input_limit }
-    ensures read { IfOk result (λ input. IsScriptWith bytes.now input.script input.behind.now) }
-    ensures few { IfOk result (λ input. length input.behind.now ≤ input_limit) }
+    ensures read { IfOk result (λ input. IsScriptWith bytes.now input.script input.after.now) }
+    ensures few { IfOk result (λ input. length input.after.now ≤ input_limit) }
     ensures stopped { IfErr result (λ status.
         refuses_journal bytes.now status ⊎ (status ≡ ended.OutOfMemory)) }
 {
-    let (first, behind) = divide(alloc, bytes)?;
+    let (first, after) = divide(alloc, bytes)?;
     let script = read(alloc, first)?;
-    Ok(Journaled { script, behind })
+    Ok(Journaled { script, after })
 }
 
-// The report of what stands behind a script, with the status of its end.
+// The report of what stands after a script, with the status of its end.
 fn replayed(alloc: Global, input: Journaled) -> Result<Given, ReplayRefusal>
-    requires few { length input.behind.now ≤ input_limit }
+    requires few { length input.after.now ≤ input_limit }
     ensures reported { IfOk result (λ given.
-        IsReportedText input.entry.script input.entry.behind.now given.status given.text.items) }
+        IsReportedText input.entry.script input.entry.after.now given.status given.text.items) }
     ensures ends { IfOk result (λ given. IsEnding given.status) }
     ensures refused { IfErr result (λ why. IfIllegal why
-        (IsNoReplay input.entry.script input.entry.behind.now)) }
+        (IsNoReplay input.entry.script input.entry.after.now)) }
 {
-    told_text(alloc, &input.script, input.behind)
+    told_text(alloc, &input.script, input.after)
 }
 
 impl Command for Replay {
@@ -81,7 +81,7 @@ impl Command for Replay {
     }
 }
 
-/// Answers `replay`: reads a script with a journal behind it from the source, and writes the report of the journal to
+/// Answers `replay`: reads a script with a journal after it from the source, and writes the report of the journal to
 /// out. The answer is the number of a status, whose line goes to err.
 pub fn autonet_replay<S: Source, O: Sink, E: Sink>(
     alloc: Global,

@@ -11,7 +11,7 @@ returns-in-Ok-clause-given c =
       record {
         script = input.script;
         journal = told.journal;
-        read = record { behind = input.behind.now; input = c.in_ok-input.ensures.read; is_journal = told.is_journal };
+        read = record { after = input.after.now; input = c.in_ok-input.ensures.read; is_journal = told.is_journal };
         names = told.names;
       },
     )
@@ -20,4 +20,4 @@ returns-in-Ok-clause-given c =
 pub returns-in-Err-clause-stopped : goal.returns-in-Err-clause-stopped
 returns-in-Err-clause-stopped c =
     let input = c.in_ok-input.input in
-    rw c.refused.ensures (unreplayed c.args.bytes.now input.behind.now input.script c.in-Err.refusal c.in_ok-input.ensures.read c.in-Err.ensures.refused)
+    rw c.refused.ensures (unreplayed c.args.bytes.now input.after.now input.script c.in-Err.refusal c.in_ok-input.ensures.read c.in-Err.ensures.refused)
