@@ -8,7 +8,7 @@ use Rattle.net_script.specs.Scripts.{ScriptOf}
 use Rattle.fabric_state.specs.declared.line.Line.{Line}
 use Rattle.fabric_state.specs.declared.line.PlacedLine.{PlacedLine}
 use Rattle.fabric_world.specs.Histories.{owner_of}
-use Rattle.fabric_world.specs.Lines.{lines_of, rows_behind}
+use Rattle.fabric_world.specs.Lines.{lines_of, rows_after}
 use Rattle.fabric_world.specs.World.{WorldOf, begun, step}
 
 -- what the events of a caller give, among lawful events in turn, if each gives this in the world before it
@@ -28,7 +28,7 @@ placed_lines world event = placed (step world event).fabric.events (lines_of wor
 
 -- the rows of the table in use after a load, which may be none; no other event gives a list of rows
 abbrev pub loaded_rows : WorldOf → Event → List (List RowOf)
-loaded_rows world (Load place) = rows_behind (step world (Load place)).fabric (Load place) ∷ []
+loaded_rows world (Load place) = rows_after (step world (Load place)).fabric (Load place) ∷ []
 loaded_rows world event = []
 
 -- what is told of the events of a caller, and the rows of each table that it loaded

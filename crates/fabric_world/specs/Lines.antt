@@ -103,6 +103,6 @@ all_lines world [] = []
 all_lines world (event ∷ events) = lines_of world event ++ all_lines (step world event) events
 
 -- the rows of the table that is in use after a load, and of no other event
-abbrev pub rows_behind : FabricOf → Event → List RowOf
-rows_behind fabric (Load place) = option_map_or (λ table. table.rows) (table_at fabric place) []
-rows_behind fabric event = []
+abbrev pub rows_after : FabricOf → Event → List RowOf
+rows_after fabric (Load place) = option_map_or (λ table. table.rows) (table_at fabric place) []
+rows_after fabric event = []

@@ -32,8 +32,8 @@ use Rattle.fabric_world.specs.World.{WorldOf, after_all, begun, effect, loads_wi
 use Rattle.fabric_world.proofs.FabricLemmas.{world_fits}
 use Rattle.fabric_world.proofs.InductionLemmas.{world_first, world_script}
 use Rattle.fabric_world.proofs.WorldLemmas.{step-lawful, world_after-event}
-use Rattle.report.specs.Beliefs.{Belief, arrivals_at, arrivals_by, arrivals_of, belief_at, belief_by, belief_line, belief_of, belief_text, beliefs_of, counts_words, delivered_by, delivery_of, fabric_behind, first_move, is_broadcast, is_known, is_move_of, is_moving, names_text, sender_by, senders}
-use Rattle.report.specs.Moments.{Moment, moments, moments_behind, told_so_far, told_whole}
+use Rattle.report.specs.Beliefs.{Belief, arrivals_at, arrivals_by, arrivals_of, belief_at, belief_by, belief_line, belief_of, belief_text, beliefs_of, counts_words, delivered_by, delivery_of, fabric_after, first_move, is_broadcast, is_known, is_move_of, is_moving, names_text, sender_by, senders}
+use Rattle.report.specs.Moments.{Moment, moments, moments_after, told_so_far, told_whole}
 use Rattle.report.specs.Remembering.{delivery_in}
 use Rattle.report.proofs.MomentLemmas.{moments_more, moments_on}
 use Rattle.text_lines.specs.Lines.{line_text}
@@ -45,11 +45,11 @@ last_is_lawful : (world : WorldOf) (before : List Event) (event : Event) → Are
 last_is_lawful world [] event all = all.0
 last_is_lawful world (first ∷ before) event all = last_is_lawful (step world first) before event all.1
 
-pub lawful_last : (script : ScriptOf) (before : List Event) (event : Event) → IsLawful script (before ++ event ∷ []) → is_lawful (fabric_behind script before) event ≡ true
+pub lawful_last : (script : ScriptOf) (before : List Event) (event : Event) → IsLawful script (before ++ event ∷ []) → is_lawful (fabric_after script before) event ≡ true
 unfolding world_after
 lawful_last script before event all = last_is_lawful (begun script) before event all
 
-pub behind_event : (script : ScriptOf) (before : List Event) (event : Event) → IsLawful script (before ++ event ∷ []) → fabric_behind script (before ++ event ∷ []) ≡ (effect event (world_after script before)).fabric
+pub behind_event : (script : ScriptOf) (before : List Event) (event : Event) → IsLawful script (before ++ event ∷ []) → fabric_after script (before ++ event ∷ []) ≡ (effect event (world_after script before)).fabric
 behind_event script before event all =
     ap (λ (w : WorldOf). w.fabric) (world_after-event script before event ∙ step-lawful (world_after script before) event (lawful_last script before event all))
 
@@ -67,21 +67,21 @@ effect_tick (Load place) w = loads_tick _ place w
 effect_tick event w = same_tick w.fabric.tick
 
 -- the tick never falls
-pub tick_rises : (script : ScriptOf) (before : List Event) (event : Event) → IsLawful script (before ++ event ∷ []) → (fabric_behind script before).tick ≤ (fabric_behind script (before ++ event ∷ [])).tick
+pub tick_rises : (script : ScriptOf) (before : List Event) (event : Event) → IsLawful script (before ++ event ∷ []) → (fabric_after script before).tick ≤ (fabric_after script (before ++ event ∷ [])).tick
 tick_rises script before event all =
-    subst (λ (f : FabricOf). (fabric_behind script before).tick ≤ f.tick) (sym (behind_event script before event all)) (effect_tick event (world_after script before))
+    subst (λ (f : FabricOf). (fabric_after script before).tick ≤ f.tick) (sym (behind_event script before event all)) (effect_tick event (world_after script before))
 
 -- a packet that is sent, or that moves, leaves the tick
-pub send_tick : (script : ScriptOf) (before : List Event) (from to : ℕ) → IsLawful script (before ++ Send from to ∷ []) → (fabric_behind script (before ++ Send from to ∷ [])).tick ≡ (fabric_behind script before).tick
+pub send_tick : (script : ScriptOf) (before : List Event) (from to : ℕ) → IsLawful script (before ++ Send from to ∷ []) → (fabric_after script (before ++ Send from to ∷ [])).tick ≡ (fabric_after script before).tick
 unfolding effect
 send_tick script before from to all = ap (λ (f : FabricOf). f.tick) (behind_event script before (Send from to) all)
 
-pub move_tick : (script : ScriptOf) (before : List Event) (packet : ℕ) → IsLawful script (before ++ Move packet ∷ []) → (fabric_behind script (before ++ Move packet ∷ [])).tick ≡ (fabric_behind script before).tick
+pub move_tick : (script : ScriptOf) (before : List Event) (packet : ℕ) → IsLawful script (before ++ Move packet ∷ []) → (fabric_after script (before ++ Move packet ∷ [])).tick ≡ (fabric_after script before).tick
 unfolding effect
 move_tick script before packet all = ap (λ (f : FabricOf). f.tick) (behind_event script before (Move packet) all)
 
 -- and a move leaves the tables in use
-pub move_tables : (script : ScriptOf) (before : List Event) (packet place : ℕ) → IsLawful script (before ++ Move packet ∷ []) → table_at (fabric_behind script (before ++ Move packet ∷ [])) place ≡ table_at (fabric_behind script before) place
+pub move_tables : (script : ScriptOf) (before : List Event) (packet place : ℕ) → IsLawful script (before ++ Move packet ∷ []) → table_at (fabric_after script (before ++ Move packet ∷ [])) place ≡ table_at (fabric_after script before) place
 unfolding effect
 move_tables script before packet place all = ap (λ (f : FabricOf). table_at f place) (behind_event script before (Move packet) all)
 
@@ -99,7 +99,7 @@ effect_sent (Load place) w = loads_sent _ place w
 effect_sent (Send from to) w = omega arith
 effect_sent event w = same_sent w.fabric.sent
 
-pub sent_more : (script : ScriptOf) (before : List Event) (event : Event) → IsLawful script (before ++ event ∷ []) → (fabric_behind script (before ++ event ∷ [])).sent ≡ (fabric_behind script before).sent + length (sender_by event)
+pub sent_more : (script : ScriptOf) (before : List Event) (event : Event) → IsLawful script (before ++ event ∷ []) → (fabric_after script (before ++ event ∷ [])).sent ≡ (fabric_after script before).sent + length (sender_by event)
 sent_more script before event all = ap (λ (f : FabricOf). f.sent) (behind_event script before event all) ∙ effect_sent event (world_after script before)
 
 -- WHO SENDS AND WHAT MOVES
@@ -107,7 +107,7 @@ sent_more script before event all = ap (λ (f : FabricOf). f.sent) (behind_event
 -- the hosts of a packet that may be sent are there
 pub sender_within : (script : ScriptOf) (before : List Event) (from to : ℕ) → IsScript script → IsLawful script (before ++ Send from to ∷ []) → from < length script.wires.hosts
 sender_within script before from to kept all =
-    let within : from < length (fabric_behind script before).script.wires.hosts = (event_fits (fabric_behind script before) (Send from to) (world_fits script kept before) (lawful_last script before (Send from to) all) refl).0 in
+    let within : from < length (fabric_after script before).script.wires.hosts = (event_fits (fabric_after script before) (Send from to) (world_fits script kept before) (lawful_last script before (Send from to) all) refl).0 in
     subst (λ (s : ScriptOf). from < length s.wires.hosts) (world_script script before) within
 
 -- a packet that may move was sent
@@ -118,9 +118,9 @@ packet_found P number (q ∷ qs) all some = elim (cases_Bool (q.packet == number
   | inr other ↦ (let rest : is_some (packet_of number qs) ≡ true = rw other at some in packet_found P number qs (All-tail P q qs all) rest)
 ]
 
-pub packet_within : (script : ScriptOf) (before : List Event) (packet : ℕ) → IsScript script → IsLawful script (before ++ Move packet ∷ []) → (1 ≤ packet) × (packet ≤ (fabric_behind script before).sent)
+pub packet_within : (script : ScriptOf) (before : List Event) (packet : ℕ) → IsScript script → IsLawful script (before ++ Move packet ∷ []) → (1 ≤ packet) × (packet ≤ (fabric_after script before).sent)
 packet_within script before packet kept all =
-    let f = fabric_behind script before in
+    let f = fabric_after script before in
     let fits = world_fits script kept before in
     let some : is_some (packet_of packet f.packets) ≡ true = (lawful_is f (Move packet) (lawful_last script before (Move packet) all)).ready in
     let found = packet_found (IsPacketSound f.script f.sent) packet f.packets fits.packets.each some in
@@ -210,7 +210,7 @@ both_counts (b ∷ bs) =
 pub belief_at_send : (script : ScriptOf) (before later : List Event) (from to : ℕ) → (behind : List Belief) × (beliefs_of script (before ++ Send from to ∷ later) ≡ beliefs_of script before ++ belief_of script before from to ∷ behind)
 unfolding beliefs_of
 belief_at_send script before later from to =
-    let rest = moments_behind (before ++ Send from to ∷ []) later in
+    let rest = moments_after (before ++ Send from to ∷ []) later in
     let here : Moment = record { before = before; event = Send from to } in (
       flat_map (belief_at script) rest,
       ap (flat_map (belief_at script)) (moments_on [] before (Send from to ∷ later)) ∙ flat_map-append (belief_at script) (moments before) (here ∷ rest),
@@ -220,12 +220,12 @@ one_belief : (script : ScriptOf) (before : List Event) (event : Event) → lengt
 one_belief script before (Send from to) = refl
 one_belief script before event = refl
 
-as_many : (script : ScriptOf) (before events : List Event) → length (flat_map (belief_at script) (moments_behind before events)) ≡ length (flat_map sender_by events)
+as_many : (script : ScriptOf) (before events : List Event) → length (flat_map (belief_at script) (moments_after before events)) ≡ length (flat_map sender_by events)
 as_many script before [] = refl
 as_many script before (event ∷ events) =
     let rest = as_many script (before ++ event ∷ []) events in
     let here = one_belief script before event in
-    let beliefs = length-append (belief_by script before event) (flat_map (belief_at script) (moments_behind (before ++ event ∷ []) events)) in
+    let beliefs = length-append (belief_by script before event) (flat_map (belief_at script) (moments_after (before ++ event ∷ []) events)) in
     let hosts = length-append (sender_by event) (flat_map sender_by events) in
     omega (arith, rest, here, beliefs, hosts)
 
@@ -234,25 +234,25 @@ unfolding beliefs_of senders
 as_many_beliefs script history = as_many script [] history
 
 -- the packets that were sent behind some events
-sent_on : (script : ScriptOf) (before more : List Event) → AreLawful (world_after script before) more → (fabric_behind script (before ++ more)).sent ≡ (fabric_behind script before).sent + length (flat_map sender_by more)
+sent_on : (script : ScriptOf) (before more : List Event) → AreLawful (world_after script before) more → (fabric_after script (before ++ more)).sent ≡ (fabric_after script before).sent + length (flat_map sender_by more)
 sent_on script before [] lawful =
-    let same : (fabric_behind script (before ++ [])).sent ≡ (fabric_behind script before).sent = ap (λ (h : List Event). (fabric_behind script h).sent) (append-nil before) in
+    let same : (fabric_after script (before ++ [])).sent ≡ (fabric_after script before).sent = ap (λ (h : List Event). (fabric_after script h).sent) (append-nil before) in
     omega (arith, same)
 sent_on script before (event ∷ more) lawful =
     let world = world_after script before in
     let next : world_after script (before ++ event ∷ []) ≡ step world event = world_after-event script before event in
-    let here : (fabric_behind script (before ++ event ∷ [])).sent ≡ (fabric_behind script before).sent + length (sender_by event) =
+    let here : (fabric_after script (before ++ event ∷ [])).sent ≡ (fabric_after script before).sent + length (sender_by event) =
     ap (λ (w : WorldOf). w.fabric.sent) (next ∙ step-lawful world event lawful.0) ∙ effect_sent event world in
     let rest = sent_on script (before ++ event ∷ []) more (subst (λ (w : WorldOf). AreLawful w more) (sym next) lawful.1) in
-    let joined : (fabric_behind script (before ++ event ∷ more)).sent ≡ (fabric_behind script ((before ++ event ∷ []) ++ more)).sent =
-    ap (λ (h : List Event). (fabric_behind script h).sent) (sym (append_assoc before (event ∷ []) more)) in
+    let joined : (fabric_after script (before ++ event ∷ more)).sent ≡ (fabric_after script ((before ++ event ∷ []) ++ more)).sent =
+    ap (λ (h : List Event). (fabric_after script h).sent) (sym (append_assoc before (event ∷ []) more)) in
     let hosts = length-append (sender_by event) (flat_map sender_by more) in
     omega (arith, here, rest, joined, hosts)
 
-pub sent_in_turn : (script : ScriptOf) (history : List Event) → IsLawful script history → length (senders history) ≡ (fabric_behind script history).sent
+pub sent_in_turn : (script : ScriptOf) (history : List Event) → IsLawful script history → length (senders history) ≡ (fabric_after script history).sent
 unfolding senders
 sent_in_turn script history lawful =
     let first : world_after script [] ≡ begun script = world_first script in
-    let none : (fabric_behind script []).sent ≡ 0 = ap (λ (w : WorldOf). w.fabric.sent) first in
+    let none : (fabric_after script []).sent ≡ 0 = ap (λ (w : WorldOf). w.fabric.sent) first in
     let all = sent_on script [] history (subst (λ (w : WorldOf). AreLawful w history) (sym first) lawful) in
     omega (arith, none, all)

@@ -25,7 +25,7 @@ use Rattle.fabric_world.specs.World.{world_after}
 use Rattle.fabric_state.specs.declared.line.Line.{Line}
 use Rattle.fabric_world.proofs.CountLemmas.{lawful_events}
 use Rattle.report.specs.declared.naming.Traced.{Traced}
-use Rattle.report.specs.Beliefs.{Belief, address_at, address_in, arrival_of, arrivals_by, arrivals_of, belief_by, belief_line, belief_of, belief_text, beliefs_of, counts_by, counts_words, delivery_of, fabric_behind, first_move, host_in, is_broadcast, is_host, is_known, is_move_of, sender_by, sender_of, senders, source_of}
+use Rattle.report.specs.Beliefs.{Belief, address_at, address_in, arrival_of, arrivals_by, arrivals_of, belief_by, belief_line, belief_of, belief_text, beliefs_of, counts_by, counts_words, delivery_of, fabric_after, first_move, host_in, is_broadcast, is_host, is_known, is_move_of, sender_by, sender_of, senders, source_of}
 use Rattle.report.specs.Moments.{IsHeard, Moment}
 use Rattle.report.specs.Remembering.{AreRemembered, AreTraced, CameUntil, KeepBeliefs, Meets, arrival_in, cache_at, choice_at, delivery_in, nothing_sent, own_address, sender_in, source_at, source_with, traced_at, with_arrival_at, with_delivery, with_source}
 use Rattle.report.proofs.BeliefLemmas.{arrivals_more, beliefs_more, both_counts, count_push, delivery_told, first_move_more, first_move_same, move_tables, move_tick, packet_within, send_tick, sender_within, senders_more, sent_more, tick_rises}
@@ -89,14 +89,14 @@ send_traced script before from to packets all traced = record {
 }
 
 -- the address of the sender by the table in use, after the move and before it
-address_same : (script : ScriptOf) (before : List Event) (packet : ℕ) (host : HostOn) → IsLawful script (before ++ Move packet ∷ []) → address_in (fabric_behind script (before ++ Move packet ∷ [])) host ≡ address_in (fabric_behind script before) host
+address_same : (script : ScriptOf) (before : List Event) (packet : ℕ) (host : HostOn) → IsLawful script (before ++ Move packet ∷ []) → address_in (fabric_after script (before ++ Move packet ∷ [])) host ≡ address_in (fabric_after script before) host
 address_same script before packet host all =
     ap (λ table. option_map_or (λ t. address_of t host.port) table 0) (move_tables script before packet host.s all)
 
-own_is_at : (script : ScriptOf) (before : List Event) (packets : List Traced) (place : ℕ) → IsLawful script (before ++ Move (place + 1) ∷ []) → AreTraced script before packets → place < length packets → own_address script (fabric_behind script (before ++ Move (place + 1) ∷ [])) packets place ≡ address_at script (place + 1) (record { before = before; event = Move (place + 1) })
+own_is_at : (script : ScriptOf) (before : List Event) (packets : List Traced) (place : ℕ) → IsLawful script (before ++ Move (place + 1) ∷ []) → AreTraced script before packets → place < length packets → own_address script (fabric_after script (before ++ Move (place + 1) ∷ [])) packets place ≡ address_at script (place + 1) (record { before = before; event = Move (place + 1) })
 own_is_at script before packets place all traced low =
     address_same script before (place + 1) (sender_in script packets place) all
-    ∙ ap (λ host. option_map_or (address_in (fabric_behind script before)) host 0) (sym (sender_is script before packets place traced low))
+    ∙ ap (λ host. option_map_or (address_in (fabric_after script before)) host 0) (sym (sender_is script before packets place traced low))
 
 -- where it comes from, of what it came from before
 first_or : (f : Moment → ℕ) (old : Option ℕ) (was : Option Moment) (now : Moment) (address : ℕ) → old ≡ option_map f was → address ≡ f now → Some (unwrap_or old address) ≡ option_map f (option_or was (Some now))
@@ -104,10 +104,10 @@ first_or f old None now address is at = ap (λ (o : Option ℕ). Some (unwrap_or
 first_or f old (Some m) now address is at = ap (λ (o : Option ℕ). Some (unwrap_or o address)) is
 
 moved_here : (script : ScriptOf) (before : List Event) (packets : List Traced) (place : ℕ) → IsLawful script (before ++ Move (place + 1) ∷ []) → AreTraced script before packets → place < length packets
-    → Some (source_with packets place (own_address script (fabric_behind script (before ++ Move (place + 1) ∷ [])) packets place)) ≡ option_map (address_at script (place + 1)) (first_move (before ++ Move (place + 1) ∷ []) (place + 1))
+    → Some (source_with packets place (own_address script (fabric_after script (before ++ Move (place + 1) ∷ [])) packets place)) ≡ option_map (address_at script (place + 1)) (first_move (before ++ Move (place + 1) ∷ []) (place + 1))
 moved_here script before packets place all traced low =
     let now : Moment = record { before = before; event = Move (place + 1) } in
-    let address = own_address script (fabric_behind script (before ++ Move (place + 1) ∷ [])) packets place in
+    let address = own_address script (fabric_after script (before ++ Move (place + 1) ∷ [])) packets place in
     let here : is_move_of (place + 1) (Move (place + 1)) ≡ true = grind (arith, nat_tests) in
     first_or (address_at script (place + 1)) (traced_at packets place).source (first_move before (place + 1)) now address
     (sym (source_read packets place) ∙ traced.sources place) (own_is_at script before packets place all traced low)
@@ -116,9 +116,9 @@ moved_here script before packets place all traced low =
 
 -- a packet moves
 pub move_traced : (script : ScriptOf) (before : List Event) (packets : List Traced) (place : ℕ) → IsLawful script (before ++ Move (place + 1) ∷ []) → AreTraced script before packets → place < length packets
-    → AreTraced script (before ++ Move (place + 1) ∷ []) (with_source packets place (own_address script (fabric_behind script (before ++ Move (place + 1) ∷ [])) packets place))
+    → AreTraced script (before ++ Move (place + 1) ∷ []) (with_source packets place (own_address script (fabric_after script (before ++ Move (place + 1) ∷ [])) packets place))
 move_traced script before packets place all traced low =
-    let address = own_address script (fabric_behind script (before ++ Move (place + 1) ∷ [])) packets place in
+    let address = own_address script (fabric_after script (before ++ Move (place + 1) ∷ [])) packets place in
     record {
       hosts = hosts_stay packets place address low ∙ traced.hosts ∙ sym (senders_more before (Move (place + 1)) ∙ append-nil (senders before));
       sources = λ other. elim (cases_eq other place) [
@@ -150,7 +150,7 @@ pub other_remembered : (script : ScriptOf) (before : List Event) (event : Event)
 other_remembered script before event caches all none kept = record {
   count = kept.count;
   each = λ host low. kept.each host low ∙ ap kept_of (sym (arrivals_more script before event host ∙ ap (λ (came : List ArrivalOf). came ++ arrivals_of script before host) (none host)));
-  ticks = later (fabric_behind script before).tick (fabric_behind script (before ++ event ∷ [])).tick caches (tick_rises script before event all) kept.ticks;
+  ticks = later (fabric_after script before).tick (fabric_after script (before ++ event ∷ [])).tick caches (tick_rises script before event all) kept.ticks;
 }
 
 -- what is kept where something arrives at one host
@@ -179,14 +179,14 @@ from_some f None n is = absurd (cc)
 from_some f (Some x) n is = cc
 
 arrival_is : (script : ScriptOf) (before : List Event) (packets : List Traced) (place : ℕ) → IsLawful script (before ++ Move (place + 1) ∷ []) → AreTraced script before packets → place < length packets
-    → arrival_of script before (place + 1) ≡ arrival_in script (fabric_behind script (before ++ Move (place + 1) ∷ [])) packets place
+    → arrival_of script before (place + 1) ≡ arrival_in script (fabric_after script (before ++ Move (place + 1) ∷ [])) packets place
 arrival_is script before packets place all traced low =
     let after = before ++ Move (place + 1) ∷ [] in
     let sender : option_map_or (λ (h : HostOn). h.uid) (sender_of script before (place + 1)) 0 ≡ (sender_in script packets place).uid =
     ap (λ (o : Option HostOn). option_map_or (λ (h : HostOn). h.uid) o 0) (sender_is script before packets place traced low) in
-    let address : source_of script after (place + 1) ≡ source_with packets place (own_address script (fabric_behind script after) packets place) =
+    let address : source_of script after (place + 1) ≡ source_with packets place (own_address script (fabric_after script after) packets place) =
     from_some (address_at script (place + 1)) (first_move after (place + 1)) _ (moved_here script before packets place all traced low) in
-    let tick : (fabric_behind script before).tick ≡ (fabric_behind script after).tick = sym (move_tick script before (place + 1) all) in
+    let tick : (fabric_after script before).tick ≡ (fabric_after script after).tick = sym (move_tick script before (place + 1) all) in
     parts sender address tick
   where
     parts : {u v a b s t : ℕ} → u ≡ v → a ≡ b → s ≡ t → ◌≡◌ {A = ArrivalOf} (record { uid = u; address = a; tick = s }) (record { uid = v; address = b; tick = t })
@@ -194,15 +194,15 @@ arrival_is script before packets place all traced low =
 
 pub move_remembered : (script : ScriptOf) (before : List Event) (packets : List Traced) (caches new : List (List ArrivalOf)) (place : ℕ) (lines : List Line) → IsLawful script (before ++ Move (place + 1) ∷ []) → AreTraced script before packets → place < length packets
     → lines ≡ lines_of (world_after script before) (Move (place + 1))
-    → new ≡ with_delivery (arrival_in script (fabric_behind script (before ++ Move (place + 1) ∷ [])) packets place) (delivery_in lines) caches
-    → CameUntil (fabric_behind script (before ++ Move (place + 1) ∷ [])).tick new
+    → new ≡ with_delivery (arrival_in script (fabric_after script (before ++ Move (place + 1) ∷ [])) packets place) (delivery_in lines) caches
+    → CameUntil (fabric_after script (before ++ Move (place + 1) ∷ [])).tick new
     → AreRemembered script before caches → AreRemembered script (before ++ Move (place + 1) ∷ []) new
 move_remembered script before packets caches new place lines all traced low told is came kept =
     let packet : ℕ = place + 1 in
-    let to = delivery_of (fabric_behind script before) packet in
+    let to = delivery_of (fabric_after script before) packet in
     let to_is : delivery_in lines ≡ to = ap delivery_in told ∙ delivery_told (world_after script before) packet in
     let arrival = arrival_of script before packet in
-    let now : new ≡ with_delivery arrival to caches = is ∙ ap (λ (o : Option ℕ). with_delivery (arrival_in script (fabric_behind script (before ++ Move packet ∷ [])) packets place) o caches) to_is
+    let now : new ≡ with_delivery arrival to caches = is ∙ ap (λ (o : Option ℕ). with_delivery (arrival_in script (fabric_after script (before ++ Move packet ∷ [])) packets place) o caches) to_is
     ∙ ap (λ (a : ArrivalOf). with_delivery a to caches) (sym (arrival_is script before packets place all traced low)) in
     record {
       count = ap length now ∙ delivered_length arrival to caches ∙ kept.count;
@@ -229,7 +229,7 @@ silent script before (Move packet) send move = absurd (move packet refl)
 silent script before event send move = record { none = refl; still = λ packet. refl; nothing = λ host. refl; no_belief = refl }
 
 -- at the beginning
-none_sent : (script : ScriptOf) → (fabric_behind script []).sent ≡ 0
+none_sent : (script : ScriptOf) → (fabric_after script []).sent ≡ 0
 unfolding world_after
 none_sent script = refl
 
@@ -253,7 +253,7 @@ nothing_kept script own packets caches own_is none are =
       remembered = record {
         count = ap length are ∙ length-replicate n [];
         each = λ host low. empty host;
-        ticks = λ host. subst (λ (came : List ArrivalOf). All (λ (a : ArrivalOf). a.tick ≤ (fabric_behind script []).tick) came) (sym (empty host)) (All-nil (λ (a : ArrivalOf). a.tick ≤ (fabric_behind script []).tick));
+        ticks = λ host. subst (λ (came : List ArrivalOf). All (λ (a : ArrivalOf). a.tick ≤ (fabric_after script []).tick) came) (sym (empty host)) (All-nil (λ (a : ArrivalOf). a.tick ≤ (fabric_after script []).tick));
       };
       count = ap length none;
       known_are = refl;
@@ -271,7 +271,7 @@ module _ (script : ScriptOf) (before : List Event) (fabric : FabricOf) (place : 
   pub choice_is : (from to : ℕ) → MeetsHere (Send from to) → choice_at own caches from to fabric.tick ≡ (belief_of script before from to).choice
   choice_is from to meets =
       let keeps : cache_at caches from ≡ kept_of (arrivals_of script before from) = meets.keep.remembered.each from (sender_within script before from to meets.can_be meets.lawful) in
-      let tick : fabric.tick ≡ (fabric_behind script before).tick = ap (λ (f : FabricOf). f.tick) meets.fabric_is ∙ send_tick script before from to meets.lawful in
+      let tick : fabric.tick ≡ (fabric_after script before).tick = ap (λ (f : FabricOf). f.tick) meets.fabric_is ∙ send_tick script before from to meets.lawful in
       ap (λ (came : List ArrivalOf). choice_of came (host_in own to).uid fabric.tick) keeps
       ∙ ap (λ (s : ScriptOf). choice_of (kept_of (arrivals_of script before from)) (host_in s to).uid fabric.tick) meets.keep.own_is
       ∙ ap (choice_of (kept_of (arrivals_of script before from)) (host_in script to).uid) tick
@@ -326,13 +326,13 @@ module _ (script : ScriptOf) (before : List Event) (fabric : FabricOf) (place : 
       let within = packet_within script before (at + 1) meets.can_be meets.lawful in
       let low : at < length packets = omega (arith, within.1, keep.traced.count) in
       let beliefs : beliefs_of script after ≡ beliefs_of script before = beliefs_more script before (Move (at + 1)) ∙ append-nil (beliefs_of script before) in
-      let there : moved ≡ with_source packets at (own_address script (fabric_behind script after) packets at) =
+      let there : moved ≡ with_source packets at (own_address script (fabric_after script after) packets at) =
       moved_are ∙ ap (λ (s : ScriptOf). with_source packets at (own_address s fabric packets at)) keep.own_is
       ∙ ap (λ (f : FabricOf). with_source packets at (own_address script f packets at)) meets.fabric_is in
-      let kept : now ≡ with_delivery (arrival_in script (fabric_behind script after) packets at) (delivery_in lines) caches =
+      let kept : now ≡ with_delivery (arrival_in script (fabric_after script after) packets at) (delivery_in lines) caches =
       now_are ∙ ap (λ (s : ScriptOf). with_delivery (arrival_in s fabric packets at) (delivery_in lines) caches) keep.own_is
       ∙ ap (λ (f : FabricOf). with_delivery (arrival_in script f packets at) (delivery_in lines) caches) meets.fabric_is in
-      let until : CameUntil (fabric_behind script after).tick now = subst (λ (f : FabricOf). CameUntil f.tick now) meets.fabric_is came in
+      let until : CameUntil (fabric_after script after).tick now = subst (λ (f : FabricOf). CameUntil f.tick now) meets.fabric_is came in
       record {
         own_is = new_is ∙ keep.own_is;
         traced = subst (AreTraced script after) (sym there) (move_traced script before packets at meets.lawful keep.traced low);
@@ -359,7 +359,7 @@ module _ (script : ScriptOf) (before : List Event) (fabric : FabricOf) (place : 
   pub came_here : (event : Event) → MeetsHere event → CameUntil fabric.tick caches
   came_here event meets =
       subst (λ (f : FabricOf). CameUntil f.tick caches) (sym meets.fabric_is)
-      (later (fabric_behind script before).tick (fabric_behind script (before ++ event ∷ [])).tick caches (tick_rises script before event meets.lawful) meets.keep.remembered.ticks)
+      (later (fabric_after script before).tick (fabric_after script (before ++ event ∷ [])).tick caches (tick_rises script before event meets.lawful) meets.keep.remembered.ticks)
 
   -- how many of a known address there are
   pub known_few : (event : Event) → MeetsHere event → known ≤ length packets
@@ -377,7 +377,7 @@ pub meets_now : (before : List Event) (event : Event) (net : NetOf) (fabric : Fa
     → fabric ≡ fabric_of (history_of net) → IsScript fabric.script → place ≡ fabric.events → Meets net.script before event fabric place lines own packets caches known
 meets_now before event net fabric place lines own packets caches known keep heard fabric_is kept counted =
     let after = before ++ event ∷ [] in
-    let here : fabric ≡ fabric_behind net.script after = fabric_is ∙ ap (λ (n : NetOf). fabric_of (history_of n)) heard.made.net_is in
+    let here : fabric ≡ fabric_after net.script after = fabric_is ∙ ap (λ (n : NetOf). fabric_of (history_of n)) heard.made.net_is in
     let can_be : IsScript net.script = kept_there net.script after fabric here kept in
     record {
       keep = keep;

@@ -9,7 +9,7 @@ use Rattle.outside.specs.Told.{Gains, GainsFront, Seen, with_back}
 use Rattle.outside.proofs.ToldLemmas.{with_back_none}
 use Rattle.fabric_state.specs.declared.ending.Ending.{Ending}
 use Rattle.fabric_state.specs.Fabric.{FabricOf}
-use Rattle.fabric_world.specs.Lines.{rows_behind}
+use Rattle.fabric_world.specs.Lines.{rows_after}
 use Rattle.fabric_world.specs.Histories.{IsLegal, fabric_of}
 use Rattle.fabric_world.specs.World.{WorldOf, after_all, begun, step, world_after}
 use Rattle.fabric_state.specs.declared.line.Line.{Line}
@@ -17,7 +17,7 @@ use Rattle.fabric_world.proofs.WorldLemmas.{world_after-event}
 use Rattle.fabric_world.proofs.InductionLemmas.{world_first}
 use Rattle.fabric_book.specs.Nets.{NetOf, history_of}
 use Rattle.report.specs.Events.{CourseOf, IsReport, all_told, course_after, course_of, event_text, events_text, last_line, line_of_end, report_text}
-use Rattle.report.specs.Moments.{IsHeard, IsTold, Moment, moments_behind, told_so_far, told_whole}
+use Rattle.report.specs.Moments.{IsHeard, IsTold, Moment, moments_after, told_so_far, told_whole}
 use Rattle.report.specs.Retellings.{Comes, HasCome}
 use Rattle.report.proofs.BeliefLemmas.{lawful_last}
 
@@ -73,7 +73,7 @@ comes_there before event net lines own course heard come = record {
 }
 
 -- which it tells
-pub event_told : (own : ScriptOf) (before : List Event) (event : Event) (net : NetOf) (course : CourseOf) (rows : List RowOf) (lines : List Line) (text more : List ℕ) → IsHeard before event net lines → HasCome own course net.script (before ++ event ∷ []) → rows ≡ rows_behind (fabric_of (history_of net)) event
+pub event_told : (own : ScriptOf) (before : List Event) (event : Event) (net : NetOf) (course : CourseOf) (rows : List RowOf) (lines : List Line) (text more : List ℕ) → IsHeard before event net lines → HasCome own course net.script (before ++ event ∷ []) → rows ≡ rows_after (fabric_of (history_of net)) event
     → more ≡ text ++ all_told own course rows lines → more ≡ text ++ event_text net.script (world_after net.script before) event
 unfolding event_text
 event_told own before event net course rows lines text more heard come rows_are is =
@@ -83,14 +83,14 @@ event_told own before event net course rows lines text more heard come rows_are 
     let behind = ap (λ (n : NetOf). fabric_of (history_of n)) heard.made.net_is ∙ ap (λ (w : WorldOf). w.fabric) next in
     is ∙ ap (λ (s : ScriptOf). text ++ all_told s course rows lines) come.own_is
     ∙ ap (λ (c : CourseOf). text ++ all_told script c rows lines) (come.course_is ∙ ap (λ (w : WorldOf). course_of w.fabric) next)
-    ∙ ap (λ (r : List RowOf). text ++ all_told script (course_of after.fabric) r lines) (rows_are ∙ ap (λ (f : FabricOf). rows_behind f event) behind)
-    ∙ ap (λ (ls : List Line). text ++ all_told script (course_of after.fabric) (rows_behind after.fabric event) ls) heard.lines_are
+    ∙ ap (λ (r : List RowOf). text ++ all_told script (course_of after.fabric) r lines) (rows_are ∙ ap (λ (f : FabricOf). rows_after f event) behind)
+    ∙ ap (λ (ls : List Line). text ++ all_told script (course_of after.fabric) (rows_after after.fabric event) ls) heard.lines_are
 
 -- the moments of a history have the texts of its events
 abbrev pub told_at : ScriptOf → Moment → List ℕ
 told_at script moment = event_text script (world_after script moment.before) moment.event
 
-moments_text : (script : ScriptOf) (before events : List Event) → flat_map (told_at script) (moments_behind before events) ≡ events_text script (world_after script before) events
+moments_text : (script : ScriptOf) (before events : List Event) → flat_map (told_at script) (moments_after before events) ≡ events_text script (world_after script before) events
 moments_text script before [] = refl
 moments_text script before (event ∷ events) =
     ap (λ (t : List ℕ). event_text script (world_after script before) event ++ t)

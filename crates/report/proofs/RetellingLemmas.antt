@@ -15,7 +15,7 @@ use Rattle.fabric_state.specs.declared.line.Line.{Line}
 use Rattle.fabric_state.specs.declared.line.PlacedLine.{PlacedLine}
 use Rattle.fabric_world.specs.Accounts.{AccountOf, account_of, gathered, loaded_rows, placed, placed_lines}
 use Rattle.fabric_world.specs.Histories.{AreLawful, IsLegal, owner_of}
-use Rattle.fabric_world.specs.Lines.{lines_of, rows_behind}
+use Rattle.fabric_world.specs.Lines.{lines_of, rows_after}
 use Rattle.fabric_world.specs.World.{WorldOf, step, world_after}
 use Rattle.fabric_world.proofs.CountLemmas.{world_counts}
 use Rattle.fabric_world.proofs.InductionLemmas.{world_first}
@@ -164,7 +164,7 @@ module _ (script : ScriptOf) (before : List Event) (e : Event) (events : List Ev
     by (inr other) = get_or-set_other left (owner_of e) caller (left_of (step world e) events (owner_of e)) no_account other ∙ is.left_are caller below ∙ other_left caller other
 
   -- and its lines are told
-  pub retold_one : (place : ℕ) (rows : List RowOf) (behind : CourseOf) (all : List AccountOf) (more : List ℕ) → place ≡ owner_of e → rows ≡ rows_behind (step world e).fabric e → behind ≡ course_after script (before ++ e ∷ [])
+  pub retold_one : (place : ℕ) (rows : List RowOf) (behind : CourseOf) (all : List AccountOf) (more : List ℕ) → place ≡ owner_of e → rows ≡ rows_after (step world e).fabric e → behind ≡ course_after script (before ++ e ∷ [])
       → all ≡ slice_set left place (left_of (step world e) events (owner_of e)) → more ≡ text ++ all_told script behind rows (lines_of world e) → IsRetelling script (before ++ e ∷ []) events behind all more
   unfolding event_text
   retold_one place rows behind all more at rows_are behind_is all_is told = record {
@@ -175,7 +175,7 @@ module _ (script : ScriptOf) (before : List Event) (e : Event) (events : List Ev
     left_are = λ caller below. ap (λ (ls : List AccountOf). slice_index_or ls caller no_account) set ∙ left_set caller (subst (λ (n : ℕ). caller < n) size below) ∙ ap (λ (v : WorldOf). left_of v events caller) (sym next);
     says = so_far_more script before e text more is.says (told
         ∙ ap (λ (r : List RowOf). text ++ all_told script behind r (lines_of world e)) rows_are
-        ∙ ap (λ (c : CourseOf). text ++ all_told script c (rows_behind (step world e).fabric e) (lines_of world e)) (behind_is ∙ ap (λ (v : WorldOf). course_of v.fabric) next));
+        ∙ ap (λ (c : CourseOf). text ++ all_told script c (rows_after (step world e).fabric e) (lines_of world e)) (behind_is ∙ ap (λ (v : WorldOf). course_of v.fabric) next));
   } where
     set : all ≡ slice_set left (owner_of e) (left_of (step world e) events (owner_of e))
     set = all_is ∙ ap (λ (n : ℕ). slice_set left n (left_of (step world e) events (owner_of e))) at
@@ -185,7 +185,7 @@ module _ (script : ScriptOf) (before : List Event) (e : Event) (events : List Ev
 
   -- as calls have it
   pub retold_next : {X E : Type 0} (result : Result X E) (place : ℕ) (account told new : AccountOf) (rows : List RowOf) (behind : CourseOf) (more : List ℕ) → place ≡ owner_of e → account ≡ slice_index_or left place account
-      → ((w : WorldOf) (m : List (List RowOf)) → account.rows ≡ loaded_rows w e ++ m → (rows ≡ rows_behind (step w e).fabric e) × (told ≡ record account { rows = m }))
+      → ((w : WorldOf) (m : List (List RowOf)) → account.rows ≡ loaded_rows w e ++ m → (rows ≡ rows_after (step w e).fabric e) × (told ≡ record account { rows = m }))
       → behind ≡ course_after script (before ++ e ∷ [])
       → ((lines : List Line) (m : List PlacedLine) → told.lines ≡ placed behind.events lines ++ m → IsNotNext behind.events m → OnOk result (new ≡ record told { lines = m }))
       → ((lines : List Line) (m : List PlacedLine) → told.lines ≡ placed behind.events lines ++ m → IsNotNext behind.events m → OnOk result (more ≡ text ++ all_told script behind rows lines))
@@ -199,7 +199,7 @@ module _ (script : ScriptOf) (before : List Event) (e : Event) (events : List Ev
       here : account ≡ slice_index_or left (owner_of e) account
       here = value ∙ ap (λ (n : ℕ). slice_index_or left n account) at
 
-      given : (rows ≡ rows_behind (step world e).fabric e) × (told ≡ record account { rows = rest.rows })
+      given : (rows ≡ rows_after (step world e).fabric e) × (told ≡ record account { rows = rest.rows })
       given = rows_give world rest.rows (own_rows account here)
 
       split : told.lines ≡ placed behind.events (lines_of world e) ++ rest.lines

@@ -28,8 +28,8 @@ abbrev pub host_in : ScriptOf → ℕ → HostOn
 host_in script host = slice_index_or script.wires.hosts host no_host
 
 -- the fabric after a history
-abbrev pub fabric_behind : ScriptOf → List Event → FabricOf
-fabric_behind script history = (world_after script history).fabric
+abbrev pub fabric_after : ScriptOf → List Event → FabricOf
+fabric_after script history = (world_after script history).fabric
 
 -- The hosts that send, in turn. Packets are numbered as they are sent, from 1, so a packet is from the host
 -- that stands at its number.
@@ -64,7 +64,7 @@ address_in fabric host =
 -- the address from which a packet comes that moves first at this moment: that of its sender
 abbrev pub address_at : ScriptOf → ℕ → Moment → ℕ
 address_at script packet moment =
-    option_map_or (address_in (fabric_behind script moment.before))
+    option_map_or (address_in (fabric_after script moment.before))
     (sender_of script moment.before packet) 0
 
 -- that of its first move; 0 before it
@@ -92,13 +92,13 @@ abbrev pub arrival_of : ScriptOf → List Event → ℕ → ArrivalOf
 arrival_of script before packet = record {
   uid = option_map_or (λ host. host.uid) (sender_of script before packet) 0;
   address = source_of script (before ++ Move packet ∷ []) packet;
-  tick = (fabric_behind script before).tick;
+  tick = (fabric_after script before).tick;
 }
 
 -- what arrives at a host by an event after others
 abbrev pub arrivals_by : ScriptOf → ℕ → List Event → Event → List ArrivalOf
 arrivals_by script host before (Move packet) =
-    if is_host host (delivery_of (fabric_behind script before) packet)
+    if is_host host (delivery_of (fabric_after script before) packet)
     then arrival_of script before packet ∷ [] else []
 arrivals_by script host before event = []
 
@@ -123,7 +123,7 @@ belief_of script before from to = record {
   from = from;
   to = to;
   choice = choice_of (kept_of (arrivals_of script before from)) (host_in script to).uid
-      (fabric_behind script before).tick;
+      (fabric_after script before).tick;
 }
 
 -- one for each packet that is sent, in turn

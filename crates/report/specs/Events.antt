@@ -20,7 +20,7 @@ use Rattle.fabric_state.specs.Fabric.{FabricOf}
 use Rattle.fabric_state.specs.declared.line.Line.{Line}
 use Rattle.fabric_state.specs.declared.line.Line.TheVariants as line
 use Rattle.fabric_world.specs.World.{WorldOf, begun, step, world_after}
-use Rattle.fabric_world.specs.Lines.{lines_of, rows_behind}
+use Rattle.fabric_world.specs.Lines.{lines_of, rows_after}
 use Rattle.fabric_world.specs.Histories.{IsLegal, end_of}
 use Rattle.fabric_settling.specs.Claims.{HoldsAndSettles}
 use Rattle.journal.specs.Texts.{IsJournal}
@@ -166,7 +166,7 @@ all_told script course rows lines = flat_map (told_text script course rows) line
 unfoldable pub event_text : ScriptOf → WorldOf → Event → List ℕ
 event_text script world event =
     let fabric : FabricOf = (step world event).fabric in
-    all_told script (course_of fabric) (rows_behind fabric event) (lines_of world event)
+    all_told script (course_of fabric) (rows_after fabric event) (lines_of world event)
 
 abbrev pub events_text : ScriptOf → WorldOf → List Event → List ℕ
 events_text script world [] = []

@@ -21,13 +21,13 @@ pub record Moment : Type 0 where
   pub event : Event
 
 -- the moments of what comes after some events, and those of a history
-abbrev pub moments_behind : List Event → List Event → List Moment
-moments_behind before [] = []
-moments_behind before (event ∷ events) =
-    record { before = before; event = event } ∷ moments_behind (before ++ event ∷ []) events
+abbrev pub moments_after : List Event → List Event → List Moment
+moments_after before [] = []
+moments_after before (event ∷ events) =
+    record { before = before; event = event } ∷ moments_after (before ++ event ∷ []) events
 
 abbrev pub moments : List Event → List Moment
-moments history = moments_behind [] history
+moments history = moments_after [] history
 
 -- What is told of a history so far: a beginning, and what is told at each moment; and the whole text, which
 -- has the last line if an end has come.

@@ -14,7 +14,7 @@ use Rattle.fabric_world.specs.World.{world_after}
 use Rattle.fabric_state.specs.declared.line.Line.{Line}
 use Rattle.fabric_state.specs.declared.line.Line.TheVariants as line
 use Rattle.report.specs.declared.naming.Traced.{Traced}
-use Rattle.report.specs.Beliefs.{address_at, address_in, arrivals_of, beliefs_of, fabric_behind, first_move, host_in, is_known}
+use Rattle.report.specs.Beliefs.{address_at, address_in, arrivals_of, beliefs_of, fabric_after, first_move, host_in, is_known}
 use Rattle.report.specs.Beliefs.{senders}
 
 -- to which host a packet is delivered, by what is told of its hop
@@ -85,7 +85,7 @@ pub record AreTraced (script : ScriptOf) (history : List Event) (packets : List 
   pub hosts : map (λ packet. packet.host) packets ≡ senders history
   pub sources : (place : ℕ) → source_at packets place
       ≡ option_map (address_at script (place + 1)) (first_move history (place + 1))
-  pub count : length packets ≡ (fabric_behind script history).sent
+  pub count : length packets ≡ (fabric_after script history).sent
 
 -- each host of the script keeps what its arrivals make it keep
 pub record AreRemembered (script : ScriptOf) (history : List Event) (caches : List (List ArrivalOf))
@@ -93,7 +93,7 @@ pub record AreRemembered (script : ScriptOf) (history : List Event) (caches : Li
   pub count : length caches ≡ length script.wires.hosts
   pub each : (host : ℕ) → host < length script.wires.hosts
       → cache_at caches host ≡ kept_of (arrivals_of script history host)
-  pub ticks : CameUntil (fabric_behind script history).tick caches
+  pub ticks : CameUntil (fabric_after script history).tick caches
 
 -- what is kept of a history, with how many packets were sent to a known address
 pub record KeepBeliefs (script : ScriptOf) (history : List Event) (own : ScriptOf) (packets : List Traced)
@@ -112,6 +112,6 @@ pub record Meets (script : ScriptOf) (before : List Event) (event : Event) (fabr
   pub keep : KeepBeliefs script before own packets caches known
   pub can_be : IsScript script
   pub lawful : IsLawful script (before ++ event ∷ [])
-  pub fabric_is : fabric ≡ fabric_behind script (before ++ event ∷ [])
+  pub fabric_is : fabric ≡ fabric_after script (before ++ event ∷ [])
   pub place_is : place ≡ length before + 1
   pub lines_are : lines ≡ lines_of (world_after script before) event

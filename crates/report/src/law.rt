@@ -5,7 +5,7 @@ ghost use Rattle.an_base.specs.declared.event.Event.{Event};
 ghost use Rattle.an_base.specs.declared.event.Event.TheVariants.{Send};
 ghost use Rattle.net_script.specs.Scripts.{ScriptOf};
 ghost use Rattle.fabric_world.specs.Histories.{IsLawful};
-ghost use Rattle.report.specs.Beliefs.{Belief, belief_of, beliefs_of, fabric_behind, senders};
+ghost use Rattle.report.specs.Beliefs.{Belief, belief_of, beliefs_of, fabric_after, senders};
 
 /// Of each packet that is sent in a history there is one belief, in turn: where its sender would send it by
 /// what it keeps of all that came to it before that event.
@@ -20,5 +20,5 @@ pub fn each_send_is_a_choice()
 /// The packets of a lawful history are numbered as they are sent: there were as many as hosts that sent.
 pub fn packets_are_numbered_in_turn()
     ensures { (script : ScriptOf) (history : List Event) → IsLawful script history
-        → length (senders history) ≡ (fabric_behind script history).sent }
+        → length (senders history) ≡ (fabric_after script history).sent }
 {}

@@ -6,7 +6,7 @@ ghost use Rattle.an_base.specs.declared.event.Event.{Event};
 ghost use Rattle.fabric_state.specs.declared.line.Line.{Line};
 ghost use Rattle.fabric_state.specs.declared.line.PlacedLine.{PlacedLine};
 ghost use Rattle.fabric_world.specs.Accounts.{loaded_rows, placed};
-ghost use Rattle.fabric_world.specs.Lines.{rows_behind};
+ghost use Rattle.fabric_world.specs.Lines.{rows_after};
 ghost use Rattle.fabric_world.specs.Histories.{IsLegal, owner_of};
 ghost use Rattle.fabric_world.specs.World.{WorldOf, step, world_after};
 ghost use Rattle.fabric_settling.specs.Claims.{HoldsAndSettles};
@@ -68,9 +68,9 @@ impl<'a> Left<'a> {
     }
 
     // The rows behind an event: those of the next table behind a load, and none behind others.
-    fn rows_behind(&mut self, event: &Event) -> &'a [Row]
+    fn rows_after(&mut self, event: &Event) -> &'a [Row]
         ensures { (world : WorldOf) (more : List (List RowOf)) → self.old.rows ≡ loaded_rows world event.now ++ more
-            → (result.now ≡ rows_behind (step world event.now).fabric event.now)
+            → (result.now ≡ rows_after (step world event.now).fabric event.now)
             × (self.new ≡ record self.old { rows = more }) }
     {
         if !matches!(event, Event::Load { .. }) {
@@ -174,7 +174,7 @@ impl<'a> Retelling<'a> {
     {
         self.telling.follow(event);
         let left = &mut self.left[owner_of(event)];
-        let rows = left.rows_behind(event);
+        let rows = left.rows_after(event);
         left.tell(&self.telling, rows, &mut self.text)
     }
 

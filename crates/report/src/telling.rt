@@ -7,7 +7,7 @@ ghost use Rattle.std.specs.Fmt.{decimal};
 ghost use Rattle.an_base.specs.declared.event.Event.{Event};
 ghost use Rattle.net_script.specs.Scripts.{ScriptOf};
 ghost use Rattle.row_text.specs.Names.{life_text};
-ghost use Rattle.fabric_world.specs.Lines.{rows_behind};
+ghost use Rattle.fabric_world.specs.Lines.{rows_after};
 ghost use Rattle.fabric_world.specs.Histories.{fabric_of};
 ghost use Rattle.fabric_book.specs.Nets.{history_of};
 ghost use Rattle.report.specs.Retellings.{Comes, HasCome};
@@ -707,8 +707,8 @@ impl<'a> Telling<'a> {
 }
 
 // The rows behind an event: those of the table in use behind a load, and none behind others.
-fn rows_behind<'a>(net: &'a Net, event: &Event) -> &'a [Row]
-    ensures { result.now ≡ rows_behind (fabric_of (history_of net.now)) event.now }
+fn rows_after<'a>(net: &'a Net, event: &Event) -> &'a [Row]
+    ensures { result.now ≡ rows_after (fabric_of (history_of net.now)) event.now }
 {
     let Event::Load { s } = *event else {
         return &[];
@@ -741,7 +741,7 @@ impl Listener for Telling<'_> {
         text: &mut Vec<u8>,
     ) -> Result<(), OutOfMemory> {
         self.follow(event);
-        let rows = rows_behind(net, event);
+        let rows = rows_after(net, event);
         self.push_lines(text, lines, rows)
     }
 

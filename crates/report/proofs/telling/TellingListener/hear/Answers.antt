@@ -23,8 +23,8 @@ returns-clause-text c = λ before heard come.
     let net = c.args.net.now in
     let self = c.args.self.now in
     let new = c.follow.new.self in
-    on_ok_weaker c.push_lines.result (λ is. event_told new.script.now before c.args.event.now net new.course c.rows_behind-rows.result.now c.args.lines.now c.args.text.now.items c.push_lines.new.text.items heard (record {
+    on_ok_weaker c.push_lines.result (λ is. event_told new.script.now before c.args.event.now net new.course c.rows_after-rows.result.now c.args.lines.now c.args.text.now.items c.push_lines.new.text.items heard (record {
       kept = come.kept;
       own_is = c.follow.ensures.script ∙ come.own_is;
       course_is = c.follow.ensures.course net.script before (comes_there before c.args.event.now net c.args.lines.now self.script.now self.course heard come);
-    }) c.rows_behind-rows.ensures is) c.push_lines.ensures
+    }) c.rows_after-rows.ensures is) c.push_lines.ensures
