@@ -11,7 +11,7 @@ use Rattle.dep_check.specs.declared.steps.Steps.{Steps}
 use Rattle.channel_graph.specs.Cycles.{Walk, Path, IsCycle, IsLeastFrom, IsLeastCycle}
 use Rattle.dep_check.specs.Channels.{channel_cmp}
 use Rattle.dep_check.specs.Tables.{IsSpot, place_of, level_at, wire_at}
-use Rattle.dep_check.specs.Search.{IsStepOf, IsStep, Step, IsLinked, AreRanked, AreNearest, IsNextAt, HasNextAt, IsLeastBehind, LeastBehind, Descends, IsLeastCycleFrom}
+use Rattle.dep_check.specs.Search.{IsStepOf, IsStep, Step, IsLinked, AreRanked, AreNearest, IsNextAt, HasNextAt, IsLeastAfter, LeastAfter, Descends, IsLeastCycleFrom}
 use Rattle.dep_check.proofs.SpotLemmas.{option_cases, spot_cases}
 use Rattle.dep_check.proofs.StepLemmas.{step_low}
 use Rattle.dep_check.proofs.LevelLemmas.{step_spot}
@@ -108,7 +108,7 @@ first_step steps a [] z step = (z, step)
 first_step steps a (c ∷ cs) z (step, path) = (c, step)
 
 -- the least level, with one exit more
-pub behind_same : (steps : Steps) (levels : List (Option ℕ)) (s : Channel) (e : ℕ) (best : Option ℕ) → ((b : Channel) (m : ℕ) → IsStep steps s e b → level_at levels b ≡ Some m → ⊥) → LeastBehind steps levels s e best → LeastBehind steps levels s (e + 1) best
+pub behind_same : (steps : Steps) (levels : List (Option ℕ)) (s : Channel) (e : ℕ) (best : Option ℕ) → ((b : Channel) (m : ℕ) → IsStep steps s e b → level_at levels b ≡ Some m → ⊥) → LeastAfter steps levels s e best → LeastAfter steps levels s (e + 1) best
 behind_same steps levels s e None nothing so_far = λ f b m low step level. elim (cases_eq f e) [
   | inl last ↦ nothing b m (subst (λ (g : ℕ). IsStep steps s g b) last step) level
   | inr before ↦ so_far f b m (omega arith) step level
@@ -121,7 +121,7 @@ behind_same steps levels s e (Some n) nothing so_far = record {
   ];
 }
 
-pub behind_first : (steps : Steps) (levels : List (Option ℕ)) (s next : Channel) (e l : ℕ) → IsStep steps s e next → ((b : Channel) → IsStep steps s e b → next ≡ b) → level_at levels next ≡ Some l → LeastBehind steps levels s e None → IsLeastBehind steps levels s (e + 1) l
+pub behind_first : (steps : Steps) (levels : List (Option ℕ)) (s next : Channel) (e l : ℕ) → IsStep steps s e next → ((b : Channel) → IsStep steps s e b → next ≡ b) → level_at levels next ≡ Some l → LeastAfter steps levels s e None → IsLeastAfter steps levels s (e + 1) l
 behind_first steps levels s next e l is only level so_far = record {
   has = (next, (e, is), level);
   least = λ f b m low step there. elim (cases_eq f e) [
@@ -130,7 +130,7 @@ behind_first steps levels s next e l is only level so_far = record {
   ];
 }
 
-pub behind_less : (steps : Steps) (levels : List (Option ℕ)) (s next : Channel) (e n l : ℕ) → IsStep steps s e next → ((b : Channel) → IsStep steps s e b → next ≡ b) → level_at levels next ≡ Some l → IsLeastBehind steps levels s e n → IsLeastBehind steps levels s (e + 1) (min n l)
+pub behind_less : (steps : Steps) (levels : List (Option ℕ)) (s next : Channel) (e n l : ℕ) → IsStep steps s e next → ((b : Channel) → IsStep steps s e b → next ≡ b) → level_at levels next ≡ Some l → IsLeastAfter steps levels s e n → IsLeastAfter steps levels s (e + 1) (min n l)
 behind_less steps levels s next e n l is only level so_far = record {
   has = elim (cases_lt l n) [
     | inl less ↦ (let same : l ≡ min n l = omega arith in (next, (e, is), level ∙ ap (λ (k : ℕ). Some k) same))
@@ -220,7 +220,7 @@ module _ (steps : Steps) (levels : List (Option ℕ)) (start : Channel) (nearest
       descends_least b m bs z rest (λ x k next there. let h = nearer_next b x n k b_spot here.level next there in omega arith) ds (subst (λ (x : Channel). Path (Step steps) x ds start) (sym one) path) (omega arith))
 
   -- the descent is the least shortest cycle
-  pub descent_least : (n : ℕ) (cs : List Channel) (z : Channel) → LeastBehind steps levels start 13 (Some n) → Descends steps levels start n cs z 0 → HasNextAt steps levels z 0 → IsLeastFrom channel_cmp (Step steps) start cs
+  pub descent_least : (n : ℕ) (cs : List Channel) (z : Channel) → LeastAfter steps levels start 13 (Some n) → Descends steps levels start n cs z 0 → HasNextAt steps levels z 0 → IsLeastFrom channel_cmp (Step steps) start cs
   descent_least n cs z behind descends last =
       let bound : (b : Channel) (m : ℕ) → Step steps start b → level_at levels b ≡ Some m → n ≤ m = (λ (b : Channel) (m : ℕ) (step : Step steps start b) (level : level_at levels b ≡ Some m). behind.least step.0 b m (step_low steps.wires.items steps.exits.items steps.to start step.0 b step.1) step.1 level) in
       record {
@@ -236,7 +236,7 @@ module _ (steps : Steps) (levels : List (Option ℕ)) (start : Channel) (nearest
       }
 
   -- where nothing behind the start has a level, no cycle comes back to it
-  pub none_behind : LeastBehind steps levels start 13 None → (ds : List Channel) → IsCycle (Step steps) start ds → ⊥
+  pub none_behind : LeastAfter steps levels start 13 None → (ds : List Channel) → IsCycle (Step steps) start ds → ⊥
   none_behind behind ds path =
       let w = path_walk steps start ds start path in
       let l = level_of w.0 (length ds) (step_spot steps start w.0 w.1) w.2 in

@@ -198,7 +198,7 @@ HasNextAt steps levels spot level =
     (after : Channel) × Step steps spot after × (level_at levels after ≡ Some level)
 
 -- the least level of what the steps by the first exits lead to
-pub record IsLeastBehind (steps : Steps) (levels : List (Option ℕ)) (spot : Channel) (end level : ℕ)
+pub record IsLeastAfter (steps : Steps) (levels : List (Option ℕ)) (spot : Channel) (end level : ℕ)
     : Type 0 where
   pub has : HasNextAt steps levels spot level
   pub least :
@@ -206,11 +206,11 @@ pub record IsLeastBehind (steps : Steps) (levels : List (Option ℕ)) (spot : Ch
       → level_at levels after ≡ Some other → level ≤ other
 
 -- None: no such step leads to one that has a level
-abbrev pub LeastBehind : Steps → List (Option ℕ) → Channel → ℕ → Option ℕ → Type 0
-LeastBehind steps levels spot end None =
+abbrev pub LeastAfter : Steps → List (Option ℕ) → Channel → ℕ → Option ℕ → Type 0
+LeastAfter steps levels spot end None =
     (exit : ℕ) (after : Channel) (other : ℕ) → exit < end → IsStep steps spot exit after
     → level_at levels after ≡ Some other → ⊥
-LeastBehind steps levels spot end (Some level) = IsLeastBehind steps levels spot end level
+LeastAfter steps levels spot end (Some level) = IsLeastAfter steps levels spot end level
 
 -- from a spot, whose next is at a level, along least next ones to another, whose next is at another level
 abbrev pub Descends : Steps → List (Option ℕ) → Channel → ℕ → List Channel → Channel → ℕ → Type 0

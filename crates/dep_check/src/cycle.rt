@@ -4,7 +4,7 @@ ghost use Rattle.std.specs.Prelude.{◌≡◌, ◌<◌, ◌+◌, IfOk, MatchOpti
 ghost use Rattle.channel_graph.specs.Cycles.{HasNoCycle, IsLeastCycle};
 ghost use Rattle.dep_check.specs.Channels.{channel_cmp};
 ghost use Rattle.dep_check.specs.Tables.{IsSpot};
-ghost use Rattle.dep_check.specs.Search.{AreNearest, HasNextAt, IsNextAt, LeastBehind, Step, IsLeastCycleFrom};
+ghost use Rattle.dep_check.specs.Search.{AreNearest, HasNextAt, IsNextAt, LeastAfter, Step, IsLeastCycleFrom};
 
 use crate::channel::{Channel, Channels};
 use crate::level::{level_of, nearest_to};
@@ -42,8 +42,8 @@ fn lesser(
 ) -> Option<u16>
     requires spot { IsSpot channel }
     requires exit { exit < 13 }
-    requires before { LeastBehind steps.now levels.now channel exit best }
-    ensures { LeastBehind steps.now levels.now channel (exit + 1) result }
+    requires before { LeastAfter steps.now levels.now channel exit best }
+    ensures { LeastAfter steps.now levels.now channel (exit + 1) result }
 {
     let Some(next) = steps.next(channel, exit) else {
         return best;
@@ -58,9 +58,9 @@ fn lesser(
 }
 
 // The least level of the channels to which one leads.
-fn least_behind(steps: &Steps, levels: &[Option<u16>], channel: Channel) -> Option<u16>
+fn least_after(steps: &Steps, levels: &[Option<u16>], channel: Channel) -> Option<u16>
     requires { IsSpot channel }
-    ensures { LeastBehind steps.now levels.now channel 13 result }
+    ensures { LeastAfter steps.now levels.now channel 13 result }
 {
     let mut best = None;
     'exits: for exit in 0..13u8 {
@@ -80,7 +80,7 @@ fn cycle_from(
     requires spot { IsSpot start }
     requires channels { steps.now.to ≡ None }
     requires nearest { AreNearest steps.now (λ s. s ≡ start) levels.now }
-    requires length { LeastBehind steps.now levels.now start 13 (Some length) }
+    requires length { LeastAfter steps.now levels.now start 13 (Some length) }
     ensures { IfOk result (IsLeastCycleFrom (Step steps.now) start) }
 {
     let mut channels = Vec::new(alloc);
@@ -107,7 +107,7 @@ pub fn least_cycle(alloc: Global, steps: &Steps) -> Result<Option<Channels>, Out
         let start = spot_at(place);
         if has_peer(steps, &tiers, start) {
             let levels = nearest_to(alloc, steps, start)?;
-            if let Some(length) = least_behind(steps, &levels, start) {
+            if let Some(length) = least_after(steps, &levels, start) {
                 return Ok(Some(cycle_from(alloc, steps, &levels, start, length)?));
             }
         }

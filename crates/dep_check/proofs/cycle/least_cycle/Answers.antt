@@ -3,7 +3,7 @@ use Rattle.std.proofs.lemmas.Bool.{cases_eq}
 use Rattle.dep_check.specs.declared.channel.Channel.{Channel}
 use Rattle.channel_graph.specs.Cycles.{IsCycle}
 use Rattle.dep_check.specs.Tables.{place_of}
-use Rattle.dep_check.specs.Search.{Step, LeastBehind}
+use Rattle.dep_check.specs.Search.{Step, LeastAfter}
 use Rattle.dep_check.proofs.SpotLemmas.{one_spot, place_low}
 use Rattle.dep_check.proofs.CycleLemmas.{cycle_at, none_behind, path_from_spot}
 use Rattle.dep_check.proofs.TierLemmas.{cycle_peer}
@@ -30,7 +30,7 @@ spots-preserved c = λ d ds spot low cycle.
           let round : IsCycle (Step steps) start ds = subst (λ (x : Channel). IsCycle (Step steps) x ds) here cycle in
           elim c.if-has_peer.branch [
             | then-has_peer+in_ok-levels+in_default w ↦ (
-                let none : LeastBehind steps w.in_ok-levels.levels.items start 13 None = rw (w.deref-then-has_peer.ensures.value, w.in_default.is) at w.least_behind.ensures in
+                let none : LeastAfter steps w.in_ok-levels.levels.items start 13 None = rw (w.deref-then-has_peer.ensures.value, w.in_default.is) at w.least_after.ensures in
                 none_behind steps w.in_ok-levels.levels.items start w.in_ok-levels.ensures none ds round)
             | else-has_peer w ↦ absurd (
                 let may = c.has_peer.ensures.1 (rw c.deref.ensures.value (cycle_peer steps c.in_ok-tiers.tiers.items c.in_ok-tiers.ensures start ds round)) in
