@@ -5,7 +5,7 @@ use Rattle.an_base.specs.Values.{EntryOf}
 use Rattle.topo_graph.specs.Topology.{far_of, IsGraph}
 use Rattle.std.proofs.lemmas.Bool.{cases_Bool}
 use Rattle.updown.specs.Routes.{is_up_end, IsLeast}
-use Rattle.updown.specs.Lengths.{length_at, lesser_of, behind_at, behind_of, AreAtMost, Onward}
+use Rattle.updown.specs.Lengths.{length_at, lesser_of, left_at, left_of, AreAtMost, Onward}
 
 -- where something has it, the least is there and is no more
 pub least_found : (P : ℕ → Type 0) (o : Option ℕ) (m : ℕ) → IsLeast P o → P m → (n : ℕ) × (o ≡ Some n) × (n ≤ m)
@@ -68,30 +68,30 @@ pub least_none : (f : ℕ → Option ℕ) → IsLeast (Below f 0) None
 least_none f = λ n (p, low, e). absurd (omega arith)
 
 -- after the last port it is the least of all
-pub least_all : (es : List EntryOf) (up down : List (Option ℕ)) (x : ℕ) (best : Option ℕ) → IsGraph es → IsLeast (Below (behind_of es up down x) 13) best → IsLeast (λ n. (p : ℕ) × (behind_of es up down x p ≡ Some n)) best
-least_all es up down x best graph least = least_iff (Below (behind_of es up down x) 13) (λ n. (p : ℕ) × (behind_of es up down x p ≡ Some n)) best (λ n (p, low, e). (p, e)) (λ n (p, e). (p, low p n e, e)) least
+pub least_all : (es : List EntryOf) (up down : List (Option ℕ)) (x : ℕ) (best : Option ℕ) → IsGraph es → IsLeast (Below (left_of es up down x) 13) best → IsLeast (λ n. (p : ℕ) × (left_of es up down x p ≡ Some n)) best
+least_all es up down x best graph least = least_iff (Below (left_of es up down x) 13) (λ n. (p : ℕ) × (left_of es up down x p ≡ Some n)) best (λ n (p, low, e). (p, e)) (λ n (p, e). (p, low p n e, e)) least
   where
-    low : (p n : ℕ) → behind_of es up down x p ≡ Some n → p < 13
+    low : (p n : ℕ) → left_of es up down x p ≡ Some n → p < 13
     low p n e = go (far_of es x p) refl
       where
         go : (o : Option (ℕ × ℕ)) → far_of es x p ≡ o → p < 13
-        go None is = absurd (let none : behind_of es up down x p ≡ None = rw is refl in cc)
+        go None is = absurd (let none : left_of es up down x p ≡ None = rw is refl in cc)
         go (Some far) is = let within = graph.within x p far is in omega (arith, within.port_most)
 
 -- one link before what is left
-pub onward_next : (es : List EntryOf) (up down : List (Option ℕ)) (to x : ℕ) (o : Option ℕ) (left : ℕ) → x ≢ to → IsLeast (λ n. (p : ℕ) × (behind_of es up down x p ≡ Some n)) o → o ≡ Some left → IsLeast (Onward es up down to x) (Some (left + 1))
+pub onward_next : (es : List EntryOf) (up down : List (Option ℕ)) (to x : ℕ) (o : Option ℕ) (left : ℕ) → x ≢ to → IsLeast (λ n. (p : ℕ) × (left_of es up down x p ≡ Some n)) o → o ≡ Some left → IsLeast (Onward es up down to x) (Some (left + 1))
 onward_next es up down to x o left other least is =
-    let l = subst (λ (b : Option ℕ). IsLeast (λ n. (p : ℕ) × (behind_of es up down x p ≡ Some n)) b) is least in
+    let l = subst (λ (b : Option ℕ). IsLeast (λ n. (p : ℕ) × (left_of es up down x p ≡ Some n)) b) is least in
     (rw add-one l.0, go l)
   where
-    go : IsLeast (λ n. (p : ℕ) × (behind_of es up down x p ≡ Some n)) (Some left) → (m : ℕ) → Onward es up down to x m → left + 1 ≤ m
+    go : IsLeast (λ n. (p : ℕ) × (left_of es up down x p ≡ Some n)) (Some left) → (m : ℕ) → Onward es up down to x m → left + 1 ≤ m
     go l zero on = absurd (other on)
     go l (suc m) on = let h = l.1 m on in omega arith
 
-pub onward_none : (es : List EntryOf) (up down : List (Option ℕ)) (to x : ℕ) (o : Option ℕ) → x ≢ to → IsLeast (λ n. (p : ℕ) × (behind_of es up down x p ≡ Some n)) o → o ≡ None → IsLeast (Onward es up down to x) None
-onward_none es up down to x o other least is = go (subst (λ (b : Option ℕ). IsLeast (λ n. (p : ℕ) × (behind_of es up down x p ≡ Some n)) b) is least)
+pub onward_none : (es : List EntryOf) (up down : List (Option ℕ)) (to x : ℕ) (o : Option ℕ) → x ≢ to → IsLeast (λ n. (p : ℕ) × (left_of es up down x p ≡ Some n)) o → o ≡ None → IsLeast (Onward es up down to x) None
+onward_none es up down to x o other least is = go (subst (λ (b : Option ℕ). IsLeast (λ n. (p : ℕ) × (left_of es up down x p ≡ Some n)) b) is least)
   where
-    go : IsLeast (λ n. (p : ℕ) × (behind_of es up down x p ≡ Some n)) None → (m : ℕ) → Onward es up down to x m → ⊥
+    go : IsLeast (λ n. (p : ℕ) × (left_of es up down x p ≡ Some n)) None → (m : ℕ) → Onward es up down to x m → ⊥
     go l zero on = other on
     go l (suc m) on = l m on
 
@@ -100,31 +100,31 @@ pub onward_here : (es : List EntryOf) (up down : List (Option ℕ)) (to x : ℕ)
 onward_here es up down to x same = (same, λ m on. omega arith)
 
 -- Where what is left behind each port is the least of what may follow it, the least way onward is the least of a property that goes on behind a port.
-pub least_onward : (es : List EntryOf) (up down : List (Option ℕ)) (to x : ℕ) (H : ℕ → Type 0) (Q : ℕ → ℕ → Type 0) (o : Option ℕ) → (H 0 → x ≡ to) → (x ≡ to → H 0) → ((n : ℕ) → H (suc n) → (p : ℕ) × Q p n) → ((n p : ℕ) → Q p n → H (suc n)) → ((p : ℕ) → IsLeast (Q p) (behind_of es up down x p)) → IsLeast (Onward es up down to x) o → IsLeast H o
+pub least_onward : (es : List EntryOf) (up down : List (Option ℕ)) (to x : ℕ) (H : ℕ → Type 0) (Q : ℕ → ℕ → Type 0) (o : Option ℕ) → (H 0 → x ≡ to) → (x ≡ to → H 0) → ((n : ℕ) → H (suc n) → (p : ℕ) × Q p n) → ((n p : ℕ) → Q p n → H (suc n)) → ((p : ℕ) → IsLeast (Q p) (left_of es up down x p)) → IsLeast (Onward es up down to x) o → IsLeast H o
 least_onward es up down to x H Q None zero_to zero_from suc_to suc_from known least = none
   where
     none : (m : ℕ) → H m → ⊥
     none zero h = least 0 (zero_to h)
-    none (suc m) h = let q = suc_to m h in let f = least_found (Q q.0) (behind_of es up down x q.0) m (known q.0) q.1 in least (suc f.0) (q.0, f.1)
+    none (suc m) h = let q = suc_to m h in let f = least_found (Q q.0) (left_of es up down x q.0) m (known q.0) q.1 in least (suc f.0) (q.0, f.1)
 least_onward es up down to x H Q (Some n) zero_to zero_from suc_to suc_from known least = (has n least.0, at_most)
   where
     has : (n : ℕ) → Onward es up down to x n → H n
     has zero on = zero_from on
-    has (suc n) (p, e) = suc_from n p (least_has (Q p) (behind_of es up down x p) n (known p) e)
+    has (suc n) (p, e) = suc_from n p (least_has (Q p) (left_of es up down x p) n (known p) e)
 
     at_most : (m : ℕ) → H m → n ≤ m
     at_most zero h = least.1 0 (zero_to h)
-    at_most (suc m) h = let q = suc_to m h in let f = least_found (Q q.0) (behind_of es up down x q.0) m (known q.0) q.1 in let l = least.1 (suc f.0) (q.0, f.1) in let k = f.2 in omega arith
+    at_most (suc m) h = let q = suc_to m h in let f = least_found (Q q.0) (left_of es up down x q.0) m (known q.0) q.1 in let l = least.1 (suc f.0) (q.0, f.1) in let k = f.2 in omega arith
 
 -- what is left behind a port is one of the lengths
-pub behind_most : (es : List EntryOf) (up down : List (Option ℕ)) (x p n : ℕ) → AreAtMost up 250 → AreAtMost down 250 → behind_of es up down x p ≡ Some n → n ≤ 250
+pub behind_most : (es : List EntryOf) (up down : List (Option ℕ)) (x p n : ℕ) → AreAtMost up 250 → AreAtMost down 250 → left_of es up down x p ≡ Some n → n ≤ 250
 behind_most es up down x p n up_most down_most e = go (far_of es x p) refl
   where
     go : (o : Option (ℕ × ℕ)) → far_of es x p ≡ o → n ≤ 250
-    go None is = absurd (let none : behind_of es up down x p ≡ None = rw is refl in cc)
+    go None is = absurd (let none : left_of es up down x p ≡ None = rw is refl in cc)
     go (Some (z, q)) is =
-        let at : behind_of es up down x p ≡ behind_at es up down x (z, q) = rw is refl in
+        let at : left_of es up down x p ≡ left_at es up down x (z, q) = rw is refl in
         elim (cases_Bool (is_up_end es z x)) [
-          | inl is_up ↦ up_most z n (let f : behind_at es up down x (z, q) ≡ length_at up z = rw is_up refl in sym f ∙ sym at ∙ e)
-          | inr not_up ↦ down_most z n (let f : behind_at es up down x (z, q) ≡ length_at down z = rw not_up refl in sym f ∙ sym at ∙ e)
+          | inl is_up ↦ up_most z n (let f : left_at es up down x (z, q) ≡ length_at up z = rw is_up refl in sym f ∙ sym at ∙ e)
+          | inr not_up ↦ down_most z n (let f : left_at es up down x (z, q) ≡ length_at down z = rw not_up refl in sym f ∙ sym at ∙ e)
         ]

@@ -8,16 +8,16 @@ use Rattle.topo_graph.proofs.FarLemmas.{one_far}
 use Rattle.updown.specs.declared.order.Height.{Height}
 use Rattle.updown.specs.Order.{place_at, IsDescent}
 use Rattle.updown.specs.Routes.{is_up_end, HasDown, HasLegal, IsLeast}
-use Rattle.updown.specs.Lengths.{length_at, behind_of, Onward, AreAtMost, AreDownSoFar, AreUpSoFar, AreLengths}
+use Rattle.updown.specs.Lengths.{length_at, left_of, Onward, AreAtMost, AreDownSoFar, AreUpSoFar, AreLengths}
 use Rattle.updown.proofs.RouteLemmas.{NextDown, NextLegal, down_zero, down_here, down_suc, down_on, legal_zero, legal_here, legal_suc, legal_on}
 use Rattle.updown.proofs.LeastLemmas.{least_has, least_iff, least_onward}
 use Rattle.updown.proofs.OrderLemmas.{position_is, place_low, later, earlier, down_bound, legal_bound}
 
 -- what is left behind a port, of routes downward
-pub behind_down : (es : List EntryOf) (down : List (Option ℕ)) (x to p : ℕ) → ((z q : ℕ) → far_of es x p ≡ Some (z, q) → is_up_end es z x ≡ false → IsLeast (HasDown es z to) (length_at down z)) → IsLeast (NextDown es x to p) (behind_of es [] down x p)
+pub behind_down : (es : List EntryOf) (down : List (Option ℕ)) (x to p : ℕ) → ((z q : ℕ) → far_of es x p ≡ Some (z, q) → is_up_end es z x ≡ false → IsLeast (HasDown es z to) (length_at down z)) → IsLeast (NextDown es x to p) (left_of es [] down x p)
 behind_down es down x to p known = go (far_of es x p) refl
   where
-    go : (o : Option (ℕ × ℕ)) → far_of es x p ≡ o → IsLeast (NextDown es x to p) (behind_of es [] down x p)
+    go : (o : Option (ℕ × ℕ)) → far_of es x p ≡ o → IsLeast (NextDown es x to p) (left_of es [] down x p)
     go None e = rw e (λ n next. absurd (let f = next.2 in cc))
     go (Some (z, q)) e = elim (cases_Bool (is_up_end es z x)) [
       | inl up ↦ rw (e, up) (λ n next. absurd (
@@ -31,10 +31,10 @@ behind_down es down x to p known = go (far_of es x p) refl
     ]
 
 -- and of legal routes
-pub behind_legal : (es : List EntryOf) (up down : List (Option ℕ)) (x to p : ℕ) → ((z q : ℕ) → far_of es x p ≡ Some (z, q) → is_up_end es z x ≡ true → IsLeast (HasLegal es z to) (length_at up z)) → ((z q : ℕ) → far_of es x p ≡ Some (z, q) → is_up_end es z x ≡ false → IsLeast (HasDown es z to) (length_at down z)) → IsLeast (NextLegal es x to p) (behind_of es up down x p)
+pub behind_legal : (es : List EntryOf) (up down : List (Option ℕ)) (x to p : ℕ) → ((z q : ℕ) → far_of es x p ≡ Some (z, q) → is_up_end es z x ≡ true → IsLeast (HasLegal es z to) (length_at up z)) → ((z q : ℕ) → far_of es x p ≡ Some (z, q) → is_up_end es z x ≡ false → IsLeast (HasDown es z to) (length_at down z)) → IsLeast (NextLegal es x to p) (left_of es up down x p)
 behind_legal es up down x to p known_up known_down = go (far_of es x p) refl
   where
-    go : (o : Option (ℕ × ℕ)) → far_of es x p ≡ o → IsLeast (NextLegal es x to p) (behind_of es up down x p)
+    go : (o : Option (ℕ × ℕ)) → far_of es x p ≡ o → IsLeast (NextLegal es x to p) (left_of es up down x p)
     go None e = rw e (λ n next. absurd (let f = next.2 in cc))
     go (Some (z, q)) e = elim (cases_Bool (is_up_end es z x)) [
       | inl is_up ↦ rw (e, is_up) (least_iff (HasLegal es z to) (NextLegal es x to p) (length_at up z)

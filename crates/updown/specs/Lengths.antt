@@ -30,12 +30,12 @@ pub record AreLengths (entries : List EntryOf) (to : ℕ) (lengths : LengthsOf) 
 
 -- what is left to go after the far end of a port: by any legal route after an upward link, downward alone
 -- after a downward one
-abbrev pub behind_at : List EntryOf → List (Option ℕ) → List (Option ℕ) → ℕ → (ℕ × ℕ) → Option ℕ
-behind_at entries up down place far = length_at (if is_up_end entries far.0 place then up else down) far.0
+abbrev pub left_at : List EntryOf → List (Option ℕ) → List (Option ℕ) → ℕ → (ℕ × ℕ) → Option ℕ
+left_at entries up down place far = length_at (if is_up_end entries far.0 place then up else down) far.0
 
-abbrev pub behind_of : List EntryOf → List (Option ℕ) → List (Option ℕ) → ℕ → ℕ → Option ℕ
-behind_of entries up down place port =
-    option_and_then (behind_at entries up down place) (far_of entries place port)
+abbrev pub left_of : List EntryOf → List (Option ℕ) → List (Option ℕ) → ℕ → ℕ → Option ℕ
+left_of entries up down place port =
+    option_and_then (left_at entries up down place) (far_of entries place port)
 
 -- no length is above this
 abbrev pub AreAtMost : List (Option ℕ) → ℕ → Type 0
@@ -50,7 +50,7 @@ lesser_of (Some one) (Some other) = Some (min one other)
 -- the lengths of ways from a place: none at the place itself, and one more than what is left after a port
 abbrev pub Onward : List EntryOf → List (Option ℕ) → List (Option ℕ) → ℕ → ℕ → ℕ → Type 0
 Onward entries up down to place zero = place ≡ to
-Onward entries up down to place (suc count) = (port : ℕ) × (behind_of entries up down place port ≡ Some count)
+Onward entries up down to place (suc count) = (port : ℕ) × (left_of entries up down place port ≡ Some count)
 
 -- the table has the lengths of routes downward of the places of the order from this index on
 pub record AreDownSoFar (entries : List EntryOf) (to : ℕ) (order : List Height) (down : List (Option ℕ))

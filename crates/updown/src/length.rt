@@ -4,7 +4,7 @@ ghost use Rattle.std.specs.Prelude.{◌≡◌, ℕ, Some, None, length, IfOk};
 ghost use Rattle.topo_graph.specs.Topology.{IsGraph};
 ghost use Rattle.updown.specs.Order.{IsDescent};
 ghost use Rattle.updown.specs.Routes.{IsLeast};
-ghost use Rattle.updown.specs.Lengths.{AreAtMost, AreDownSoFar, AreLengths, AreUpSoFar, behind_of, length_at};
+ghost use Rattle.updown.specs.Lengths.{AreAtMost, AreDownSoFar, AreLengths, AreUpSoFar, left_of, length_at};
 ghost use Rattle.updown.specs.Lengths.{lesser_of, Onward};
 
 use crate::order::{Descent, Height};
@@ -27,8 +27,8 @@ fn lesser(a: Option<u8>, b: Option<u8>) -> Option<u8>
 
 // What is left to go from the far end of a port: by any legal route after an upward link,
 // downward alone after a downward one.
-fn behind(graph: &Graph, up: &[Option<u8>], down: &[Option<u8>], x: u8, port: u8) -> Option<u8>
-    ensures behind { result ≡ behind_of graph.now up.now down.now x port }
+fn left_after(graph: &Graph, up: &[Option<u8>], down: &[Option<u8>], x: u8, port: u8) -> Option<u8>
+    ensures left { result ≡ left_of graph.now up.now down.now x port }
     ensures graph { IsGraph graph.now }
 {
     let (y, _) = graph.far_place(x, port)?;
@@ -37,13 +37,13 @@ fn behind(graph: &Graph, up: &[Option<u8>], down: &[Option<u8>], x: u8, port: u8
 }
 
 // The least that is left to go after any port of x.
-fn least_behind(graph: &Graph, up: &[Option<u8>], down: &[Option<u8>], x: u8) -> Option<u8>
+fn least_left(graph: &Graph, up: &[Option<u8>], down: &[Option<u8>], x: u8) -> Option<u8>
     requires { IsGraph graph.now }
-    ensures { IsLeast (λ n. (p : ℕ) × (behind_of graph.now up.now down.now x p ≡ Some n)) result }
+    ensures { IsLeast (λ n. (p : ℕ) × (left_of graph.now up.now down.now x p ≡ Some n)) result }
 {
     let mut best = None;
     'ports: for port in 0..13u8 {
-        best = lesser(best, behind(graph, up, down, x, port));
+        best = lesser(best, left_after(graph, up, down, x, port));
     }
     best
 }
@@ -58,7 +58,7 @@ fn length_from(graph: &Graph, up: &[Option<u8>], down: &[Option<u8>], to: u8, x:
     if x == to {
         return Some(0);
     }
-    let left = least_behind(graph, up, down, x)?;
+    let left = least_left(graph, up, down, x)?;
     Some(left + 1)
 }
 

@@ -3,7 +3,7 @@ use Rattle.updown.proofs.LeastLemmas.{onward_next, onward_none, behind_most}
 use Rattle.updown.proofs.length.length_from.Goals as goal
 
 pub returns-in_err-left : goal.returns-in_err-left
-returns-in_err-left c = rw c.from_residual.ensures (onward_none c.args.graph.now c.args.up.now c.args.down.now c.args.to c.args.x c.least_behind.result c.if-x-to.false c.least_behind.ensures c.in_err-left.was)
+returns-in_err-left c = rw c.from_residual.ensures (onward_none c.args.graph.now c.args.up.now c.args.down.now c.args.to c.args.x c.least_left.result c.if-x-to.false c.least_left.ensures c.in_err-left.was)
 
 pub overflow_add-result : goal.overflow_add-result
 overflow_add-result c =
@@ -11,4 +11,4 @@ overflow_add-result c =
     omega arith
 
 pub returns : goal.returns
-returns c = onward_next c.args.graph.now c.args.up.now c.args.down.now c.args.to c.args.x c.least_behind.result c.in_ok-left.left c.if-x-to.false c.least_behind.ensures c.in_ok-left.was
+returns c = onward_next c.args.graph.now c.args.up.now c.args.down.now c.args.to c.args.x c.least_left.result c.in_ok-left.left c.if-x-to.false c.least_left.ensures c.in_ok-left.was
