@@ -16,7 +16,7 @@ use Rattle.table_build.specs.Exits.{Begins, AreExits, passes}
 use Rattle.table_build.proofs.ExitLemmas.{HasWay, exit_is, none_behind, up_not_behind, down_behind, has_way, way_of, Behind}
 use Rattle.table_build.proofs.WayLaws.{way_far}
 use Rattle.table_build.proofs.LengthLaws.{way_short}
-use Rattle.table_build.specs.Made.{exit_ports, leads_in, shortest, left_behind, is_exit, exits_to}
+use Rattle.table_build.specs.Made.{exit_ports, leads_in, shortest, left_after, is_exit, exits_to}
 use Rattle.table_build.proofs.MadeLists.{range_rising, find_least}
 use Rattle.table_build.proofs.ShortestLaws.{found, finds, external}
 use Rattle.an_base.proofs.MemberLemmas.{one_rising}
@@ -58,7 +58,7 @@ below es true x y p z q graph e is =
 below es false x y p z q graph e is = down_behind es x y p z q (shortest es y false z) e is (shortest_least es false z y graph (graph.within x p (z, q) e).far_place)
 
 -- what is left behind a port is the least of what may follow it
-left_least : (es : List EntryOf) (up : Bool) (x y p : ℕ) (o : Option (ℕ × ℕ)) → IsGraph es → far_of es x p ≡ o → IsLeast (Behind es up x y p) (option_map_or (left_behind es y up x) o None)
+left_least : (es : List EntryOf) (up : Bool) (x y p : ℕ) (o : Option (ℕ × ℕ)) → IsGraph es → far_of es x p ≡ o → IsLeast (Behind es up x y p) (option_map_or (left_after es y up x) o None)
 left_least es true x y p None graph e = λ n (z, q, f, side). absurd (cc)
 left_least es false x y p None graph e = none_behind es x y p e
 left_least es up x y p (Some (z, q)) graph e = elim (cases_Bool (is_up_end es z x)) [
@@ -80,7 +80,7 @@ exit_test es any up x y p graph low = (
 )
   where
     left : Option ℕ
-    left = option_map_or (left_behind es y up x) (far_of es x p) None
+    left = option_map_or (left_after es y up x) (far_of es x p) None
 
     whole : Option ℕ
     whole = shortest es y up x

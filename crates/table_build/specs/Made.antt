@@ -34,8 +34,8 @@ shortest entries target up place =
     find (λ links. leads_in entries target links up place) (range_with_len 0 (2 * length entries))
 
 -- the same after a port: any legal route after an upward link, downward links alone after a downward one
-abbrev pub left_behind : List EntryOf → ℕ → Bool → ℕ → ℕ × ℕ → Option ℕ
-left_behind entries target up place far =
+abbrev pub left_after : List EntryOf → ℕ → Bool → ℕ → ℕ × ℕ → Option ℕ
+left_after entries target up place far =
     if is_up_end entries far.0 place
     then (if up then shortest entries target true far.0 else None)
     else shortest entries target false far.0
@@ -44,7 +44,7 @@ left_behind entries target up place far =
 abbrev pub is_exit : List EntryOf → Bool → Bool → ℕ → ℕ → ℕ → Bool
 is_exit entries any up place target port =
     not (place == target)
-    && passes any (option_map_or (left_behind entries target up place) (far_of entries place port) None)
+    && passes any (option_map_or (left_after entries target up place) (far_of entries place port) None)
     (shortest entries target up place)
 
 abbrev pub exits_to : List EntryOf → Bool → Bool → ℕ → ℕ → List ℕ
