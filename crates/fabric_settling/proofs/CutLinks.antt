@@ -12,7 +12,7 @@ use Rattle.an_base.specs.declared.frame.Frame.{Frame}
 use Rattle.net_script.specs.Scripts.{ScriptOf, IsScript}
 use Rattle.port_monitor.specs.Histories.{History}
 use Rattle.link_settling.specs.Links.{Ticks, begins}
-use Rattle.link_settling.specs.Moments.{EndView, TickEnds, Run, rest, tick_begins}
+use Rattle.link_settling.specs.Moments.{EndView, TickEnds, EndRun, rest, tick_begins}
 use Rattle.wire_set.specs.WireState.{place, hand_of}
 use Rattle.fabric_state.specs.Fabric.{FabricOf, station, vacant, is_up, is_some_spent, is_clock_due, clock_due_at}
 use Rattle.fabric_state.specs.Lawful.{is_lawful}
@@ -79,8 +79,8 @@ view_begins script kept h l at is =
       reply = none_under (Rattle.fabric_settling.specs.Views.is_reply (end_there w l) (end_here w l) (Rattle.fabric_settling.specs.Views.nonce_here w l)) script h (turned l) at (link_turned script l is) i;
     }
 
-run_begins : (own far : EndId) (v : EndView) (here there : History) → v ≡ tick_begins here there → Run own far (tick_begins here there) v
-run_begins own far v here there is = subst (Run own far (tick_begins here there)) (sym is) (rest (tick_begins here there))
+run_begins : (own far : EndId) (v : EndView) (here there : History) → v ≡ tick_begins here there → EndRun own far (tick_begins here there) v
+run_begins own far v here there is = subst (EndRun own far (tick_begins here there)) (sym is) (rest (tick_begins here there))
 
 -- the links that are up were cut
 abbrev pub AreCut : ScriptOf → ℕ → WorldOf → Type 0
@@ -137,8 +137,8 @@ cut_other script kept unpaced h e calm no_tick tick old l is up =
       at_there = cut.at_there;
       time = tick ∙ cut.time;
       before = subst (λ (z : EndId × EndId). Ticks z.0 z.1 cut.ticks cut.at_here cut.at_there) (λ i. (here_stays i, there_stays i)) cut.before;
-      run_here = subst (λ (z : EndId × EndId). Run z.0 z.1 (tick_begins cut.at_here cut.at_there) (view v l)) (λ i. (here_stays i, there_stays i)) (view_goes script h e l m no_tick (tick_begins cut.at_here cut.at_there) cut.run_here);
-      run_there = subst (λ (z : EndId × EndId). Run z.0 z.1 (tick_begins cut.at_there cut.at_here) (view v (turned l))) (λ i. (there_stays i, here_stays i)) (view_goes script h e (turned l) (Rattle.fabric_settling.proofs.Viewed.moment_turned script h e l m) no_tick (tick_begins cut.at_there cut.at_here) cut.run_there);
+      run_here = subst (λ (z : EndId × EndId). EndRun z.0 z.1 (tick_begins cut.at_here cut.at_there) (view v l)) (λ i. (here_stays i, there_stays i)) (view_goes script h e l m no_tick (tick_begins cut.at_here cut.at_there) cut.run_here);
+      run_there = subst (λ (z : EndId × EndId). EndRun z.0 z.1 (tick_begins cut.at_there cut.at_here) (view v (turned l))) (λ i. (there_stays i, here_stays i)) (view_goes script h e (turned l) (Rattle.fabric_settling.proofs.Viewed.moment_turned script h e l m) no_tick (tick_begins cut.at_there cut.at_here) cut.run_there);
     }
 
 cut_next : (script : ScriptOf) → IsScript script → script.pace ≡ None → (h : List Event) (e : Event) → IsCalm script h e → AreCut script (last script h) (world_after script h) → AreCut script (last script h) (effect e (world_after script h))

@@ -22,7 +22,7 @@ use Rattle.port_monitor.specs.declared.port.Phase.TheVariants.{Switch}
 use Rattle.port_monitor.specs.declared.port.Port.{Port}
 use Rattle.port_monitor.specs.Histories.{History, Sampled, Replied, port_after, with_happening}
 use Rattle.link_settling.specs.Links.{Speaks, nonce_after}
-use Rattle.link_settling.specs.Moments.{EndView, Step, clocks, far_clocks, hears, far_hears, answers, passes, Run, then_step}
+use Rattle.link_settling.specs.Moments.{EndView, EndStep, clocks, far_clocks, hears, far_hears, answers, passes, EndRun, then_step}
 use Rattle.link_settling.proofs.Basics.{same_end}
 use Rattle.link_settling.proofs.Ports.{replied_as}
 use Rattle.link_settling.proofs.Asks.{clock_asks, probe_answered, probe_by}
@@ -287,9 +287,9 @@ reply_on script h e l m no_tick same found = by (stays_such test script h e (tur
 
 -- a run goes on by this event
 abbrev pub GoesBy : ScriptOf → List Event → Event → LinkOf → Type 0
-GoesBy script h e l = (start : EndView) → Run (end_here (world_after script h) l) (end_there (world_after script h) l) start (view (world_after script h) l) → Run (end_here (world_after script h) l) (end_there (world_after script h) l) start (view (effect e (world_after script h)) l)
+GoesBy script h e l = (start : EndView) → EndRun (end_here (world_after script h) l) (end_there (world_after script h) l) start (view (world_after script h) l) → EndRun (end_here (world_after script h) l) (end_there (world_after script h) l) start (view (effect e (world_after script h)) l)
 
-one_step : (script : ScriptOf) (h : List Event) (e : Event) (l : LinkOf) → Step (end_here (world_after script h) l) (end_there (world_after script h) l) (view (world_after script h) l) (view (effect e (world_after script h)) l) → GoesBy script h e l
+one_step : (script : ScriptOf) (h : List Event) (e : Event) (l : LinkOf) → EndStep (end_here (world_after script h) l) (end_there (world_after script h) l) (view (world_after script h) l) (view (effect e (world_after script h)) l) → GoesBy script h e l
 one_step script h e l step start run = then_step start (view (world_after script h) l) (view (effect e (world_after script h)) l) run step
 
 aside_goes : (script : ScriptOf) (h : List Event) (e : Event) (l : LinkOf) → IsMoment script h e l → (e ≡ Tick → ⊥) → ((s : ℕ) → e ≡ Handle s → ⊥) → GoesBy script h e l

@@ -15,8 +15,7 @@ use Rattle.wire_set.specs.WireState.{place, wire_at, hand_of}
 use Rattle.switch_core.specs.Switch.{SwitchOf, end_at, port_of}
 use Rattle.switch_core.specs.Steps.{peer_among}
 use Rattle.link_settling.specs.Links.{Ticks}
-use Rattle.link_settling.specs.Moments.{EndView, tick_begins}
-use Rattle.link_settling.specs.Moments as moment
+use Rattle.link_settling.specs.Moments.{EndRun, EndView, tick_begins}
 use Rattle.link_settling.specs.Directions.{Direction, Starts}
 use Rattle.link_settling.specs.Directions as direction
 use Rattle.fabric_state.specs.declared.hand.Hand.{Hand}
@@ -157,9 +156,9 @@ pub record IsCut (last : ℕ) (world : WorldOf) (link : LinkOf) : Type 0 where
   pub time : world.fabric.tick ≡ last + suc ticks
   pub before : Ticks (end_here world link) (end_there world link) ticks at_here at_there
   pub run_here :
-      moment.Run (end_here world link) (end_there world link) (tick_begins at_here at_there) (view world link)
+      EndRun (end_here world link) (end_there world link) (tick_begins at_here at_there) (view world link)
   pub run_there :
-      moment.Run (end_there world link) (end_here world link) (tick_begins at_there at_here)
+      EndRun (end_there world link) (end_here world link) (tick_begins at_there at_here)
       (view world (turned link))
 
 -- And since the two lives began, what was sent from here to there was a run of this direction.

@@ -8,7 +8,7 @@ use Rattle.ordered_link.specs.Sending.{Sending, highest, is_outstanding, push, s
 use Rattle.ordered_link.specs.Receiving.{untouched, last, received}
 use Rattle.link_settling.proofs.WayModel.{Way, Holds, is_held, way_of}
 use Rattle.link_settling.proofs.WayModel as way
-use Rattle.link_settling.specs.Directions.{Direction, last_sent, under_way, Gains, Ticks, Sends, Clocked, Acked, Passes, Drops, Ignored, Received, FarJoins, Joins, Step, ticks, pushes, sends_next, sends_again, clocked, acks, passes, drops, ignores, receives, far_joins, joins, Run, rest, then_step, Starts, IsStill}
+use Rattle.link_settling.specs.Directions.{Direction, last_sent, under_way, Gains, Ticked, Sends, Clocked, Acked, Passed, Drops, Ignored, Received, FarJoins, Joins, Step, ticks, pushes, sends_next, sends_again, clocked, acks, passes, drops, ignores, receives, far_joins, joins, Run, rest, then_step, Starts, IsStill}
 use Rattle.link_settling.proofs.Ways.{keeps, starts, equal_epochs}
 use Rattle.link_settling.proofs.Sendings.{SendsNone, SendsBy, next_is, push_is, again_is, forget_is, not_outstanding}
 use Rattle.link_settling.proofs.Receipts.{IsTidy, received_is, is_answered}
@@ -79,7 +79,7 @@ kept_by base v w kept step tidy = record { holds = keeps base (way_of v) (way_of
 kept_sends : (base : ℕ) (t : Sending) (out : Option ℕ) (v w : Direction) → SendsBy v.now out v.sending t → IsKept base v → Sends base t out v w → IsKept base w
 kept_sends base t out v w sends kept s = kept_by base v w kept (sends_way base t out v w sends s) (tidy_same v w (ap (λ (d : Direction). d.receiving) s.is) kept.tidy)
 
-kept_ticks : (base : ℕ) (v w : Direction) → IsKept base v → Ticks v w → IsKept base w
+kept_ticks : (base : ℕ) (v w : Direction) → IsKept base v → Ticked v w → IsKept base w
 kept_ticks base v w kept t = kept_by base v w kept
     (way.ticks (record {
       now = ap (λ (d : Direction). d.now) t.is;
@@ -109,7 +109,7 @@ kept_clocked base v w kept t = kept_by base v w kept
     }))
     (tidy_same v w (ap (λ (d : Direction). d.receiving) t.is) kept.tidy)
 
-kept_passes : (base : ℕ) (v w : Direction) → IsKept base v → Passes v w → IsKept base w
+kept_passes : (base : ℕ) (v w : Direction) → IsKept base v → Passed v w → IsKept base w
 kept_passes base v w kept t = kept_by base v w kept
     (way.passes (assumption (rests v w t.is, t)))
     (tidy_same v w (ap (λ (d : Direction). d.receiving) t.is) kept.tidy)

@@ -5,7 +5,7 @@ use Rattle.port_monitor.specs.declared.port.Phase.TheVariants.{Host}
 use Rattle.port_monitor.specs.Histories.{History, port_after}
 use Rattle.link_settling.specs.Measures.{Knows, clocks_left, answers_left}
 use Rattle.link_settling.specs.Links.{Speaks, IsTick, Ticks, begins, one_more}
-use Rattle.link_settling.specs.Moments.{EndView, Run, tick_begins}
+use Rattle.link_settling.specs.Moments.{EndView, EndRun, tick_begins}
 use Rattle.link_settling.proofs.Clocks.{known_far}
 use Rattle.link_settling.proofs.Answers.{answers_most, none_left}
 use Rattle.link_settling.proofs.Ports.{port_sound, is_no_host, clock_most}
@@ -80,7 +80,7 @@ done_at n own far history at late =
     record { phase = asks_then n own far history at (omega (arith, late)); conn = none_left own far (port_after own history).far (port_sound own history).far (omega (arith, z, late)) }
 
 -- within a tick
-done_within : (n : ℕ) (own far : EndId) (history there : History) (v : EndView) → AtEnd n own far history → 258 ≤ n → Run own far (tick_begins history there) v → Knows own far (port_after own v.here)
+done_within : (n : ℕ) (own far : EndId) (history there : History) (v : EndView) → AtEnd n own far history → 258 ≤ n → EndRun own far (tick_begins history there) v → Knows own far (port_after own v.here)
 done_within n own far history there v at late run =
     let k = run_in own far history (tick_begins history there) v (begins_in own far history there) run in
     let d = done_at n own far history at late in
@@ -93,8 +93,8 @@ done_within n own far history there v at late run =
 
 pub knows_within : (a b : EndId) (n : ℕ) (at_a at_b : History) → Ticks a b n at_a at_b → 258 ≤ n
     → (Knows a b (port_after a at_a)) × (Knows b a (port_after b at_b))
-    × ((v : EndView) → Run a b (tick_begins at_a at_b) v → Knows a b (port_after a v.here))
-    × ((v : EndView) → Run b a (tick_begins at_b at_a) v → Knows b a (port_after b v.here))
+    × ((v : EndView) → EndRun a b (tick_begins at_a at_b) v → Knows a b (port_after a v.here))
+    × ((v : EndView) → EndRun b a (tick_begins at_b at_a) v → Knows b a (port_after b v.here))
 knows_within a b n at_a at_b ticks late =
     let e = both_ends a b n at_a at_b ticks in (
       knows a b (port_after a at_a) (done_at n a b at_a e.0 late),

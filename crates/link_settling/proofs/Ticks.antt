@@ -6,7 +6,7 @@ use Rattle.an_base.specs.declared.port.Sample.TheVariants as sample
 use Rattle.port_monitor.specs.declared.port.Port.{Port}
 use Rattle.port_monitor.specs.Histories.{History, Sampled, Replied, port_after}
 use Rattle.link_settling.specs.Links.{with_replies, IsAmong, Speaks, nonce_after, IsTick}
-use Rattle.link_settling.specs.Moments.{EndView, tick_begins, Stays, Clocks, FarClocks, Hears, FarHears, Answers, Passes, Step, clocks, far_clocks, hears, far_hears, answers, passes, Run, rest, then_step, TickEnds}
+use Rattle.link_settling.specs.Moments.{EndView, tick_begins, Stays, Clocks, FarClocks, Hears, FarHears, Answers, Passes, EndStep, clocks, far_clocks, hears, far_hears, answers, passes, EndRun, rest, then_step, TickEnds}
 use Rattle.link_settling.proofs.Ports.{replied_as, replied_phase}
 
 -- the last probe is answered, or on its way, or its reply is
@@ -101,7 +101,7 @@ hears_in own far before v w ok t =
           };
     }
 
-step_in : (own far : EndId) (before : History) (v w : EndView) → IsInTick own far before v → Step own far v w → IsInTick own far before w
+step_in : (own far : EndId) (before : History) (v w : EndView) → IsInTick own far before v → EndStep own far v w → IsInTick own far before w
 step_in own far before v w ok (clocks t) = clocks_in own far before v w ok t
 step_in own far before v w ok (far_clocks t) = far_clocks_in own far before v w ok t
 step_in own far before v w ok (hears t) = hears_in own far before v w ok t
@@ -109,7 +109,7 @@ step_in own far before v w ok (far_hears t) = far_hears_in own far before v w ok
 step_in own far before v w ok (answers t) = answers_in own far before v w ok t
 step_in own far before v w ok (passes t) = passes_in own far before v w ok t
 
-pub run_in : (own far : EndId) (before : History) (u v : EndView) → IsInTick own far before u → Run own far u v → IsInTick own far before v
+pub run_in : (own far : EndId) (before : History) (u v : EndView) → IsInTick own far before u → EndRun own far u v → IsInTick own far before v
 run_in own far before u v ok (rest x) = ok
 run_in own far before u v ok (then_step a b c run step) = step_in own far before b c (run_in own far before a b ok run) step
 
@@ -117,7 +117,7 @@ run_in own far before u v ok (then_step a b c run step) = step_in own far before
 none_under_way : (own : EndId) (nonces : List ℕ) (v : EndView) → TickEnds v → IsUnderWay own nonces v → IsAmong (nonce_after own v.here) nonces
 none_under_way own nonces v ends way = ⊎_elim (λ among. among) (⊎_elim (λ p. absurd (false≢true (sym ends.no_probe ∙ p))) (λ r. absurd (false≢true (sym ends.no_reply ∙ r)))) way
 
-pub run_is_tick : (own far : EndId) (before there : History) (v : EndView) → Run own far (tick_begins before there) v → TickEnds v → IsTick own far before v.here v.there
+pub run_is_tick : (own far : EndId) (before there : History) (v : EndView) → EndRun own far (tick_begins before there) v → TickEnds v → IsTick own far before v.here v.there
 run_is_tick own far before there v run ends =
     let c = (run_in own far before (tick_begins before there) v (begins_in own far before there) run).came ends.here in
     record {

@@ -39,7 +39,7 @@ pub record Gains (base : ℕ) (out : Option ℕ) (old new : Direction) : Type 0 
   pub put : base ≤ old.now → (number : ℕ) → out ≡ Some number → IsTrue (new.carry number)
 
 -- a tick: nothing is under way
-pub record Ticks (old new : Direction) : Type 0 where
+pub record Ticked (old new : Direction) : Type 0 where
   pub before : old.late ≡ 3
   pub is : new ≡ under_way new (record old { now = suc old.now; late = 4 })
   pub carries : Stay old.carry new.carry
@@ -70,7 +70,7 @@ pub record Acked (base number : ℕ) (old new : Direction) : Type 0 where
   pub ack_on : (each : ℕ) → IsTrue (old.ack each) → IsTrue (new.ack each) ⊎ (each ≡ number)
 
 -- nothing that counts happens
-pub record Passes (old new : Direction) : Type 0 where
+pub record Passed (old new : Direction) : Type 0 where
   pub is : new ≡ under_way new old
   pub carries : Stay old.carry new.carry
   pub acks : Stay old.ack new.ack
@@ -124,7 +124,7 @@ pub record Joins (old new : Direction) : Type 0 where
 
 -- what may happen in this direction; `base` is the tick from which on what goes out is not lost
 pub data Step (base : ℕ) (old new : Direction) : Type 0 where
-  ticks : Ticks old new → Step base old new
+  ticks : Ticked old new → Step base old new
   pushes : (body : Body) → Sends base (push body old.now old.sending) (sent_by_push body old.sending) old new
       → Step base old new
   sends_next : Sends base (send_next old.now old.sending) (next_to_send old.sending) old new
@@ -133,7 +133,7 @@ pub data Step (base : ℕ) (old new : Direction) : Type 0 where
       → Sends base (send_again number old.now old.sending) (Some number) old new → Step base old new
   clocked : Clocked old new → Step base old new
   acks : (number : ℕ) → Acked base number old new → Step base old new
-  passes : Passes old new → Step base old new
+  passes : Passed old new → Step base old new
   drops : Drops base old new → Step base old new
   ignores : Ignored old new → Step base old new
   receives : (number : ℕ) (body : Body) → Received base number body old new → Step base old new

@@ -85,18 +85,20 @@ pub record Passes (old new : EndView) : Type 0 where
   pub stays : Stays old new
 
 -- what may happen at one end; a frame is handled only after the clock of its tick
-pub data Step (own far : EndId) (old new : EndView) : Type 0 where
-  clocks : Clocks own old new → Step own far old new
-  far_clocks : FarClocks old new → Step own far old new
-  hears : Hears own far old new → Step own far old new
-  far_hears : FarHears own old new → Step own far old new
-  answers : Answers far old new → Step own far old new
-  passes : Passes old new → Step own far old new
+pub data EndStep (own far : EndId) (old new : EndView) : Type 0 where
+  clocks : Clocks own old new → EndStep own far old new
+  far_clocks : FarClocks old new → EndStep own far old new
+  hears : Hears own far old new → EndStep own far old new
+  far_hears : FarHears own old new → EndStep own far old new
+  answers : Answers far old new → EndStep own far old new
+  passes : Passes old new → EndStep own far old new
 
 -- one thing after another
-pub data Run (own far : EndId) : EndView → EndView → Type 0 where
-  rest : (old : EndView) → Run own far old old
-  then_step : (first old new : EndView) → Run own far first old → Step own far old new → Run own far first new
+pub data EndRun (own far : EndId) : EndView → EndView → Type 0 where
+  rest : (old : EndView) → EndRun own far old old
+  then_step :
+      (first old new : EndView) → EndRun own far first old → EndStep own far old new
+      → EndRun own far first new
 
 -- both ends have handled their clocks, and nothing is under way
 pub record TickEnds (old : EndView) : Type 0 where

@@ -10,7 +10,7 @@ ghost use Rattle.port_monitor.specs.Ports.{state_of};
 ghost use Rattle.port_monitor.specs.Histories.{History, Sampled, port_after};
 ghost use Rattle.link_settling.specs.Measures.{HasNo, Knows, answers_left, clocks_left};
 ghost use Rattle.link_settling.specs.Links.{AreHostTicks, IsTick, Ticks, with_replies};
-ghost use Rattle.link_settling.specs.Moments.{EndView, Run, TickEnds, tick_begins};
+ghost use Rattle.link_settling.specs.Moments.{EndView, EndRun, TickEnds, tick_begins};
 
 /// After at most 129 clocks in a row at which it is not down a port knows whether a host or a switch is
 /// there: each brings it one nearer.
@@ -52,8 +52,8 @@ pub fn a_port_that_is_down_is_dead()
 /// A tick in which no frame is lost, whatever the order of its events and however often a frame is
 /// handled, is one in which each end's probe is answered where both ends ask.
 pub fn what_happens_in_a_tick_is_a_tick()
-    ensures { (own far : EndId) (here there : History) (v : EndView) → Run own far (tick_begins here there) v
-        → TickEnds v
+    ensures { (own far : EndId) (here there : History) (v : EndView)
+        → EndRun own far (tick_begins here there) v → TickEnds v
         → IsTick own far here v.here v.there }
 {}
 
@@ -62,6 +62,6 @@ pub fn what_happens_in_a_tick_is_a_tick()
 pub fn the_ends_know_each_other_at_each_moment()
     ensures { (a b : EndId) (n : ℕ) (at_a at_b : History) → Ticks a b n at_a at_b → 258 ≤ n
         → Knows a b (port_after a at_a) × Knows b a (port_after b at_b)
-        × ((v : EndView) → Run a b (tick_begins at_a at_b) v → Knows a b (port_after a v.here))
-        × ((v : EndView) → Run b a (tick_begins at_b at_a) v → Knows b a (port_after b v.here)) }
+        × ((v : EndView) → EndRun a b (tick_begins at_a at_b) v → Knows a b (port_after a v.here))
+        × ((v : EndView) → EndRun b a (tick_begins at_b at_a) v → Knows b a (port_after b v.here)) }
 {}
