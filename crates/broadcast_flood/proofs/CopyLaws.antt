@@ -13,7 +13,7 @@ use Rattle.topo_graph.proofs.TreeLemmas.{tree_stands}
 use Rattle.updown.specs.Routes.{height_cmp}
 use Rattle.updown.proofs.RouteLemmas.{height_total}
 use Rattle.broadcast_flood.specs.Tree.{parent_port, parent_of, IsDown, IsDownTo}
-use Rattle.broadcast_flood.specs.Floods.{HopOf, GoesUp, IsBefore, GoesDown, IsFlood, is_at, arrivals, copies}
+use Rattle.broadcast_flood.specs.Floods.{HopOf, GoesUp, IsBefore, GoesDown, IsFlood, arrivals_by, arrivals, copies}
 use Rattle.broadcast_flood.proofs.TreeLemmas.{root_none, down_far}
 
 -- a hop is its place and port
@@ -49,13 +49,13 @@ module _ (es : List EntryOf) (graph : IsGraph es) (tree : IsTree es) where
   way_up x (hop ∷ hops) top low (y, q, is, e, up) = way_up y hops top (graph.within x (parent_port es x) (y, q) e).far_place up
 
   -- a hop down arrives at a member where that is its child
-  arrives : (y : ℕ) (hop : HopOf) (child : ℕ) → IsDownTo es hop.place hop.port child → child ≡ y → is_at y (far_of es hop.place hop.port) ≡ 1
+  arrives : (y : ℕ) (hop : HopOf) (child : ℕ) → IsDownTo es hop.place hop.port child → child ≡ y → arrivals_by y (far_of es hop.place hop.port) ≡ 1
   arrives y hop child down same =
       let far = down_far es hop.place hop.port child graph down in
       let test : (child == y) ≡ true = (grind (arith, nat_tests)) in
       rw (far, test) refl
 
-  passes_by : (y : ℕ) (hop : HopOf) (child : ℕ) → IsDownTo es hop.place hop.port child → child ≢ y → is_at y (far_of es hop.place hop.port) ≡ 0
+  passes_by : (y : ℕ) (hop : HopOf) (child : ℕ) → IsDownTo es hop.place hop.port child → child ≢ y → arrivals_by y (far_of es hop.place hop.port) ≡ 0
   passes_by y hop child down other =
       let far = down_far es hop.place hop.port child graph down in
       let test : (child == y) ≡ false = (grind (arith, nat_tests)) in

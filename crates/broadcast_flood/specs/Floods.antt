@@ -53,14 +53,14 @@ HasItsCopy entries downs index =
     × (far_of entries (down_hop downs earlier).place (down_hop downs earlier).port ≡ Some (sender, far_port)))
 
 -- how many of the hops down arrive at a member
-abbrev pub is_at : ℕ → Option (ℕ × ℕ) → ℕ
-is_at member None = 0
-is_at member (Some far) = if far.0 == member then 1 else 0
+abbrev pub arrivals_by : ℕ → Option (ℕ × ℕ) → ℕ
+arrivals_by member None = 0
+arrivals_by member (Some far) = if far.0 == member then 1 else 0
 
 abbrev pub arrivals : List EntryOf → ℕ → List HopOf → ℕ
 arrivals entries member [] = 0
 arrivals entries member (hop ∷ hops) =
-    is_at member (far_of entries hop.place hop.port) + arrivals entries member hops
+    arrivals_by member (far_of entries hop.place hop.port) + arrivals entries member hops
 
 -- how many copies a member gets: one if the walk up ends there, and one from each hop down that arrives
 -- there
