@@ -5,7 +5,7 @@ use Rattle.std.proofs.lemmas.Bool.{cases_eq}
 use Rattle.std.proofs.lemmas.Bool.Decides.{nat_tests}
 use Rattle.fcfc_router.specs.declared.router.Grant.{Grant}
 use Rattle.fcfc_router.specs.Router.{RequestOf, IsGranted}
-use Rattle.fcfc_router.specs.Calls.{Call, counts, Leads, asked, granted, is_granted, waits}
+use Rattle.fcfc_router.specs.Calls.{Call, counts, Leads, asked, granted, granted_by, waits}
 use Rattle.fcfc_router.specs.Calls.Call.{Ask, Grants}
 
 pub waits-append : (packet : ℕ) (xs ys : List RequestOf) → waits packet (xs ++ ys) ≡ waits packet xs + waits packet ys
@@ -28,7 +28,7 @@ pub test_not : (a b : ℕ) → a ≢ b → counts a b ≡ 0
 test_not a b other = let test : (a == b) ≡ false = (grind (arith, nat_tests)) in rw test refl
 
 -- what a grant takes away
-pub granted_waits : (packet free : ℕ) (old new : List RequestOf) (answer : Option Grant) → IsGranted free old new answer → waits packet old ≡ is_granted packet answer + waits packet new
+pub granted_waits : (packet free : ℕ) (old new : List RequestOf) (answer : Option Grant) → IsGranted free old new answer → waits packet old ≡ granted_by packet answer + waits packet new
 granted_waits packet free old new None (same, none) = let e = ap (waits packet) same in omega arith
 granted_waits packet free old new (Some grant) grants =
     let e = ap (waits packet) grants.old_is ∙ waits-append packet grants.older (grants.request ∷ grants.younger) in

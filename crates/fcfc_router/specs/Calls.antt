@@ -38,14 +38,14 @@ asked packet (Ask request ∷ calls) = counts request.packet packet + asked pack
 asked packet (Grants free answer ∷ calls) = asked packet calls
 
 -- and how often it was granted
-abbrev pub is_granted : ℕ → Option Grant → ℕ
-is_granted packet None = 0
-is_granted packet (Some grant) = counts grant.packet packet
+abbrev pub granted_by : ℕ → Option Grant → ℕ
+granted_by packet None = 0
+granted_by packet (Some grant) = counts grant.packet packet
 
 abbrev pub granted : ℕ → List Call → ℕ
 granted packet [] = 0
 granted packet (Ask request ∷ calls) = granted packet calls
-granted packet (Grants free answer ∷ calls) = is_granted packet answer + granted packet calls
+granted packet (Grants free answer ∷ calls) = granted_by packet answer + granted packet calls
 
 -- how often it waits
 abbrev pub waits : ℕ → List RequestOf → ℕ
