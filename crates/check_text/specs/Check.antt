@@ -44,21 +44,23 @@ abbrev pub rows_of : List SwitchAt → TablesOf → List EntryOf → List RowOf
 rows_of switches tables entries =
     map (renumbered tables) (filter (is_row_of (members_of switches entries)) tables.rows)
 
--- a channel, and its rank
+-- a channel: the name of its switch, and its port
 unfoldable pub channel_text : ScriptOf → List EntryOf → List ℕ → Channel → List ℕ
 channel_text script entries numbers channel =
     codes " " ++ name_of script entries numbers channel.at ++ codes ":" ++ decimal channel.port
 
+-- the line of a channel that has a rank
 unfoldable pub rank_line : ScriptOf → List EntryOf → List ℕ → Channel → ℕ → List ℕ
 rank_line script entries numbers channel rank =
     codes "rank " ++ name_of script entries numbers channel.at ++ codes " " ++ decimal channel.port
     ++ codes " " ++ decimal rank ++ codes "\n"
 
+-- and none for a channel without one
 abbrev pub rank_lines : ScriptOf → List EntryOf → List ℕ → Channel → Option ℕ → List ℕ
 rank_lines script entries numbers channel None = []
 rank_lines script entries numbers channel (Some rank) = rank_line script entries numbers channel rank
 
--- the ranks of all channels, by rising number, then by rising port
+-- what is told of the channel at a port of a switch
 abbrev pub port_ranks : ScriptOf → List EntryOf → List ℕ → List (Option ℕ) → (number port : ℕ) → List ℕ
 port_ranks script entries numbers ranks number port =
     rank_lines script entries numbers (record {
@@ -66,10 +68,12 @@ port_ranks script entries numbers ranks number port =
       port = port;
     }) (rank_at ranks (record { at = number; port = port }))
 
+-- and of those of all ports of a switch, rising from 0 to 12
 abbrev pub number_ranks : ScriptOf → List EntryOf → List ℕ → List (Option ℕ) → ℕ → List ℕ
 number_ranks script entries numbers ranks number =
     flat_map (port_ranks script entries numbers ranks number) (range_with_len 0 13)
 
+-- the ranks of all channels, by rising number, 0 to 126, then by rising port
 unfoldable pub ranks_text : ScriptOf → List EntryOf → List ℕ → List (Option ℕ) → List ℕ
 ranks_text script entries numbers ranks =
     flat_map (number_ranks script entries numbers ranks) (range_with_len 0 127)
