@@ -32,7 +32,8 @@ pub record AreFinal (script : ScriptOf) (history : List Event) : Type 0 where
       → ports_shown (world_after script (history ++ event ∷ [])).fabric
       ≡ ports_shown (world_after script history).fabric
 
--- So many ticks after the last disturbance, losses for want of room among them, the ports are final.
+-- So many ticks after the last disturbance, losses for want of room among them, the ports are final. 259 is
+-- its own tick, and then at most 129 clocks and 129 answers at each end of a link.
 abbrev pub PortsAreFinal : ScriptOf → List Event → Type 0
 PortsAreFinal script history =
     last_disturbance is_either script history + 259 ≤ (world_after script history).fabric.tick

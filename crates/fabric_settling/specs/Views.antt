@@ -128,7 +128,8 @@ abbrev pub is_received_here : WorldOf → LinkOf → Bool
 is_received_here world link =
     is_session world (turned link) && not (nat_lt (there world link).epoch (here world link).epoch)
 
--- and of the session in which it sends
+-- the direction from this end to the far one: what is sent, received and under way in their session; `late` is
+-- 3 once this end has handled its clock of this tick
 abbrev pub way : WorldOf → LinkOf → Direction
 way world link = record {
   now = world.fabric.tick;
