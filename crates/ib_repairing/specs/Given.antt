@@ -24,8 +24,8 @@ pub record WereRepaired (traffic : Traffic) (fabric : FabricOf) (found : Tables)
   pub shape : AreRepairedOf fabric found.cells made
   pub pass : Pass traffic fabric (tables_of made)
 
--- exactly the rows are told in which they differ from the given ones; of the numbers that say how good they are, and
--- for how many LIDs rows are set, nothing is claimed
+-- exactly the rows are told in which they have a port that the given ones have not; of the numbers that say how good
+-- they are, and for how many LIDs rows are set, nothing is claimed
 pub record AreRowsTold (traffic : Traffic) (fabric : FabricOf) (found : Tables) (status : Status) (written : List ℕ)
     : Type 0 where
   pub repaired : WereRepaired traffic fabric found
