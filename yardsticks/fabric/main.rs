@@ -62,24 +62,32 @@ fn name(f: &Fabric, at: &[u32], c: usize, lanes: usize) -> String {
     }
 }
 
-fn judge_it(f: &Fabric, traffic: Traffic, lane: Option<lanes::Lanes>, cert: Option<&str>) -> i32 {
-    let src = sources(f, traffic);
-    let n_lanes = lane.as_ref().map_or(1, |l| l.lanes);
+/// Finds the dependencies by waves too, and asserts that they are those of the walk.
+fn compare_waves(f: &Fabric, src: &Sources, g: &Graph, a: &Arrival) {
     let t0 = Instant::now();
     let mut gw = Graph::new(f, 1);
-    let (wl, wr, ws) = waves(f, &src, &mut gw);
+    let (wl, wr, ws) = waves(f, src, &mut gw);
     eprintln!("# waves {:.2} s, stops {ws}", t0.elapsed().as_secs_f64());
-    let t0 = Instant::now();
-    let mut g = Graph::new(f, 1);
-    let a = walk_all(f, &src, &mut g);
-    let t1 = Instant::now();
-    eprintln!("# walk {:.2} s", (t1 - t0).as_secs_f64());
     assert!(
         gw.words == g.words
             && wl == a.lids
             && wr == a.routes
             && (ws == 0) == (a.missing + a.dead + a.wrong == 0)
     );
+}
+
+/// Judges, in both ways or, if it is to be done `once`, by the walk alone and without looking at the ranks again.
+fn judge_it(f: &Fabric, traffic: Traffic, lane: Option<lanes::Lanes>, cert: Option<&str>, once: bool) -> i32 {
+    let src = sources(f, traffic);
+    let n_lanes = lane.as_ref().map_or(1, |l| l.lanes);
+    let t0 = Instant::now();
+    let mut g = Graph::new(f, 1);
+    let a = walk_all(f, &src, &mut g);
+    let t1 = Instant::now();
+    eprintln!("# walk {:.2} s", (t1 - t0).as_secs_f64());
+    if !once {
+        compare_waves(f, &src, &g, &a);
+    }
     if let Some(l) = &lane {
         let tw = Instant::now();
         let mut gl = Graph::new(f, n_lanes);
@@ -102,7 +110,7 @@ fn judge_it(f: &Fabric, traffic: Traffic, lane: Option<lanes::Lanes>, cert: Opti
     match ranks(&v) {
         Ok(r) => {
             let t3 = Instant::now();
-            assert!(verify(&v, &r));
+            assert!(once || verify(&v, &r));
             eprintln!(
                 "# ranks {:.3} s, verified {:.3} s",
                 (t3 - t2).as_secs_f64(),
@@ -196,7 +204,7 @@ fn main() {
                     Some(lanes::equal(&f, k, ((1u32 << k) - 1) as u16))
                 }
             };
-            std::process::exit(judge_it(&f, traffic(w[1]), lane, None));
+            std::process::exit(judge_it(&f, traffic(w[1]), lane, None, false));
         }
         // gen short|long PREFIX KIND NUMBERS..: writes PREFIX.topo and PREFIX.lfts
         "gen" => {
@@ -206,8 +214,8 @@ fn main() {
             let mut t = BufWriter::with_capacity(1 << 20, File::create(format!("{}.lfts", w[2])).unwrap());
             text::write_tables(&f, &mut t, w[1] == "long").unwrap();
         }
-        // judge TOPOLOGY LFTS [hosts|lids|all [CERTIFICATE]]
-        "judge" => {
+        // judge TOPOLOGY LFTS [hosts|lids|all [CERTIFICATE]]; once the same, in one way
+        "judge" | "once" => {
             let t = Instant::now();
             let mut f = text::read_topology(BufReader::new(File::open(w[1]).unwrap()));
             let t1 = Instant::now();
@@ -234,6 +242,7 @@ fn main() {
                 traffic(w.get(3).copied().unwrap_or("lids")),
                 None,
                 w.get(4).copied(),
+                w[0] == "once",
             ));
         }
         // dumps TRAFFIC FOLDER [lanes|all-levels]: the files that opensm dumps
@@ -260,7 +269,7 @@ fn main() {
                 )),
                 _ => None,
             };
-            std::process::exit(judge_it(&f, traffic(w[1]), lane, None));
+            std::process::exit(judge_it(&f, traffic(w[1]), lane, None, false));
         }
         // parse TOPOLOGY LFTS: reads alone; lines LFTS: counts lines
         "parse" => {
