@@ -68,10 +68,10 @@ class Files:
         elif self.network is None:
             raise line.fault("bad header")
         elif words == ["journal", "1"]:
-            self.take_to_end(line, left, "journal", Journal(self.network))
+            self.put_to_end(line, left, "journal", Journal(self.network))
         elif words == ["report", "1"]:
             self.put(line, "report", Report(self.network))
-            take_while(self.report, left, line, lambda last: last.words[0] == "end")
+            take_while(self.report, left, line, lambda end: end.words[0] == "end")
         elif words == ["fabric", "1"]:
             self.put(line, "judgement", Judgement(self.network))
             take_rest(self.judgement, left)
@@ -84,8 +84,8 @@ class Files:
         self.put(line, "network", reader.network)
         take_to_end(reader, left, line)
 
-    def take_to_end(self, line, left, kind, reader):
-        """Takes lines up to `end`."""
+    def put_to_end(self, line, left, kind, reader):
+        """Takes lines up to `end`, and keeps what they say."""
         self.put(line, kind, reader)
         take_to_end(reader, left, line)
 
@@ -102,10 +102,10 @@ class Files:
             take_rest(self.verdict, lines)
         elif kind == "flow":
             self.put(line, kind, Told(self.network, *FLOWS))
-            take_while(self.flow, lines, line, lambda last: last.words[0] == "end")
+            take_while(self.flow, lines, line, lambda end: end.words[0] == "end")
         elif kind == "flood":
             self.put(line, kind, Told(self.network, *FLOODS))
-            take_while(self.flood, lines, line, lambda last: last.words == ["end"])
+            take_while(self.flood, lines, line, lambda end: end.words == ["end"])
         else:
             raise line.fault("unknown word")
 
@@ -116,22 +116,22 @@ def chained(line, left):
     yield from left
 
 
-def take_to_end(reader, left, line):
-    """Hands lines on up to one that is `end`, which is not handed on."""
-    for line in left:
-        if line.words == ["end"]:
+def take_to_end(reader, left, last):
+    """Hands lines on up to one that is `end`, which is not handed on. `last` is the last line that was seen."""
+    for last in left:
+        if last.words == ["end"]:
             return
-        reader.take(line)
-    raise Fault(line.name, line.number + 1, "no end")
+        reader.take(last)
+    raise Fault(last.name, last.number + 1, "no end")
 
 
-def take_while(reader, left, line, is_last):
-    """Hands lines on up to the last one, which is handed on too."""
-    for line in left:
-        reader.take(line)
-        if is_last(line):
+def take_while(reader, left, last, is_end):
+    """Hands lines on up to the one that ends them, which is handed on too. `last` is the last line that was seen."""
+    for last in left:
+        reader.take(last)
+        if is_end(last):
             return
-    raise Fault(line.name, line.number + 1, "no end")
+    raise Fault(last.name, last.number + 1, "no end")
 
 
 def take_rest(reader, left):
