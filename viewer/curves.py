@@ -70,9 +70,9 @@ def along(curve):
 
 def at_way(points, way):
     """The point after so much of the way, or the last."""
-    for (a, before), (b, behind) in zip(points, points[1:]):
-        if behind >= way:
-            share = (way - before) / ((behind - before) or 1.0)
+    for (a, before), (b, after) in zip(points, points[1:]):
+        if after >= way:
+            share = (way - before) / ((after - before) or 1.0)
             return a[0] + share * (b[0] - a[0]), a[1] + share * (b[1] - a[1])
     return points[-1][0]
 

@@ -24,7 +24,8 @@ STARTS = {
 
 
 class Files:
-    """What was read: the network, and what else was there; None is what was not."""
+    """What was read: the network, and what else was there; None is what was not. The network comes first, since what
+    was printed of it is read over its names."""
 
     def __init__(self, names):
         self.names = names

@@ -110,8 +110,8 @@ def life(network, word):
 
 def channel(network, word):
     """Reads a channel: a switch, a colon and a port with a link."""
-    of, _, behind = word.partition(":")
-    end = names_of("switch", network)(of), port(behind)
+    of, _, after = word.partition(":")
+    end = names_of("switch", network)(of), port(after)
     if end not in network.link_at:
         raise Cause("no link")
     return end

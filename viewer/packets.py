@@ -128,7 +128,7 @@ class Flow(Story):
 
 
 class Flood(Story):
-    """Broadcasts, one behind the other: up the tree to its root, and from there down."""
+    """Broadcasts, one after the other: up the tree to its root, and from there down."""
 
     what = "flood"
     lines = 3

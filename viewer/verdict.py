@@ -68,7 +68,7 @@ class Verdict(Story):
         many, ways = len(channels), listed(f"{switch} by port {port}" for switch, port in channels)
         self.fade_tree()
         turns = [self.turn(one, other) for one, other in zip(channels, channels[1:] + channels[:1])]
-        self.legend.append(("text", f"at a channel of the cycle: its place in it", f"1 of {many}"))
+        self.legend.append(("text", "at a channel of the cycle: its place in it", f"1 of {many}"))
         for place, end in enumerate(channels, 1):
             self.put_red(end, f"{place} of {many}")
             self.notes.append(f"Channel {place} of {many}: {end[0]} by port {end[1]}. {turns[place - 1]}")
@@ -134,7 +134,7 @@ class Verdict(Story):
     # An exit
 
     def exit(self, switch, entry, number, port):
-        """An exit without a link, or up behind a way down."""
+        """An exit without a link, or up after a way down."""
         has_link = (switch, port) in self.network.link_at
         if has_link:
             self.put_red((switch, port), "exit")
