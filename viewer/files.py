@@ -100,7 +100,7 @@ class Files:
             self.put_tables(line, reader.tables)
         elif kind == "verdict":
             self.put(line, kind, Told(self.network, *VERDICTS))
-            take_rest(self.verdict, lines)
+            take_while(self.verdict, lines, line, lambda end: end.words[0] in ("ok", "refused"))
         elif kind == "flow":
             self.put(line, kind, Told(self.network, *FLOWS))
             take_while(self.flow, lines, line, lambda end: end.words[0] == "end")
