@@ -192,6 +192,15 @@ class Judgement:
         else:
             self.facts.append((JUDGED[which], values))
 
+    def is_whole(self):
+        """Whether all is told but names: each channel of the cycle, and for each cause one of the lost routes."""
+        facts = {form.split()[0]: values for form, values in self.facts}
+        if not {"routes", "cycle"} <= facts.keys():
+            return False
+        (routes, arrived, _), (lost, *causes) = facts["routes"], facts.get("lost", [0])
+        told = len(self.cycle), lost, len(self.lost)
+        return told == (sum(facts["cycle"]), routes - arrived, sum(map(bool, causes)))
+
     def take_channel(self, line, switch, port, lid, source):
         """Takes a channel of the cycle."""
         if (switch, port) not in self.fabric.link_at:

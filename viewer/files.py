@@ -75,7 +75,7 @@ class Files:
             take_while(self.report, left, line, lambda end: end.words[0] == "end")
         elif words == ["fabric", "1"]:
             self.put(line, "judgement", Judgement(self.network))
-            take_rest(self.judgement, left)
+            take_rest(self.judgement, left, line)
         else:
             self.take_answer(line, left)
 
@@ -135,7 +135,9 @@ def take_while(reader, left, last, is_end):
     raise Fault(last.name, last.number + 1, "no end")
 
 
-def take_rest(reader, left):
-    """Hands all lines on."""
-    for line in left:
-        reader.take(line)
+def take_rest(reader, left, last):
+    """Hands all lines on, which are to be a whole answer. `last` is the last line that was seen."""
+    for last in left:
+        reader.take(last)
+    if not reader.is_whole():
+        raise Fault(last.name, last.number + 1, "no end")
