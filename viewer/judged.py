@@ -1,5 +1,7 @@
 """What `fabric judge` prints: the cycle of channels, or that there is none, and the routes that are lost."""
 
+from collections import Counter
+
 from .layout import Plan, by_grid, by_levels, by_ring
 from .story import Story, listed, plural
 from .tables import Tables
@@ -24,7 +26,7 @@ class Judged(Story):
     def make_plan(self, layout):
         """A ring for a cycle, else a grid where it is one, else levels above the switches that have hosts."""
         shown = {**self.network.shown, **(self.judgement.names if self.judgement else {})}
-        plan = Plan(self.network, self.lines, {guid: short(name) for guid, name in shown.items()}, hosts=False)
+        plan = Plan(self.network, self.lines, labels(self.network, shown), hosts=False)
         if self.cycle:
             by_ring(plan, list(dict.fromkeys(end[0] for end, _, _ in self.cycle)))
         elif len(self.network.switches) > MOST_DRAWN:
@@ -134,6 +136,14 @@ def in_words(fact):
         kinds = zip(("missing", "dead", "wrong", "loop"), values[1:])
         return f"Routes lost: {values[0]}, which are " + ", ".join(f"{many} {kind}" for kind, many in kinds) + "."
     return None
+
+
+def labels(network, shown):
+    """The first words of the name of each node; none of a switch that shares them with another one, which goes by its
+    GUID."""
+    names = {guid: short(name) for guid, name in shown.items()}
+    many = Counter(names.get(switch) for switch in network.switches)
+    return {guid: name for guid, name in names.items() if many[name] < 2}
 
 
 def short(name):
