@@ -1,7 +1,5 @@
 """Texts as lines of words, the forms of lines, and what is said of a text that cannot be read."""
 
-import sys
-
 MOST_BYTES = 268_435_456
 
 
@@ -33,7 +31,7 @@ def read_file(name):
     """The lines of a file, or of standard input where its name is `-`; those without any word are left out."""
     shown = "standard input" if name == "-" else name
     try:
-        with sys.stdin.buffer if name == "-" else open(name, "rb") as file:
+        with open(0 if name == "-" else name, "rb") as file:
             data = file.read(MOST_BYTES + 1)
     except OSError as error:
         raise Fault(shown, 0, error.strerror) from error
