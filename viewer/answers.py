@@ -101,7 +101,8 @@ class Report:
 
     def __init__(self, network):
         self.lines = Told(network, *REPORTS)
-        self.row_forms = Forms({**fields(network), "PAIR": str}, "row LIFE ENTRY PAIR..")
+        self.placed = Forms({**fields(network), "WORD": str}, "N WORD..")
+        self.row_forms = Forms(fields(network), "row LIFE ENTRY PAIR..")
         self.end_forms = Forms(fields(network), *ENDS)
         self.places = []
         self.rows = {}
@@ -117,7 +118,8 @@ class Report:
             _, (*_, tick, events) = self.end_forms.read(line, words)
             self.end = words[1], tick, events
         elif words[0].isdigit():
-            self.places.append(int(words[0]))
-            self.lines.take(line, words[1:])
+            _, (place, told) = self.placed.read(line, words)
+            self.places.append(place)
+            self.lines.take(line, told)
         else:
             raise line.fault("unknown word")

@@ -1,5 +1,7 @@
 """The script of autonet: its switches, links and hosts, and the packets that it sends."""
 
+import functools
+
 from .texts import Cause, Forms, number, one_of, port
 
 MOST_SWITCHES = 126
@@ -84,6 +86,7 @@ def fields(network):
         "ENTRY": number(0, 12),
         "ADDRESS": number(1, MOST_SWITCHES),
         "N": number(0, 2**64 - 1),
+        "PAIR": pair,
     }
 
 
@@ -115,6 +118,16 @@ def channel(network, word):
     if end not in network.link_at:
         raise Cause("no link")
     return end
+
+
+@functools.cache
+def pair(word):
+    """Reads a number with its exits, as `4:1/2`, or `4:-` without any, and gives it as it stands."""
+    of, _, exits = word.partition(":")
+    number(1, MOST_SWITCHES)(of)
+    for one in [] if exits == "-" else exits.split("/"):
+        number(1, 12)(one)
+    return word
 
 
 class NetworkReader:

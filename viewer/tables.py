@@ -23,7 +23,7 @@ class Tables:
         for line in self.rows.get(switch, []):
             entry, *pairs = line.split()
             ways = [pair.partition(":") for pair in pairs]
-            exits = {number: [int(p) for p in ports.split("/") if p.isdigit()] for number, _, ports in ways}
+            exits = {number: [int(p) for p in ports.split("/") if p != "-"] for number, _, ports in ways}
             found.setdefault(int(entry), {}).update(exits)
         return found
 
@@ -40,7 +40,7 @@ class TablesReader:
             "number SWITCH ADDRESS": self.number,
             "row SWITCH ENTRY PAIR..": self.row,
         }
-        self.forms = Forms({**fields(network), "PAIR": str}, *self.takers)
+        self.forms = Forms(fields(network), *self.takers)
 
     def take(self, line):
         """Takes a line."""

@@ -1,6 +1,7 @@
 """Texts as lines of words, the forms of lines, and what is said of a text that cannot be read."""
 
 MOST_BYTES = 268_435_456
+MOST_DIGITS = 20  # of 2^64, which no number passes
 
 
 class Fault(Exception):
@@ -45,7 +46,8 @@ def number(low, high):
     """Reads a number in a range, in decimal digits without a leading zero."""
 
     def read(word):
-        if not (word.isascii() and word.isdigit()) or word != str(int(word)) or not low <= int(word) <= high:
+        digits = len(word) <= MOST_DIGITS and word.isascii() and word.isdigit()
+        if not digits or word != str(int(word)) or not low <= int(word) <= high:
             raise Cause("bad number")
         return int(word)
 
