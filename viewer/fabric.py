@@ -75,7 +75,10 @@ def read_topology(lines):
     first = lines[0].all[0]
     read = take_plain if first == "topology" else take_dumped if first == "{" else Discovered().take
     for line in lines[first == "topology" :]:
-        read(fabric, line)
+        try:
+            read(fabric, line)
+        except ValueError as error:
+            raise line.fault("bad number") from error
     return fabric.complete(lines[-1])
 
 
@@ -85,15 +88,12 @@ def take_plain(fabric, line):
     kind, many = words[0], {"switch": 5, "host": 6, "link": 5, "end": 1}.get(words[0])
     if many is None or len(words) < many:
         raise line.fault("unknown word")
-    try:
-        if kind == "switch":
-            fabric.add(int(words[1], 16), " ".join(words[5:]))
-        elif kind == "host":
-            fabric.attach(line, int(words[1], 16), " ".join(words[6:]), int(words[4], 16), int(words[5]))
-        elif kind == "link":
-            fabric.join(line, int(words[1], 16), int(words[2]), int(words[3], 16), int(words[4]))
-    except ValueError as error:
-        raise line.fault("bad number") from error
+    if kind == "switch":
+        fabric.add(int(words[1], 16), " ".join(words[5:]))
+    elif kind == "host":
+        fabric.attach(line, int(words[1], 16), " ".join(words[6:]), int(words[4], 16), int(words[5]))
+    elif kind == "link":
+        fabric.join(line, int(words[1], 16), int(words[2]), int(words[3], 16), int(words[4]))
 
 
 def take_dumped(fabric, line):
