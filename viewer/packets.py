@@ -98,7 +98,7 @@ class Flow(Story):
         self.leave(packet)
         self.arrived += 1
         self.tell_count()
-        target = self.targets[packet][1]
+        _, target = self.targets.pop(packet)
         self.scene.flash(f"host-{target}", "class", "host got")
         return f"{words} arrives at {switch}"
 
