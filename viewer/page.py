@@ -74,7 +74,7 @@ def counts(story):
 
 def data(story):
     """What the page's script reads: slots with their first values, steps, and what joins what. A value is the place
-    of its text in the list of texts."""
+    of its text in the list of texts. No name can end it before its end, since `<` is not in it."""
     slots, texts = {slot: k for k, slot in enumerate(all_slots(story.scene))}, {}
 
     def place(value):
@@ -95,7 +95,7 @@ def data(story):
         "undrawn": [story.plan.label(name) for name in story.network.switches if name not in story.plan.at],
         "strip": [LEFT, WIDE, story.last] if story.strip else None,
     }
-    return json.dumps(found, separators=(",", ":")).replace("</", "<\\/")
+    return json.dumps(found, separators=(",", ":")).replace("<", "\\u003c")
 
 
 def all_slots(scene):
