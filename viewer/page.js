@@ -66,7 +66,7 @@ const KINDS = {
 
 // Goes to the next step of the chosen kind, in a direction; at the end of them stays.
 function change(direction) {
-  const kinds = KINDS[byId("kind").value];
+  const kinds = KINDS[byId("kind").value] || [];
   for (let k = now + direction; k >= 1 && k <= data.steps.length; k += direction)
     if (kinds.includes(data.steps[k - 1][1])) return go(k);
 }
