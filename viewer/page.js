@@ -191,7 +191,7 @@ function leaves(way) {
 // Chooses the switch of this name, and brings it into the frame; else says, of a whole name, why there is none. A
 // name is whole if no other one goes on as it does.
 function find(label, isWhole = !Object.keys(data.switches).some((name) => name.startsWith(label))) {
-  const name = data.switches[label];
+  const name = Object.hasOwn(data.switches, label) ? data.switches[label] : undefined;
   byId("found").textContent = name === undefined && isWhole && label ? missing(label) : "";
   if (name === undefined) return;
   choose(name);
