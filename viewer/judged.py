@@ -24,14 +24,14 @@ class Judged(Story):
         super().__init__(files, layout)
 
     def make_plan(self, layout):
-        """A ring for a cycle, else a grid where it is one, else levels above the switches that have hosts."""
+        """A ring for a cycle; else a grid, if it is one and no levels are asked for; else levels above hosts."""
         shown = {**self.network.shown, **(self.judgement.names if self.judgement else {})}
         plan = Plan(self.network, self.lines, labels(self.network, shown), hosts=False)
         if self.cycle:
             by_ring(plan, list(dict.fromkeys(end[0] for end, _, _ in self.cycle)))
         elif len(self.network.switches) > MOST_DRAWN:
             raise Fault(self.files.names[0], 0, f"more than {MOST_DRAWN} switches, and no cycle to draw")
-        elif not by_grid(plan):
+        elif layout == "levels" or not by_grid(plan):
             by_levels(plan, above_hosts(self.network))
             plan.bands = []
         return plan
