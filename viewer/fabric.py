@@ -24,6 +24,11 @@ def guid_name(guid):
     return f"0x{guid:016x}"
 
 
+def shown(name):
+    """A name as it is shown: what cannot be printed, and may be no XML, is a question mark."""
+    return "".join(letter if letter.isprintable() else "?" for letter in name.strip())
+
+
 class Fabric(Network):
     """A fabric: a network whose switches are named by their GUIDs, with the text of each name, if there is one."""
 
@@ -36,7 +41,7 @@ class Fabric(Network):
         self.switches[guid_name(guid)] = guid
         self.names[guid_name(guid)] = "switch"
         if text:
-            self.shown[guid_name(guid)] = text.strip()
+            self.shown[guid_name(guid)] = shown(text)
 
     def join(self, line, a, p, b, q):
         """A link, which may be told from both ends."""
@@ -52,7 +57,7 @@ class Fabric(Network):
         """An end port at a port of a switch, which may be told from both ends."""
         end = guid_name(a), p
         if text:
-            self.shown[guid_name(guid)] = text.strip()
+            self.shown[guid_name(guid)] = shown(text)
         if self.host_at.get(end) == guid_name(guid):
             return
         if not self.is_free(end):
@@ -188,7 +193,7 @@ class Judgement:
         elif kind in ("missing", "dead", "wrong", "loop"):
             self.lost.append((kind, *values))
         elif kind == "name":
-            self.names[values[0]] = " ".join(values[1])
+            self.names[values[0]] = shown(" ".join(values[1]))
         else:
             self.facts.append((JUDGED[which], values))
 
