@@ -28,8 +28,8 @@ class Flow(Story):
         moves = any(form.startswith("move") for form, _, _ in self.files.flow.told)
         self.legend += [("text", "at a channel: it holds packets 3 and 5, and 3 goes first", "▸ 3, 5")] * moves
         self.legend.append(("host got", "a host to which a packet comes now"))
-        self.notes.append("Each channel has room for some packets. One packet moves in a step: the first of a channel, or "
-                          "one that waits to enter, if there is room for it or it is at its target.")
+        self.notes.append("Each channel has room for some packets. One packet moves in a step: the first of a channel, "
+                          "or one that waits to enter, if there is room for it or it is at its target.")
         self.scene.begin()
         takers = {"local": self.local, "unjoined": self.unjoined, "move": self.move, "arrive": self.arrive}
         for form, values, line in self.files.flow.told:

@@ -145,7 +145,8 @@ function facts(name) {
   return found;
 }
 
-// The rows of a switch in words, entry by entry: those that are printed, and those of its hosts and links that have none.
+// The rows of a switch in words, entry by entry: those that are printed, and those of its hosts and links that have
+// none.
 function entries(name, rows, names) {
   const printed = new Map(rows.split("\n").map((line) => [Number(line.split(" ")[0]), line.split(" ").slice(1)]));
   const linked = data.links.flat().filter(([at]) => at === name).map(([, port]) => port);

@@ -90,9 +90,9 @@ class Run(Story):
         ]
         self.legend += [("text", "packet 2 is at this switch, or on the way to it", "✉ 2")] * bool(self.sent)
         self.notes += [
-            "An event is one thing that a switch, a cable, a host or the clock does. A step of the slider is a line that "
-            "the program printed of an event, which may have none or several. A frame is what switches send each other, "
-            "a packet what hosts send. A tick is one beat of the network's clock.",
+            "An event is one thing that a switch, a cable, a host or the clock does. A step of the slider is a line "
+            "that the program printed of an event, which may have none or several. A frame is what switches send each "
+            "other, a packet what hosts send. A tick is one beat of the network's clock.",
             "An epoch is one agreement of the switches on how they are cabled. A switch whose links changed begins "
             "the next epoch, and those that hear of it join it. To load is to bring the routes of an epoch into use. "
             "Parts that no cable joins can have epochs of one number, which have nothing to do with each other.",
@@ -100,15 +100,15 @@ class Run(Story):
         ]
         if self.plan.bands:
             self.notes.append(
-                "Levels are those of the tree with all links up, and stay so: the tree of an epoch is not in the report, "
-                "but its root is, in the step in which a switch has finished the epoch.")
+                "Levels are those of the tree with all links up, and stay so: the tree of an epoch is not in the "
+                "report, but its root is, in the step in which a switch has finished the epoch.")
         if self.files.report.end[0] != "settled":
             self.notes.append("Settled means that nothing is left to do, and every port shows what is at its link.")
         lives = [values[0] for form, values, _ in self.files.report.lines.told if form == "restart LIFE"]
         if lives:
             now = named(lives[0])
-            self.notes.append(f"{now} is {lives[0][0]} in its life {lives[0][1]}: each time that a switch is switched off "
-                              "and on, another life begins.")
+            self.notes.append(f"{now} is {lives[0][0]} in its life {lives[0][1]}: each time that a switch is switched "
+                              "off and on, another life begins.")
 
     def epoch_signs(self):
         """The signs of the epochs, each colour with all that have it."""

@@ -63,7 +63,7 @@ class Strip:
         return tag("line", {"class": f"at {kind}", "x1": x, "x2": x, "y1": top, "y2": high})
 
     def mark(self, k, place, kind, words):
-        """A mark in words: in its row the number of the event and what happened; without room for them, a short line."""
+        """A mark in words: in its row the number of the event and what happened; without room, a short line."""
         label, row = f"{place} {words}", self.labels.get(k)
         if row is None:
             shape = box(self.x(place), self.top + 2, 3, 6)
