@@ -139,11 +139,11 @@ def in_words(fact):
 
 
 def labels(network, shown):
-    """The first words of the name of each node; none of a switch that shares them with another one, which goes by its
-    GUID."""
+    """The first words of the name of each node. A switch goes by its GUID if there are none, or another one has the
+    same."""
     names = {guid: short(name) for guid, name in shown.items()}
     many = Counter(names.get(switch) for switch in network.switches)
-    return {guid: name for guid, name in names.items() if many[name] < 2}
+    return {guid: name for guid, name in names.items() if name and many[name] < 2}
 
 
 def short(name):
