@@ -27,10 +27,11 @@ class Programs:
     """The programs that are there, brought up to date."""
 
     def __init__(self):
-        if "AUTONET" not in os.environ:
-            subprocess.run([os.path.join(ROOT, "autonet")], stdin=subprocess.DEVNULL, capture_output=True)
+        is_built = "AUTONET" in os.environ or subprocess.run(
+            [os.path.join(ROOT, "autonet"), "run"], stdin=subprocess.DEVNULL,
+            capture_output=True).returncode not in (126, 127)
         has_yardstick = subprocess.run([os.path.join(ROOT, "yardsticks", "build")]).returncode == 0
-        self.proved = PROVED if os.access(PROVED, os.X_OK) else None
+        self.proved = PROVED if is_built and os.access(PROVED, os.X_OK) else None
         self.yardstick = YARDSTICK if has_yardstick else None
         if self.proved is None and self.yardstick is None:
             raise SystemExit("neither out/autonet nor out/yardstick is there")
