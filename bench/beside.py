@@ -36,10 +36,6 @@ class Programs:
         if self.proved is None and self.yardstick is None:
             raise SystemExit("neither out/autonet nor out/yardstick is there")
 
-    def answers(self, words):
-        """Whether the proved program has these words."""
-        return subprocess.run([self.proved] + words, stdin=subprocess.DEVNULL, capture_output=True).returncode != 2
-
     def answer(self, words, text):
         """What is written to out for the words and the input; both programs must write the same."""
         answers = [subprocess.run([program] + words, input=text, stdout=subprocess.PIPE,
