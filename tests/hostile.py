@@ -159,9 +159,9 @@ class Tally:
             print(f"failed: {what}", flush=True)
 
     def end(self):
-        """The last line, and the status."""
+        """The last line, and the status, which is no good one where nothing was tried."""
         print(f"{self.passed} passed, {self.failed} failed")
-        raise SystemExit(1 if self.failed else 0)
+        raise SystemExit(1 if self.failed or not self.passed else 0)
 
 
 @functools.cache
