@@ -1,0 +1,34 @@
+"""The yardstick of yardsticks/fabric, for tests/corpora, bench/judge and bench/lanes: where it is built, and what its
+answers and those of `fabric judge` say."""
+
+import pathlib
+import subprocess
+
+TOP = pathlib.Path(__file__).resolve().parent.parent
+YARDSTICK = TOP / "out" / "fabric-yardstick"
+
+
+def build():
+    """Builds the yardstick where it is older than its sources."""
+    sources = list((TOP / "yardsticks" / "fabric").glob("*.rs"))
+    if not YARDSTICK.exists() or any(it.stat().st_mtime > YARDSTICK.stat().st_mtime for it in sources):
+        YARDSTICK.parent.mkdir(exist_ok=True)
+        subprocess.run(["rustc", "-O", "--edition", "2021", "-o", YARDSTICK, TOP / "yardsticks" / "fabric" / "main.rs"],
+                       check=True)
+
+
+def facts_of(text):
+    """What an answer says, by the first word of its lines; of each channel the GUID, port, LID and source."""
+    facts, channels = {}, []
+    for line in text.splitlines():
+        words = line.replace("[", " ").replace("]", " ").split()
+        if words and words[0] == "channel":
+            channels.append((words[1], words[2], words[4], words[6]))
+        elif words and words[0] == "read":
+            facts["unowned"] = words[-1]
+        elif words and words[0] in ("routes", "channels", "lost"):
+            facts[words[0]] = tuple(words)
+        elif words and words[0] == "cycle":
+            facts["cycle"] = words[1]
+    facts["witnesses"] = tuple(channels)
+    return facts
