@@ -6,6 +6,7 @@ import subprocess
 
 TOP = pathlib.Path(__file__).resolve().parent.parent
 YARDSTICK = TOP / "out" / "fabric-yardstick"
+ANSWERED = (0, 7, 8)
 
 
 def build():
@@ -17,10 +18,11 @@ def build():
                        check=True)
 
 
-def facts_of(text):
-    """What an answer says, by the first word of its lines; of each channel the GUID, port, LID and source."""
+def facts_of(text, status):
+    """What an answer says, by the first word of its lines; of each channel the GUID, port, LID and source. It says
+    nothing if the status is not one of an answer."""
     facts, channels = {}, []
-    for line in text.splitlines():
+    for line in text.splitlines() if status in ANSWERED else []:
         words = line.replace("[", " ").replace("]", " ").split()
         if words and words[0] == "channel":
             channels.append((words[1], words[2], words[4], words[6]))
@@ -32,3 +34,9 @@ def facts_of(text):
             facts["cycle"] = words[1]
     facts["witnesses"] = tuple(channels)
     return facts
+
+
+def differences(own, other):
+    """Which facts differ, or that there are none."""
+    wrong = sorted(key for key in {*own, *other} if own.get(key) != other.get(key))
+    return wrong or ["no answer"] * ("routes" not in own)
