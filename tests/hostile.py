@@ -3,7 +3,7 @@ calls of the C library fail, and one run of it with all that it wrote. Of these 
 and tests/memory are part of the gate.
 
 The program is out/autonet, or the one that the variable AUTONET names; with AUTONET none is built. Where it is
-built by `rt try` it has checks of its own, and a run takes longer."""
+built by `rt try` it has checks of its own, and a run takes longer. That of `fabric` is out/fabric, or FABRIC."""
 
 import collections
 import functools
@@ -164,13 +164,27 @@ class Tally:
         raise SystemExit(1 if self.failed or not self.passed else 0)
 
 
+def built(name, *words):
+    """The program of a wrapper, which builds it for these words, unless a variable names another one."""
+    path, status = os.environ.get(name.upper()), 0
+    if path is None:
+        path = str(TOP / "out" / name)
+        status = subprocess.run([TOP / name, *words], stdin=subprocess.DEVNULL, capture_output=True).returncode
+    if status in (126, 127) or not os.access(path, os.X_OK):
+        raise SystemExit(f"{path} is not built")
+    return path
+
+
 @functools.cache
 def program():
-    """The program, which the wrapper builds where AUTONET names none."""
-    if "AUTONET" in os.environ:
-        return os.environ["AUTONET"]
-    subprocess.run([TOP / "autonet", "run"], stdin=subprocess.DEVNULL, capture_output=True)
-    return str(TOP / "out" / "autonet")
+    """The program `autonet` of all commands, or the one that AUTONET names."""
+    return built("autonet", "run")
+
+
+@functools.cache
+def fabric():
+    """The program `fabric` of all commands, or the one that FABRIC names."""
+    return built("fabric", "route", "-")
 
 
 def faults(folder):
