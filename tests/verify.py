@@ -13,7 +13,7 @@ def end(kind, guid, port):
 
 def facts(text):
     """The links, each as two times an end and its port; and of each LID with its LMC the owner."""
-    base = here = lid = 16
+    here = None
     for line in text.splitlines():
         word = line.split()
         if two := re.findall(r"{ (SW|CA|Rt?|RT)\S* .*?NodeGUID:(\w+) PortGUID:\w+.*? LID:(\w{4}) PN:(\w+) }", line):
