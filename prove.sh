@@ -94,7 +94,8 @@ build() {
     ticker=
     [ ! -t 2 ] || printf '\r\033[K' >&2
     [ "$status" = 0 ] &&
-        cp "$root/crates/$program/out/$program" "$out/$program.new" && mv "$out/$program.new" "$out/$program"
+        cp "$root/crates/$program/out/$program" "$out/$program.new" &&
+        touch -r "$begun" "$out/$program.new" && mv "$out/$program.new" "$out/$program"
 }
 
 # Sees to it that there is an rt.
@@ -109,12 +110,14 @@ want_rt() {
 # Proves and builds the program $1, after the wrapper's own words about it (announce), or ends with 126 or 127.
 want_program() {
     want_rt
-    mkdir -p "$out" && : > "$log" || { say "not built: there is no writing into $out"; exit 126; }
+    begun=$out/$1.begun # a source that is saved from now on is newer than the program
+    mkdir -p "$out" && : > "$log" && : > "$begun" || { say "not built: there is no writing into $out"; exit 126; }
     announce "$1"
     started=$(date +%s)
     ticker=
-    trap '[ -z "$ticker" ] || { kill "$ticker" 2> /dev/null; [ ! -t 2 ] || echo >&2; }' EXIT
+    trap 'rm -f "$begun"; [ -z "$ticker" ] || { kill "$ticker" 2> /dev/null; [ ! -t 2 ] || echo >&2; }' EXIT
     trap 'exit 130' HUP INT TERM
     build "$1" || { say "not built, see $log"; exit 126; }
+    rm -f "$begun"
     trap - EXIT HUP INT TERM
 }
