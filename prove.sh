@@ -60,8 +60,6 @@ progress() {
 
 # Shows how far the build of $1 crates is, again and again: each second on a terminal, else each minute.
 show() {
-    progress "$1"
-    [ -t 2 ] || echo >&2
     while sleep 1; do
         if [ -t 2 ]; then
             printf '\r' >&2
@@ -85,6 +83,8 @@ build() {
     rm -f "$root/crates/$program/out/$program" # so that what stands there is what this build made
     # shellcheck disable=SC2046 # (names of crates have no spaces)
     set -- $(crates "$program")
+    progress $#
+    [ -t 2 ] || echo >&2
     show $# &
     ticker=$!
     prove "$program"
