@@ -45,7 +45,7 @@ is_current() {
 
 # How many crates are begun at a time: three for two processors, since those that wait for others below them are counted
 # too, as far as memory holds 2.5 GB for each.
-lanes() {
+most_jobs() {
     awk -v processors="$(nproc)" '/^MemAvailable:/ { room = int($2 / 2500000) }
         END { most = int(3 * processors / 2); print (room < 1 ? 1 : room < most ? room : most) }' /proc/meminfo
 }
@@ -74,7 +74,7 @@ show() {
 # Proves the program $1 and the crates below it, several at a time, and builds it.
 prove() (
     cd "$root/crates/$1" || exit
-    rt all check --jobs "$(lanes)" && { rt run -- "$sample" || [ -x "out/$1" ]; }
+    rt all check --jobs "$(most_jobs)" && { rt run -- "$sample" || [ -x "out/$1" ]; }
 ) < /dev/null >> "$log" 2>&1
 
 # Proves and builds the program $1.
