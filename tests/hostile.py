@@ -10,6 +10,7 @@ import functools
 import os
 import pathlib
 import resource
+import select
 import shutil
 import signal
 import subprocess
@@ -210,19 +211,17 @@ def used(pid):
 
 def ended(pid, seconds):
     """The status in which a process ends; or None, where it had to be killed."""
-    begun = time.monotonic()
-    signal.setitimer(signal.ITIMER_REAL, min(seconds, CLOCK), 1)
+    begun, wait, end = time.monotonic(), min(seconds, CLOCK), os.pidfd_open(pid)
     try:
-        while True:
-            try:
-                return os.waitpid(pid, 0)[1]
-            except TimeoutError:
-                if used(pid) >= seconds or time.monotonic() - begun >= CLOCK:
-                    os.kill(pid, signal.SIGKILL)
-                    os.waitpid(pid, 0)
-                    return None
+        while not select.select([end], [], [], wait)[0]:
+            if used(pid) >= seconds or time.monotonic() - begun >= CLOCK:
+                os.kill(pid, signal.SIGKILL)
+                os.waitpid(pid, 0)
+                return None
+            wait = 1
+        return os.waitpid(pid, 0)[1]
     finally:
-        signal.setitimer(signal.ITIMER_REAL, 0)
+        os.close(end)
 
 
 class Process:
@@ -248,12 +247,6 @@ class Process:
         return Run(os.waitstatus_to_exitcode(status), out, err)
 
 
-def late(_number, _frame):
-    """Ends the wait for a run."""
-    raise TimeoutError
-
-
-signal.signal(signal.SIGALRM, late)
 resource.setrlimit(resource.RLIMIT_CORE, (0, 0))
 PROCESSES = {}
 
