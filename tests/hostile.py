@@ -1,6 +1,5 @@
 """What the scripts of this folder in Python share: the program, a library that is loaded before it and makes
-calls of the C library fail, and one run of it with all that it wrote. Of these scripts tests/large
-and tests/memory are part of the gate.
+calls of the C library fail, and one run of it with all that it wrote.
 
 The program is out/autonet, or the one that the variable AUTONET names; with AUTONET none is built. Where it is
 built by `rt try` it has checks of its own, and a run takes longer. That of `fabric` is out/fabric, or FABRIC."""
