@@ -35,8 +35,9 @@ def help_if_asked(text):
 # the one whose number is given fails: a growth, or with FAIL_GROWTHS_FROM each from that one on; a read or a write
 # with the error number FAILURE, and a write with FAILURE 0 takes nothing. SHORT has each move one byte at most. At
 # the end COUNTS is the file that gets how many there were of each, and of how many bytes the growths were. Only calls
-# of the program FAULTY count, and only those after it was loaded. STACK is how much of its stack it has from the beginning: where a limit on memory lets a
-# stack not grow, the system ends a program by a signal, which none can answer.
+# of the program FAULTY count, and only those after it was loaded. STACK is how much of its stack it has from the
+# beginning: where a limit on memory lets a stack not grow, the system ends a program by a signal, which none can
+# answer.
 FAULTS = r"""
 #define _GNU_SOURCE
 #include <alloca.h>
