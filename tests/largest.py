@@ -1,4 +1,4 @@
-"""Networks at the edges of the program's limits, which tests/large and tests/limits share."""
+"""Networks at the edges of the program's limits, which scripts of this folder share."""
 
 
 def switches(steps, count=126):
