@@ -11,6 +11,7 @@ programs are those of Debian's packages opensm, ibsim-utils and infiniband-diags
 
 import os
 import pathlib
+import re
 import shutil
 import signal
 import subprocess
@@ -52,6 +53,18 @@ def end_on_signals():
     """Lets a signal that ends this program end its blocks too."""
     for number in (signal.SIGTERM, signal.SIGHUP, signal.SIGINT):
         signal.signal(number, lambda number, _: sys.exit(128 + number))
+
+
+def rows_in(text):
+    """The port of each switch and LID that tables tell, without those that name none."""
+    rows, switch = {}, None
+    for line in text.splitlines():
+        if head := re.search(r"^Unicast lids .*guid (0x\w+)", line):
+            switch = head[1]
+        elif row := re.match(r"(0x\w{4}) (\d{3})(?: |$)", line):
+            if row[2] != "255":
+                rows[switch, int(row[1], 16)] = row[2]
+    return rows
 
 
 def keep_only(folder, names):
