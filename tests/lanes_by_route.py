@@ -272,7 +272,7 @@ def names_in(path):
 
 def picture_of(folder, lines):
     """The lines of the picture of the loop that the lines of an answer tell."""
-    far, names = Fabric(folder).far, names_in(folder / "opensm-subnet.lst")
+    far, names = fabric_in(folder).far, names_in(folder / "opensm-subnet.lst")
     loop = [CHANNEL.fullmatch(line) for line in lines if line.startswith("channel ")]
     found = f"has a credit loop of {len(loop)} channels" if loop else "has no credit loop"
     yield from ("digraph cycle {", f'label = "{lines[0].removeprefix("judged ")} {found}"')
