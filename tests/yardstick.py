@@ -11,11 +11,7 @@ ANSWERED = (0, 7, 8)
 
 def build():
     """Builds the yardstick where it is older than its sources."""
-    sources = list((TOP / "yardsticks" / "fabric").glob("*.rs"))
-    if not YARDSTICK.exists() or any(it.stat().st_mtime > YARDSTICK.stat().st_mtime for it in sources):
-        YARDSTICK.parent.mkdir(exist_ok=True)
-        subprocess.run(["rustc", "-O", "--edition", "2021", "-o", YARDSTICK, TOP / "yardsticks" / "fabric" / "main.rs"],
-                       check=True)
+    subprocess.run([TOP / "yardsticks" / "build"], check=True)
 
 
 def facts_of(text, status):
