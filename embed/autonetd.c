@@ -46,7 +46,7 @@ struct cable {
     int fd; /* 0: there is none */
     int index;
     char interface[IFNAMSIZ]; /* empty: UDP */
-    char cut[256];            /* the file that cuts it, or empty */
+    const char *cut;          /* the file that cuts it, or NULL */
 };
 
 static const char *const states[] = {"dead", "checking", "host", "who", "loop", "good"};
@@ -137,7 +137,7 @@ static void start(uint64_t least) {
 
 static int is_up(const struct cable *cable) {
     if (!cable->fd) return 0;
-    if (!cable->interface[0]) return !cable->cut[0] || access(cable->cut, F_OK) != 0;
+    if (!cable->interface[0]) return !cable->cut || access(cable->cut, F_OK) != 0;
     struct ifreq ask;
     memset(&ask, 0, sizeof ask);
     memcpy(ask.ifr_name, cable->interface, IFNAMSIZ);
@@ -319,11 +319,17 @@ static void open_interface(struct cable *cable, const char *interface) {
 }
 
 static int open_cable(const char *text) {
-    int port, local, remote, at = 0;
+    int port, local, remote, at = 0, end = 0;
     if (sscanf(text, "%d=%n", &port, &at) != 1 || !at || port < 1 || port > AUTONET_PORTS || cables[port].fd) return 0;
-    if (sscanf(text + at, "udp:%d:%d:%255s", &local, &remote, cables[port].cut) >= 2) open_udp(&cables[port], local, remote);
-    else if (!strncmp(text + at, "if:", 3)) open_interface(&cables[port], text + at + 3);
-    else return 0;
+    const char *way = text + at;
+    if (!strncmp(way, "if:", 3)) {
+        open_interface(&cables[port], way + 3);
+        return 1;
+    }
+    if (sscanf(way, "udp:%d:%d%n", &local, &remote, &end) != 2 || (way[end] && (way[end] != ':' || !way[end + 1])))
+        return 0;
+    cables[port].cut = way[end] ? way + end + 1 : NULL;
+    open_udp(&cables[port], local, remote);
     return 1;
 }
 
