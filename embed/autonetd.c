@@ -2,15 +2,17 @@
  *
  *   autonetd [--loss PERCENT] [--again PERCENT] [--epoch N] NAME UID BOOTFILE TICK_MS LINK ..
  *
- * UID is hexadecimal, below 2^48. BOOTFILE keeps the number of the last boot, and an epoch that the switch has
- * not passed: both are on stable storage before the switch starts, and a greater epoch before a frame leaves in
- * one above that. The next life starts with the epoch that is kept, or with that of --epoch if this is greater,
- * so it joins no epoch that an earlier life of the switch joined. TICK_MS is the tick in milliseconds. A LINK is one of
+ * NAME has 1 to 16 letters, digits and `_`. UID is hexadecimal, below 2^48. BOOTFILE keeps the number of the last
+ * boot, and an epoch that the switch has not passed: both are on stable storage before the switch starts, and a
+ * greater epoch before a frame leaves in one above that. The next life starts with the epoch that is kept, or
+ * with that of --epoch if this is greater, so it joins no epoch that an earlier life of the switch joined.
+ * TICK_MS is the tick in milliseconds, 1 to 60000. A LINK is one of
  *   PORT=udp:LOCAL:REMOTE[:FILE]   datagrams on 127.0.0.1 between these two UDP ports; while FILE exists the
  *                                  cable is cut: the port shows no link, and what comes or goes is lost
  *   PORT=if:NAME                   an Ethernet interface: frames of type 0x88b5, with their length in two bytes
  *                                  in front, for short frames come padded
- * --loss drops that share of the frames that come in, and --again hands that share in twice.
+ * --loss drops that share of the frames that come in, and --again hands that share in twice. If a word is wrong,
+ * a line on standard error says which, and the status is 2; it is 1 if the switch cannot go on.
  *
  * What the switch does is a line each on standard output, with the time and NAME in front:
  *   start LIFE | port P WORD [LIFE port Q] | epoch E | out of use | finished E members N |
@@ -20,6 +22,7 @@
 #define _GNU_SOURCE
 #include "autonet.h"
 #include <arpa/inet.h>
+#include <ctype.h>
 #include <errno.h>
 #include <fcntl.h>
 #include <inttypes.h>
@@ -40,6 +43,7 @@
 
 #define ETHER_TYPE 0x88b5
 #define ETHER_FRONT 16 /* two addresses, the type, and the length of what follows */
+#define IN_NAMES "0123456789_ABCDEFGHIJKLMNOPQRSTUVWXYZabcdefghijklmnopqrstuvwxyz"
 #define SPARE 1000     /* how many epochs ahead one is kept, so that it is seldom written */
 
 struct cable {
@@ -82,10 +86,12 @@ static void say(const char *format, ...) {
     if (write(STDOUT_FILENO, line, at) != at) _exit(1);
 }
 
-static _Noreturn void die(const char *what) {
-    fprintf(stderr, "autonetd %s: %s: %s\n", name, what, strerror(errno));
-    exit(1);
+static _Noreturn void fail(int status, const char *what, const char *why) {
+    fprintf(stderr, "autonetd: %s: %s\n", what, why);
+    exit(status);
 }
+
+static _Noreturn void die(const char *what) { fail(1, what, strerror(errno)); }
 
 static void sync_of(const char *path, int flags) {
     int fd = open(path, flags);
@@ -302,58 +308,67 @@ static void wait_until(long long due) {
     }
 }
 
-static void open_udp(struct cable *cable, int local, int remote) {
+static void open_udp(struct cable *cable, int local, int remote, const char *text) {
     struct sockaddr_in at = {.sin_family = AF_INET, .sin_port = htons((uint16_t)local), .sin_addr.s_addr = htonl(INADDR_LOOPBACK)};
     cable->fd = socket(AF_INET, SOCK_DGRAM, 0);
-    if (cable->fd < 0 || bind(cable->fd, (struct sockaddr *)&at, sizeof at)) die("udp");
+    if (cable->fd < 0 || bind(cable->fd, (struct sockaddr *)&at, sizeof at)) die(text);
     at.sin_port = htons((uint16_t)remote);
-    if (connect(cable->fd, (struct sockaddr *)&at, sizeof at)) die("udp");
+    if (connect(cable->fd, (struct sockaddr *)&at, sizeof at)) die(text);
 }
 
-static void open_interface(struct cable *cable, const char *interface) {
+static void open_interface(struct cable *cable, const char *interface, const char *text) {
     snprintf(cable->interface, sizeof cable->interface, "%s", interface);
     cable->index = (int)if_nametoindex(interface);
     cable->fd = socket(AF_PACKET, SOCK_RAW, htons(ETHER_TYPE));
     struct sockaddr_ll at = {.sll_family = AF_PACKET, .sll_protocol = htons(ETHER_TYPE), .sll_ifindex = cable->index};
-    if (!cable->index || cable->fd < 0 || bind(cable->fd, (struct sockaddr *)&at, sizeof at)) die(interface);
+    if (!cable->index || cable->fd < 0 || bind(cable->fd, (struct sockaddr *)&at, sizeof at)) die(text);
 }
 
-static int open_cable(const char *text) {
+static int is_udp(int port) { return 1 <= port && port <= UINT16_MAX; }
+
+/* Opens the cable that a LINK tells. */
+static void open_cable(const char *text) {
     int port, local, remote, at = 0, end = 0;
-    if (sscanf(text, "%d=%n", &port, &at) != 1 || !at || port < 1 || port > AUTONET_PORTS || cables[port].fd) return 0;
+    if (sscanf(text, "%2d=%n", &port, &at) != 1 || !at || port < 1 || port > AUTONET_PORTS || cables[port].fd)
+        fail(2, "no LINK", text);
     const char *way = text + at;
     if (!strncmp(way, "if:", 3)) {
-        open_interface(&cables[port], way + 3);
-        return 1;
+        open_interface(&cables[port], way + 3, text);
+        return;
     }
-    if (sscanf(way, "udp:%d:%d%n", &local, &remote, &end) != 2 || (way[end] && (way[end] != ':' || !way[end + 1])))
-        return 0;
+    if (sscanf(way, "udp:%5d:%5d%n", &local, &remote, &end) != 2 || !is_udp(local) || !is_udp(remote) ||
+        (way[end] && (way[end] != ':' || !way[end + 1])))
+        fail(2, "no LINK", text);
     cables[port].cut = way[end] ? way + end + 1 : NULL;
-    open_udp(&cables[port], local, remote);
-    return 1;
+    open_udp(&cables[port], local, remote, text);
+}
+
+/* The number that a word is. If it is none of these, `no` says what is missing. */
+static uint64_t number(const char *no, const char *word, int base, uint64_t least, uint64_t most) {
+    char *end;
+    errno = 0;
+    uint64_t found = strtoull(word, &end, base);
+    if (!isalnum((unsigned char)word[0]) || *end || errno || found < least || found > most) fail(2, no, word);
+    return found;
 }
 
 int main(int count, char **words) {
     uint64_t epoch = 0;
     int at = 1;
     for (; at + 1 < count && !strncmp(words[at], "--", 2); at += 2) {
-        if (!strcmp(words[at], "--loss")) loss = atoi(words[at + 1]);
-        else if (!strcmp(words[at], "--again")) again = atoi(words[at + 1]);
-        else if (!strcmp(words[at], "--epoch")) epoch = strtoull(words[at + 1], NULL, 10);
-        else return 2;
+        const char *option = words[at], *value = words[at + 1];
+        if (!strcmp(option, "--loss")) loss = (int)number("no PERCENT", value, 10, 0, 100);
+        else if (!strcmp(option, "--again")) again = (int)number("no PERCENT", value, 10, 0, 100);
+        else if (!strcmp(option, "--epoch")) epoch = number("no epoch", value, 10, 0, UINT64_MAX);
+        else fail(2, "no option", option);
     }
-    if (count - at < 5) {
-        fprintf(stderr, "usage: autonetd [--loss PERCENT] [--again PERCENT] [--epoch N] NAME UID BOOTFILE TICK_MS LINK ..\n");
-        return 2;
-    }
-    name = words[at], uid = strtoull(words[at + 1], NULL, 16), boot_file = words[at + 2];
-    long tick_ms = atol(words[at + 3]);
-    if (tick_ms < 1) return 2;
-    for (int link = at + 4; link < count; link++)
-        if (!open_cable(words[link])) {
-            fprintf(stderr, "autonetd: no link: %s\n", words[link]);
-            return 2;
-        }
+    if (count - at < 5)
+        fail(2, "usage", "autonetd [--loss PERCENT] [--again PERCENT] [--epoch N] NAME UID BOOTFILE TICK_MS LINK ..");
+    name = words[at], boot_file = words[at + 2];
+    if (!name[0] || strlen(name) > 16 || name[strspn(name, IN_NAMES)]) fail(2, "no NAME", name);
+    uid = number("no UID", words[at + 1], 16, 0, (UINT64_C(1) << 48) - 1);
+    int tick_ms = (int)number("no TICK_MS", words[at + 3], 10, 1, 60000);
+    for (int link = at + 4; link < count; link++) open_cable(words[link]);
     srandom((unsigned)(uid * 2654435761u + (unsigned)getpid()));
     signal(SIGTERM, on_signal);
     signal(SIGINT, on_signal);
