@@ -368,6 +368,8 @@ int main(int count, char **words) {
     if (!name[0] || strlen(name) > 16 || name[strspn(name, IN_NAMES)]) fail(2, "no NAME", name);
     uid = number("no UID", words[at + 1], 16, 0, (UINT64_C(1) << 48) - 1);
     int tick_ms = (int)number("no TICK_MS", words[at + 3], 10, 1, 60000);
+    for (int fd = 0; fd <= STDERR_FILENO; fd++) /* one that is closed would become a cable */
+        if (fcntl(fd, F_GETFD) < 0 && open("/dev/null", O_RDWR) != fd) die("/dev/null");
     for (int link = at + 4; link < count; link++) open_cable(words[link]);
     srandom((unsigned)(uid * 2654435761u + (unsigned)getpid()));
     signal(SIGTERM, on_signal);
