@@ -68,7 +68,7 @@ static autonet_port_shown ports[AUTONET_PORTS + 1];     /* after the last call *
 static int in_use;                                      /* whether a table is */
 static uint8_t had = 1;                                 /* the number that it wishes for */
 static volatile sig_atomic_t stop;
-static unsigned long came, left, dropped;
+static unsigned long came, left, dropped; /* frames: taken, sent, and those of --loss */
 
 static void on_signal(int signal) { (void)signal, stop = 1; }
 
@@ -150,14 +150,13 @@ static int is_up(const struct cable *cable) {
     return ioctl(cable->fd, SIOCGIFFLAGS, &ask) == 0 && (ask.ifr_flags & IFF_UP) && (ask.ifr_flags & IFF_RUNNING);
 }
 
-/* A frame that cannot be sent is a lost one. */
+/* A frame that cannot be sent at once is a lost one. */
 static void transmit(uint8_t port, const uint8_t *bytes, size_t length) {
     static uint8_t packet[ETHER_FRONT + AUTONET_MOST_FRAME];
     const struct cable *cable = &cables[port];
-    left++;
-    if (!cable->fd || !is_up(cable)) return;
+    if (!is_up(cable)) return;
     if (!cable->interface[0]) {
-        if (send(cable->fd, bytes, length, 0) < 0) return;
+        left += send(cable->fd, bytes, length, MSG_DONTWAIT) >= 0;
         return;
     }
     memset(packet, 0xff, 6);
@@ -167,7 +166,8 @@ static void transmit(uint8_t port, const uint8_t *bytes, size_t length) {
     packet[14] = (uint8_t)(length >> 8), packet[15] = (uint8_t)length;
     memcpy(packet + ETHER_FRONT, bytes, length);
     struct sockaddr_ll to = {.sll_family = AF_PACKET, .sll_ifindex = cable->index, .sll_halen = 6};
-    if (sendto(cable->fd, packet, ETHER_FRONT + length, 0, (struct sockaddr *)&to, sizeof to) < 0) return;
+    size_t all = ETHER_FRONT + length;
+    left += sendto(cable->fd, packet, all, MSG_DONTWAIT, (struct sockaddr *)&to, sizeof to) >= 0;
 }
 
 /* The bytes that came, or -1 where none did or they are not for the switch. */
