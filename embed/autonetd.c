@@ -100,18 +100,21 @@ static void sync_of(const char *path, int flags) {
 
 /* Reads what the file keeps, if there is one. (A file with a boot alone keeps epoch 0.) */
 static void read_kept(void) {
-    unsigned long long epoch = 0;
+    char last[11], epoch[21] = "0"; /* as many digits as numbers of 32 and of 64 bits have */
     FILE *file = fopen(boot_file, "r");
     if (!file && errno == ENOENT) return;
-    if (!file || fscanf(file, "%" SCNu32 " %llu", &boot, &epoch) < 1) die(boot_file);
+    if (!file) die(boot_file);
+    if (fscanf(file, "%10[0-9] %20[0-9]", last, epoch) < 1) fail(1, boot_file, "no boot");
     fclose(file);
-    kept_epoch = epoch;
+    if (strtoull(last, NULL, 10) >= UINT32_MAX) fail(1, boot_file, "no boot is left");
+    boot = (uint32_t)strtoull(last, NULL, 10);
+    kept_epoch = strtoull(epoch, NULL, 10);
 }
 
 /* Keeps the boot and this epoch, which are on stable storage when this returns. */
 static void keep(uint64_t epoch) {
     char next[4096], folder[4096];
-    snprintf(next, sizeof next, "%s.next", boot_file);
+    if (snprintf(next, sizeof next, "%s.next", boot_file) >= (int)sizeof next) fail(1, boot_file, "too long");
     snprintf(folder, sizeof folder, "%s", boot_file);
     FILE *file = fopen(next, "w");
     if (!file || fprintf(file, "%" PRIu32 " %llu\n", boot, (unsigned long long)epoch) < 0 || fclose(file)) die(next);
@@ -127,7 +130,7 @@ static uint64_t ahead_of(uint64_t epoch) { return epoch < UINT64_MAX - SPARE ? e
 static void start(uint64_t least) {
     read_kept();
     uint64_t epoch = kept_epoch < least ? least : kept_epoch;
-    if (++boot == 0) die("no boot is left");
+    boot++;
     keep(ahead_of(epoch));
     uint32_t status = autonet_start(&sw, uid, boot, epoch, had, false);
     if (status != AUTONET_DONE) {
