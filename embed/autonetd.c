@@ -322,7 +322,7 @@ static void open_udp(struct cable *cable, int local, int remote, const char *tex
 static void open_interface(struct cable *cable, const char *interface, const char *text) {
     snprintf(cable->interface, sizeof cable->interface, "%s", interface);
     cable->index = (int)if_nametoindex(interface);
-    cable->fd = socket(AF_PACKET, SOCK_RAW, htons(ETHER_TYPE));
+    cable->fd = socket(AF_PACKET, SOCK_RAW, 0); /* it hears nothing before it is bound to the interface */
     struct sockaddr_ll at = {.sll_family = AF_PACKET, .sll_protocol = htons(ETHER_TYPE), .sll_ifindex = cable->index};
     if (!cable->index || cable->fd < 0 || bind(cable->fd, (struct sockaddr *)&at, sizeof at)) die(text);
 }
