@@ -243,11 +243,19 @@ static void load(void) {
 }
 
 /* What follows a clock or a frame, in this order: a table of another epoch goes out of use, an epoch is kept
- * that this one has not passed, the frames go out, a table that is due is loaded. Then a life that is over goes on with the next boot. */
+ * that this one has not passed, the frames go out, a table that is due is loaded. If the life is over no frame
+ * goes out, and the switch goes on with the next boot. */
 static void after(uint32_t status) {
     static uint8_t bytes[AUTONET_MOST_FRAME];
     autonet_frame_shown frame;
     autonet_shown now;
+    if (status == AUTONET_OUT_OF_MEMORY || status == AUTONET_SPENT || status == AUTONET_OVER) {
+        if (in_use) say("out of use");
+        say("over %u", status);
+        autonet_end(&sw);
+        start(0);
+        return;
+    }
     autonet_show(&sw, &now);
     if (now.epoch != shown.epoch) {
         if (in_use) say("out of use");
@@ -261,12 +269,6 @@ static void after(uint32_t status) {
     say_ports();
     if (finished) say("finished %llu members %u", (unsigned long long)now.epoch, now.members);
     if (now.load_due) load();
-    if (status == AUTONET_OUT_OF_MEMORY || status == AUTONET_SPENT || status == AUTONET_OVER) {
-        if (in_use) say("out of use");
-        say("over %u", status);
-        autonet_end(&sw);
-        start(0);
-    }
 }
 
 static int roll(int percent) { return percent && (int)(random() % 100) < percent; }
