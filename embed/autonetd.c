@@ -381,11 +381,9 @@ int main(int count, char **words) {
     signal(SIGINT, on_signal);
     start(epoch);
     uint64_t ticks = 0;
-    for (long long due = now_ms(); !stop; ticks++) {
+    for (; !stop; ticks++) {
         tick(ticks);
-        due += tick_ms;
-        if (due + tick_ms < now_ms()) due = now_ms(); /* it was held up: no clocks are made up for */
-        wait_until(due);
+        wait_until(now_ms() + tick_ms); /* a whole tick, also after a late one: probes need it to be answered */
     }
     say("end ticks %llu works %llu carried %u came %lu left %lu dropped %lu", (unsigned long long)ticks,
         (unsigned long long)shown.works, shown.carried, came, left, dropped);
