@@ -2,21 +2,22 @@
  *
  *   autonetd [--loss PERCENT] [--again PERCENT] [--epoch N] NAME UID BOOTFILE TICK_MS LINK ..
  *
- * NAME has 1 to 16 letters, digits and `_`. UID is hexadecimal, below 2^48. BOOTFILE keeps the number of the last
- * boot, and an epoch that the switch has not passed: both are on stable storage before the switch starts, and a
- * greater epoch before a frame leaves in one above that. The next life starts with the epoch that is kept, or
- * with that of --epoch if this is greater, so it joins no epoch that an earlier life of the switch joined.
- * TICK_MS is the tick in milliseconds, 1 to 60000. A LINK is one of
- *   PORT=udp:LOCAL:REMOTE[:FILE]   datagrams on 127.0.0.1 between these two UDP ports; while FILE exists the
- *                                  cable is cut: the port shows no link, and what comes or goes is lost
- *   PORT=if:NAME                   an Ethernet interface: frames of type 0x88b5, with their length in two bytes
- *                                  in front, for short frames come padded
- * --loss drops that share of the frames that come in, and --again hands that share in twice. If a word is wrong,
- * a line on standard error says which, and the status is 2; it is 1 if the switch cannot go on.
+ * NAME has 1 to 16 letters, digits and `_`. UID is hexadecimal, below 2^48. BOOTFILE keeps the number of the
+ * last boot, and an epoch that the switch has not passed: both are on stable storage before the switch
+ * starts, and a greater epoch before a frame leaves in one above that. The next life starts with the epoch
+ * that is kept, or with that of --epoch if this is greater, so it joins no epoch that an earlier life of the
+ * switch joined. TICK_MS is the tick in milliseconds, 1 to 60000. A LINK is one of
+ *   PORT=udp:LOCAL:REMOTE[:FILE]  datagrams on 127.0.0.1 between these two UDP ports; while FILE exists the
+ *                                 cable is cut: the port shows no link, and what comes or goes is lost
+ *   PORT=if:NAME                  an Ethernet interface: frames of type 0x88b5, with their length in two
+ *                                 bytes in front, for short frames come padded
+ * --loss drops that share of the frames that come in, and --again hands that share in twice. If a word is
+ * wrong, a line on standard error says which, and the status is 2; it is 1 if the switch cannot go on.
  *
  * What the switch does is a line each on standard output, with the time and NAME in front:
  *   start LIFE | port P WORD [LIFE port Q] | epoch E | out of use | finished E members N |
- *   load E number N LIFE=NUMBER .. | rows TO:EXIT/EXIT .. | over STATUS | end ..
+ *   load E number N LIFE=NUMBER .. | rows TO:EXIT/EXIT .. | load failed STATUS | over STATUS |
+ *   end ticks N works N carried N came N left N dropped N
  * A line is one write, so that processes may share a file that each opens to append. What a line says is so
  * before a later frame leaves: a table is out of use before any frame of a call that changes the epoch. */
 #define _GNU_SOURCE
@@ -45,6 +46,8 @@
 #define ETHER_FRONT 16 /* two addresses, the type, and the length of what follows */
 #define IN_NAMES "0123456789_ABCDEFGHIJKLMNOPQRSTUVWXYZabcdefghijklmnopqrstuvwxyz"
 #define SPARE 1000     /* how many epochs ahead one is kept, so that it is seldom written */
+#define WORD 40        /* a member or a row in a line has fewer letters */
+#define LIST (AUTONET_MOST_NUMBER * WORD)
 
 struct cable {
     int fd; /* 0: there is none */
@@ -73,7 +76,7 @@ static unsigned long came, left, dropped; /* frames: taken, sent, and those of -
 static void on_signal(int signal) { (void)signal, stop = 1; }
 
 static void say(const char *format, ...) {
-    static char line[8192];
+    static char line[100 + LIST]; /* the time, NAME, some words and numbers, and a list */
     struct timespec now;
     clock_gettime(CLOCK_REALTIME, &now);
     int at = snprintf(line, sizeof line, "%lld.%06ld %s ", (long long)now.tv_sec, now.tv_nsec / 1000, name);
@@ -117,7 +120,7 @@ static void keep(uint64_t epoch) {
     if (snprintf(next, sizeof next, "%s.next", boot_file) >= (int)sizeof next) fail(1, boot_file, "too long");
     snprintf(folder, sizeof folder, "%s", boot_file);
     FILE *file = fopen(next, "w");
-    if (!file || fprintf(file, "%" PRIu32 " %llu\n", boot, (unsigned long long)epoch) < 0 || fclose(file)) die(next);
+    if (!file || fprintf(file, "%" PRIu32 " %" PRIu64 "\n", boot, epoch) < 0 || fclose(file)) die(next);
     sync_of(next, O_WRONLY);
     if (rename(next, boot_file)) die(boot_file);
     sync_of(dirname(folder), O_RDONLY | O_DIRECTORY);
@@ -150,7 +153,8 @@ static int is_up(const struct cable *cable) {
     struct ifreq ask;
     memset(&ask, 0, sizeof ask);
     memcpy(ask.ifr_name, cable->interface, IFNAMSIZ);
-    return ioctl(cable->fd, SIOCGIFFLAGS, &ask) == 0 && (ask.ifr_flags & IFF_UP) && (ask.ifr_flags & IFF_RUNNING);
+    if (ioctl(cable->fd, SIOCGIFFLAGS, &ask)) return 0;
+    return (ask.ifr_flags & IFF_UP) && (ask.ifr_flags & IFF_RUNNING);
 }
 
 /* A frame that cannot be sent at once is a lost one. */
@@ -205,29 +209,30 @@ static void say_ports(void) {
 }
 
 /* The members with their numbers. */
-static void members_into(char *text, size_t room) {
-    autonet_member_shown member;
+static void members_into(char text[LIST]) {
+    autonet_member_shown of;
     size_t at = 0;
     text[0] = 0;
-    for (size_t place = 0; at < room - 40 && autonet_member(&sw, place, &member) == AUTONET_DONE; place++)
-        at += snprintf(text + at, room - at, " %012llx.%u=%u", (unsigned long long)member.uid, member.boot, member.number);
+    for (size_t place = 0; at < LIST - WORD && autonet_member(&sw, place, &of) == AUTONET_DONE; place++)
+        at += snprintf(text + at, WORD, " %012llx.%u=%u", (unsigned long long)of.uid, of.boot, of.number);
 }
 
-/* The rows of the packets of the switch itself. */
-static void rows_into(char *text, size_t room) {
+/* The rows of the packets of the switch itself. Each of these rows has an exit. */
+static void rows_into(char text[LIST]) {
     autonet_row_shown row;
     size_t at = 0;
     text[0] = 0;
-    for (size_t place = 0; at < room - 60 && autonet_row(&sw, place, &row) == AUTONET_DONE && row.entry == 0; place++) {
+    for (size_t place = 0; at < LIST - WORD && autonet_row(&sw, place, &row) == AUTONET_DONE; place++) {
+        if (row.entry != 0) return;
         char mark = ':';
-        at += snprintf(text + at, room - at, " %u", row.to);
+        at += snprintf(text + at, WORD, " %u", row.to);
         for (int port = 1; port <= AUTONET_PORTS; port++)
-            if (row.exits >> port & 1) at += snprintf(text + at, room - at, "%c%d", mark, port), mark = '/';
+            if (row.exits >> port & 1) at += snprintf(text + at, WORD, "%c%d", mark, port), mark = '/';
     }
 }
 
 static void load(void) {
-    static char text[6000];
+    static char text[LIST];
     uint32_t status = autonet_load(&sw);
     if (status != AUTONET_DONE) {
         say("load failed %u", status); /* it is still due */
@@ -236,15 +241,15 @@ static void load(void) {
     autonet_show(&sw, &shown);
     had = shown.number;
     in_use = 1; /* here the rows would go to the hardware */
-    members_into(text, sizeof text);
+    members_into(text);
     say("load %llu number %u%s", (unsigned long long)shown.table_epoch, shown.number, text);
-    rows_into(text, sizeof text);
+    rows_into(text);
     say("rows%s", text);
 }
 
 /* What follows a clock or a frame, in this order: a table of another epoch goes out of use, an epoch is kept
- * that this one has not passed, the frames go out, a table that is due is loaded. If the life is over no frame
- * goes out, and the switch goes on with the next boot. */
+ * that this one has not passed, the frames go out, a table that is due is loaded. If the life is over no
+ * frame goes out, and the switch goes on with the next boot. */
 static void after(uint32_t status) {
     static uint8_t bytes[AUTONET_MOST_FRAME];
     autonet_frame_shown frame;
@@ -265,7 +270,8 @@ static void after(uint32_t status) {
     if (now.epoch > kept_epoch) keep(ahead_of(now.epoch));
     int finished = now.members && (now.epoch != shown.epoch || !shown.members);
     shown = now;
-    while (autonet_next(&sw, &frame, bytes, sizeof bytes) == AUTONET_DONE) transmit(frame.port, bytes, frame.length);
+    while (autonet_next(&sw, &frame, bytes, sizeof bytes) == AUTONET_DONE)
+        transmit(frame.port, bytes, frame.length);
     say_ports();
     if (finished) say("finished %llu members %u", (unsigned long long)now.epoch, now.members);
     if (now.load_due) load();
@@ -305,7 +311,10 @@ static void wait_until(long long due) {
     uint8_t which[AUTONET_PORTS];
     nfds_t count = 0;
     for (uint8_t port = 1; port <= AUTONET_PORTS; port++)
-        if (cables[port].fd) polled[count] = (struct pollfd){cables[port].fd, POLLIN, 0}, which[count++] = port;
+        if (cables[port].fd) {
+            polled[count] = (struct pollfd){cables[port].fd, POLLIN, 0};
+            which[count++] = port;
+        }
     for (long long rest; !stop && (rest = due - now_ms()) > 0;) {
         if (poll(polled, count, (int)rest) <= 0) continue;
         for (nfds_t at = 0; at < count && !stop; at++)
@@ -314,7 +323,8 @@ static void wait_until(long long due) {
 }
 
 static void open_udp(struct cable *cable, int local, int remote, const char *text) {
-    struct sockaddr_in at = {.sin_family = AF_INET, .sin_port = htons((uint16_t)local), .sin_addr.s_addr = htonl(INADDR_LOOPBACK)};
+    struct sockaddr_in at = {.sin_family = AF_INET, .sin_port = htons((uint16_t)local)};
+    at.sin_addr.s_addr = htonl(INADDR_LOOPBACK);
     cable->fd = socket(AF_INET, SOCK_DGRAM, 0);
     if (cable->fd < 0 || bind(cable->fd, (struct sockaddr *)&at, sizeof at)) die(text);
     at.sin_port = htons((uint16_t)remote);
@@ -325,7 +335,8 @@ static void open_interface(struct cable *cable, const char *interface, const cha
     snprintf(cable->interface, sizeof cable->interface, "%s", interface);
     cable->index = (int)if_nametoindex(interface);
     cable->fd = socket(AF_PACKET, SOCK_RAW, 0); /* it hears nothing before it is bound to the interface */
-    struct sockaddr_ll at = {.sll_family = AF_PACKET, .sll_protocol = htons(ETHER_TYPE), .sll_ifindex = cable->index};
+    struct sockaddr_ll at = {.sll_family = AF_PACKET, .sll_protocol = htons(ETHER_TYPE)};
+    at.sll_ifindex = cable->index;
     if (!cable->index || cable->fd < 0 || bind(cable->fd, (struct sockaddr *)&at, sizeof at)) die(text);
 }
 
@@ -368,7 +379,8 @@ int main(int count, char **words) {
         else fail(2, "no option", option);
     }
     if (count - at < 5)
-        fail(2, "usage", "autonetd [--loss PERCENT] [--again PERCENT] [--epoch N] NAME UID BOOTFILE TICK_MS LINK ..");
+        fail(2, "usage",
+             "autonetd [--loss PERCENT] [--again PERCENT] [--epoch N] NAME UID BOOTFILE TICK_MS LINK ..");
     name = words[at], boot_file = words[at + 2];
     if (!name[0] || strlen(name) > 16 || name[strspn(name, IN_NAMES)]) fail(2, "no NAME", name);
     uid = number("no UID", words[at + 1], 16, 0, (UINT64_C(1) << 48) - 1);
@@ -383,7 +395,7 @@ int main(int count, char **words) {
     uint64_t ticks = 0;
     for (; !stop; ticks++) {
         tick(ticks);
-        wait_until(now_ms() + tick_ms); /* a whole tick, also after a late one: probes need it to be answered */
+        wait_until(now_ms() + tick_ms); /* a whole tick, also after a late one: time to answer its probes */
     }
     say("end ticks %llu works %llu carried %u came %lu left %lu dropped %lu", (unsigned long long)ticks,
         (unsigned long long)shown.works, shown.carried, came, left, dropped);
