@@ -6,23 +6,23 @@
  *
  * A program calls autonet_clock at each tick and autonet_frame for all that comes in by a port. After
  * each of the two it does, in this order:
- *   1. autonet_show; where `epoch` is another than `table_epoch` it takes its table out of use;
+ *   1. autonet_show; if `epoch` is another than `table_epoch` it takes its table out of use;
  *   2. autonet_next until AUTONET_NO_MORE, and sends each frame by its port;
- *   3. where `load_due` is 1, autonet_load, and puts the rows of autonet_row into use.
+ *   3. if `load_due` is 1, autonet_load, and puts the rows of autonet_row into use.
  *
  * What a program owes, for no call can check it:
  *   - an autonet_switch is zero before its first autonet_start, and nothing but these calls writes it;
  *     a copy of it is not used any more after a call with the other one;
  *   - calls for one switch come one after the other, from one thread, and from no signal handler nor the
- *     child of a fork; calls for different switches may come at once where malloc may;
- *   - pointers are not NULL, even where a count is 0, and lead to what the call says; what a call writes
+ *     child of a fork; calls for different switches may come at once if malloc may;
+ *   - pointers are not NULL, even if a count is 0, and lead to what the call says; what a call writes
  *     is no part of the switch nor of what else it is passed;
  *   - no two starts ever have the same identifier and boot, also after the power was off: the next boot
  *     is on stable storage before autonet_start. After a call that answered that the life is over
  *     (AUTONET_OUT_OF_MEMORY of a clock or a frame, AUTONET_SPENT, AUTONET_OVER) the switch goes on with
  *     autonet_end and a start with the next boot;
- *   - in a network of more than 126 lives each is started with an epoch that no earlier life of its switch has
- *     passed, so that a greater one is on stable storage before step 2;
+ *   - in a network of more than 126 lives each is started with an epoch that no earlier life of its switch
+ *     has passed, so that a greater one is on stable storage before step 2;
  *   - what is passed to autonet_frame came by this port. It may be lost, late, repeated or out of order, and
  *     be any bytes that are no frame; but bytes that are a frame were sent by a switch of this network;
  *   - step 1 comes before step 2. */
@@ -50,7 +50,7 @@ extern "C" {
 #define AUTONET_MOST_WORKS UINT64_C(1152921504606846976)
 #define AUTONET_MOST_CARRIED 268435456
 
-/* What a call answers. Where it is not said otherwise, nothing was changed or written by a call that
+/* What a call answers. If it is not said otherwise, nothing was changed or written by a call that
  * answers another status than AUTONET_DONE. */
 enum {
     AUTONET_DONE = 0,          /* it was done */
@@ -84,7 +84,7 @@ typedef struct {
 /* What a switch shows of itself. */
 typedef struct {
     uint64_t epoch;       /* the epoch that it is in */
-    uint64_t table_epoch; /* that of the table that it loaded last, 0 where number is 0 */
+    uint64_t table_epoch; /* that of the table that it loaded last, 0 if number is 0 */
     uint64_t works;       /* how many clocks and frames it took in this life */
     uint32_t carried;     /* how many frames with a body it took in its epoch */
     uint32_t members;     /* how many members it has finished with in its epoch, 0: not finished */
@@ -98,9 +98,9 @@ typedef struct {
 
 /* What it takes the other end of a port to be. */
 typedef struct {
-    uint64_t uid;  /* the identifier of the switch there, 0 where boot is 0 */
+    uint64_t uid;  /* the identifier of the switch there, 0 if boot is 0 */
     uint32_t boot; /* its boot, 0: not known */
-    uint8_t port;  /* its port, 0 where boot is 0 */
+    uint8_t port;  /* its port, 0 if boot is 0 */
     uint8_t state; /* AUTONET_DEAD to AUTONET_GOOD */
 } autonet_port_shown;
 
@@ -125,9 +125,10 @@ typedef struct {
 } autonet_frame_shown;
 
 /* Starts a switch: identifier `uid` below 2^48, `boot` from 1, an `epoch` (0 at first, then one that no
- * earlier life of this switch has passed; docs/EMBED.md says what for), the number `had` that it wishes for, 1 to 126 (the `number` that it had, else 1), and whether
- * its tables have all legal routes (`any`) or the least ones alone. It takes memory, which autonet_end
- * gives back. AUTONET_STARTED, AUTONET_ARGUMENT, AUTONET_OUT_OF_MEMORY: nothing was started. */
+ * earlier life of this switch has passed; docs/EMBED.md says what for), the number `had` that it wishes
+ * for, 1 to 126 (the `number` that it had, else 1), and whether its tables have all legal routes (`any`) or
+ * the least ones alone. It takes memory, which autonet_end gives back. AUTONET_STARTED, AUTONET_ARGUMENT,
+ * AUTONET_OUT_OF_MEMORY: nothing was started. */
 uint32_t autonet_start(autonet_switch *s, uint64_t uid, uint32_t boot, uint64_t epoch, uint8_t had, bool any);
 
 /* A clock: ticks `now` since some moment of this switch; the set `up` of the ports that have a link, and

@@ -177,7 +177,7 @@ static void transmit(uint8_t port, const uint8_t *bytes, size_t length) {
     left += sendto(cable->fd, packet, all, MSG_DONTWAIT, (struct sockaddr *)&to, sizeof to) >= 0;
 }
 
-/* The bytes that came, or -1 where none did or they are not for the switch. */
+/* How many bytes came, or -1 if none did or they are not for the switch. */
 static ssize_t receive(const struct cable *cable, uint8_t *bytes, size_t room) {
     static uint8_t packet[65536];
     struct sockaddr_ll from;
