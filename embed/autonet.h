@@ -8,23 +8,24 @@
  * each of the two it does, in this order:
  *   1. autonet_show; if `epoch` is another than `table_epoch` it takes its table out of use;
  *   2. autonet_next until AUTONET_NO_MORE, and sends each frame by its port;
- *   3. if `load_due` is 1, autonet_load, and puts the rows of autonet_row into use.
+ *   3. if `load_due` is 1, autonet_load, and if that was done, it puts the rows of autonet_row into use.
  *
  * What a program owes, for no call can check it:
- *   - an autonet_switch is zero before its first autonet_start, and nothing but these calls writes it;
- *     a copy of it is not used any more after a call with the other one;
+ *   - an autonet_switch is zero before the first call with it, and nothing but these calls writes it; a copy
+ *     of it is not used any more after a call with the other one;
  *   - calls for one switch come one after the other, from one thread, and from no signal handler nor the
  *     child of a fork; calls for different switches may come at once if malloc may;
  *   - pointers are not NULL, even if a count is 0, and lead to what the call says; what a call writes
  *     is no part of the switch nor of what else it is passed;
- *   - no two starts ever have the same identifier and boot, also after the power was off: the next boot
- *     is on stable storage before autonet_start. After a call that answered that the life is over
- *     (AUTONET_OUT_OF_MEMORY of a clock or a frame, AUTONET_SPENT, AUTONET_OVER) the switch goes on with
- *     autonet_end and a start with the next boot;
- *   - in a network of more than 126 lives each is started with an epoch that no earlier life of its switch
- *     has passed, so that a greater one is on stable storage before step 2;
- *   - what is passed to autonet_frame came by this port. It may be lost, late, repeated or out of order, and
- *     be any bytes that are no frame; but bytes that are a frame were sent by a switch of this network;
+ *   - each switch of a network has an identifier of its own, and each start of a switch a boot of its own,
+ *     also after the power was off: the next boot is on stable storage before autonet_start. After a call
+ *     that answered that the life is over (AUTONET_OUT_OF_MEMORY of a clock or a frame, AUTONET_SPENT,
+ *     AUTONET_OVER) the switch goes on with autonet_end and a start with the next boot;
+ *   - a network has at most 126 switches. If it may have more than 126 lives in all, each is started with an
+ *     epoch that no earlier life of its switch has passed: `epoch` or a greater one is on stable storage
+ *     before step 2;
+ *   - bytes that are passed to autonet_frame and are a frame were sent by a switch of this network. Other
+ *     bytes may come, and frames may be lost, late, repeated, out of order or come by another port;
  *   - step 1 comes before step 2. */
 #ifndef AUTONET_H
 #define AUTONET_H
