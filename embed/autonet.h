@@ -47,12 +47,14 @@ extern "C" {
 /* No frame has more bytes. A link must carry as many. */
 #define AUTONET_MOST_FRAME 22591
 
-/* The most clocks and frames of one life, 2^60, and the most frames with a body of one epoch, 2^28. */
+/* The most clocks and frames of one life, 2^60, and the most frames with a body of one epoch, 2^28. After
+ * as many the life is over. */
 #define AUTONET_MOST_WORKS UINT64_C(1152921504606846976)
 #define AUTONET_MOST_CARRIED 268435456
 
 /* What a call answers. If it is not said otherwise, nothing was changed or written by a call that
- * answers another status than AUTONET_DONE. */
+ * answers another status than AUTONET_DONE. Each call but autonet_start and autonet_fields answers
+ * AUTONET_NOT_STARTED if its autonet_switch holds no switch, whatever else it is passed. */
 enum {
     AUTONET_DONE = 0,          /* it was done */
     AUTONET_ARGUMENT = 1,      /* a number is out of its range */
@@ -132,25 +134,31 @@ typedef struct {
  * AUTONET_OUT_OF_MEMORY: nothing was started. */
 uint32_t autonet_start(autonet_switch *s, uint64_t uid, uint32_t boot, uint64_t epoch, uint8_t had, bool any);
 
-/* A clock: ticks `now` since some moment of this switch; the set `up` of the ports that have a link, and
- * the set `hosts` of those of them at whose other end is a host. Other bits say nothing. A tick must be
- * longer than a frame takes to the other end and back with its handling: two probes in a row that stay
- * unanswered end a link. AUTONET_SPENT: the clock was taken, the ports have changed, nothing is joined.
- * AUTONET_OUT_OF_MEMORY: the life is over, and no frame goes out. AUTONET_OVER: nothing was done. */
+/* A clock at tick `now`, with the set `up` of the ports that have a link, and the set `hosts` of those of
+ * them at whose other end is a host. Other bits say nothing. `now` is one more than at the clock before: what
+ * is not acknowledged is sent again when `now` has risen by four since it was sent last. If `now` stands
+ * still, jumps or falls, that comes early or late, and nothing else changes by it. A tick must be longer than
+ * a frame takes to the other end and back with its handling: two probes in a row that stay unanswered end a
+ * link.
+ * AUTONET_SPENT: the clock was taken, the ports have changed, nothing is joined, and no frame goes out.
+ * AUTONET_OUT_OF_MEMORY: the life is over, no frame goes out, and what is shown is as it was at the start,
+ * but for `works`, `lost` and the table that was loaded last. AUTONET_OVER: nothing was done. */
 uint32_t autonet_clock(autonet_switch *s, uint64_t now, uint16_t up, uint16_t hosts);
 
-/* `length` bytes came by `port`, 1 to 12. Those of no frame change nothing (`noframe`).
- * AUTONET_ARGUMENT: there is no such port. AUTONET_OUT_OF_MEMORY and AUTONET_OVER as of a clock. */
+/* `length` bytes came by `port`, 1 to 12. Bytes that are no frame change nothing but `works` and `noframe`;
+ * more than AUTONET_MOST_FRAME are none. AUTONET_ARGUMENT: there is no such port, also if the life is over.
+ * AUTONET_OUT_OF_MEMORY and AUTONET_OVER as of a clock. */
 uint32_t autonet_frame(autonet_switch *s, uint8_t port, const uint8_t *bytes, size_t length);
 
 /* The next frame that goes out since the last clock or frame, in their order: its port and length, and its
  * bytes at the front of `bytes`, which has room for `room`. A frame that is not asked for before the next
- * clock or frame is a lost one. AUTONET_NO_MORE: all were handed out. AUTONET_ROOM: `room` is too little;
- * `length` alone was written, and the frame is still the next one. AUTONET_MOST_FRAME is always enough. */
+ * clock is taken, or the next bytes are, is a lost one. AUTONET_NO_MORE: all were handed out.
+ * AUTONET_ROOM: `room` is too little; `length` alone was written, and the frame is still the next one.
+ * AUTONET_MOST_FRAME is always enough. */
 uint32_t autonet_next(autonet_switch *s, autonet_frame_shown *frame, uint8_t *bytes, size_t room);
 
-/* Loads the table that is due. Its rows are those of autonet_row until the next load. AUTONET_NOT_DUE.
- * AUTONET_OUT_OF_MEMORY: it is still due, and the life goes on. */
+/* Loads the table that is due. Its rows are those of autonet_row until the next load. AUTONET_NOT_DUE: none
+ * is due. AUTONET_OUT_OF_MEMORY: it is still due, and the life goes on. */
 uint32_t autonet_load(autonet_switch *s);
 
 /* What the switch shows of itself. */
@@ -167,7 +175,8 @@ uint32_t autonet_row(autonet_switch *s, size_t place, autonet_row_shown *row);
  * identifier. AUTONET_NO_MORE: there is none at this place, or it has not finished. */
 uint32_t autonet_member(autonet_switch *s, size_t place, autonet_member_shown *member);
 
-/* Ends the life of the switch and gives its memory back. It then holds none. */
+/* Ends the life of the switch and gives its memory back. It then holds none. AUTONET_NOT_STARTED: it held
+ * none before. */
 uint32_t autonet_end(autonet_switch *s);
 
 /* Fills each byte of each field with the place of the field in its struct, from 1. A program can see by it

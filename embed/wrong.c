@@ -25,7 +25,7 @@ static void want(const char *what, uint32_t status, uint32_t wanted) {
     printf("failed: %s: %u in place of %u\n", what, status, wanted);
 }
 
-static uint8_t bytes[AUTONET_MOST_FRAME];
+static uint8_t bytes[2 * AUTONET_MOST_FRAME];
 static autonet_shown shown;
 static autonet_port_shown port;
 static autonet_row_shown row;
@@ -49,6 +49,7 @@ static void none_is_held(const char *when, autonet_switch *s) {
 }
 
 static void ranges(autonet_switch *s) {
+    want("port 13 without a switch", autonet_frame(s, 13, bytes, 0), AUTONET_NOT_STARTED);
     want("an identifier of 49 bits", autonet_start(s, 1ull << 48, 1, 0, 1, false), AUTONET_ARGUMENT);
     want("boot 0", autonet_start(s, 1, 0, 0, 1, false), AUTONET_ARGUMENT);
     want("number 0", autonet_start(s, 1, 1, 0, 0, false), AUTONET_ARGUMENT);
@@ -82,14 +83,23 @@ static void nothing_there(autonet_switch *s) {
     want("no second member", autonet_member(s, 1, &member), AUTONET_NO_MORE);
     want("a table", autonet_load(s), AUTONET_DONE);
     want("no second table", autonet_load(s), AUTONET_NOT_DUE);
+    static const uint64_t ticks[] = {0, 0, UINT64_MAX, 7, UINT64_MAX - 1, 1};
+    for (size_t at = 0; at < sizeof ticks / sizeof ticks[0]; at++)
+        want("a clock at any tick", autonet_clock(s, ticks[at], 6, 4), AUTONET_DONE);
 }
 
 /* A frame that no link carries, and frames of any bytes. */
 static void no_frames(autonet_switch *s) {
     memset(bytes, 0xff, sizeof bytes);
-    want("many bytes", autonet_frame(s, 12, bytes, sizeof bytes), AUTONET_DONE);
-    want("show", autonet_show(s, &shown), AUTONET_DONE);
-    want("no frame", shown.noframe, 1);
+    static const size_t lengths[] = {AUTONET_MOST_FRAME, AUTONET_MOST_FRAME + 1, sizeof bytes};
+    for (size_t at = 0; at < sizeof lengths / sizeof lengths[0]; at++) {
+        want("show", autonet_show(s, &shown), AUTONET_DONE);
+        uint64_t works = shown.works;
+        want("many bytes", autonet_frame(s, 12, bytes, lengths[at]), AUTONET_DONE);
+        want("show", autonet_show(s, &shown), AUTONET_DONE);
+        want("no frame", shown.noframe, 1);
+        want("one work more", shown.works == works + 1, true);
+    }
     for (int first = 0; first < 256; first++) {
         bytes[0] = (uint8_t)first;
         want("any bytes", autonet_frame(s, 1, bytes, 31), AUTONET_DONE);
@@ -101,6 +111,7 @@ static void no_frames(autonet_switch *s) {
 static void spent(autonet_switch *s) {
     want("start", autonet_start(s, 2, 1, UINT64_MAX, 1, false), AUTONET_DONE);
     want("the last epoch", autonet_clock(s, 0, 2, 0), AUTONET_SPENT);
+    want("no frame goes out", autonet_next(s, &frame, bytes, sizeof bytes), AUTONET_NO_MORE);
     want("a clock", autonet_clock(s, 1, 2, 0), AUTONET_OVER);
     want("a frame", autonet_frame(s, 1, bytes, 0), AUTONET_OVER);
     want("a port that is none", autonet_frame(s, 0, bytes, 0), AUTONET_ARGUMENT);
@@ -112,7 +123,7 @@ static void spent(autonet_switch *s) {
 /* Two clocks and a load, of which the allocation after `well` others fails. Says whether one did. */
 static int without(autonet_switch *s, long well) {
     until = well;
-    uint32_t status = autonet_start(s, 3, 1, 0, 1, false);
+    uint32_t status = autonet_start(s, 3, 1, 8, 1, false);
     if (status != AUTONET_DONE) {
         want("a start without memory", status, AUTONET_OUT_OF_MEMORY);
         want("the mark", s->held, 0);
@@ -126,6 +137,7 @@ static int without(autonet_switch *s, long well) {
         want("a clock after it", autonet_clock(s, 9, 6, 4), AUTONET_OVER);
         want("show", autonet_show(s, &shown), AUTONET_DONE);
         want("lost", shown.lost, 1);
+        want("the epoch of the start", shown.epoch == 8, true);
     } else {
         status = autonet_load(s);
         if (status != AUTONET_DONE) {
