@@ -70,10 +70,10 @@ enum {
 
 /* What a switch takes the other end of a port to be. */
 enum {
-    AUTONET_DEAD = 0,     /* there is no link, or it has failed */
-    AUTONET_CHECKING = 1, /* the link came up again */
+    AUTONET_DEAD = 0,     /* there is no link, or it is held back since there was none */
+    AUTONET_CHECKING = 1, /* the link came up; the next clock says whether a host is there */
     AUTONET_HOST = 2,     /* a host */
-    AUTONET_WHO = 3,      /* a switch that has not yet said who it is */
+    AUTONET_WHO = 3,      /* no host; probes ask who it is */
     AUTONET_LOOP = 4,     /* this switch itself */
     AUTONET_GOOD = 5      /* another switch, which is known */
 };
@@ -88,14 +88,14 @@ typedef struct {
 typedef struct {
     uint64_t epoch;       /* the epoch that it is in */
     uint64_t table_epoch; /* that of the table that it loaded last, 0 if number is 0 */
-    uint64_t works;       /* how many clocks and frames it took in this life */
+    uint64_t works;       /* how many clocks and frames it took in this life, with what was no frame */
     uint32_t carried;     /* how many frames with a body it took in its epoch */
     uint32_t members;     /* how many members it has finished with in its epoch, 0: not finished */
     uint8_t number;       /* its number in the table that it loaded last, 0: none was loaded */
     uint8_t load_due;     /* 1: a table is to be loaded, else 0 */
     uint8_t unacked;      /* 1: something that it sent is not acknowledged, else 0 */
-    uint8_t spent;        /* 1: no epoch is left, else 0 */
-    uint8_t noframe;      /* 1: what came in last is no frame, else 0 */
+    uint8_t spent;        /* 1: a clock was answered AUTONET_SPENT, else 0 */
+    uint8_t noframe;      /* 1: what it took last was bytes that are no frame, else 0 */
     uint8_t lost;         /* 1: memory was wanting for a clock or a frame, else 0 */
 } autonet_shown;
 
@@ -172,7 +172,7 @@ uint32_t autonet_port(autonet_switch *s, uint8_t port, autonet_port_shown *shown
 uint32_t autonet_row(autonet_switch *s, size_t place, autonet_row_shown *row);
 
 /* The member at `place`, from 0, of what the switch has finished with in its present epoch, rising by
- * identifier. AUTONET_NO_MORE: there is none at this place, or it has not finished. */
+ * identifier and then by boot. AUTONET_NO_MORE: there is none at this place, or it has not finished. */
 uint32_t autonet_member(autonet_switch *s, size_t place, autonet_member_shown *member);
 
 /* Ends the life of the switch and gives its memory back. It then holds none. AUTONET_NOT_STARTED: it held
