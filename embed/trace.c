@@ -84,7 +84,8 @@ static void comes(const char *line) {
     if (sscanf(line, "frame %u %n", &port, &at) != 1 || !at) fail(line);
     for (const char *text = line + at; text[0] != '-' && text[0] != '\n' && text[0]; text += 2) {
         unsigned byte;
-        if (length == sizeof bytes || sscanf(text, "%2x", &byte) != 1) fail(line);
+        int digits = 0;
+        if (length == sizeof bytes || sscanf(text, "%2x%n", &byte, &digits) != 1 || digits != 2) fail(line);
         bytes[length++] = (uint8_t)byte;
     }
     if (autonet_frame(&s, (uint8_t)port, bytes, length) != AUTONET_DONE) fail(line);
