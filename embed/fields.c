@@ -7,7 +7,7 @@
 static int moved;
 
 /* Each byte of the field is `place`, and no other byte of the struct is. */
-static void field(const char *name, const unsigned char *whole, size_t all, size_t at, size_t size, int place) {
+static void field(const char *name, const uint8_t *whole, size_t all, size_t at, size_t size, int place) {
     for (size_t i = 0; i < all; i++)
         if ((whole[i] == place) != (i >= at && i < at + size)) {
             printf("moved: %s, byte %zu is %d\n", name, i, whole[i]);
@@ -17,9 +17,9 @@ static void field(const char *name, const unsigned char *whole, size_t all, size
     printf("%s at %zu, %zu bytes\n", name, at, size);
 }
 
-#define FIELD(type, of, name, place)                                                                         \
-    field(#type "." #name, (const unsigned char *)&(of), sizeof(type), offsetof(type, name),                 \
-          sizeof((of).name), place)
+#define FIELD(type, of, name, place)                                                                      \
+    field(#type "." #name, (const uint8_t *)&(of), sizeof(type), offsetof(type, name), sizeof((of).name), \
+          place)
 
 int main(void) {
     autonet_shown shown;

@@ -21,8 +21,9 @@ static void frames(void) {
     uint32_t status;
     while ((status = autonet_next(&s, &frame, little, 0)) != AUTONET_NO_MORE) {
         size_t length = frame.length;
-        if (status != AUTONET_ROOM || autonet_next(&s, &frame, bytes, sizeof bytes) != AUTONET_DONE || frame.length != length)
-            fail("next");
+        if (status != AUTONET_ROOM) fail("next");
+        status = autonet_next(&s, &frame, bytes, sizeof bytes);
+        if (status != AUTONET_DONE || frame.length != length) fail("next");
         printf("out %u ", frame.port);
         for (size_t i = 0; i < length; i++) printf("%02x", bytes[i]);
         printf("\n");
@@ -57,7 +58,8 @@ static void start(const char *line) {
     char routes[8];
     if (sscanf(line, "start %llu %u %llu %u %7s", &uid, &boot, &epoch, &had, routes) != 5) fail(line);
     autonet_end(&s);
-    if (autonet_start(&s, uid, boot, epoch, (uint8_t)had, strcmp(routes, "any") == 0) != AUTONET_DONE) fail(line);
+    bool any = strcmp(routes, "any") == 0;
+    if (autonet_start(&s, uid, boot, epoch, (uint8_t)had, any) != AUTONET_DONE) fail(line);
     note();
 }
 

@@ -1,5 +1,5 @@
-/* What a caller in C can do wrong, and what it is answered; and each allocation failing in turn. Prints a line
- * for each answer that is another than it should be, and then 'N passed, M failed'. It is linked with
+/* What a caller in C can do wrong, and what it is answered; and each allocation failing in turn. Prints a
+ * line for each answer that is another than it should be, and then 'N passed, M failed'. It is linked with
  * --wrap=malloc,--wrap=realloc. */
 #include "autonet.h"
 #include <stdio.h>
