@@ -1,5 +1,8 @@
-"""What tests/routed and tests/repaired share: a topology and tables as plain Python, and the routes that are followed there."""
+"""What tests/routed and tests/repaired share: a topology and tables as plain Python, the routes that are followed
+there, and fabrics that are made."""
 
+import itertools
+import random
 import re
 
 HEAD = re.compile(r"(?:Unicast lids .*guid 0x(\w+)|switch 0x(\w+))")
@@ -85,19 +88,53 @@ def tables_in(text):
     return tables
 
 
-def route(fabric, tables, host, lid):
-    """The switches and ports by which the route of a host goes to another switch; none if it does not arrive."""
-    at, links = fabric.at[host], []
+def way(fabric, tables, at, lid):
+    """The switches and ports by which what a switch sends to a LID goes to others; none if it does not arrive."""
+    links, owner = [], fabric.owner.get(lid)
     while len(links) < len(fabric.switches):
         port = tables.get(at, {}).get(lid)
+        if at == owner:
+            return links if port == 0 else None
         far, _ = fabric.links.get((at, port), (None, None))
-        if far == fabric.owner[lid]:
+        if far == owner and owner in fabric.at:
             return links
         if far not in fabric.switches:
             return None
         links.append((at, port))
         at = far
     return None
+
+
+def route(fabric, tables, host, lid):
+    """The same of a host, which sends to the switch to which it is cabled."""
+    return way(fabric, tables, fabric.at[host], lid)
+
+
+def astray(fabric, tables):
+    """The rows by which what a switch sends does not arrive."""
+    found, good = [], set()
+    for at, lid in [(at, lid) for at, rows in tables.items() for lid in rows]:
+        if (at, lid) not in good:
+            links = way(fabric, tables, at, lid)
+            found += [(at, lid)] if links is None else []
+            good |= {(switch, lid) for switch, _ in links or ()}
+    return found
+
+
+def places(fabric):
+    """The switch of each LID: it owns the LID, or the owner is cabled to it."""
+    return {lid: at for lid, owner in fabric.owner.items() if (at := fabric.at.get(owner, owner)) in fabric.switches}
+
+
+def wanting(fabric, tables, traffic):
+    """The rows that are not there and should be. For `all` each switch has one for each LID. Else each switch with
+    hosts has one for each LID at such switches; and each switch has one for each LID at itself and at those next to
+    it, since one link is a way along any order."""
+    near, leaves = {switch: {switch} for switch in fabric.switches}, set(fabric.at.values())
+    for (switch, _), (far, _) in fabric.links.items():
+        near[switch].add(far)
+    return [(switch, lid) for switch in sorted(fabric.switches) for lid, at in places(fabric).items()
+            if (traffic == "all" or at in near[switch] or {switch, at} <= leaves) and lid not in tables.get(switch, {})]
 
 
 def measured(fabric, tables):
@@ -112,3 +149,32 @@ def measured(fabric, tables):
                 for link in links:
                     loads[link] = loads.get(link, 0) + 1
     return routes, hops, longest, max(loads.values(), default=0)
+
+
+def whole_tree(ways, levels):
+    """The text of a whole tree: its switches have so many links up and as many down, the lowest ones hosts in place of
+    these, and the highest ones none up. Links from a level lead to switches whose rows differ at most at its place. The
+    LID of a switch is its GUID. With the text come the switches by their levels and rows."""
+    rows = list(itertools.product(range(ways), repeat=levels - 1))
+    guid = {place: number for number, place in enumerate(itertools.product(range(levels), rows), 1)}
+    lines = [f"switch {number:#x} {2 * ways} {number} 0 s" for number in guid.values()]
+    for number, (row, port) in enumerate(itertools.product(rows, range(ways)), len(guid) + 1):
+        lines.append(f"host {number:#x} {number} 0 {guid[0, row]:#x} {port + 1} h")
+    for level, row, up in itertools.product(range(levels - 1), rows, range(ways)):
+        far = guid[level + 1, row[:level] + (up,) + row[level + 1:]]
+        lines.append(f"link {guid[level, row]:#x} {ways + up + 1} {far:#x} {row[level] + 1}")
+    return "\n".join(["topology 1", *lines, "end", ""]), guid
+
+
+def full(count):
+    """The text of so many switches of 254 ports with a host each, each two of them linked. GUIDs and ports are drawn,
+    always in the same way: their orders are not those of the lines."""
+    draw = random.Random("full")
+    switches, hosts = (draw.sample(range(1, 1 << 62), count) for _ in range(2))
+    ports = [draw.sample(range(1, 255), count) for _ in range(count)]
+    lines = [f"switch {guid:#x} 254 {at + 1} 0 s{at}" for at, guid in enumerate(switches)]
+    for at, guid in enumerate(hosts):
+        lines.append(f"host {guid:#x} {count + at + 1} 0 {switches[at]:#x} {ports[at][at]} h{at}")
+    for at, to in itertools.combinations(range(count), 2):
+        lines.append(f"link {switches[at]:#x} {ports[at][to]} {switches[to]:#x} {ports[to][at]}")
+    return "\n".join(["topology 1", *lines, "end", ""])
