@@ -1,5 +1,5 @@
-"""What tests/routed and tests/repaired share: a topology and tables as plain Python, the routes that are followed
-there, and fabrics that are made."""
+"""What tests/routed, tests/repaired and tests/large_fabric share: a topology and tables as plain Python, the routes
+that are followed there, and fabrics that are made."""
 
 import itertools
 import random
