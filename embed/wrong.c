@@ -32,20 +32,33 @@ static autonet_row_shown row;
 static autonet_member_shown member;
 static autonet_frame_shown frame;
 
-/* Each call but a start, at a handle that holds no switch. */
+/* Each call but a start, at a handle that holds no switch. Nothing is written into what is passed. */
 static void none_is_held(const char *when, autonet_switch *s) {
+    static struct {
+        autonet_frame_shown frame;
+        uint8_t bytes[AUTONET_MOST_FRAME];
+        autonet_shown shown;
+        autonet_port_shown port;
+        autonet_row_shown row;
+        autonet_member_shown member;
+    } passed;
+    const uint8_t *byte = (const uint8_t *)&passed;
     autonet_switch before = *s;
+    uint32_t written = 0;
     printf("%s\n", when);
+    memset(&passed, 0xa5, sizeof passed);
     want("clock", autonet_clock(s, 0, 2, 0), AUTONET_NOT_STARTED);
     want("frame", autonet_frame(s, 1, bytes, 0), AUTONET_NOT_STARTED);
-    want("next", autonet_next(s, &frame, bytes, sizeof bytes), AUTONET_NOT_STARTED);
+    want("next", autonet_next(s, &passed.frame, passed.bytes, sizeof passed.bytes), AUTONET_NOT_STARTED);
     want("load", autonet_load(s), AUTONET_NOT_STARTED);
-    want("show", autonet_show(s, &shown), AUTONET_NOT_STARTED);
-    want("port", autonet_port(s, 1, &port), AUTONET_NOT_STARTED);
-    want("row", autonet_row(s, 0, &row), AUTONET_NOT_STARTED);
-    want("member", autonet_member(s, 0, &member), AUTONET_NOT_STARTED);
+    want("show", autonet_show(s, &passed.shown), AUTONET_NOT_STARTED);
+    want("port", autonet_port(s, 1, &passed.port), AUTONET_NOT_STARTED);
+    want("row", autonet_row(s, 0, &passed.row), AUTONET_NOT_STARTED);
+    want("member", autonet_member(s, 0, &passed.member), AUTONET_NOT_STARTED);
     want("end", autonet_end(s), AUTONET_NOT_STARTED);
     want("the mark", s->held, before.held);
+    for (size_t at = 0; at < sizeof passed; at++) written += byte[at] != 0xa5;
+    want("bytes written", written, 0);
 }
 
 static void ranges(autonet_switch *s) {
