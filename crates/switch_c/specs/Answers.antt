@@ -25,9 +25,16 @@ pub record Calls (Does : Instance → Instance → Status → Type 0) (old new :
   pub none : old ≡ None → (new ≡ None) × (number ≡ code_of NotStarted)
   pub some : (before : Instance) → old ≡ Some before → Becomes (Does before) new number
 
--- a call that only asks: the switch stays as it is
-abbrev pub Asks : (Instance → Status → Type 0) → Option Instance → Option Instance → ℕ → Type 0
-Asks Tells = Calls (λ before after status. (after ≡ before) × Tells before status)
+-- A call that may write into what C passed. If the handle holds no switch, this is as it was.
+pub record Writes {T : Type 0} (Does : T → T → Instance → Instance → Status → Type 0) (passed told : T)
+    (old new : Option Instance) (number : ℕ) : Type 0 where
+  pub untouched : old ≡ None → told ≡ passed
+  pub calls : Calls (Does passed told) old new number
+
+-- one that only asks: the switch stays as it is
+abbrev pub Asks : {T : Type 0} → (T → T → Instance → Status → Type 0) → T → T
+    → Option Instance → Option Instance → ℕ → Type 0
+Asks Tells = Writes (λ passed told before after status. (after ≡ before) × Tells passed told before status)
 
 -- a switch is to be started
 pub record Starts (uid boot epoch had : ℕ) (any : Bool) (old new : Option Instance) (number : ℕ)

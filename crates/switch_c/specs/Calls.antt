@@ -122,20 +122,19 @@ pub record HasNoRoom (frame : BytesOut) (shown told : FrameShown) (before after 
   pub told_is : told ≡ record shown { length = length frame.bytes }
   pub bytes : after ≡ before
 
--- the next frame of the last clock or frame is asked for
-pub record HandsOut (shown told : FrameShown) (before after : List ℕ) (old new : Instance) (status : Status)
-    : Type 0 where
+-- The next frame of the last clock or frame is asked for. What C passed is a struct for its port and length, and
+-- room for its bytes.
+pub record HandsOut (passed told : FrameShown × List ℕ) (old new : Instance) (status : Status) : Type 0 where
   -- none is left
-  pub none : slice_get old.out.frames old.given ≡ None
-      → (told ≡ shown) × ((after ≡ before) × Refuses NoMore old new status)
+  pub none : slice_get old.out.frames old.given ≡ None → (told ≡ passed) × Refuses NoMore old new status
   -- one that finds no room stays the next one
   pub room : (frame : BytesOut) → slice_get old.out.frames old.given ≡ Some frame
-      → length before < length frame.bytes
-      → HasNoRoom frame shown told before after × Refuses Room old new status
+      → length passed.1 < length frame.bytes
+      → HasNoRoom frame passed.0 told.0 passed.1 told.1 × Refuses Room old new status
   -- and else the next one is that after it
   pub done : (frame : BytesOut) → slice_get old.out.frames old.given ≡ Some frame
-      → length frame.bytes ≤ length before
-      → IsTold frame told before after × ((status ≡ Done) × (new ≡ record old { given = old.given + 1 }))
+      → length frame.bytes ≤ length passed.1
+      → IsTold frame told.0 passed.1 told.1 × ((status ≡ Done) × (new ≡ record old { given = old.given + 1 }))
 
 -- the table that is due was loaded
 pub record IsLoaded (old new : Instance) : Type 0 where

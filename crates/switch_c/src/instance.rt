@@ -230,7 +230,7 @@ impl Instance {
     /// front of these. `NoMore` says that there is none, and `Room` that it is longer than these; then its
     /// length alone is told.
     pub fn next(&mut self, shown: &mut FrameShown, bytes: &mut [u8]) -> Status
-        ensures { HandsOut shown.old shown.new bytes.old bytes.new self.old self.new result }
+        ensures { HandsOut (shown.old, bytes.old) (shown.new, bytes.new) self.old self.new result }
     {
         let Some(frame) = self.waiting() else {
             return Status::NoMore;

@@ -16,7 +16,7 @@ pub mod shown;
 pub mod status;
 
 ghost use Rattle.std.specs.Prelude.{◌≡◌};
-ghost use Rattle.switch_c.specs.Answers.{Asks, Calls, Ends, IsHandle, Starts};
+ghost use Rattle.switch_c.specs.Answers.{Asks, Calls, Ends, IsHandle, Starts, Writes};
 ghost use Rattle.switch_c.specs.Calls.{Clocks, HandsOut, Loads, TakesFrame};
 ghost use Rattle.switch_c.specs.Shows.{AsksMember, AsksPort, AsksRow, Shows};
 ghost use Rattle.switch_c.specs.Fields.{frame_fields, member_fields, port_fields, row_fields, shown_fields};
@@ -111,7 +111,7 @@ pub extern "C" fn autonet_next(
 ) -> u32
     requires handle { IsHandle switch.old.held switch.old.block.instance }
     ensures handle { IsHandle switch.new.held switch.new.block.instance }
-    ensures hands { Calls (HandsOut frame.old frame.new bytes.old bytes.new) switch.old.block.instance switch.new.block.instance result }
+    ensures hands { Writes HandsOut (frame.old, bytes.old) (frame.new, bytes.new) switch.old.block.instance switch.new.block.instance result }
 {
     match switch.take(alloc) {
         Some(mut instance) => {
@@ -145,7 +145,7 @@ pub extern "C" fn autonet_load(alloc: Global, switch: &mut Handle) -> u32
 pub extern "C" fn autonet_show(alloc: Global, switch: &mut Handle, shown: &mut Shown) -> u32
     requires handle { IsHandle switch.old.held switch.old.block.instance }
     ensures handle { IsHandle switch.new.held switch.new.block.instance }
-    ensures shows { Asks (Shows shown.new) switch.old.block.instance switch.new.block.instance result }
+    ensures shows { Asks (λ _. Shows) shown.old shown.new switch.old.block.instance switch.new.block.instance result }
 {
     match switch.take(alloc) {
         Some(instance) => {
@@ -167,7 +167,7 @@ pub extern "C" fn autonet_port(
 ) -> u32
     requires handle { IsHandle switch.old.held switch.old.block.instance }
     ensures handle { IsHandle switch.new.held switch.new.block.instance }
-    ensures shows { Asks (AsksPort port shown.old shown.new) switch.old.block.instance switch.new.block.instance result }
+    ensures shows { Asks (AsksPort port) shown.old shown.new switch.old.block.instance switch.new.block.instance result }
 {
     match switch.take(alloc) {
         Some(instance) => {
@@ -189,7 +189,7 @@ pub extern "C" fn autonet_row(
 ) -> u32
     requires handle { IsHandle switch.old.held switch.old.block.instance }
     ensures handle { IsHandle switch.new.held switch.new.block.instance }
-    ensures shows { Asks (AsksRow place row.old row.new) switch.old.block.instance switch.new.block.instance result }
+    ensures shows { Asks (AsksRow place) row.old row.new switch.old.block.instance switch.new.block.instance result }
 {
     match switch.take(alloc) {
         Some(instance) => {
@@ -211,7 +211,7 @@ pub extern "C" fn autonet_member(
 ) -> u32
     requires handle { IsHandle switch.old.held switch.old.block.instance }
     ensures handle { IsHandle switch.new.held switch.new.block.instance }
-    ensures shows { Asks (AsksMember place member.old member.new) switch.old.block.instance switch.new.block.instance result }
+    ensures shows { Asks (AsksMember place) member.old member.new switch.old.block.instance switch.new.block.instance result }
 {
     match switch.take(alloc) {
         Some(instance) => {
