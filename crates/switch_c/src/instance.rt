@@ -18,7 +18,7 @@ use switch_core::out::{FrameOut, Out};
 use switch_core::switch::{ClockRefusal, MOST_CARRIED, MOST_WORKS, Switch, TableFor};
 
 // The first number that is no identifier.
-const UIDS: u64 = 281_474_976_710_656;
+const UID_END: u64 = 1 << 48;
 
 /// A switch, the frames that it let go out last with how many of them were handed out, the table that it
 /// loaded last, and whether its life is over because memory was wanting for a clock or a frame.
@@ -82,14 +82,14 @@ fn samples_of(up: u16, hosts: u16) -> [Sample; PORTS]
 fn is_port(port: u8) -> bool
     ensures { result ≡ is_port port }
 {
-    0 < port && port < 13
+    0 < port && port <= LAST_PORT
 }
 
 // Whether a switch may be started with these numbers.
 fn is_in_range(uid: u64, boot: u32, had: u8) -> bool
     ensures { result ≡ is_in_range uid boot had }
 {
-    uid < UIDS && 0 < boot && 0 < had && had <= MOST_NUMBER
+    uid < UID_END && 0 < boot && 0 < had && had <= MOST_NUMBER
 }
 
 // Tells a frame, and answers whether there is room for its bytes. Where there is none its length alone is told.
