@@ -2,11 +2,13 @@
 //!
 //! It stands on the switch alone. Its contract: C holds a switch by a handle, and each export does to the
 //! switch of a handle what the call of `switch_core` does, restated clause by clause. Whatever a caller
-//! passes within the ranges of the types is answered by a status; where a call is refused nothing has
-//! changed. Rows, members and frames are handed out one by one, in their order.
+//! passes within the ranges of the types is answered by a status. A call that is refused changes nothing,
+//! and writes nothing but the length of a frame that finds no room. Rows, members and frames are handed out
+//! one by one, in their order.
 //!
-//! What no clause can see, and the C side owes, is in `embed/autonet.h`: that a handle is zero before its
-//! first start and is written by these calls alone, and that pointers are those of what they say.
+//! `embed/autonet.h` names the statuses of each export, and says what is unchanged after each. It also says
+//! what no clause can see, and the C side owes: that a handle is zero before its first start and is written
+//! by these calls alone, and that pointers are those of what they say.
 #![tactic(auto)]
 
 mod block;
