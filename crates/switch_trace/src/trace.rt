@@ -1,5 +1,8 @@
 //! A switch to which things happen, a line each.
 
+ghost use Rattle.std.specs.Prelude.{◌≡◌, ◌<◌, ◌^◌, false};
+ghost use Rattle.switch_core.specs.Kept.{IsWorking, carried};
+
 use crate::answer::{push_note, push_out, push_table};
 use crate::fault::Fault;
 use crate::happening::{Happening, happening_of};
@@ -20,6 +23,16 @@ fn start(alloc: Global, life: Life, epoch: u64, had: u8, any: bool) -> Result<Sw
     Ok(Switch::start(alloc, life, epoch, had, any)?)
 }
 
+// Whether a switch takes no more clocks and frames.
+fn is_over(switch: &Switch) -> bool
+    ensures works { result ≡ false → switch.now.works < 2 ^ 60 }
+    ensures carried { result ≡ false → carried switch.now < 2 ^ 28 }
+    ensures working { result ≡ false → IsWorking switch.now }
+{
+    let is_full = switch.works() >= MOST_WORKS || switch.carried() >= MOST_CARRIED;
+    is_full || switch.is_spent()
+}
+
 // A clock comes. Answers whether the epochs are spent.
 fn clock(
     switch: &mut Switch,
@@ -27,13 +40,7 @@ fn clock(
     samples: &[Sample; 12],
     out: &mut Out,
 ) -> Result<bool, Fault> {
-    if switch.works() >= MOST_WORKS {
-        return Err(Fault::Stopped);
-    }
-    if switch.carried() >= MOST_CARRIED {
-        return Err(Fault::Stopped);
-    }
-    if switch.is_spent() {
+    if is_over(switch) {
         return Err(Fault::Stopped);
     }
     match switch.clock(now, samples, out) {
@@ -45,13 +52,7 @@ fn clock(
 
 // Bytes come by a port.
 fn handle(switch: &mut Switch, bytes: &[u8], port: u8, out: &mut Out) -> Result<(), Fault> {
-    if switch.works() >= MOST_WORKS {
-        return Err(Fault::Stopped);
-    }
-    if switch.carried() >= MOST_CARRIED {
-        return Err(Fault::Stopped);
-    }
-    if switch.is_spent() {
+    if is_over(switch) {
         return Err(Fault::Stopped);
     }
     if port < 1 {
