@@ -67,9 +67,12 @@ fn byte(words: &[&str], place: usize) -> Result<u8, Fault> {
     }
 }
 
+// The first number that is no identifier.
+const UID_END: u64 = 1 << 48;
+
 // The life of an identifier and a boot.
 fn life(uid: u64, boot: u32) -> Result<Life, Fault> {
-    if uid >= 281_474_976_710_656 {
+    if uid >= UID_END {
         return Err(Fault::Number);
     }
     if boot < 1 {
