@@ -1,5 +1,7 @@
 //! Reads on standard input what happens to a switch, and prints what the switch answers, so that both can
-//! be compared with an independent model. A line that says nothing of the kind ends the program.
+//! be compared with an independent model. Each line is answered before the next one is looked at. A bad one
+//! ends the program with status 1, and with its number and a cause (`Fault`) on standard error. Input that
+//! is no text ends it so before any answer.
 //!
 //! A line is one of these, with all numbers in decimal:
 //! - `start UID BOOT EPOCH HAD least` or `.. any`: from here on it is about a new switch;
