@@ -19,7 +19,7 @@ use std::alloc::Global;
 
 /// Answers `between`: reads a topology, its old and its new tables from their sources to the ends, in this order, and
 /// writes to out whether channels that may follow one another while rows change lead round. The answer is the number of
-/// a status, whose line goes to err.
+/// a status, whose line goes to err. If a source is wrong, those after it are left alone, and so is out.
 pub fn between<T: Source, S: Source, N: Source, O: Sink, E: Sink>(
     alloc: Global,
     topology: &mut T,

@@ -32,13 +32,26 @@ fn levels_asked(words: &[Word]) -> LevelsAsked
     }
 }
 
-/// Answers a call. The words are `judge`, `ranks`, `dot`, `repair` or `repaired` with TOPOLOGY and TABLES, `verify` with
-/// TOPOLOGY, TABLES and RANKS, `route` with TOPOLOGY, or `lanes` or `dot` with TOPOLOGY, TABLES, SL2VL and LEVELS, and then
-/// `hosts`, `lids`, `all` or nothing, or `between` with TOPOLOGY, OLD and NEW: the call reads the sources that they name to their
-/// ends, in this order, but for ranks, which come first. It writes to out the verdict, the ranks, a picture, whether the
-/// ranks fall, tables, or the rows of them that are to be set. The answer is the number of how the call ended, and its line
-/// goes to err. For other words the sources and out are left alone. OLD is read from the source of tables; RANKS, SL2VL and
-/// NEW from the third, and LEVELS from the fourth.
+/// Answers a call. Its words name a command and the sources that it reads to their ends, in this order:
+///
+/// - `judge` TOPOLOGY TABLES writes the verdict to out;
+/// - `ranks` TOPOLOGY TABLES writes the ranks of the channels, or the verdict if there is a credit loop;
+/// - `verify` TOPOLOGY TABLES RANKS writes whether the ranks fall, and reads RANKS first;
+/// - `dot` TOPOLOGY TABLES writes a picture of the credit loop;
+/// - `dot` TOPOLOGY TABLES SL2VL LEVELS writes one for tables with lanes;
+/// - `route` TOPOLOGY writes tables, if some are found that pass;
+/// - `repair` TOPOLOGY TABLES writes the rows that are to be set;
+/// - `repaired` TOPOLOGY TABLES writes tables in which they are set;
+/// - `lanes` TOPOLOGY TABLES SL2VL LEVELS writes the verdict for tables with lanes;
+/// - `between` TOPOLOGY OLD NEW writes whether channels may lead round while NEW replaces OLD.
+///
+/// Then `hosts`, `lids` or `all` may follow, but not for `between`. TABLES and OLD are read from the second source,
+/// RANKS, SL2VL and NEW from the third, LEVELS from the fourth. If LEVELS are `any` or a number from 0 to 15, the
+/// fourth is left alone.
+///
+/// The answer is the number of how the call ended, and its line goes to err. If a source is wrong, those that are read
+/// after it are left alone, and out gains nothing. Of RANKS a faulty line is told only after TOPOLOGY and TABLES were
+/// read. For other words the sources and out are left alone.
 pub fn fabric<T: Source, S: Source, R: Source, L: Source, O: Sink, E: Sink>(
     alloc: Global,
     topology: &mut T,
