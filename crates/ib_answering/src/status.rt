@@ -21,7 +21,8 @@ use text_lines::stop::Refusal;
 /// How a call ended.
 #[derive(Clone, Copy)]
 pub enum Status {
-    /// There is no cycle, and all routes of the traffic arrive.
+    /// Nothing is wrong: there is no cycle and, but for `between`, all routes of the traffic arrive. If rows are set
+    /// by `repair` or `repaired`, this is said of the tables in which they are set.
     Ok,
     /// The words are those of no call.
     Usage,
@@ -148,18 +149,18 @@ impl Status {
     }
 }
 
-/// The line of a status.
+// The line of a status.
 #[derive(Clone, Copy)]
 enum Line {
-    /// These words.
+    // These words.
     Plain(&'static str),
-    /// What is said of a fault of a file.
+    // What is said of a fault of a file.
     Fault {
-        /// What the file is called.
+        // What the file is called.
         file: &'static str,
-        /// The faulty line.
+        // The faulty line, from 1.
         line: u64,
-        /// The cause.
+        // The cause.
         cause: &'static str,
     },
 }

@@ -49,7 +49,7 @@ pub struct Call {
     pub traffic: Traffic,
 }
 
-/// Whether a word is this text.
+// Whether a word is this text.
 fn is(word: &Word, text: &str) -> bool
     ensures { IsTrue result ↔ (word.now ≡ text.now) }
 {
@@ -180,10 +180,15 @@ fn may_be_files(files: &[Word]) -> bool
     standard <= 1
 }
 
-/// The call that words are: `judge`, `ranks`, `dot`, `repair` or `repaired` with TOPOLOGY and TABLES, `verify` with
-/// TOPOLOGY, TABLES and RANKS, `route` with TOPOLOGY, or `lanes` or `dot` with TOPOLOGY, TABLES, SL2VL and LEVELS, and then
-/// `hosts`, `lids` or `all`; or `between` with TOPOLOGY, OLD and NEW. At most one file is `-`. Without a word for it the
-/// traffic is `hosts`.
+/// The call that words are, if they are one. At most one file is `-`.
+///
+/// - `judge`, `ranks`, `dot`, `repair` or `repaired` with TOPOLOGY and TABLES;
+/// - `verify` with TOPOLOGY, TABLES and RANKS;
+/// - `route` with TOPOLOGY;
+/// - `lanes` or `dot` with TOPOLOGY, TABLES, SL2VL and LEVELS;
+/// - `between` with TOPOLOGY, OLD and NEW.
+///
+/// But for `between`, `hosts`, `lids` or `all` may follow. Without such a word the traffic is `hosts`.
 pub fn call_of(words: &[Word]) -> Option<Call>
     ensures { MatchOption result (AreNoCall words.now) (IsCall words.now) }
 {

@@ -3,10 +3,12 @@
 //!
 //! It stands on the readers of lanes and of levels, on the verdict and the counts with lanes, on `ib_answering`, which
 //! reads the topology and tells statuses, on `ib_commands`, of which it takes what `judge` says alike, and on
-//! `ib_lane_lines`. Its one contract is that of `command::answer`: with the statuses 0, 7 and 8 the bytes that the sources gave are the text of a fabric, of its
-//! tables, its lanes and its levels, and out gained exactly what the command gives for them. `specs/LaneJudged` says each
-//! part of it for `lanes::lanes`, `specs/LaneDrawn` for `picture::draw_lanes`. With 3 out gained nothing, and err tells the
-//! first faulty line of the first wrong file, and its first cause.
+//! `ib_lane_lines`. Its one contract is that of `command::answer`, by the status of a call:
+//!
+//! - 0, 7 and 8: the bytes that the sources gave are the text of a fabric, of its tables, its lanes and its levels. Out
+//!   gained exactly what the command gives for them. `specs/LaneJudged` says each part of it for `lanes::lanes`,
+//!   `specs/LaneDrawn` for `picture::draw_lanes`.
+//! - 3: out gained nothing. Err tells the first faulty line of the first wrong file, and its first cause.
 #![tactic(auto)]
 
 pub mod answer;

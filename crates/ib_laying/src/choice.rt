@@ -67,7 +67,8 @@ pub struct Made {
     pub measures: Measures,
 }
 
-// Which order is tried at a place: after the first ones those from other trees in depth.
+// Which order is tried at a place: after the first ones those from other trees in depth. Their numbers go on from 2:
+// those with 0 and 1 are among the first. So 10 is `FIRST.len()` less 2.
 fn recipe_at(place: usize) -> Recipe {
     match FIRST.get(place) {
         Some(recipe) => *recipe,
@@ -100,7 +101,7 @@ struct Effort {
 
 impl Effort {
     // The less, the more steps a round takes: it looks at each channel for each switch with end ports, and at each
-    // switch for each target.
+    // switch for each target. Each row below is `least`, `tried` and `finalists` for up to so many steps.
     fn of(channels: &Channels, demand: &Demand) -> Effort {
         let (leaves, targets) = (demand.leaves().len() as u64, demand.targets().len() as u64);
         let looks = leaves.saturating_mul(u64::from(channels.count()));
@@ -360,8 +361,8 @@ impl Ground {
     }
 }
 
-/// Tables for all LIDs that have an owner, with all ways for the traffic, and how good they are; none where no order
-/// has all ways that was tried, as where the fabric is in parts. The same fabric has the same tables each time. The
+/// Tables for all LIDs that have an owner, with all ways for the traffic, and how good they are; none if no order
+/// that was tried has all ways, as if the fabric is in parts. The same fabric has the same tables each time. The
 /// error is want of memory alone.
 pub fn lay_tables(
     alloc: Global,

@@ -11,9 +11,9 @@ pub struct Measures {
     pub lost: u64,
     /// How many routes there are.
     pub routes: u64,
-    /// How many channels they have together.
+    /// The sum of the channels of all these routes: how many they have together.
     pub hops: u64,
-    /// The most channels that one has.
+    /// The most channels that a route has.
     pub longest: u32,
     /// The most routes that pass one channel.
     pub greatest: u64,

@@ -25,7 +25,7 @@ pub const MOST_LINE: usize = 4096;
 /// The most bytes of a text.
 pub const MOST_BYTES: u64 = 1 << 62;
 
-/// How many bytes are held at once: those of a piece, and before them the front of a line.
+// How many bytes are held at once: those of a piece, and before them the front of a line.
 const HELD: usize = 65_536;
 
 /// Why a text is not read.
