@@ -21,8 +21,8 @@ use text_lines::stop::Refusal;
 /// How a call ended.
 #[derive(Clone, Copy)]
 pub enum Status {
-    /// Nothing is wrong: there is no cycle and, but for `between`, all routes of the traffic arrive. If rows are set
-    /// by `repair` or `repaired`, this is said of the tables in which they are set.
+    /// Nothing is wrong: there is no cycle and, but for `between`, all routes of the traffic arrive. If rows
+    /// are set by `repair` or `repaired`, this is said of the tables in which they are set.
     Ok,
     /// The words are those of no call.
     Usage,

@@ -45,13 +45,13 @@ fn levels_asked(words: &[Word]) -> LevelsAsked
 /// - `lanes` TOPOLOGY TABLES SL2VL LEVELS writes the verdict for tables with lanes;
 /// - `between` TOPOLOGY OLD NEW writes whether channels may lead round while NEW replaces OLD.
 ///
-/// Then `hosts`, `lids` or `all` may follow, but not for `between`. TABLES and OLD are read from the second source,
-/// RANKS, SL2VL and NEW from the third, LEVELS from the fourth. If LEVELS are `any` or a number from 0 to 15, the
-/// fourth is left alone.
+/// Then `hosts`, `lids` or `all` may follow, but not for `between`. TABLES and OLD are read from the second
+/// source, RANKS, SL2VL and NEW from the third, LEVELS from the fourth. If LEVELS are `any` or a number from
+/// 0 to 15, the fourth is left alone.
 ///
-/// The answer is the number of how the call ended, and its line goes to err. If a source is wrong, those that are read
-/// after it are left alone, and out gains nothing. Of RANKS a faulty line is told only after TOPOLOGY and TABLES were
-/// read. For other words the sources and out are left alone.
+/// The answer is the number of how the call ended, and its line goes to err. If a source is wrong, those that
+/// are read after it are left alone, and out gains nothing. Of RANKS a faulty line is told only after
+/// TOPOLOGY and TABLES were read. For other words the sources and out are left alone.
 pub fn fabric<T: Source, S: Source, R: Source, L: Source, O: Sink, E: Sink>(
     alloc: Global,
     topology: &mut T,

@@ -35,7 +35,7 @@ pub fn forget(marks: &mut [Mark])
 }
 
 /// How the route to a LID from a switch ends. The marks are of the same LID, and the path is a room for the switches of a
-/// route.
+/// route. Blocks have 64 LIDs.
 pub fn end_from(
     fabric: &Fabric,
     cells: &Cells,

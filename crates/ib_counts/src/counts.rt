@@ -2,39 +2,48 @@
 
 use ib_net::node::EndPort;
 
-/// A route that does not arrive, and the place of the switch at which it stops, or of the least one by which
-/// it comes again and again.
+/// A route that does not arrive.
 #[derive(Clone, Copy)]
 pub struct LostRoute {
+    /// The LID to which it is to lead.
     pub lid: u16,
+    /// The end port that sends.
     pub source: EndPort,
+    /// The place of the switch at which it stops, or of the least one by which it comes again and again.
     pub at: u32,
 }
 
-/// The routes that are lost by one cause: how many, and of those to the least LID the one whose end port has
-/// the least GUID; none if none is lost so.
+/// The routes that are lost by one cause.
 #[derive(Clone, Copy)]
 pub struct Loss {
+    /// How many there are.
     pub count: u64,
+    /// Of those to the least LID the one whose end port has the least GUID; none if there are none.
     pub least: Option<LostRoute>,
 }
 
-/// The routes that are lost, by cause: the table of a switch has no port, the port is bare, it leads to an
-/// end port that does not own the LID, or the route goes on for ever.
+/// The routes that are lost, by cause.
 #[derive(Clone, Copy)]
 pub struct Losses {
+    /// The table of a switch has no port for the LID.
     pub missing: Loss,
+    /// The port is bare.
     pub dead: Loss,
+    /// The port leads to an end port that does not own the LID.
     pub wrong: Loss,
+    /// The route goes on for ever.
     pub looping: Loss,
 }
 
-/// How many routes there are, how many arrive, through how many switches the longest of these goes (0 if none
-/// arrives), and the others.
+/// Counts of the routes of a traffic.
 #[derive(Clone, Copy)]
 pub struct Counts {
+    /// How many there are: those that arrive, and those that are lost.
     pub routes: u64,
+    /// How many of them arrive.
     pub arrived: u64,
+    /// The most switches of one route that arrives; 0 if none arrives.
     pub hops: u32,
+    /// Those that do not arrive.
     pub lost: Losses,
 }

@@ -53,12 +53,13 @@ fn answer_verify<T: Source, S: Source, R: Source, O: Sink, E: Sink>(
     }
 }
 
-/// Answers a question about the tables of a topology, by the routes of a traffic. The sources are read to their ends,
-/// for `Verify` that of ranks first; the other questions leave it alone. Out gains the verdict, the ranks, a picture,
-/// or whether the ranks fall. The answer is the number of how the call ended, and its line goes to err.
+/// Answers a question about the tables of a topology, by the routes of a traffic. The sources are read to
+/// their ends, for `Verify` that of ranks first; the other questions leave it alone. Out gains the verdict,
+/// the ranks, a picture, or whether the ranks fall. The answer is the number of how the call ended, and its
+/// line goes to err.
 ///
-/// If a source is wrong, those that are read after it are left alone, and out gains nothing. Of ranks a faulty line is
-/// told only after the topology and the tables were read.
+/// If a source is wrong, those that are read after it are left alone, and out gains nothing. Of ranks a
+/// faulty line is told only after the topology and the tables were read.
 pub fn answer_question<T: Source, S: Source, R: Source, O: Sink, E: Sink>(
     alloc: Global,
     topology: &mut T,

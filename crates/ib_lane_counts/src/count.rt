@@ -318,8 +318,8 @@ fn count_alike(
     Ok(alike_counts(told, &counts))
 }
 
-// The counts if each end port and LID have levels of their own: at once, if nothing can be discarded, all arrive on one lane,
-// and each pair has a level.
+// The counts if each end port and LID have levels of their own. They are known at once if nothing can be
+// discarded, all arrive on one lane, and each pair has a level.
 fn count_told(
     alloc: Global,
     fabric: &Fabric,

@@ -23,10 +23,12 @@ use ib_routes::hop::Outcome;
 use ib_routes::word::has_bit;
 use ib_rows::lanes::LaneRows;
 
-/// How they end on one lane, and the levels, as bits, with which they are discarded.
+/// How they end, from a port of a switch on.
 #[derive(Clone, Copy)]
 pub struct Ends {
+    /// How they end if they are not discarded: the same with each level, as on one lane.
     pub outcome: Outcome,
+    /// The levels, as bits, with which they are discarded.
     pub gone: u64,
 }
 

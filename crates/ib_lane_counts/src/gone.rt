@@ -44,7 +44,7 @@ pub fn gone_by(lanes: &LaneRows, at: Spot, port: u8) -> u64
     }
 }
 
-// By which port a switch sends what goes to a LID.
+// By which port a switch sends what goes to a LID. Blocks have 64 LIDs.
 fn exit_to(fabric: &Fabric, cells: &Cells, lid: u16, switch: usize) -> Exit
     requires same { switch_count fabric.now ≡ cells.now.switches }
     requires lid { lid < 64 * cells.now.blocks }

@@ -23,10 +23,12 @@ use ib_routes::start::sends;
 use ib_routes::traffic::Traffic;
 use ib_rows::levels::Levels;
 
-/// How many.
+/// How many routes there are, however they end.
 #[derive(Clone, Copy)]
 pub struct Sums {
+    /// How many there are: one for each level with which an end port sends to a LID.
     pub routes: u64,
+    /// How many pairs of an end port and a LID to which it sends have no level.
     pub silent: u64,
 }
 

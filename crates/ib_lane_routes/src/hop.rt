@@ -13,30 +13,40 @@ use ib_net::node::{Side, Spot};
 use ib_routes::hop::{Cause, is_of_host, is_of_switch};
 use ib_rows::lanes::{DISCARD, LaneRows};
 
-/// What a switch does with what came in by a port, has a service level and goes to a LID: it sends it out of a port, on a
-/// lane, to a port of a switch; hands it to the owner; stops it; or discards it, since no lane takes it.
+/// What a switch does with what came in by a port, has a service level and goes to a LID.
 #[derive(Clone, Copy)]
 pub enum LaneHop {
+    /// It sends it out of this port, on this lane, to this port of a switch.
     On(u8, u8, Spot),
+    /// It hands it to the owner of the LID, which may be its own port 0.
     Arrive,
+    /// It stops it, by this cause.
     Stop(Cause),
+    /// It discards it: the port is not bare, and the lane is 15.
     Discard,
 }
 
-/// How a route ends: it arrives, so many switches on; it stops; it is discarded; or it goes on for ever.
+/// How a route ends, from a port of a switch on.
 #[derive(Clone, Copy)]
 pub enum LaneOutcome {
+    /// It arrives, and goes through so many switches: the first one and the last one count.
     Arrives(u32),
+    /// It stops, by this cause.
     Stops(Cause),
+    /// It is discarded.
     Discards,
+    /// It goes on for ever.
     Loops,
 }
 
-/// By which port a switch sends what goes to a LID: none, its own port 0, or a port that leads somewhere.
+/// By which port a switch sends what goes to a LID.
 #[derive(Clone, Copy)]
 pub enum Exit {
+    /// By none: its table has none for the LID.
     Nowhere,
+    /// By its own port 0.
     Own,
+    /// By this port, which is not 0; and where it leads. It may be bare.
     By(u8, Side),
 }
 
@@ -82,7 +92,7 @@ fn hop_by_side(fabric: &Fabric, lid: usize, port: u8, lane: u8, side: Side) -> L
     }
 }
 
-/// By which port a switch sends what goes to a LID of a block.
+/// By which port a switch sends what goes to a LID of a block: one of 64, by its bit.
 #[inline]
 pub fn find_exit(fabric: &Fabric, cells: &Cells, switch: usize, block: usize, bit: usize) -> Exit
     requires same { switch_count fabric.now ≡ cells.now.switches }

@@ -10,10 +10,12 @@ use ib_cells::cells::Cells;
 use ib_net::fabric::Fabric;
 use ib_net::node::{Side, Spot};
 
-/// A link that a switch takes: out of a port, to a port of a switch.
+/// A link by which a switch sends to a switch.
 #[derive(Clone, Copy)]
 pub struct Way {
+    /// The port out of which the switch sends.
     pub port: u8,
+    /// The port of a switch to which the link leads.
     pub next: Spot,
 }
 

@@ -6,8 +6,11 @@ ghost use Rattle.ib_lane_waves.specs.LaneSteps.{departure_place};
 /// What goes out of a switch on a lane, with a service level.
 #[derive(Clone, Copy)]
 pub struct Departure {
+    /// The service level, from 0 to 15.
     pub level: usize,
+    /// The place of the switch.
     pub switch: usize,
+    /// The lane on which it goes out.
     pub lane: usize,
 }
 

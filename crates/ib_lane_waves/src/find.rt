@@ -155,7 +155,8 @@ fn find_bases(alloc: Global, fabric: &Fabric, count: usize) -> Result<Vec<u32>, 
     Ok(bases)
 }
 
-// A graph of the channels of a fabric on so many lanes, of which none leads to another.
+// A graph of the channels of a fabric on so many lanes, of which none leads to another. A row has a bit for
+// each port and lane, 64 in a word.
 fn no_dependencies(alloc: Global, fabric: &Fabric, count: usize) -> Result<Graph, OutOfMemory>
     requires { count ≤ 15 }
     ensures graph { IfOk result (λ graph. IsLaneGraphOf fabric.now count graph) }
@@ -167,10 +168,12 @@ fn no_dependencies(alloc: Global, fabric: &Fabric, count: usize) -> Result<Graph
     Ok(graph)
 }
 
-/// The dependencies of the channels of a fabric, and whether a route is stopped or discarded.
+/// What the routes of a traffic with some levels make.
 #[derive(Drop)]
 pub struct LaneFound {
+    /// Which channels of the fabric depend on which, each a link on a lane.
     pub graph: Graph,
+    /// Whether a route stops or is discarded. One that goes on for ever does neither.
     pub stopped: bool,
 }
 

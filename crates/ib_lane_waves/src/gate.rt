@@ -16,12 +16,14 @@ use ib_routes::traffic::Traffic;
 use ib_rows::lanes::LaneRows;
 use std::alloc::Global;
 
-/// Ports of switches by which routes come in first, and of each end port that sends the gate at which its routes begin: a
-/// port of the same switch from which all goes on the same lanes. End ports stand by their places, those of adapters and
-/// routers first.
+/// Where routes begin. One gate may serve several end ports: from their ports of a switch all goes on the same
+/// lanes.
 #[derive(Drop)]
 pub struct Gates {
+    /// The gates: ports of switches by which routes come in first.
     pub spots: Vec<Spot>,
+    /// Of each end port the number of its gate, from 0; none if it does not send. End ports stand by their
+    /// places, those of adapters and routers first.
     pub gates: Vec<Option<u32>>,
 }
 

@@ -30,8 +30,9 @@ fn leaves_by(at: Spot, port: u8, lane: u8, channel: LaneSpot) -> bool
     at.switch == channel.switch && port == channel.port && lane == channel.lane
 }
 
-/// Whether the route of what has a level and goes to a LID, from a port of a switch on, goes by a channel. Each switch that it
-/// comes to is marked: where it comes to one again, it has gone by all channels that it ever will.
+/// Whether the route of what has a level and goes to a LID, from a port of a switch on, goes by a channel.
+/// Each switch to which it comes is marked. If it comes to one again, it has gone by all channels that it
+/// ever will.
 pub fn goes_by(
     fabric: &Fabric,
     cells: &Cells,

@@ -37,16 +37,22 @@ use std::alloc::Global;
 /// A channel: the link out of a port of a switch, on a lane.
 #[derive(Clone, Copy)]
 pub struct LaneSpot {
+    /// The place of the switch.
     pub switch: u32,
+    /// The port.
     pub port: u8,
+    /// The lane.
     pub lane: u8,
 }
 
-/// A route: to a LID, from an end port, with a service level.
+/// A route.
 #[derive(Clone, Copy)]
 pub struct LaneWitness {
+    /// The LID to which it leads.
     pub lid: u16,
+    /// The end port that sends.
     pub source: EndPort,
+    /// The service level.
     pub level: u8,
 }
 
@@ -103,6 +109,7 @@ fn is_by(does: LaneHop, channel: LaneSpot) -> bool
 }
 
 // The port of a switch to which the link of a channel leads, if what goes to a LID leaves its switch by it.
+// Blocks have 64 LIDs.
 fn comes_out(fabric: &Fabric, cells: &Cells, lid: usize, channel: LaneSpot) -> Option<Spot>
     requires same { switch_count fabric.now ≡ cells.now.switches }
     requires lid { lid < 64 * cells.now.blocks }

@@ -67,8 +67,8 @@ pub struct Made {
     pub measures: Measures,
 }
 
-// Which order is tried at a place: after the first ones those from other trees in depth. Their numbers go on from 2:
-// those with 0 and 1 are among the first. So 10 is `FIRST.len()` less 2.
+// Which order is tried at a place: after the first ones those from other trees in depth. Their numbers go on
+// from 2: those with 0 and 1 are among the first. So 10 is `FIRST.len()` less 2.
 fn recipe_at(place: usize) -> Recipe {
     match FIRST.get(place) {
         Some(recipe) => *recipe,
@@ -361,9 +361,9 @@ impl Ground {
     }
 }
 
-/// Tables for all LIDs that have an owner, with all ways for the traffic, and how good they are; none if no order
-/// that was tried has all ways, as if the fabric is in parts. The same fabric has the same tables each time. The
-/// error is want of memory alone.
+/// Tables for all LIDs that have an owner, with all ways for the traffic, and how good they are; none if no
+/// order that was tried has all ways, as if the fabric is in parts. The same fabric has the same tables each
+/// time. The error is want of memory alone.
 pub fn lay_tables(
     alloc: Global,
     fabric: &Fabric,

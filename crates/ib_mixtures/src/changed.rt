@@ -13,7 +13,7 @@ use ib_net::fabric::Fabric;
 use ib_routes::start::is_target;
 use ib_routes::traffic::Traffic;
 
-// Whether a row is changed.
+// Whether a row is changed. Blocks have 64 LIDs.
 fn differs(old: &Cells, new: &Cells, switch: usize, lid: usize) -> bool
     requires switch { switch < old.now.switches }
     requires switch_new { switch < new.now.switches }

@@ -1,38 +1,49 @@
 //! What stands in a fabric.
 
-/// The LIDs of an end port: from the base on, 2 to the LMC of them; none if the base is 0.
+/// The LIDs of an end port, one after the other.
 #[derive(Clone, Copy, PartialEq, Eq)]
 pub struct LidRange {
+    /// The first one, the base; 0 if there are none.
     pub base: u16,
+    /// The LMC: there are 2 to this number of them.
     pub lmc: u8,
 }
 
-/// A switch: ports 1 to `ports`, and the LIDs of its port 0.
+/// A switch.
 #[derive(Clone, Copy, PartialEq, Eq)]
 pub struct Switch {
+    /// How many ports it has beside port 0: 1 to this number.
     pub ports: u8,
+    /// The LIDs of its port 0.
     pub lids: LidRange,
 }
 
-/// An end port: of an adapter or router, or port 0 of a switch; by its place among those of its kind.
+/// An end port, by its place among those of its kind, from 0.
 #[derive(Clone, Copy)]
 pub enum EndPort {
+    /// That of an adapter or router.
     Host(u32),
+    /// Port 0 of a switch.
     Switch(u32),
 }
 
-/// A port of a switch, which has a place.
+/// A port of a switch.
 #[derive(Clone, Copy)]
 pub struct Spot {
+    /// The place of the switch.
     pub switch: u32,
+    /// The port.
     pub port: u8,
 }
 
-/// Where a port of a switch leads: nowhere, to a port of a switch, or to an end port of an adapter or router.
+/// Where a port of a switch leads.
 #[derive(Clone, Copy)]
 pub enum Side {
+    /// Nowhere.
     Bare,
+    /// To the switch of this place, and this port of it.
     To(u32, u8),
+    /// To the end port of an adapter or router of this place.
     End(u32),
 }
 

@@ -25,8 +25,8 @@ struct Walk {
     fresh: Table<u32>,
 }
 
-// A number for a channel that mixes the bits of both, if the seed is not 0. With seed 0 it is 0 for all channels: then
-// the walk takes the first of those that are alike.
+// A number for a channel that mixes the bits of both, if the seed is not 0. With seed 0 it is 0 for all
+// channels: then the walk takes the first of those that are alike.
 fn scattered(seed: u64, channel: Channel) -> u64 {
     let mixed = seed
         .wrapping_add(u64::from(channel.0))

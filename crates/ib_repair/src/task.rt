@@ -68,7 +68,7 @@ impl Task<'_> {
         sends_to(self.traffic, target)
     }
 
-    // The port of a switch for a LID.
+    // The port of a switch for a LID. Blocks have 64 LIDs.
     fn port(self, switch: u32, lid: u16) -> Option<u8> {
         let switch = switch as usize;
         let block = usize::from(lid) / 64;
@@ -79,7 +79,7 @@ impl Task<'_> {
         self.cells.port(switch, block, bit)
     }
 
-    /// The channel by which a switch sends to a LID; none where it sends to an end port or does not send.
+    /// The channel by which a switch sends to a LID; none if it sends to an end port or does not send.
     pub fn exit(self, switch: u32, lid: u16) -> Option<Channel> {
         let port = self.port(switch, lid)?;
         self.channel(switch, port)

@@ -103,7 +103,7 @@ fn push_row(
     Ok(())
 }
 
-// The port of a switch for a LID.
+// The port of a switch for a LID. Blocks have 64 LIDs.
 fn port_of(cells: &Cells, switch: usize, lid: usize) -> Option<u8>
     requires switch { switch < cells.now.switches }
     requires lid { lid < 64 * cells.now.blocks }

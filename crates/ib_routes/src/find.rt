@@ -135,10 +135,12 @@ pub fn add_dependencies(
     add_waves(alloc, fabric, &links, cells, traffic, &senders, graph)
 }
 
-/// The dependencies of the channels of a fabric, and whether a route is stopped.
+/// What the routes of a traffic make.
 #[derive(Drop)]
 pub struct Found {
+    /// Which channels of the fabric depend on which.
     pub graph: Graph,
+    /// Whether a route stops at a place that is not its target. One that goes on for ever does not stop.
     pub stopped: bool,
 }
 
@@ -169,7 +171,8 @@ fn find_bases(alloc: Global, fabric: &Fabric) -> Result<Vec<u32>, OutOfMemory>
     Ok(bases)
 }
 
-// A graph of the channels of a fabric, of which none leads to another.
+// A graph of the channels of a fabric, of which none leads to another. A row has a bit for each port, 64 in a
+// word.
 fn no_dependencies(alloc: Global, fabric: &Fabric) -> Result<Graph, OutOfMemory>
     ensures graph { IfOk result (λ graph. IsGraphOf fabric.now graph) }
     ensures none { IfOk result (λ graph. (one other : ℕ) → LeadsTo graph one other → ⊥) }

@@ -10,27 +10,36 @@ use ib_cells::cells::Cells;
 use ib_net::fabric::Fabric;
 use ib_net::node::{EndPort, Side};
 
-/// Why a route stops: the table has no port; the port is bare; it leads to an end port that does not own the LID.
+/// Why a route stops at a switch.
 #[derive(Clone, Copy)]
 pub enum Cause {
+    /// The table has no port for the LID.
     Missing,
+    /// The port is bare: it leads nowhere.
     Dead,
+    /// The port leads to an end port that does not own the LID. Port 0 is that of the switch itself.
     Wrong,
 }
 
-/// What a switch does with what goes to a LID: it sends it out of a port to a switch, hands it to the owner, or stops it.
+/// What a switch does with what goes to a LID.
 #[derive(Clone, Copy)]
 pub enum Hop {
+    /// It sends it out of this port, to the switch of this place.
     On(u8, u32),
+    /// It hands it to the owner of the LID, which may be its own port 0.
     Arrive,
+    /// It stops it, by this cause.
     Stop(Cause),
 }
 
-/// How a route ends: it arrives, so many switches on; it stops; or it goes on for ever.
+/// How a route ends, from a switch on.
 #[derive(Clone, Copy)]
 pub enum Outcome {
+    /// It arrives, and goes through so many switches: the first one and the last one count.
     Arrives(u32),
+    /// It stops, by this cause.
     Stops(Cause),
+    /// It goes on for ever.
     Loops,
 }
 
@@ -99,7 +108,7 @@ fn hop_by_port(fabric: &Fabric, switch: usize, lid: usize, port: Option<u8>) -> 
     }
 }
 
-/// The hop of a switch for a LID of a block.
+/// The hop of a switch for a LID of a block: one of 64, by its bit.
 #[inline]
 #[tactic(auto, unfolding(crate::specs::Routes::hop))]
 pub fn find_hop(fabric: &Fabric, cells: &Cells, switch: usize, block: usize, bit: usize) -> Hop

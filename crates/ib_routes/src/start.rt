@@ -17,11 +17,14 @@ use ib_net::fabric::Fabric;
 use ib_net::node::EndPort;
 use std::alloc::Global;
 
-/// Which end ports send from a switch: none, one alone, or several.
+/// Which end ports send from a switch.
 #[derive(Clone, Copy)]
 pub enum Senders {
+    /// None.
     Quiet,
+    /// This one, and no other.
     One(EndPort),
+    /// Two or more.
     Several,
 }
 

@@ -13,20 +13,26 @@ use crate::hop::{Cause, Hop, Outcome, find_hop};
 use ib_cells::cells::Cells;
 use ib_net::fabric::Fabric;
 
-/// A LID, as a bit of a block; and the switch at which each route that comes there is taken as arrived, and no other, if
-/// there is one.
+/// The LID to which routes are followed, and where they end.
 #[derive(Clone, Copy)]
 pub struct Target {
+    /// The block of the LID: the LID divided by 64, rounded down.
     pub block: usize,
+    /// Its bit in the block, from 0 to 63.
     pub bit: usize,
+    /// If there is one: the switch at which each route that comes there is taken as arrived. One that would
+    /// arrive at another switch then stops there, as `Wrong`.
     pub until: Option<u32>,
 }
 
-/// What is known of a switch: nothing; that the route which is followed came by; or how the routes from it end.
+/// What is known of a switch, for one target.
 #[derive(Clone, Copy)]
 pub enum Mark {
+    /// Nothing.
     New,
+    /// The route that is followed came by it.
     Open,
+    /// How the routes from it end.
     Known(Outcome),
 }
 

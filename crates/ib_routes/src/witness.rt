@@ -22,10 +22,12 @@ use ib_net::fabric::Fabric;
 use ib_net::node::{EndPort, Spot};
 use std::alloc::Global;
 
-/// A route: to a LID, from an end port.
+/// A route.
 #[derive(Clone, Copy)]
 pub struct Witness {
+    /// The LID to which it leads.
     pub lid: u16,
+    /// The end port that sends.
     pub source: EndPort,
 }
 

@@ -139,7 +139,7 @@ fn save(
     Ok(())
 }
 
-// The levels of a LID of an end port, by the places of its blocks.
+// The levels of a LID of an end port, by the place of the LID's block of 64.
 #[inline]
 fn word_at(rows: &IndexSet<[u16; 64]>, place: u32, lid: usize) -> u16
     ensures { result ≡ block_word rows.now.keys place lid }

@@ -44,12 +44,16 @@ pub enum Fact {
     },
 }
 
-/// What one line says: at most three facts, and what kind of line may follow.
+/// What one line says.
 #[derive(Clone, Copy)]
 pub struct Line {
+    /// Where the next line stands: it says what kind of line may follow.
     pub part: Part,
+    /// The first fact that it tells, if it tells one.
     pub first: Option<Fact>,
+    /// The second one.
     pub second: Option<Fact>,
+    /// The third and last one.
     pub third: Option<Fact>,
 }
 
