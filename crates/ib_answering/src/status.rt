@@ -211,8 +211,8 @@ fn line_of(status: Status) -> Line
     }
 }
 
-/// Writes the line of a status to err, and answers the status' number, or that of a write fault where err did not take
-/// the whole line.
+/// Writes the line of a status to err, and answers the status' number, or that of a write fault if err did
+/// not take the whole line.
 pub fn finish<E: Sink>(err: &mut E, status: Status) -> u8
     ensures { IsToldOf (E.seen err.old) (E.seen err.new) status result }
 {

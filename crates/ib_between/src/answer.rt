@@ -85,7 +85,7 @@ fn answer_for(
     })
 }
 
-// The channels of the cycle, none where there is no cycle.
+// The channels of the cycle, none if there is no cycle.
 fn cycle_of(judged: &Judgement) -> &[LoopChannel]
     ensures { (fabric : FabricOf) (old new : TablesOf)
         → IsJudgement fabric old new judged.now → IsLoop fabric old new result.now }

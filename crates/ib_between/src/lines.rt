@@ -49,7 +49,7 @@ pub struct Between {
     pub channels: u64,
     /// How many pairs of channels may follow one another.
     pub dependencies: u64,
-    /// The channels of the least cycle, or none where no cycle exists.
+    /// The channels of the least cycle, or none if no cycle exists.
     pub cycle: Vec<Turn>,
     /// The names of the nodes above.
     pub names: Vec<Name>,

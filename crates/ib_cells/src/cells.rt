@@ -99,8 +99,8 @@ impl Cells {
         self.bytes[(lid / 64 * self.switches + switch) * 64 + lid % 64] = port;
     }
 
-    /// Puts the port of a switch for a LID. Answers whether the table has this port now: it does not where another one
-    /// was put before, which stays.
+    /// Puts the port of a switch for a LID. Answers whether the table has this port now: it does not if
+    /// another one was put before, which stays.
     pub fn put(&mut self, switch: usize, lid: usize, port: u8) -> bool
         requires switch { switch < self.old.switches }
         requires lid { lid < 64 * self.old.blocks }

@@ -25,7 +25,8 @@ pub enum Rule<'a> {
 }
 
 impl Rule<'_> {
-    /// What the turn from a channel to the exit of the switch to which it leads costs; none where it may not be made.
+    /// What the turn from a channel to the exit of the switch to which it leads costs; none if it may not be
+    /// made.
     #[inline]
     pub fn toll(self, channel: Channel, exit: Option<Channel>) -> Option<u64> {
         let Some(next) = exit else {
@@ -54,7 +55,7 @@ impl Rule<'_> {
 pub struct Ways {
     exits: Table<Option<Channel>>,
     depths: Table<u32>,
-    // What the channels of the ways cost together, where they were grown.
+    // What the channels of the ways cost together, if they were grown.
     costs: Table<u64>,
     // The switches with a way, the target first, none before one that is nearer.
     nearest: Vec<u32>,

@@ -75,7 +75,7 @@ pub fn answer_for(
     })
 }
 
-/// The channels of the credit loop, none where there is no loop.
+/// The channels of the credit loop, none if there is no loop.
 pub fn cycle_of(judged: &Judgement) -> &[LoopChannel]
     ensures { (fabric : FabricOf) (tables : TablesOf) (traffic : Traffic)
         → IsJudgement fabric tables traffic judged.now → IsLoop fabric tables traffic result.now }

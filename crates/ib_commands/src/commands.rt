@@ -63,7 +63,7 @@ fn given_judged(
     })
 }
 
-/// The command `ranks`: the ranks of the channels, or where there is a credit loop, the verdict.
+/// The command `ranks`: the ranks of the channels, or the verdict if there is a credit loop.
 #[derive(Clone, Copy)]
 pub struct Ranks {
     /// The traffic.

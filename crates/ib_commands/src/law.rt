@@ -10,8 +10,8 @@ ghost use Rattle.ib_answering.specs.declared.status.Status.{Status};
 ghost use Rattle.ib_commands.specs.Certified.{AreRanksVerified, IsEndBy, TellsRanks};
 ghost use Rattle.ib_commands.specs.Words.{traffic_word};
 
-/// What `ranks` writes where there is no credit loop, `verify` accepts: it answers that the ranks fall, with the status of
-/// tables without a credit loop.
+/// What `ranks` writes if there is no credit loop, `verify` accepts: it answers that the ranks fall, with the
+/// status of tables without a credit loop.
 pub fn ranks_are_accepted()
     ensures { (traffic : Traffic) (text : List ℕ) (fabric : FabricOf) (found : Tables) (status again : Status)
         (written answer : List ℕ)

@@ -30,8 +30,8 @@ struct Way {
     beyond: u32,
 }
 
-// Follows the route to a LID from a switch, by switches without a height, to one that has one or to its end. None where it
-// does not arrive.
+// Follows the route to a LID from a switch, by switches without a height, to one that has one or to its end.
+// None if it does not arrive.
 fn find_way(
     fabric: &Fabric,
     cells: &Cells,
@@ -117,7 +117,7 @@ fn height_of(
 }
 
 /// The greater number of switches with the route to a LID from a switch, if the switch has the bit of the LID; None
-/// where that route does not arrive.
+/// if that route does not arrive.
 pub fn longer_from(
     fabric: &Fabric,
     cells: &Cells,

@@ -12,7 +12,7 @@ use std::alloc::Global;
 pub struct Rooms {
     /// Through how many switches the route from each switch goes.
     pub heights: Vec<u32>,
-    /// How the route from each switch ends, where some are lost.
+    /// How the route from each switch ends, if some are lost.
     pub marks: Vec<Mark>,
     /// The switches of a route.
     pub path: Vec<u32>,

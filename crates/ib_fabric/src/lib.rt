@@ -1,7 +1,7 @@
 //! The fabric that the text of a topology tells of.
 //!
 //! It stands on `ib_topology`, which says what lines tell, and on `ib_net`, which takes nodes and links. Its
-//! contract: `read::read_fabric` answers a fabric only where the bytes are its text, and else the first
+//! contract: `read::read_fabric` answers a fabric only if the bytes are its text, and else the first
 //! faulty line with its first cause; want of memory may come in place of either. A text is gone over twice,
 //! for forms and nodes and then for links, and a fault of the first time comes before one of the second. No
 //! bytes are the text of two fabrics, or have two first faults, or are the text of a fabric and have a fault;

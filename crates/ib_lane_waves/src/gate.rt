@@ -16,8 +16,8 @@ use ib_routes::traffic::Traffic;
 use ib_rows::lanes::LaneRows;
 use std::alloc::Global;
 
-/// Where routes begin. One gate may serve several end ports: from their ports of a switch all goes on the same
-/// lanes.
+/// Where routes begin. One gate may serve several end ports: from their ports of a switch all goes on the
+/// same lanes.
 #[derive(Drop)]
 pub struct Gates {
     /// The gates: ports of switches by which routes come in first.

@@ -362,7 +362,7 @@ impl Ground {
 }
 
 /// Tables for all LIDs that have an owner, with all ways for the traffic, and how good they are; none if no
-/// order that was tried has all ways, as if the fabric is in parts. The same fabric has the same tables each
+/// order that was tried has all ways, as in a fabric in parts. The same fabric has the same tables each
 /// time. The error is want of memory alone.
 pub fn lay_tables(
     alloc: Global,

@@ -134,7 +134,7 @@ impl Laying {
         Ok(())
     }
 
-    // Makes shortest ways to a switch, and longer ones where there are none that rise.
+    // Makes shortest ways to a switch, and longer ones if there are none that rise.
     fn make_tree(&mut self, alloc: Global, plan: Plan<'_>, target: u32) -> Result<(), OutOfMemory> {
         self.loads.grow(plan, Rule::Rising(plan.order), target)?;
         close_all(alloc, plan, &mut self.loads.ways, target)?;

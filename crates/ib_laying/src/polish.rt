@@ -48,7 +48,8 @@ impl Polishing<'_> {
         }
     }
 
-    // By how much the sum of the squares of all loads grows for each route, where a flow is led over an exit and on.
+    // By how much the sum of the squares of all loads grows for each route, if a flow is led over an exit and
+    // on.
     fn price(self, loads: &Loads, exit: Channel, flow: u32) -> u64 {
         let mut price = 0u64;
         let mut next = Some(exit);
@@ -170,7 +171,8 @@ fn polish_once(plan: Plan<'_>, rows: &mut Rows, loads: &mut Loads) -> Result<Out
     Ok(outcome)
 }
 
-// The load from which on an exit is looked at: any, or nine tenths of the greatest where there are many switches.
+// The load from which on an exit is looked at: any, or nine tenths of the greatest if there are many
+// switches.
 fn busy(plan: Plan<'_>, loads: &Loads) -> u64 {
     if plan.channels.switches() < MANY {
         return 0;

@@ -105,7 +105,7 @@ pub struct Answer {
     pub channels: u64,
     /// How many dependencies the routes make.
     pub dependencies: u64,
-    /// The channels of the least cycle, or none where no cycle exists.
+    /// The channels of the least cycle, or none if no cycle exists.
     pub cycle: Vec<Step>,
     /// How many routes are lost.
     pub losses: Losses,

@@ -30,7 +30,7 @@ pub struct Picture {
     pub traffic: Word,
     /// The names of the switches.
     pub names: Vec<Name>,
-    /// The channels, or none where there is no credit loop.
+    /// The channels, or none if there is no credit loop.
     pub arrows: Vec<Arrow>,
 }
 

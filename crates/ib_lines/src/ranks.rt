@@ -39,7 +39,7 @@ pub struct Risen {
 pub struct Verified {
     /// The word of the traffic that was judged.
     pub traffic: Word,
-    /// The first dependency along which the ranks do not fall, or None where they fall along each.
+    /// The first dependency along which the ranks do not fall, or None if they fall along each.
     pub rise: Option<Risen>,
 }
 

@@ -34,9 +34,9 @@ pub struct LoopChannel {
 /// Whether channels that may follow one another lead round.
 #[derive(Drop)]
 pub enum Verdict {
-    /// None do. The rank of each channel: 0 where it may be followed by none, else one more than the greatest of those
-    /// by which it may be. The channel out of port p of switch s has the place s times the most ports of a switch, plus
-    /// p - 1; at the places of ports that lead to no switch stands 0.
+    /// None do. The rank of each channel: 0 if it may be followed by none, else one more than the greatest of
+    /// those by which it may be. The channel out of port p of switch s has the place s times the most ports
+    /// of a switch, plus p - 1; at the places of ports that lead to no switch stands 0.
     Ranks {
         /// The ranks, by these places.
         ranks: Vec<u32>,
@@ -131,9 +131,9 @@ fn verdict_on(
     }
 }
 
-/// Judges two tables of a fabric together: the ranks of the channels exactly where no channels that may follow one
-/// another lead round, else the least cycle, with the least LID for which each may be followed by the next. The error is
-/// want of memory alone.
+/// Judges two tables of a fabric together: the ranks of the channels exactly if no channels that may follow
+/// one another lead round, else the least cycle, with the least LID for which each may be followed by the
+/// next. The error is want of memory alone.
 pub fn judge(
     alloc: Global,
     fabric: &Fabric,

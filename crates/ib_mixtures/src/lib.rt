@@ -1,9 +1,10 @@
 //! Two tables of a fabric, while the one is replaced by the other row by row.
 //!
-//! It stands on an_base, channel_graph, ib_net, ib_cells, ib_routes and ib_verdict. Its one contract: `judge::judge`
-//! answers ranks exactly where no channels that may follow one another lead round (`specs/Mixtures`), else the least
-//! such cycle. Its laws say what that means: if there is none, no mixture of the rows has a credit loop, for any
-//! traffic, nor do packets that are under way while rows change wait for one another in a ring.
+//! It stands on an_base, channel_graph, ib_net, ib_cells, ib_routes and ib_verdict. Its one contract:
+//! `judge::judge` answers ranks exactly if no channels that may follow one another lead round
+//! (`specs/Mixtures`), else the least such cycle. Its laws say what that means: if there is none, no mixture
+//! of the rows has a credit loop, for any traffic, nor do packets that are under way while rows change wait
+//! for one another in a ring.
 #![tactic(auto)]
 
 pub mod changed;

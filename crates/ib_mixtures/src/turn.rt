@@ -110,8 +110,8 @@ fn turn_at(
     Some(Turn { lid, by, next_by })
 }
 
-/// The least LID for which a channel may be followed by another one, and by which tables. There is none where it may not
-/// be.
+/// The least LID for which a channel may be followed by another one, and by which tables. There is none if it
+/// may not be.
 pub fn find_turn(
     fabric: &Fabric,
     old: &Cells,

@@ -85,7 +85,8 @@ pub fn heights(
     distances(alloc, channels, demand.leaves())
 }
 
-// Levels by height: those that are farthest from all leaves have level 0. None where each switch is a leaf, or none.
+// Levels by height: those that are farthest from all leaves have level 0. None if each switch is a leaf, or
+// none.
 fn by_height(
     alloc: Global,
     channels: &Channels,
@@ -197,7 +198,8 @@ pub fn order_from_root(
     up_down(alloc, channels, &levels)
 }
 
-/// The order up to switches that are farther from all leaves and then down; none where each switch is a leaf, or none.
+/// The order up to switches that are farther from all leaves and then down; none if each switch is a leaf, or
+/// none.
 pub fn order_by_height(
     alloc: Global,
     channels: &Channels,

@@ -93,7 +93,7 @@ impl Walk {
         best
     }
 
-    // Goes on, or one back where all neighbours are in the tree.
+    // Goes on, or one back if all neighbours are in the tree.
     fn step(&mut self, channels: &Channels, seed: u64, switch: u32) -> Result<(), OutOfMemory> {
         match self.next(channels, seed, switch) {
             Some(channel) => {

@@ -17,9 +17,9 @@ use text_lines::stop::Refusal;
 /// Why bytes tell no ranks: the first faulty line with its first cause, or no memory.
 pub type RanksRefusal = Refusal<RanksCause>;
 
-/// The ranks that the bytes are the text of, by the numbers of channels: that of the channel out of port p of switch s
-/// stands at the place s times the most ports of a switch, plus p - 1; 0 where the text tells none. `OutOfMemory` says
-/// nothing of the bytes.
+/// The ranks that the bytes are the text of, by the numbers of channels: that of the channel out of port p of
+/// switch s stands at the place s times the most ports of a switch, plus p - 1; 0 if the text tells none.
+/// `OutOfMemory` says nothing of the bytes.
 pub fn read_ranks(alloc: Global, fabric: &Fabric, bytes: &[u8]) -> Result<Vec<u32>, RanksRefusal>
     requires few { length bytes.now < 2 ^ 32 - 1 }
     ensures text { IfOk result (λ ranks. IsRanksText fabric.now bytes.now ranks.items) }

@@ -54,7 +54,7 @@ impl Reading {
         self.begun
     }
 
-    /// The ranks that were told, 0 where none was.
+    /// The ranks that were told, 0 if none was.
     pub fn ranks(&self, alloc: Global) -> Result<Vec<u32>, OutOfMemory>
         ensures { IfOk result (λ ranks. ranks.items ≡ map (λ rank. unwrap_or rank 0) self.now.ranks.items) }
     {

@@ -257,7 +257,7 @@ impl Scope<'_> {
         }
     }
 
-    // Whether it is given up where no effort is left.
+    // Whether it is given up if no effort is left.
     fn may_end(self) -> bool {
         match self {
             Scope::All => false,
@@ -266,7 +266,7 @@ impl Scope<'_> {
     }
 }
 
-/// The rows that are to be set so that the routes of the traffic rise in an order; none where it was given up.
+/// The rows that are to be set so that the routes of the traffic rise in an order; none if it was given up.
 pub fn mend(
     alloc: Global,
     task: Task<'_>,

@@ -401,9 +401,9 @@ fn repair_task(
     }
 }
 
-/// Tables in which few rows are set otherwise than in given ones, with all ways for the traffic; none where no such
-/// tables are found, as where the fabric is in parts. The same tables are repaired alike each time. The error is want of
-/// memory alone.
+/// Tables in which few rows are set otherwise than in given ones, with all ways for the traffic; none if no
+/// such tables are found, as in a fabric in parts. The same tables are repaired alike each time. The error is
+/// want of memory alone.
 pub fn repair(
     alloc: Global,
     fabric: &Fabric,

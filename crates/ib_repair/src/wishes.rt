@@ -34,7 +34,7 @@ struct Wishing {
     // How the cheapest route goes on after each channel, and with which it begins at each switch.
     onward: Table<Onward>,
     starts: Table<Onward>,
-    // The same where one turn less falls: what begins with a channel, and at a switch.
+    // The same if one turn less falls: what begins with a channel, and at a switch.
     costs_before: Table<u64>,
     least_before: Table<u64>,
     // What begins with each channel.

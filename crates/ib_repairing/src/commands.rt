@@ -92,7 +92,8 @@ fn count_cells(fabric: &Fabric) -> u64
     owned * fabric.switches() as u64
 }
 
-// What both commands give where no tables were found that pass: how the given ones end, and who is not joined to whom.
+// What both commands give if no tables were found that pass: how the given ones end, and who is not joined to
+// whom.
 fn given_none(
     alloc: Global,
     fabric: &Fabric,

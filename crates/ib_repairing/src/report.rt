@@ -25,7 +25,7 @@ pub struct Report {
     pub lids: u32,
     /// How good the given tables are.
     pub before: Measures,
-    /// How good they are where the rows are set.
+    /// How good they are once the rows are set.
     pub after: Measures,
     /// The rows.
     pub rows: Vec<SetRow>,
@@ -46,7 +46,8 @@ pub fn print_report(alloc: Global, report: &Report) -> Result<Vec<u8>, OutOfMemo
     Ok(text)
 }
 
-/// The text where no tables were found that pass, with an end port and a LID that no links join, if there are such.
+/// The text if no tables were found that pass, with an end port and a LID that no links join, if there are
+/// such.
 pub fn print_none(
     alloc: Global,
     fabric: &Fabric,

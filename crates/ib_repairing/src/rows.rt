@@ -20,7 +20,7 @@ pub struct SetRow {
     pub guid: u64,
     /// The LID.
     pub lid: u16,
-    /// The port that the switch has for it where the row is set ..
+    /// The port that the switch has for it once the row is set ..
     pub port: u8,
     /// .. and the one that it had, if it had one.
     pub had: Option<u8>,

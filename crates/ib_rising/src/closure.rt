@@ -94,7 +94,7 @@ impl Shortest {
     }
 
     // How many channels of a route from one on have to become exits, so that the way of its switch has fewer channels than
-    // so many; none where that breaks a turn.
+    // so many; none if that breaks a turn.
     fn needed(
         &self,
         plan: Plan<'_>,

@@ -174,7 +174,7 @@ fn lesser_of(fabric: &Fabric, end: u32, place: u32) -> Option<EndPort>
     }
 }
 
-/// Of an end port of an adapter or router and a switch the one of lesser GUID, where each of them may not be there.
+/// Of an end port of an adapter or router and a switch the one of lesser GUID; each of them may not be there.
 pub fn lesser(fabric: &Fabric, host: Option<u32>, switch: Option<u32>) -> Option<EndPort>
     ensures { IsLesser fabric.now host switch result }
 {
@@ -266,7 +266,7 @@ fn witness_at(
 }
 
 /// The least LID, and to it the end port of least GUID, whose route takes a channel and then, directly, another one.
-/// There is none where the channel does not depend on the other.
+/// There is none if the channel does not depend on the other.
 pub fn find_witness(
     alloc: Global,
     fabric: &Fabric,

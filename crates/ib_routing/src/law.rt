@@ -10,8 +10,8 @@ ghost use Rattle.ib_verdict.specs.Verdict.{AllArrive};
 
 use ib_fabric::law::links_have_two_ends;
 
-/// If any tables let each route of a traffic arrive, links join each end port to all to which it sends. So where `route`
-/// tells an end port that they do not join, no tables do better.
+/// If any tables let each route of a traffic arrive, links join each end port to all to which it sends. So if
+/// `route` tells an end port that they do not join, no tables do better.
 pub fn arrived_are_joined()
     ensures { (text : List ℕ) (fabric : FabricOf) (tables : TablesOf) (traffic : Traffic)
         → IsFabric fabric → IsFabricText text fabric → AllArrive fabric tables traffic → AllJoined fabric traffic }

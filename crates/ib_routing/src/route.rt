@@ -91,7 +91,7 @@ pub fn given_for(alloc: Global, fabric: &Fabric, traffic: Traffic) -> Result<Giv
     }
 }
 
-// What is given where links do not join an end port to a LID.
+// What is given if links do not join an end port to a LID.
 fn given_apart(
     alloc: Global,
     fabric: &Fabric,
@@ -108,7 +108,7 @@ fn given_apart(
     })
 }
 
-// What is given where no tables were found.
+// What is given if no tables were found.
 fn given_none(alloc: Global, fabric: &Fabric, traffic: Traffic) -> Result<Given, OutOfMemory>
     requires { AllJoined fabric.now traffic }
     ensures { IfOk result (λ given. IsGiven traffic fabric.now given.end given.text.items given.line.items) }
@@ -120,7 +120,7 @@ fn given_none(alloc: Global, fabric: &Fabric, traffic: Traffic) -> Result<Given,
     })
 }
 
-// What is given where tables were made: these, if they pass. A fabric without switches has no tables.
+// What is given if tables were made: these, if they pass. A fabric without switches has no tables.
 fn given_made(
     alloc: Global,
     fabric: &Fabric,

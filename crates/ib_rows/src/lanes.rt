@@ -197,7 +197,7 @@ impl LaneRows {
     }
 
     /// Puts the row of a switch, a port in and a port out. Answers whether this row stands there now: it
-    /// does not where another one was put before, which stays. No memory is found for more than 65,535
+    /// does not if another one was put before, which stays. No memory is found for more than 65,535
     /// different rows.
     pub fn put(
         &mut self,

@@ -68,7 +68,7 @@ impl Model for LevelRows {
 pub enum Levels {
     /// All with the same, to all LIDs.
     Same(u16),
-    /// With those that were told of an end port and a LID; where none was told, with none.
+    /// With those that were told of an end port and a LID; if none was told, with none.
     Told(LevelRows),
 }
 

@@ -17,7 +17,7 @@ ghost use Rattle.ib_verdict.specs.declared.verify.Verified.{Verified};
 ghost use Rattle.ib_verdict.specs.Verified.{Fall, IsVerified};
 ghost use Rattle.ib_verdict.specs.Verdict.{AllArrive, AreAtMost, ArrivesBy, CycleIs, HasRanks, rank_in, spots_in};
 
-/// Routes arrive, and soon: where there is no credit loop and no route of the traffic stops, each arrives, by
+/// Routes arrive, and soon: if there is no credit loop and no route of the traffic stops, each arrives, by
 /// at most one link more than the greatest rank, so past at most two switches more than that.
 pub fn routes_arrive_soon()
     ensures { (fabric : FabricOf) (tables : TablesOf) (traffic : Traffic) (ranks : List ℕ) (most lid : ℕ)
@@ -40,7 +40,7 @@ pub fn some_packet_can_move()
         → ComesFree fabric tables room queue channel }
 {}
 
-/// No packet is dropped where no route of the traffic stops: what leaves at the far side of its channel arrives.
+/// No packet is dropped if no route of the traffic stops: what leaves at the far side of its channel arrives.
 pub fn no_packet_is_dropped()
     ensures { (fabric : FabricOf) (tables : TablesOf) (traffic : Traffic) (channel : Channel) (packet : Packet)
         → ((to : ℕ) (from : EndPort) → IsStopped fabric tables traffic to from → ⊥)
@@ -92,9 +92,9 @@ pub fn fewer_routes_fewer_dependencies()
         → HasNoCycle (DependsOn fabric tables Lids) × AllArrive fabric tables Lids }
 {}
 
-/// Tables have one verdict: the rank of each channel is one; the least credit loop is one, and so are the LID and the
-/// GUID of the source of the least route that makes a dependency; there are not both; where each route of the traffic
-/// arrives, none is stopped; and the numbers of links, channels and dependencies are one.
+/// Tables have one verdict: the rank of each channel is one; the least credit loop is one, and so are the LID
+/// and the GUID of the source of the least route that makes a dependency; there are not both; if each route
+/// of the traffic arrives, none is stopped; and the numbers of links, channels and dependencies are one.
 pub fn one_answer()
     ensures ranks { (fabric : FabricOf) (tables : TablesOf) (traffic : Traffic) (one other : List ℕ)
         (channel : Channel)

@@ -1,11 +1,11 @@
 //! The verdict on the forwarding tables of a fabric: whether there is a credit loop, and whether each route arrives.
 //!
-//! It stands on an_base, channel_graph, ib_net, ib_cells and ib_routes. Its contract: `judge` answers ranks exactly where
-//! no credit loop is, else the least one with the least route that makes each of its dependencies, and how many
-//! dependencies there are; where no route stops either, each route arrives. `verify` judges ranks from anywhere: whether
-//! they fall along each dependency, so that there is no credit loop. `links` counts links and channels. Its laws
-//! say what that means: routes arrive soon, some packet can always move, a cycle can be full, and tables have one
-//! verdict.
+//! It stands on an_base, channel_graph, ib_net, ib_cells and ib_routes. Its contract: `judge` answers ranks
+//! exactly if there is no credit loop, else the least one with the least route that makes each of its
+//! dependencies, and how many dependencies there are; if no route stops either, each route arrives. `verify`
+//! judges ranks from anywhere: whether they fall along each dependency, so that there is no credit loop.
+//! `links` counts links and channels. Its laws say what that means: routes arrive soon, some packet can
+//! always move, a cycle can be full, and tables have one verdict.
 #![tactic(auto)]
 
 pub mod count;

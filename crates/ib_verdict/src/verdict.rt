@@ -17,9 +17,9 @@ pub struct LoopChannel {
 /// a port of a switch to another switch.
 #[derive(Drop)]
 pub enum Verdict {
-    /// There is none. The rank of each channel: 0 where it depends on none, else one more than the greatest of those on
-    /// which it depends. The channel out of port p of switch s has the place s times the most ports of a switch, plus
-    /// p - 1; at the places of ports that lead to no switch stands 0.
+    /// There is none. The rank of each channel: 0 if it depends on none, else one more than the greatest of
+    /// those on which it depends. The channel out of port p of switch s has the place s times the most ports
+    /// of a switch, plus p - 1; at the places of ports that lead to no switch stands 0.
     Ranks {
         /// The ranks, by these places.
         ranks: Vec<u32>,

@@ -39,13 +39,13 @@ pub struct Rise {
 #[derive(Clone, Copy)]
 pub struct Verified {
     /// The first dependency along which the ranks do not fall, by switch and port of the channel that depends, then of
-    /// the other. None where they fall along each: so there is no credit loop.
+    /// the other. None if they fall along each: so there is no credit loop.
     pub rise: Option<Rise>,
     /// Whether some route stops before its target.
     pub stops: bool,
 }
 
-// The rank that a list has for a node, 0 where it has none.
+// The rank that a list has for a node, 0 if it has none.
 fn rank_of(ranks: &[u32], node: usize) -> u32
     ensures { result ≡ value_at ranks.now node }
 {
@@ -108,7 +108,7 @@ fn find_rise(
 /// Judges ranks from anywhere by the routes of a traffic: whether they fall along each dependency, so that there is no
 /// credit loop, else the first along which they do not, with the least route that makes it; and whether a route stops.
 /// The rank of the channel out of port p of switch s stands at the place s times the most ports of a switch, plus p - 1;
-/// where the list has none it counts as 0. The error is want of memory alone.
+/// if the list has none, it counts as 0. The error is want of memory alone.
 pub fn verify(
     alloc: Global,
     fabric: &Fabric,
