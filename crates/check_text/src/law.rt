@@ -50,7 +50,7 @@ pub fn what_is_expected_joins()
 {}
 
 /// The text of a script, its last line ended by a line feed (10), with what is expected of the script
-/// behind it, is the text of that script with tables, and these are never refused.
+/// after it, is the text of that script with tables, and these are never refused.
 pub fn what_is_expected_passes()
     ensures { (bytes : List ℕ) (s : ScriptOf) (text : List ℕ) → IsText (bytes ++ 10 ∷ []) s
         → IsExpectOf s text

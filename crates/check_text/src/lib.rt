@@ -1,11 +1,11 @@
-//! The text of `check`: the judgement of routing tables that stand behind a script.
+//! The text of `check`: the judgement of routing tables that stand after a script.
 //!
 //! It stands on scripts with tables, on the judgement of the tables of a component, and, for its laws, on the text
 //! of what is expected.
 //!
-//! Its contract: where the tables of each component pass the text has the ranks of all channels, and else the line
-//! of why those of the first that is refused are; tables have one judgement; and what is expected of a script,
-//! behind its text, is never refused.
+//! Its contract: if the tables of each component pass the text has the ranks of all channels, and else the
+//! line of why those of the first that is refused are; tables have one judgement; and what is expected of a
+//! script, after its text, is never refused.
 #![tactic(auto)]
 
 pub mod check;

@@ -41,8 +41,8 @@ fn report_of(alloc: Global, script: &Script, told: &Told) -> Result<Given, OutOf
     given_of(alloc, script, report)
 }
 
-// The text of the journal of a run and, behind it, its report, with the status of its end. The two are made beside
-// each other.
+// The text of the journal of a run and, after it, its report, with the status of its end. The two are made
+// beside each other.
 fn printed<R: Threads + Sync>(
     rt: &R,
     alloc: Global,

@@ -191,7 +191,7 @@ impl Core {
         self.epoch
     }
 
-    /// Notes the offer of a position, and that its port has not reported since; follows it, and answers it.
+    // Notes the offer of a position, and that its port has not reported since; follows it, and answers it.
     fn accept_position(
         &mut self,
         port: u8,
@@ -212,7 +212,7 @@ impl Core {
         self.settle(sends)
     }
 
-    /// Finishes with the first topology that names the life, and passes over any other.
+    // Finishes with the first topology that names the life, and passes over any other.
     fn accept_topo(&mut self, topo: TopoBody, sends: &mut Sends) -> Result<(), OutOfMemory>
         ensures { OnOk result ((port : ℕ) → Accepts self.old self.new (record { port = port; body = Topo topo }) sends.old sends.new) }
     {
@@ -225,7 +225,7 @@ impl Core {
         self.finish_with(topo, sends)
     }
 
-    /// Takes the position that the offers give, and tells it if it changed.
+    // Takes the position that the offers give, and tells it if it changed.
     fn reposition(&mut self, sends: &mut Sends) -> Result<(), OutOfMemory>
         requires { self.old.version ≤ MOST_VERSION }
         ensures core { OnOk result (self.new ≡ repositioned self.old) }
@@ -240,7 +240,7 @@ impl Core {
         tell_position(self.version, &self.position, self.card.links(), sends)
     }
 
-    /// Sees whether the life is stable, and does what comes of it.
+    // Sees whether the life is stable, and does what comes of it.
     fn settle(&mut self, sends: &mut Sends) -> Result<(), OutOfMemory>
         ensures { OnOk result (Settles self.old self.new sends.old sends.new) }
     {
@@ -282,7 +282,7 @@ impl Core {
         sends.push(Outgoing { port, body })
     }
 
-    /// Finishes with the report and its numbering, if the life has not finished.
+    // Finishes with the report and its numbering, if the life has not finished.
     fn finish_as_root(&mut self, sends: &mut Sends) -> Result<(), OutOfMemory>
         ensures { OnOk result (FinishesAsRoot self.old self.new sends.old sends.new) }
     {
@@ -294,7 +294,7 @@ impl Core {
         self.finish_with(TopoBody::new(entries, numbers), sends)
     }
 
-    /// Finishes with a topology, and passes it on to the links that claim.
+    // Finishes with a topology, and passes it on to the links that claim.
     fn finish_with(&mut self, topo: TopoBody, sends: &mut Sends) -> Result<(), OutOfMemory>
         ensures core { OnOk result (self.new ≡ record self.old { finish = Some topo }) }
         ensures sends { (log : Log) → HasHeard self.old.ports log → OnOk result (sends.new ≡ sends.old ++ map (passed_on topo) (claiming_among self.old.card.links log)) }

@@ -99,7 +99,7 @@ impl Ports {
         self.reports[usize::from(port)] = Some(entries);
     }
 
-    /// What was heard on a port, 0 to 12.
+    // What was heard on a port, 0 to 12.
     fn heard_on(&self, port: u8) -> Heard
         requires { port ≤ LAST_PORT }
         ensures { (log : Log) → HasHeard self.now log → result ≡ heard_of (on_port port log) }
@@ -107,7 +107,7 @@ impl Ports {
         self.heard[usize::from(port)]
     }
 
-    /// The last report on a port, 0 to 12.
+    // The last report on a port, 0 to 12.
     fn report_on(&self, port: u8) -> Option<&Entries>
         requires { port ≤ LAST_PORT }
         ensures { (log : Log) → HasHeard self.now log → option_copied result ≡ last_report (on_port port log) }

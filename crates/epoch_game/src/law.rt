@@ -114,7 +114,7 @@ pub fn a_finish_is_a_tree()
         → IsGraph topology.entries × IsTree topology.entries }
 {}
 
-/// In every run of at most 126 lives, where each life that is reached from one over links has joined, with
+/// In every run of at most 126 lives, if each life that is reached from one over links has joined, with
 /// each of its links named at both ends, and has accepted all that was sent to it: one of them is
 /// stable with itself as root, all are stable in their places in the tree of shortest walks to it, and
 /// each has finished with one topology, whose entries are those of these lives and no other.

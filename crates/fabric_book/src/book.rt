@@ -161,7 +161,7 @@ impl Book {
     }
 
     /// The next work of a switch that has nothing in hand: to begin its next life, a clock, a frame, whose
-    /// bytes are in the buffer then, or nothing. Behind it what is told of it.
+    /// bytes are in the buffer then, or nothing. After it, the line that is told of it, if there is one.
     pub fn take(&mut self, s: Place, out: &mut FrameBuf) -> (Work, Option<PlacedLine>)
         requires within { s < length self.old.script.wires.switches }
         requires empty { is_full_at (fabric_of self.old) s ≡ false }
@@ -228,8 +228,9 @@ impl Book {
         }
     }
 
-    /// The driver does its next thing. Behind it what is told of it. The history settles as soon as is claimed of
-    /// each lawful one, and a history that had the time to settle is not told to have ended unsettled.
+    /// The driver does its next thing. After it, the line that is told of it, if there is one. The history
+    /// settles as soon as is claimed of each lawful one, and a history that had the time to settle is not told to
+    /// have ended unsettled.
     pub fn drive(&mut self) -> (Drive, Option<PlacedLine>)
         ensures script { self.new.script ≡ self.old.script }
         ensures did { Drives self.old.script self.old.events result.0 result.1 self.new.events }

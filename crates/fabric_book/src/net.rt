@@ -99,7 +99,7 @@ fn start_all(alloc: Global, wiring: &Wiring, powers: &[PowerOn]) -> Result<Vec<S
     Ok(switches)
 }
 
-// The switches of a script, each in its first life, behind that with what each is started.
+// With what each switch of a script is started, and the switches themselves, each in its first life.
 fn started(alloc: Global, script: &Script) -> Result<(Vec<PowerOn>, Vec<Switch>), OutOfMemory>
     ensures powers { IfOk result (λ r. r.0.items ≡ all_powers script.now) }
     ensures switches { IfOk result (λ r. AreStarted r.0.items script.now.wires r.1.items) }

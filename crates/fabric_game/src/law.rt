@@ -83,7 +83,7 @@ pub fn what_moves_say()
     ensures delivered { OfEachHistory AreDelivered }
 {}
 
-/// A good link leads to who is at the far end of its wire: where a life shows a port as good, the other end
+/// A good link leads to who is at the far end of its wire: if a life shows a port as good, the other end
 /// that it names is the port at the far side by the wiring, of a life that was at that place at a moment at
 /// which this life was at its own.
 pub fn a_good_link_leads_to_who_was_there()

@@ -68,7 +68,7 @@ pub record IsTableInUse (switch : SwitchOf) (used : TableFor) : Type 0 where
 abbrev pub HasTable : WorldOf → ℕ → Type 0
 HasTable world place = IfSome (station world.fabric place).table (IsTableInUse (world.switches place))
 
--- All of it: the fabric is as fabrics are, and shows the switches that stand behind it.
+-- All of it: the fabric is as fabrics are, and shows the switches that stand at its places.
 pub record IsSoundWorld (script : ScriptOf) (world : WorldOf) : Type 0 where
   pub stays : world.fabric.script ≡ script
   pub fits : Fits world.fabric

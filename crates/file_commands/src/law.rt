@@ -13,9 +13,9 @@ ghost use Rattle.file_commands.specs.Answers.{IsCheckAnswer, IsFloodAnswer, IsFl
 ghost use Rattle.answering.specs.Expect.{IsExpectAnswer};
 
 /// A source that tells its bytes has a network file whose last line is ended by a line feed (10), and
-/// behind it all that is expected of it, both together within the limit. Then `check` refuses neither
-/// the script nor its tables: out gains the text of tables that pass, a front of it where out fails, or
-/// nothing where the source fails or memory is wanting. Of a source that does not tell its bytes, as
+/// after it all that is expected of it, both together within the limit. Then `check` refuses neither
+/// the script nor its tables: out gains the text of tables that pass, a front of it if out fails, or
+/// nothing if the source fails or memory is wanting. Of a source that does not tell its bytes, as
 /// standard input, this says nothing.
 pub fn what_is_expected_passes_check()
     ensures { (answer : ℕ) (bytes text : List ℕ) (old new : Streams) → IsExpectedOf text (bytes ++ 10 ∷ [])
@@ -24,8 +24,8 @@ pub fn what_is_expected_passes_check()
 {}
 
 /// A source that tells its bytes has the text of a script, for `check` with tables, within the limit. Then the
-/// command does not refuse it: out gains the text that the definition gives for it, a front of it where out fails, or
-/// nothing where the source fails or memory is wanting; and with the text comes its own status.
+/// command does not refuse it: out gains the text that the definition gives for it, a front of it if out
+/// fails, or nothing if the source fails or memory is wanting; and with the text comes its own status.
 pub fn a_text_is_answered()
     ensures expect { (answer : ℕ) (bytes : List ℕ) (script : ScriptOf) (old new : Streams)
         → IsText bytes script → old.source.told ≡ Some bytes → length bytes ≤ input_limit

@@ -11,7 +11,7 @@ pub fn one_flood_text()
 {}
 
 /// In each broadcast that is told of a script each member of the component gets one copy, the sender
-/// too; so the number of members, which stands behind its hops, is that of the copies.
+/// too; so the number of members, which stands after its hops, is that of the copies.
 pub fn each_member_gets_one_copy()
     ensures { (s : ScriptOf) (text : List ℕ) (is : IsFloodOf s text) (part : FloodPart) (from : ℕ)
         → IsScript s → Contains is.parts part → from < length part.entries

@@ -164,7 +164,7 @@ fn make_room(text: &mut Vec<u8>, bytes: usize) -> Result<(), OutOfMemory>
     Ok(())
 }
 
-// Appends the line of a move out of a switch, whose name stands behind a space.
+// Appends the line of a move out of a switch, whose name stands after a space.
 fn push_out(text: &mut Vec<u8>, packet: u32, name: &[u8], exit: u8) -> Result<(), OutOfMemory>
     ensures { OnOk result ((switch : List ℕ) → name.now ≡ 32 ∷ switch
         → text.new.items ≡ text.old.items ++ line_text (flow_words (Moves packet switch exit))) }
@@ -177,7 +177,7 @@ fn push_out(text: &mut Vec<u8>, packet: u32, name: &[u8], exit: u8) -> Result<()
     push_port(text, exit)
 }
 
-// Appends the line of an arrival at a switch, whose name stands behind a space.
+// Appends the line of an arrival at a switch, whose name stands after a space.
 fn push_arrival(text: &mut Vec<u8>, packet: u32, name: &[u8]) -> Result<(), OutOfMemory>
     ensures { OnOk result ((switch : List ℕ) → name.now ≡ 32 ∷ switch
         → text.new.items ≡ text.old.items ++ line_text (flow_words (Arrives packet switch))) }
@@ -191,7 +191,7 @@ fn push_arrival(text: &mut Vec<u8>, packet: u32, name: &[u8]) -> Result<(), OutO
     Ok(())
 }
 
-// Appends the line of a move. The switches have these names, by number, each behind a space.
+// Appends the line of a move. The switches have these names, by number, each after a space.
 fn push_went(text: &mut Vec<u8>, names: &[Word], went: Went) -> Result<(), OutOfMemory>
     requires { length names.now ≡ 256 }
     ensures { OnOk result ((script : ScriptOf) (entries : List EntryOf)

@@ -58,7 +58,7 @@ pub fn set_words<'a>(words: &mut Vec<&'a [u8]>, line: &'a [u8]) -> Result<(), Ou
     Ok(())
 }
 
-// The first of two or more words, and what stands behind the space after it.
+// The first of two or more words, and what stands after the space that follows it.
 fn first_word(line: &[u8]) -> Option<(&[u8], &[u8])>
     ensures some { IfSome result (λ r. words_of line.now ≡ r.0.now ∷ words_of r.1.now) }
     ensures less { IfSome result (λ r. length r.1.now < length line.now) }

@@ -52,7 +52,7 @@ impl<'a> Model for Reader<'a> {
 }
 
 impl<'a> Reader<'a> {
-    /// Behind the first line.
+    /// After the first line.
     pub fn begin(alloc: Global, script: &'a Script, bytes: &'a [u8]) -> Result<Self, JournalRefusal>
         requires few { length bytes.now < 2 ^ 32 - 1 }
         ensures begun { IfOk result (HasRead script.now bytes.now []) }
@@ -78,7 +78,7 @@ impl<'a> Reader<'a> {
         })
     }
 
-    /// The next event, or none where the line `end` stands. What stands behind that line is not looked at.
+    /// The next event, or none if the line is `end`. What stands after that line is not looked at.
     /// After an error the reader stands where it stood.
     pub fn next(&mut self) -> Result<Option<Event>, JournalRefusal>
         ensures next { (script : ScriptOf) (bytes : List ℕ) (events : List Event) →

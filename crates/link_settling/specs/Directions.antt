@@ -89,7 +89,7 @@ pub record Ignored (old new : Direction) : Type 0 where
   pub carry : (each : ℕ) → IsTrue (new.carry each) → IsTrue (old.carry each)
   pub acks : Stay old.ack new.ack
 
--- A body comes to the far end, whatever it says, which joins the sender's epoch if it was behind
+-- A body comes to the far end, whatever it says, which joins the sender's epoch if its own was lower
 pub record Received (base number : ℕ) (body : Body) (old new : Direction) : Type 0 where
   pub there : IsTrue (old.carry number)
   pub not_ahead : old.far_epoch ≤ old.epoch

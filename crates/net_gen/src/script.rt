@@ -240,7 +240,7 @@ fn fill(alloc: Global, script: &mut Script, seed: u64, count: u8) -> Result<(), 
 }
 
 /// The script that is drawn from a seed: a tree of so many switches with some more links, a host at each of
-/// them, and packets before and behind a failure of the first link and its repair.
+/// them, and packets before and after a failure of the first link and its repair.
 pub fn script_of(alloc: Global, seed: u64, count: u8) -> Result<Script, OutOfMemory>
     requires least { 1 ≤ count }
     requires most { count ≤ 100 }

@@ -51,7 +51,7 @@ fn end_word(end: &Ending) -> &'static [u8]
     }
 }
 
-// Appends a word and a number, each behind a space.
+// Appends a word and a number, each after a space.
 fn push_count(
     alloc: Global,
     text: &mut Vec<u8>,

@@ -67,7 +67,7 @@ impl<'a> Left<'a> {
         }
     }
 
-    // The rows behind an event: those of the next table behind a load, and none behind others.
+    // The rows after an event: those of the next table after a load, and none after others.
     fn rows_after(&mut self, event: &Event) -> &'a [Row]
         ensures { (world : WorldOf) (more : List (List RowOf)) → self.old.rows ≡ loaded_rows world event.now ++ more
             → (result.now ≡ rows_after (step world event.now).fabric event.now)
@@ -99,7 +99,7 @@ impl<'a> Left<'a> {
         Some(&told.line)
     }
 
-    // The lines of the event that came last, with the rows behind it.
+    // The lines of the event that came last, with the rows after it.
     fn tell(
         &mut self,
         telling: &Telling,

@@ -38,7 +38,7 @@ use row_text::row::push_row_line;
 use std::alloc::Global;
 use wire_set::side::Loss;
 
-// Appends a word behind a space.
+// Appends a word after a space.
 fn push_word(text: &mut Vec<u8>, word: &[u8]) -> Result<(), OutOfMemory>
     ensures { OnOk result (text.new.items ≡ text.old.items ++ spaced (word.now ∷ [])) }
 {
@@ -56,7 +56,7 @@ fn push_digits(text: &mut Vec<u8>, number: u64) -> Result<(), OutOfMemory>
     Ok(())
 }
 
-// Appends a number behind a space.
+// Appends a number after a space.
 fn push_number(text: &mut Vec<u8>, number: u64) -> Result<(), OutOfMemory>
     ensures { OnOk result (text.new.items ≡ text.old.items ++ spaced (decimal number ∷ [])) }
 {
@@ -182,7 +182,7 @@ impl<'a> Telling<'a> {
         self.course.follow(event);
     }
 
-    // Appends a life behind a space.
+    // Appends a life after a space.
     fn push_life(&self, text: &mut Vec<u8>, life: Life) -> Result<(), OutOfMemory>
         ensures { OnOk result (text.new.items
             ≡ text.old.items ++ spaced (life_text self.now.script.now life ∷ [])) }
@@ -203,7 +203,7 @@ impl<'a> Telling<'a> {
         Some(self.script.switch_names().get(usize::from(s)))
     }
 
-    // Appends the life of the switch at a place behind a space.
+    // Appends the life of the switch at a place after a space.
     fn push_life_at(&self, text: &mut Vec<u8>, s: Place, life: Life) -> Result<(), OutOfMemory>
         ensures { OnOk result (text.new.items
             ≡ text.old.items ++ spaced (life_text self.now.script.now life ∷ [])) }
@@ -214,7 +214,7 @@ impl<'a> Telling<'a> {
         }
     }
 
-    // Appends a switch behind a space.
+    // Appends a switch after a space.
     fn push_switch(&self, text: &mut Vec<u8>, s: Place) -> Result<(), OutOfMemory>
         ensures { OnOk result (text.new.items
             ≡ text.old.items ++ spaced (switch_text self.now.script.now self.now.course.lives s ∷ [])) }
@@ -225,7 +225,7 @@ impl<'a> Telling<'a> {
         }
     }
 
-    // Appends a switch, a word and a number, each behind a space.
+    // Appends a switch, a word and a number, each after a space.
     fn push_at(
         &self,
         text: &mut Vec<u8>,
@@ -242,7 +242,7 @@ impl<'a> Telling<'a> {
         push_number(text, number)
     }
 
-    // Appends a word, a switch and a port, each behind a space.
+    // Appends a word, a switch and a port, each after a space.
     fn push_end(
         &self,
         text: &mut Vec<u8>,
@@ -259,7 +259,7 @@ impl<'a> Telling<'a> {
         push_number(text, u64::from(port))
     }
 
-    // Appends a host behind a space.
+    // Appends a host after a space.
     fn push_host(&self, text: &mut Vec<u8>, host: u16) -> Result<(), OutOfMemory>
         ensures { OnOk result (text.new.items
             ≡ text.old.items ++ spaced (host_text self.now.script.now host ∷ [])) }
@@ -618,7 +618,7 @@ impl<'a> Telling<'a> {
         self.push_table(text, life, rows)
     }
 
-    // Appends the rows that stand behind a line.
+    // Appends the rows that stand after a line.
     fn push_rows(&self, text: &mut Vec<u8>, line: &Line, rows: &[Row]) -> Result<(), OutOfMemory>
         ensures { OnOk result (text.new.items ≡ text.old.items
             ++ rows_text self.now.script.now self.now.course.lives rows.now line.now) }
@@ -629,7 +629,7 @@ impl<'a> Telling<'a> {
         }
     }
 
-    /// Appends a line, with the rows behind it.
+    /// Appends a line, with the rows after it.
     pub(crate) fn push_line(
         &self,
         text: &mut Vec<u8>,
@@ -706,7 +706,7 @@ impl<'a> Telling<'a> {
     }
 }
 
-// The rows behind an event: those of the table in use behind a load, and none behind others.
+// The rows after an event: those of the table in use after a load, and none after others.
 fn rows_after<'a>(net: &'a Net, event: &Event) -> &'a [Row]
     ensures { result.now ≡ rows_after (fabric_of (history_of net.now)) event.now }
 {

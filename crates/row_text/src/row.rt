@@ -17,7 +17,7 @@ use std::alloc::{AllocError, Global};
 use table_build::exit::is_entry;
 use topo_graph::graph::Graph;
 
-// Appends ports, each behind a slash, where there is room for four bytes of each.
+// Appends ports, each after a slash. There is room for four bytes of each.
 fn push_ports(text: &mut Vec<u8>, decimals: &Decimals, ports: &[u8])
     requires { vec_len text.old + 4 * length ports.now ≤ vec_capacity text.old }
     ensures { text.new.items ≡ text.old.items ++ flat_map slashed ports.now }
@@ -28,7 +28,7 @@ fn push_ports(text: &mut Vec<u8>, decimals: &Decimals, ports: &[u8])
     }
 }
 
-// Appends exits, joined by a slash, or a dash where there are none. There is room for four bytes of each, and
+// Appends exits, joined by a slash, or a dash if there are none. There is room for four bytes of each, and
 // one more.
 #[tactic(auto, unfolding(crate::specs::Rows::exits_text))]
 fn push_exits(text: &mut Vec<u8>, decimals: &Decimals, exits: &[u8])
@@ -44,7 +44,7 @@ fn push_exits(text: &mut Vec<u8>, decimals: &Decimals, exits: &[u8])
     }
 }
 
-// Appends a row behind a space: the number of the target, and the exits.
+// Appends a row after a space: the number of the target, and the exits.
 #[tactic(auto, unfolding(crate::specs::Pieces::spaced_pair))]
 fn push_row(text: &mut Vec<u8>, decimals: &Decimals, row: &Row) -> Result<(), AllocError>
     ensures { OnOk result (text.new.items ≡ text.old.items ++ spaced_pair row.now) }

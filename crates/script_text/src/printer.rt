@@ -254,7 +254,7 @@ pub fn push_at(
     Ok(())
 }
 
-// Appends numbers, each behind a space.
+// Appends numbers, each after a space.
 fn push_numbers(text: &mut Vec<u8>, numbers: &[u32]) -> Result<(), OutOfMemory>
     ensures { OnOk result (text.new.items ≡ text.old.items ++ spaced_numbers numbers.now) }
 {

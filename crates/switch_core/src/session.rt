@@ -15,7 +15,7 @@ use ordered_link::receiver::{Receiver, Verdict};
 use ordered_link::sender::Sender;
 use std::alloc::Global;
 
-/// What a switch keeps of the session at a port.
+// What a switch keeps of the session at a port.
 #[derive(Drop)]
 struct Session {
     // What it sends.

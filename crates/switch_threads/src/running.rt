@@ -32,7 +32,7 @@ use std::thread::{Threads, for_each_chunk_mut, join_mut};
 pub struct Told {
     /// The run.
     pub run: Run,
-    /// What is told of the events of the driver, and behind it of those of each worker in the order of the script.
+    /// What is told of the events of the driver, and then of those of each worker in the order of the script.
     pub accounts: Vec<Account>,
 }
 

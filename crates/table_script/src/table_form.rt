@@ -206,7 +206,7 @@ fn row_in(s: Place, entry: Port, pair: &[u8]) -> Result<Row, ScriptCause>
     })
 }
 
-// Where the first colon stands. In most pairs it is behind one to three digits.
+// Where the first colon stands. In most pairs it is after one to three digits.
 fn colon_of(pair: &[u8]) -> Option<usize>
     ensures { result ≡ position is_colon pair.now }
 {

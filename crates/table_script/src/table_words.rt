@@ -22,8 +22,8 @@ fn first_mark(line: &[u8]) -> Option<usize>
     memchr(b'#', line)
 }
 
-/// The first part of a text between its blanks that is not empty, and what stands behind the blank after
-/// it.
+/// The first part of a text between its blanks that is not empty, and what stands after the blank that
+/// follows it.
 pub fn next_word(text: &[u8]) -> Option<(&[u8], &[u8])>
     ensures some { IfSome result (λ r. parts_of text.now ≡ r.0.now ∷ parts_of r.1.now) }
     ensures less { IfSome result (λ r. length r.1.now < length text.now) }
