@@ -26,7 +26,7 @@ pub fn entries_are_ordered()
         → one.life ≡ other.life → entry_cmp one other ≡ Equal → one ≡ other }
 {}
 
-/// A node has one place in the spanning tree of a root, where ports lead to nodes that there are, no
+/// A node has one place in the spanning tree of a root, if ports lead to nodes that there are, no
 /// two of which have one life.
 pub fn one_place()
     ensures { (network : Network) (top node : ℕ) (one other : Place)

@@ -28,7 +28,7 @@ fn write_parts<E: Sink>(err: &mut E, parts: &[&[u8]]) -> Result<(), WriteFault>
 }
 
 /// Writes the line of a call that ends with this number, given in parts, and answers the number; or that of a write
-/// fault, where the sink did not take the whole line. A call without a line has no parts.
+/// fault, if the sink did not take the whole line. A call without a line has no parts.
 pub fn tell<E: Sink>(err: &mut E, code: u8, parts: &[&[u8]]) -> u8
     ensures { IsLineTold (E.seen err.old) (E.seen err.new) code (flat_map (λ part. part.now) parts.now) result }
 {

@@ -34,7 +34,7 @@ fn line_over(bytes: &Bytes, limit: usize) -> u32
 }
 
 /// Reads the source to its end: its bytes, at most as many as the limit, or why there are none. After want of memory,
-/// and where there are more, at most one piece past the limit was read.
+/// and if there are more, at most one piece past the limit was read.
 pub fn read_input<S: Source>(alloc: Global, source: &mut S, limit: usize) -> Result<Vec<u8>, Unread>
     requires { limit < 2 ^ 32 - 1 }
     ensures found { IfOk result (λ bytes. IsInput limit (λ input. input ≡ bytes.items)

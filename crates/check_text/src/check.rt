@@ -38,7 +38,7 @@ pub struct Judgement {
     pub text: Vec<u8>,
 }
 
-// The number of a member, where these are the numbers of all switches.
+// The number of a member, if these are the numbers of all switches.
 fn number_of(switches: &[SwitchAt], numbers: &[u8], entry: &Entry) -> u8
     ensures { result ≡ number_of switches.now numbers.now entry.now }
 {
@@ -110,7 +110,7 @@ fn push_run(rows: &mut Vec<Row>, tables: &Tables, run: &[Row]) -> Result<(), All
     Ok(())
 }
 
-// Whether a row is a member's, where this says of each switch whether it is a member.
+// Whether a row is a member's, if this says of each switch whether it is a member.
 fn is_row_of(members: &[bool], row: &Row) -> bool
     ensures { result ≡ is_row_of members.now row.now }
 {
@@ -128,7 +128,7 @@ fn kept<'a>(members: &[bool], run: &'a [Row]) -> &'a [Row]
     if is_row_of(members, row) { run } else { &[] }
 }
 
-// The rows of the members, in which each stands as its number, where these are the runs of all rows. It
+// The rows of the members, in which each stands as its number, if these are the runs of all rows. It
 // passes over the runs of other switches.
 fn rows_of(
     alloc: Global,
@@ -337,8 +337,8 @@ fn component_numbers(
     Ok(Numbers::new(numbers_of(alloc, switches, tables, entries)?))
 }
 
-// Judges the rows of a component with these numbers: appends its ranks where they pass, and sets the text to
-// the line of what is refused where they do not. Answers whether they pass.
+// Judges the rows of a component with these numbers: appends its ranks if they pass, and sets the text to
+// the line of what is refused if they do not. Answers whether they pass.
 fn judge_rows(
     alloc: Global,
     text: &mut Vec<u8>,

@@ -21,7 +21,7 @@ ghost use Rattle.expect_text.specs.Expect.{all_rows, IsExpectOf, Part};
 /// at its place in the tree of shortest walks to the least life, and the numbers of the members are
 /// different ones of 1 to 126. Over the rows of all tables of the component no channel leads back to
 /// itself; who follows them from entry 0 of one member towards another, by whatever exits, comes before
-/// that one to no place where they have no exit, or one without a link; and no exit is illegal. A
+/// that one to no place if they have no exit, or one without a link; and no exit is illegal. A
 /// following has at most 12 links for each member; so who follows them comes to the other member, and
 /// from wherever one is then, some following goes on to there.
 pub fn what_is_expected_joins()

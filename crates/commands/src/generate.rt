@@ -33,7 +33,7 @@ fn words_behind<'a>(words: &'a [Word], bytes: &[u8]) -> Option<(&'a Word, &'a Wo
     None
 }
 
-// The seed and the number of switches, where the words are `gen SEED N` with N from 1 to 100.
+// The seed and the number of switches, if the words are `gen SEED N` with N from 1 to 100.
 pub(crate) fn gen_words(words: &[Word]) -> Option<(u64, u8)>
     ensures words { MatchOption result ((seed count : ℕ) → ¬ AreGenWords words.now seed count)
         (λ numbers. AreGenWords words.now numbers.0 numbers.1) }

@@ -15,19 +15,19 @@ ghost use Rattle.commands.specs.Run.{IsRun, gives_run_of};
 ghost use Rattle.answering.specs.declared.status.Status.{Status};
 ghost use Rattle.commands.specs.Words.{IsNamesAnswer, IsReplayAnswer, IsRunAnswer};
 
-/// A source that tells its bytes has the text of a script, within the limit. Then `run`, if it answers, does not
-/// refuse the script: out gains the text of a run of its network, a front of it where out fails, or nothing
-/// where the source fails or memory is wanting.
+/// A source that tells its bytes has the text of a script, within the limit. Then `run`, if it answers, does
+/// not refuse the script: out gains the text of a run of its network, a front of it if out fails, or nothing
+/// if the source fails or memory is wanting.
 pub fn a_script_is_run()
     ensures { (answer : ℕ) (bytes : List ℕ) (script : ScriptOf) (old new : Streams) → IsText bytes script
         → old.source.told ≡ Some bytes → length bytes ≤ input_limit
         → IsRunAnswer old new answer → IsAnswer input_limit (gives_run_of script) refuses_nothing old new answer }
 {}
 
-/// A source that tells its bytes has the text of a script with a legal journal after it, within the limit. Then
-/// `replay` and `names` do not refuse it: out gains the text that the definition gives for it, a front of it where
-/// out fails, or nothing where the source fails or memory is wanting; and with the text comes its own status, for
-/// `replay` that of the journal's end.
+/// A source that tells its bytes has the text of a script with a legal journal after it, within the limit.
+/// Then `replay` and `names` do not refuse it: out gains the text that the definition gives for it, a front
+/// of it if out fails, or nothing if the source fails or memory is wanting. With the text comes its own
+/// status, for `replay` that of the journal's end.
 pub fn a_journal_is_answered()
     ensures replay { (answer : ℕ) (bytes after : List ℕ) (script : ScriptOf) (journal : List Event)
         (end : Ending) (old new : Streams) → IsScriptWith bytes script after
@@ -43,8 +43,8 @@ pub fn a_journal_is_answered()
 
 /// A source that tells its bytes has a network file whose last line is ended by a line feed (10), and after
 /// it the output of a run of its network, both together within the limit. Then `replay` refuses neither: out
-/// gains the report that stands in that output, a front of it where out fails, or nothing where the source
-/// fails or memory is wanting; and with the report comes the status of the run.
+/// gains the report that stands in that output, a front of it if out fails, or nothing if the source fails or
+/// memory is wanting; and with the report comes the status of the run.
 pub fn a_run_is_replayed()
     ensures { (answer : ℕ) (bytes text : List ℕ) (script : ScriptOf) (status : Status) (old new : Streams)
         (run : IsRun script status text) → IsText (bytes ++ 10 ∷ []) script

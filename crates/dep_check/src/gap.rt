@@ -152,7 +152,7 @@ fn least_pair(
     Ok(best)
 }
 
-// The least spot where packets from one may get stuck.
+// The least spot at which packets from one may get stuck.
 fn least_end(alloc: Global, steps: &Steps, start: Channel) -> Result<Option<Channel>, OutOfMemory>
     requires { IsSpot start }
     ensures { IfOk result (IsLeastEnd steps.now start) }

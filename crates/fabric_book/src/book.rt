@@ -210,7 +210,7 @@ impl Book {
     }
 
     /// A switch is to use the table of this sheet, and shows what stands there then. The sheet is handed back exactly
-    /// where a switch is spent or there is too little room.
+    /// if a switch is spent or there is too little room.
     pub fn load(&mut self, s: Place, sheet: Box<Sheet>) -> Reply
         requires within { s < length self.old.script.wires.switches }
         requires load { IsToLoad (world_of self.old) s sheet.value.table sheet.value.note }

@@ -53,7 +53,8 @@ fn work(switch: &mut Switch, hand: Hand, bytes: &[u8], out: &mut Out) -> Result<
     }
 }
 
-// The lines of an epoch that a switch joined, of one that it finished, and where no epoch is left for it.
+// The lines of an epoch that a switch joined, of one that it finished, and that no epoch is left for it, each
+// if it is so.
 fn tell_epochs(
     s: Place,
     before: u64,

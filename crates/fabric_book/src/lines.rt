@@ -78,7 +78,7 @@ impl Lines {
         Ok(())
     }
 
-    // Adds a line at the end where something is so.
+    // Adds a line at the end if something is so.
     pub(crate) fn push_if(&mut self, so: bool, line: Line) -> Result<(), OutOfMemory>
         ensures { OnOk result (self.new ≡ self.old ++ line_if so line) }
     {

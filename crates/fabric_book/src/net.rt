@@ -57,7 +57,7 @@ impl From<OutOfMemory> for StepRefusal {
     }
 }
 
-/// A network on one thread. While a switch does something it is marked as lost, and it stays so where memory
+/// A network on one thread. While a switch does something it is marked as lost, and it stays so if memory
 /// is wanting: then the switch and the book have parted, and it is only good to be dropped.
 #[derive(Drop)]
 pub struct Net {
@@ -196,7 +196,7 @@ impl Net {
         self.book.into_journal()
     }
 
-    /// Makes an event, where it is lawful, and adds what is told of it.
+    /// Makes an event, if it is lawful, and adds what is told of it.
     pub fn step(&mut self, event: &Event, lines: &mut Lines) -> Result<(), StepRefusal>
         requires { self.old.lost ≡ false }
         ensures lawful { OnOk result (is_lawful (fabric_of (history_of self.old)) event.now ≡ true) }
@@ -257,7 +257,7 @@ impl Net {
         self.book.clock(s, samples);
     }
 
-    // A switch takes a frame; a line where a copy was lost, which names the end that sent it.
+    // A switch takes a frame; a line if a copy was lost, which names the end that sent it.
     fn take(&mut self, s: Place, port: Port, lines: &mut Lines) -> Result<(), OutOfMemory>
         requires here { self.old.lost ≡ false }
         requires lawful { is_lawful (fabric_of (history_of self.old)) (events.Take s port) ≡ true }
@@ -345,7 +345,7 @@ impl Net {
         lines.push_some(self.book.command(&command))
     }
 
-    // A switch whose hand is empty takes its next work, as the book chooses it; false where it has none.
+    // A switch whose hand is empty takes its next work, as the book chooses it; false if it has none.
     fn take_work(&mut self, s: Place) -> Result<bool, OutOfMemory>
         requires here { self.old.lost ≡ false }
         requires within { s < length self.old.script.wires.switches }
@@ -379,7 +379,7 @@ impl Net {
         self.fabric().station(s).note().load_due
     }
 
-    // A worker does its next thing; false where it has none.
+    // A worker does its next thing; false if it has none.
     pub(crate) fn turn(&mut self, s: Place, lines: &mut Lines) -> Result<bool, OutOfMemory>
         requires here { self.old.lost ≡ false }
         requires within { s < length self.old.script.wires.switches }

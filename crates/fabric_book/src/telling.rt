@@ -26,7 +26,7 @@ fn is_same_state(one: PortState, other: PortState) -> bool
     one == other
 }
 
-/// A line where the state of a port changed.
+/// A line if the state of a port changed.
 pub(crate) fn tell_port(
     s: Place,
     port: Port,
@@ -65,7 +65,7 @@ pub(crate) fn tell_ports(
     Ok(())
 }
 
-/// A line where what came in is no frame.
+/// A line if what came in is no frame.
 pub(crate) fn tell_noise(
     s: Place,
     hand: Hand,
@@ -86,7 +86,7 @@ pub(crate) fn tell_noise(
     }
 }
 
-/// A line where a switch has finished its epoch.
+/// A line if a switch has finished its epoch.
 pub(crate) fn tell_finish(
     s: Place,
     epoch: u64,

@@ -93,14 +93,14 @@ pub fn a_good_link_leads_to_who_was_there()
         → Met script history place ((world_after script history).switches place).life port far }
 {}
 
-/// Where a history ends settled, each component of present lives is in one epoch and has finished it under
+/// If a history ends settled, each component of present lives is in one epoch and has finished it under
 /// its least life with one topology, whose entries are the members with their good links in their places in
 /// the tree, and each uses the table of it.
 pub fn a_settled_history_has_finished()
     ensures { OfEachHistory IfSettled }
 {}
 
-/// All that is claimed of a history holds of each one: at each moment of it, and at its end where it ends
+/// All that is claimed of a history holds of each one: at each moment of it, and at its end if it ends
 /// settled.
 pub fn what_is_claimed_holds()
     ensures { OfEachHistory HoldsThroughout }

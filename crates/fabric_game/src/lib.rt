@@ -6,7 +6,7 @@
 //! Its laws: the moves of each history are a run of the game; at each moment lives that finished one epoch
 //! under one root hold one topology, which is a tree of exactly the lives that its links join; a table in use
 //! is that of such a topology, and none of its members uses an older one; each hop of a packet is by the
-//! table in use, hops under one topology form a legal route, and what is delivered is at its host; and where
+//! table in use, hops under one topology form a legal route, and what is delivered is at its host; and if
 //! a history ends settled, each component has finished with exactly its members. That a history comes to an
 //! end is not claimed.
 #![tactic(auto)]

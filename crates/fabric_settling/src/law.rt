@@ -31,9 +31,9 @@ pub fn a_disturbance_is_not_later()
         → last_disturbance test script history ≤ last_disturbance test script (history ++ more) }
 {}
 
-/// A link that was cut into ticks: at the end of a tick there is one more; 259 ticks after the last disturbance its
-/// ends know each other; and three ticks after that each body on it is acknowledged, where both ends have a session
-/// in which each sent a body, and nothing is under way.
+/// A link that was cut into ticks: at the end of a tick there is one more; 259 ticks after the last
+/// disturbance its ends know each other; and three ticks after that each body on it is acknowledged, if both
+/// ends have a session in which each sent a body, and nothing is under way.
 pub fn a_link_settles()
     ensures ends { (last : ℕ) (world : WorldOf) (link : LinkOf) → (cut : IsCut last world link)
         → TickEnds (view world link) → TickEnds (view world (turned link))
@@ -75,17 +75,17 @@ pub fn each_link_is_cut()
 
 /// Without a pace, 259 ticks after the last disturbance the network agrees, no switch is spent, and no event
 /// but a disturbance changes a port. So more than 512 ticks after the last command done or told loss it
-/// agrees for good, where no frame and no copy was lost for want of room.
+/// agrees for good, if no frame and no copy was lost for want of room.
 pub fn the_ports_are_final()
     ensures fixed { (script : ScriptOf) → IsScript script → script.pace ≡ None → ArePortsFinal script }
     ensures settle { (script : ScriptOf) → IsScript script → (history : List Event) → IsLawful script history
         → IfUnpacedAndRoomy script PortsSettle history }
 {}
 
-/// Without a pace, three ticks after the ports are final each body that was pushed is acknowledged, where
-/// nothing is left to do. So once all commands are done, and where no frame and no copy was lost for want of room,
-/// the clock is at most 1,024 ticks after the last command done or told loss, and there, where nothing is left to
-/// do, the history is settled.
+/// Without a pace, three ticks after the ports are final each body that was pushed is acknowledged, if
+/// nothing is left to do. So once all commands are done, and if no frame and no copy was lost for want of
+/// room, the clock is at most 1,024 ticks after the last command done or told loss. At that tick, if nothing
+/// is left to do, the history is settled.
 pub fn all_settles()
     ensures through { (script : ScriptOf) → IsScript script → script.pace ≡ None → AreBodiesThrough script }
     ensures settles { (script : ScriptOf) → IsScript script → (history : List Event) → IsLawful script history
@@ -100,7 +100,7 @@ pub fn none_with_time_ends_unsettled()
         → HasTime script history → end_of script history ≢ Some ending.Unsettled }
 {}
 
-/// All that is claimed of a lawful history holds of each one: at each moment of it, at its end where it ends
+/// All that is claimed of a lawful history holds of each one: at each moment of it, at its end if it ends
 /// settled, and of how soon it settles.
 pub fn what_is_claimed_holds()
     ensures { (script : ScriptOf) → IsScript script → (history : List Event) → IsLawful script history

@@ -57,7 +57,7 @@ abbrev pub send_line : ℕ → ℕ → FabricOf → Line
 send_line from to fabric = sent_line (fabric.sent + 1) from to
     (address_for fabric (host_on fabric from) (host_on fabric to))
 
--- a packet at a place, where a table of this epoch is in use, made a hop from the port by which it came in
+-- a packet at a place, if a table of this epoch is in use, made a hop from the port by which it came in
 abbrev pub hop_line : (packet place epoch entry : ℕ) → Hop → Line
 hop_line packet place epoch entry (hop.Went exit) = line.Moved packet place epoch entry exit None
 hop_line packet place epoch entry (hop.Delivered exit host) =

@@ -96,7 +96,7 @@ fn give_up(wires: &mut WireSet, s: Place, hand: Hand)
     }
 }
 
-// A packet is under way where it has an address. Its number is above all others.
+// A packet is under way if it has an address. Its number is above all others.
 fn admit(
     traffic: &mut Traffic,
     packet: u32,
@@ -173,7 +173,7 @@ impl Fabric {
         self.stations.table(s)
     }
 
-    /// The host at a port, by its place and identifier: none where the port does not show a host or its link
+    /// The host at a port, by its place and identifier: none if the port does not show a host or its link
     /// is down.
     pub fn host(&self, s: Place, port: Port) -> Option<(u16, u64)>
         ensures { result ≡ host_at self.now s port }
@@ -196,7 +196,7 @@ impl Fabric {
         self.plan.limits().events - self.past.events - self.stations.full()
     }
 
-    /// The event of the next command, where it is due.
+    /// The event of the next command, if it is due.
     pub fn due_command(&self) -> Option<Event>
         ensures { result ≡ due_command self.now }
     {
@@ -208,7 +208,7 @@ impl Fabric {
         }
     }
 
-    /// The lowest packet under way; none exactly where none is under way.
+    /// The lowest packet under way; none exactly if none is under way.
     pub fn first_packet(&self) -> Option<u32>
         ensures first { result ≡ first_packet self.now.packets }
         ensures rising { AllPairs (λ one other. one.packet < other.packet) self.now.packets }
@@ -333,7 +333,7 @@ impl Fabric {
         self.do_links_agree() && self.do_hosts_agree()
     }
 
-    // Where no hand is full, no wire has a frame exactly where all blocks are free.
+    // If no hand is full, no wire has a frame exactly if all blocks are free.
     fn are_wires_empty(&self) -> bool
         requires { full_hands self.now ≡ 0 }
         ensures { result ≡ are_wires_empty self.now }
@@ -420,7 +420,7 @@ impl Fabric {
         self.stations.is_some_spent() || self.room() < 2
     }
 
-    // There were events enough since the last tick, where the script sets a pace.
+    // There were events enough since the last tick, if the script sets a pace.
     fn is_paced(&self) -> bool
         ensures { result ≡ is_paced self.now.script.pace self.now.since }
     {
@@ -549,7 +549,7 @@ impl Fabric {
         }
     }
 
-    // The next thing of the driver where nothing bars it.
+    // The next thing of the driver if nothing bars it.
     fn drive_on(&self) -> Drive
         ensures { result ≡ command_or_move (due_command self.now) self.now }
     {
@@ -658,7 +658,7 @@ impl Fabric {
         self.past.event();
     }
 
-    /// The same where of its ports this one alone, 1 to 12, can be shown as another than before, as after a
+    /// The same if of its ports this one alone, 1 to 12, can be shown as another than before, as after a
     /// frame that came in by it.
     pub fn show_port(&mut self, s: Place, port: Port, note: &Note, spent: bool)
         requires within { s < count self.old }

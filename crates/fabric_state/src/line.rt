@@ -17,7 +17,7 @@ pub enum Line {
         port: Port,
         /// The state.
         state: PortState,
-        /// The other end, where it is known.
+        /// The other end, if it is known.
         peer: Option<End>,
     },
     /// What came in is no frame.

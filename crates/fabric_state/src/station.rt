@@ -63,7 +63,7 @@ pub fn write_note(to: &mut Note, note: &Note)
     to.unacked = note.unacked;
 }
 
-// The same where of its ports this one alone can be shown as another than before.
+// The same if of its ports this one alone can be shown as another than before.
 fn write_port(to: &mut Note, port: Port, note: &Note)
     requires least { 1 ≤ port }
     requires most { port ≤ 12 }
@@ -124,7 +124,7 @@ impl Station {
         self.clock
     }
 
-    // The epoch of the table in use, 0 where there is none.
+    // The epoch of the table in use, 0 if there is none.
     pub(crate) fn epoch_in_use(&self) -> u64
         ensures { result ≡ option_map_or (λ used. used.epoch) self.now.table 0 }
     {
@@ -172,7 +172,7 @@ impl Station {
         self.clock = clock;
     }
 
-    // The switch joins this epoch, which its note then says: where it is another one the table goes out of use.
+    // The switch joins this epoch, which its note then says: if it is another one the table goes out of use.
     fn join(&mut self, epoch: u64)
         ensures { self.new ≡ record self.old {
           table = kept_table (epoch == self.old.note.epoch) self.old.table;
@@ -196,7 +196,7 @@ impl Station {
         self.spent = spent;
     }
 
-    // The same where of its ports this one alone, 1 to 12, can be shown as another than before.
+    // The same if of its ports this one alone, 1 to 12, can be shown as another than before.
     pub(crate) fn show_port(&mut self, port: Port, note: &Note, spent: bool)
         requires least { 1 ≤ port }
         requires most { port ≤ 12 }

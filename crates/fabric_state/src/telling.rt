@@ -47,7 +47,8 @@ pub fn sent_line(packet: u32, host: u16, to: u16, address: Result<u16, DropCause
     }
 }
 
-/// What is told of a hop of a packet at a switch, where a table of this epoch is in use and it came in by a port.
+/// What is told of a hop of a packet at a switch, if a table of this epoch is in use and it came in by a
+/// port.
 pub fn hop_line(packet: u32, s: Place, epoch: u64, entry: Port, hop: Hop) -> Line
     ensures { result ≡ hop_line packet s epoch entry hop }
 {

@@ -71,7 +71,7 @@ pub fn some_event_may_come_next()
 {}
 
 /// What a turn appends may come next: the work of a switch whose hand is empty, the handling of what is in
-/// hand, a load that is due where nothing bars it, and the next thing of the driver.
+/// hand, a load that is due if nothing bars it, and the next thing of the driver.
 pub fn what_a_turn_appends_is_lawful()
     ensures work { (script : ScriptOf) (history : List Event) (place last : ℕ)
         → place < length script.wires.switches → is_full_at (world_after script history).fabric place ≡ false

@@ -7,7 +7,7 @@
 //! begun with, and `table_build` for tables. `specs/World` has the world and its step; `specs/Lawful` and
 //! `specs/Effects` of `fabric_state` have one line for each event.
 //!
-//! Its laws: after any events the world keeps its invariant, and each switch is sound; where no end has
+//! Its laws: after any events the world keeps its invariant, and each switch is sound; if no end has
 //! come some event may come next; what a turn of a worker or of the driver appends may come next, and
 //! events of others leave a switch as it was; the fabric counts lawful events; and one thread makes one
 //! history, which is legal.

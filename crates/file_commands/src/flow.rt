@@ -14,7 +14,7 @@ use outside::sink::Sink;
 use outside::source::Source;
 use std::alloc::Global;
 
-// The command `flow B`: what becomes of the packets that a script sends where each channel holds so many.
+// The command `flow B`: what becomes of the packets that a script sends if each channel holds so many.
 #[derive(Clone, Copy)]
 struct Flow {
     // B.
@@ -36,8 +36,8 @@ impl Command for Flow {
     }
 }
 
-/// Answers `flow B`: reads a script from the source, and writes what becomes of the packets that it sends, where each
-/// channel holds so many, to out. The answer is the number of a status, whose line goes to err.
+/// Answers `flow B`: reads a script from the source, and writes to out what becomes of the packets that it
+/// sends if each channel holds so many. The answer is the number of a status, whose line goes to err.
 pub fn autonet_flow<S: Source, O: Sink, E: Sink>(
     alloc: Global,
     room: Room,

@@ -23,8 +23,8 @@ pub fn what_is_expected_passes_check()
         → IsCheckAnswer old new answer → IsAnswer input_limit gives_passing refuses_nothing old new answer }
 {}
 
-/// A source that tells its bytes has the text of a script, for `check` with tables, within the limit. Then the
-/// command does not refuse it: out gains the text that the definition gives for it, a front of it if out
+/// A source that tells its bytes has the text of a script, for `check` with tables, within the limit. Then
+/// the command does not refuse it: out gains the text that the definition gives for it, a front of it if out
 /// fails, or nothing if the source fails or memory is wanting; and with the text comes its own status.
 pub fn a_text_is_answered()
     ensures expect { (answer : ℕ) (bytes : List ℕ) (script : ScriptOf) (old new : Streams)

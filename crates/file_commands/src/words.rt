@@ -21,7 +21,7 @@ fn word_after<'a>(words: &'a [Word], bytes: &[u8]) -> Option<&'a Word>
     None
 }
 
-/// B, where the words are `flow B` with B from 1 to 16.
+/// B, if the words are `flow B` with B from 1 to 16.
 pub fn room_of(words: &[Word]) -> Option<Room>
     ensures { MatchOption result ((room : ℕ) → ¬ AreFlowWords words.now room)
         (λ room. AreFlowWords words.now room.packets) }

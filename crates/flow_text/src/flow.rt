@@ -1,4 +1,4 @@
-//! What becomes of the packets that a script sends, where channels hold a few each.
+//! What becomes of the packets that a script sends, if channels hold a few each.
 
 ghost use Rattle.std.specs.Prelude.{◌≡◌, ◌+◌, ◌-◌, ◌++◌, ◌∷◌, ◌<◌, ◌≤◌, ℕ, Bool, List, Option, [], codes, count_by, filter, length};
 ghost use Rattle.std.specs.Prelude.{Contains, IfOk, IfSome, OnOk, slice_index_or, vec_capacity, vec_len};
@@ -113,7 +113,7 @@ fn spaced_name(
     Ok(word)
 }
 
-// For each number a space and the name of the switch that has it; the name is empty where none has.
+// For each number a space and the name of the switch that has it; the name is empty if none has.
 fn names_of(
     alloc: Global,
     script: &Script,
@@ -131,7 +131,7 @@ fn names_of(
     Ok(names)
 }
 
-// Appends the end of the line of a move by a port, where there is room for eight bytes.
+// Appends the end of the line of a move by a port. There is room for eight bytes.
 fn push_port(text: &mut Vec<u8>, exit: u8) -> Result<(), OutOfMemory>
     requires { vec_len text.old + 8 ≤ vec_capacity text.old }
     ensures { OnOk result (text.new.items
@@ -267,7 +267,7 @@ fn push_flow(
     push_turns(text, out, &names, flow)
 }
 
-// Appends the lines of the moves of packets where these are the tables, and adds how many go out of a switch.
+// Appends the lines of the moves of packets if these are the tables, and adds how many go out of a switch.
 fn push_run(
     alloc: Global,
     text: &mut Vec<u8>,
@@ -407,7 +407,7 @@ fn push_fates(
     Ok(those)
 }
 
-// Appends the last line, where so many moves go out of a switch, and so many packets enter a component.
+// Appends the last line, if so many moves go out of a switch, and so many packets enter a component.
 fn push_end(
     text: &mut Vec<u8>,
     sends: &[Sent],

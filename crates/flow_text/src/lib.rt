@@ -1,4 +1,4 @@
-//! The text of `flow`: what becomes of the packets that a script sends, where channels hold a few each.
+//! The text of `flow`: what becomes of the packets that a script sends, if channels hold a few each.
 //!
 //! It stands on packets in finite channels over the tables of a component.
 //!

@@ -84,7 +84,7 @@ fn place_in(entries: &[Entry], uid: u64) -> Option<usize>
     entries.iter().position(|entry| entry.life.uid == uid)
 }
 
-// The number at a place, 0 where there is none.
+// The number at a place, 0 if there is none.
 fn number_of(numbers: &[u8], place: Option<usize>) -> u8
     ensures { result ≡ number_of numbers.now place }
 {
@@ -119,7 +119,7 @@ impl Home {
         Ok(Home { numbers })
     }
 
-    /// The number of a switch, 0 where it is not there.
+    /// The number of a switch, 0 if it is not there.
     pub fn number(&self, switch: Place) -> u8
         ensures { result ≡ number_at self.now switch }
     {

@@ -132,7 +132,7 @@ fn next_hop<V: HopView>(packet: Packet, view: &V) -> Hop
     }
 }
 
-// The switch and port where a packet is after a hop; none where it is under way no longer.
+// The switch and port where a packet is after a hop; none if it is under way no longer.
 fn place_after<V: HopView>(hop: &Hop, view: &V, at: Place) -> Option<(Place, Port)>
     ensures { result ≡ place_after hop.now (V.next_at view.now at) }
 {
@@ -204,7 +204,7 @@ impl Traffic {
         hop
     }
 
-    /// The lowest packet under way; none exactly where none is under way. Packets stand by rising number.
+    /// The lowest packet under way; none exactly if none is under way. Packets stand by rising number.
     pub fn first(&self) -> Option<u32>
         ensures first { result ≡ first_packet self.now.packets }
         ensures rising { AllPairs (λ one other. one.packet < other.packet) self.now.packets }
@@ -213,7 +213,7 @@ impl Traffic {
         Some(filed.packet)
     }
 
-    /// The switch at which the packet of this number is, and the port by which it came in; none exactly where
+    /// The switch at which the packet of this number is, and the port by which it came in; none exactly if
     /// it is not under way.
     pub fn place(&self, packet: u32) -> Option<(Place, Port)>
         ensures { result ≡ option_map place_now (packet_of packet self.now.packets) }

@@ -12,7 +12,7 @@ use text_lines::line::first_of;
 /// The most bytes of a line, without its line feed.
 pub const MOST_LINE: usize = 200;
 
-/// The first line of the bytes, without its line feed, and the bytes after that. There is none where
+/// The first line of the bytes, without its line feed, and the bytes after that. There is none if
 /// there is no line feed.
 pub fn first_line(bytes: &[u8]) -> Option<(&[u8], &[u8])>
     ensures some { IfSome result (λ r. IsFirstLine bytes.now r.0.now r.1.now) }
@@ -43,7 +43,7 @@ fn is_line_byte(c: u8) -> bool
     (b' '..=b'~').contains(&c)
 }
 
-/// Sets words to the parts of a line between its spaces, of which some may be empty. They take memory only where
+/// Sets words to the parts of a line between its spaces, of which some may be empty. They take memory only if
 /// there are more than there have been.
 pub fn set_words<'a>(words: &mut Vec<&'a [u8]>, line: &'a [u8]) -> Result<(), OutOfMemory>
     ensures { OnOk result (map (λ w. w.now) words.new.items ≡ words_of line.now) }

@@ -32,7 +32,7 @@ struct ReadyLines {
 // Most lines have no more bytes.
 const LINE: usize = 16;
 
-// The making of a switch's lines pays where there are about so many events for each switch.
+// The making of a switch's lines pays if there are about so many events for each switch.
 const WORTH_LINES: usize = 128;
 
 /// The text of a journal: the first line, a line for each event, and the last line.

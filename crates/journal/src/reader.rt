@@ -122,7 +122,7 @@ impl<'a> Reader<'a> {
         }
     }
 
-    /// Reads on to the line `end`, and keeps nothing: where no line is at fault, there is a journal.
+    /// Reads on to the line `end`, and keeps nothing: if no line is at fault, there is a journal.
     pub fn check_rest(&mut self) -> Result<(), JournalRefusal>
         ensures journal { (script : ScriptOf) (bytes : List ℕ) (events : List Event) →
             HasRead script bytes events self.old → OnOk result (BeginsJournal script bytes events) }

@@ -15,7 +15,7 @@ pub enum JournalCause {
     UnknownWord,
     /// A word is no number of its range.
     BadNumber,
-    /// No switch, or no host where one is wanted, has the name.
+    /// No switch, or no host if one is wanted, has the name.
     NoSuchName,
     /// The event is not lawful in the state after those before it.
     NotLawful,

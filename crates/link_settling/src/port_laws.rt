@@ -50,7 +50,7 @@ pub fn a_port_that_is_down_is_dead()
 {}
 
 /// A tick in which no frame is lost, whatever the order of its events and however often a frame is
-/// handled, is one in which each end's probe is answered where both ends ask.
+/// handled, is one in which each end's probe is answered if both ends ask.
 pub fn what_happens_in_a_tick_is_a_tick()
     ensures { (own far : EndId) (here there : History) (v : EndView)
         → EndRun own far (tick_begins here there) v → TickEnds v

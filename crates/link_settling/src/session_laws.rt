@@ -28,7 +28,7 @@ pub fn bodies_are_acknowledged()
         × (u.sending.acked ≡ highest u.sending) }
 {}
 
-/// What a switch does in a session is a run of steps of that direction, where the bodies that go out
+/// What a switch does in a session is a run of steps of that direction, if the bodies that go out
 /// come to be under way. A run from one tick on is one from a later tick on.
 pub fn what_is_sent_is_a_run()
     ensures sent { (base : ℕ) (start v w : Direction) (ks : List ℕ) (sending : Sending) → Run base start v
@@ -54,7 +54,7 @@ pub fn a_clock_works_in_each_session()
         → s.epoch ≢ last_epoch → WorksFrom 0 0 port now unused untouched (clocked now samples s) }
 {}
 
-/// A body that counts is received in the session of its port, and where the windows are filled what goes out
+/// A body that counts is received in the session of its port, and if the windows are filled what goes out
 /// at each port is permitted in the session there; one of a greater epoch begins all sessions anew before.
 pub fn a_body_works_in_each_session()
     ensures same { (q port : ℕ) (f : CarryOf) (s : SwitchOf) → counts s port f.from f.to ≡ true
@@ -101,8 +101,8 @@ pub fn what_happens_at_the_ports()
         → Keeps s.life s.ports (framed port (Ack epoch from to n) s) }
 {}
 
-/// In each session eight bodies are outstanding where one waits: so it is when a switch is started, and
-/// after whatever happens to it. So where no body is outstanding, all are acknowledged.
+/// In each session eight bodies are outstanding if one waits: so it is when a switch is started, and
+/// after whatever happens to it. So if no body is outstanding, all are acknowledged.
 pub fn windows_are_filled()
     ensures start { (x : StartOf) → AreFilled (started_as x) }
     ensures clock { (now : ℕ) (samples : List Sample) (s : SwitchOf) → AreFilled s
@@ -113,7 +113,7 @@ pub fn windows_are_filled()
     ensures none { (t : Sending) → IsFilled t → t.acked ≡ highest t → is_unacked t ≡ false }
 {}
 
-/// A port that asks after a clock sends its probe, but where the switch is spent; and it answers each
+/// A port that asks after a clock sends its probe, unless the switch is spent; and it answers each
 /// probe.
 pub fn a_port_asks_and_answers()
     ensures asks { (now port : ℕ) (samples : List Sample) (s : SwitchOf) → 1 ≤ port → port ≤ 12

@@ -54,7 +54,7 @@ pub record DrawnOf : Type 0 where
   pub seed : ℕ
 
 -- A switch is linked to one of those before it: the one that is drawn, or else the next one with a free port,
--- where the first follows on the last.
+-- as if the first followed on the last.
 abbrev pub from_on : ℕ → ℕ → List ℕ
 from_on first end = range_with_len first (end - first) ++ range_with_len 0 first
 

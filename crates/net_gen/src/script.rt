@@ -83,7 +83,7 @@ fn lowest_free(script: &Script, place: Place) -> Option<Port>
     None
 }
 
-// Links two switches by their lowest free ports, where both have one.
+// Links two switches by their lowest free ports, if both have one.
 fn link(script: &mut Script, a: Place, b: Place) -> Result<(), OutOfMemory>
     requires none { script.old.wires.hosts ≡ [] }
     requires a { a < length script.old.wires.switches }
@@ -117,7 +117,7 @@ fn free_among(script: &Script, first: u8, end: u8) -> Option<u8>
     None
 }
 
-// The first switch with a free port, from one on, where the first of so many follows on the last.
+// The first switch with a free port, from one on, as if the first of so many followed on the last.
 fn first_with_free(script: &Script, first: u8, end: u8) -> Option<u8>
     requires none { script.now.wires.hosts ≡ [] }
     requires within { first < end }
@@ -159,7 +159,7 @@ fn add_tree(script: &mut Script, draw: &mut Draw, count: u8) -> Result<(), OutOf
     Ok(())
 }
 
-// Draws two of so many switches, and links them where they are different.
+// Draws two of so many switches, and links them if they are different.
 fn join(script: &mut Script, draw: &mut Draw, count: u8) -> Result<(), OutOfMemory>
     requires none { script.old.wires.hosts ≡ [] }
     requires least { 1 ≤ count }
@@ -206,7 +206,7 @@ fn add_sends(script: &mut Script, count: u8, time: u32) -> Result<(), OutOfMemor
     Ok(())
 }
 
-// The first link goes down and comes up again, where there is one.
+// The first link goes down and comes up again, if there is one.
 fn add_failure(script: &mut Script, count: u8) -> Result<(), OutOfMemory>
     requires made { IsMade script.old count }
     requires can { CanSend script.old.commands 20 }

@@ -6,7 +6,7 @@ ghost use Rattle.net_graph.specs.declared.wiring.Far.{Far};
 ghost use Rattle.net_graph.specs.Wires.{Wires, IsWired, IsAtFarSide, far_at, far_of, Joins};
 ghost use Rattle.net_graph.specs.Forest.{IsForest};
 
-/// A port leads to another exactly where a link joins the two.
+/// A port leads to another exactly if a link joins the two.
 pub fn far_ends()
     ensures { (w : Wires) (s p t q : ℕ) → IsWired w
         → ((far_of w.links s p ≡ Some (t, q)) ↔ Any (λ l. Joins l s p t q) w.links) }

@@ -12,7 +12,7 @@ pub enum ScriptCause {
     BadHeader,
     /// The words match no form.
     UnknownWord,
-    /// A word is no number, is out of its range where it is no port, or is no identifier.
+    /// A word is no number, is out of its range if it is no port, or is no identifier.
     BadNumber,
     /// A word is no name.
     BadName,
@@ -20,7 +20,7 @@ pub enum ScriptCause {
     NameTwice,
     /// The identifier is taken.
     UidTwice,
-    /// No earlier switch, or host where one is wanted, has the name.
+    /// No earlier switch, or host if one is wanted, has the name.
     NoSuchName,
     /// A number of a port is not 1 to 12, or an entry of a routing table is not 0 to 12.
     PortRange,
@@ -36,7 +36,7 @@ pub enum ScriptCause {
     AfterEnd,
     /// A line has too many bytes.
     LineTooLong,
-    /// A command names a port without a link, or without link and host where a host's port serves.
+    /// A command names a port without a link, or without link and host if a host's port serves.
     NoLink,
     /// A switch has no number at the end of tables.
     TablesShort,

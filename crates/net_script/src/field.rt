@@ -83,7 +83,7 @@ pub fn new_uid(script: &Script, word: &[u8]) -> Result<u64, ScriptCause>
     Ok(uid)
 }
 
-// The place that a word names, where it is found there if the word is a name.
+// The place that a word names, if it is found there if the word is a name.
 fn known<Found: Copy>(word: &[u8], place: Option<Found>) -> Result<Found, ScriptCause>
     ensures { IsGoodField result
         (first_of (unless (is_name word.now) BadName ∷ unless (is_some place) NoSuchName ∷ []))
@@ -113,7 +113,7 @@ pub fn known_host(script: &Script, word: &[u8]) -> Result<u16, ScriptCause>
     known(word, script.place_of_host(word))
 }
 
-/// The number that a switch had last, where there is a word for it.
+/// The number that a switch had last, if there is a word for it.
 pub fn had_in(word: Option<&[u8]>) -> Result<u8, ScriptCause>
     ensures had { IsField result (had_cause (option_map (λ w. w.now) word.entry))
         (had_of (option_map (λ w. w.now) word.entry)) }

@@ -2,7 +2,7 @@
 //! are on them, within which limits it runs, and what happens to it when.
 //!
 //! It stands on `an_base`, `net_graph` and `text_lines`. Its contract: `reader::read` answers a script
-//! only where the bytes are the text of one, and else the first faulty line with its first cause; want of
+//! only if the bytes are the text of one, and else the first faulty line with its first cause; want of
 //! memory may come in place of either. No bytes are the text of two scripts.
 #![tactic(auto)]
 

@@ -133,7 +133,7 @@ impl Script {
         &self.commands
     }
 
-    /// The epoch at power-on, 0 where the text gives none.
+    /// The epoch at power-on, 0 if the text gives none.
     pub fn epoch(&self) -> u64
         ensures { result ≡ self.now.epoch }
     {

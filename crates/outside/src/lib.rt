@@ -1,7 +1,7 @@
 //! Where bytes come from and where they go: sources and sinks, each with a count of its faults.
 //!
 //! It stands on an_base. Its contract: what a source gave and a sink took is told by lists of bytes
-//! where the object tells them, and a call fails only where the object's count of faults rose. The
+//! if the object tells them, and a call fails only if the object's count of faults rose. The
 //! memory source and sink tell everything; those over std's readers and writers tell nothing of
 //! their bytes.
 #![tactic(auto)]

@@ -56,7 +56,7 @@ fn is_end_line(alloc: Global, line: &[u8]) -> Result<bool, OutOfMemory>
     Ok(words.len() == 1 && words[0] == b"end".as_slice())
 }
 
-// What stands after the first line feed, or nothing where there is none.
+// What stands after the first line feed, or nothing if there is none.
 fn after_first(bytes: &[u8]) -> &[u8]
     ensures lines { 0 < length bytes.now
         → (line : List ℕ) × (lines_of bytes.now ≡ line ∷ lines_of result.now) }
@@ -69,7 +69,7 @@ fn after_first(bytes: &[u8]) -> &[u8]
     }
 }
 
-// The first line, without what ends it, and what stands after it. There is none where there are no bytes.
+// The first line, without what ends it, and what stands after it. There is none if there are no bytes.
 fn next_line(bytes: &[u8]) -> Option<(&[u8], &[u8])>
     ensures some { IfSome result (λ r. lines_of bytes.now ≡ r.0.now ∷ lines_of r.1.now) }
     ensures back { IfSome result (λ r. IsBack bytes.now r.1.now) }

@@ -95,9 +95,9 @@ pub fn end_of(net: &Net) -> Result<Ending, ReplayRefusal>
     }
 }
 
-/// Why the journal of a text is refused, an event of which was refused, where the reader stands after that event:
-/// for the first fault that the text has after it, and else for the event. The rest of the text is read and
-/// nothing of it is kept.
+/// Why the journal of a text is refused, if an event of it was refused and the reader stands after that
+/// event: for the first fault that the text has after it, and else for the event. The rest of the text is
+/// read and nothing of it is kept.
 pub fn refused(reader: &mut Reader, why: ReplayRefusal) -> ReplayRefusal
     ensures { (script : ScriptOf) (bytes : List ℕ) (before : List Event) (event : Event)
         → HasRead script bytes (before ++ event ∷ []) reader.old → IsLawful script before
@@ -127,9 +127,9 @@ fn make_all(net: &mut Net, lines: &mut Lines, journal: &Journal) -> Result<World
     Ok(World { end: end_of(net)? })
 }
 
-/// Replays a journal over the network of a script. It answers where each event is lawful after those before
+/// Replays a journal over the network of a script. It answers if each event is lawful after those before
 /// it and the last one leads to an end. All that is claimed of a lawful history then holds of the journal: at
-/// each moment of it, where it ends settled, and of how soon it settles.
+/// each moment of it, at its end if it ends settled, and of how soon it settles.
 pub fn replay(alloc: Global, script: &Script, journal: &Journal) -> Result<World, ReplayRefusal>
     ensures legal { IfOk result (IsLegal script.now journal.now) }
     ensures claims { OnOk result (HoldsAndSettles script.now journal.now) }

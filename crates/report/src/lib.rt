@@ -4,9 +4,9 @@
 //! `journal`, which reads them, and on `replay`.
 //!
 //! Its contract: the report of a journal has the lines of its events in turn, each told in the network after
-//! the event, and then its end; all that is claimed of a history holds of one that has a report. It is made by
-//! a replay, or of what each caller of a run has told of its own events, by one teller. What hosts believe in a
-//! journal has a line for each packet that a host sends, and the counts of them.
+//! the event, and then its end; all that is claimed of a history holds of one that has a report. It is made
+//! by a replay, or of what each caller of a run has told of its own events, by one teller. What hosts believe
+//! in a journal has a line for each packet that a host sends, and the counts of them.
 #![tactic(auto)]
 
 mod course;

@@ -29,7 +29,7 @@ pub(crate) trait Listener {
     /// What is told of the event of a moment.
     ghost told: { ScriptOf → Moment → List ℕ };
 
-    /// The last line, where a history has come to an end.
+    /// The last line, if a history has come to an end.
     ghost last: { ScriptOf → List Event → Ending → List ℕ };
 
     /// What it keeps is that of these events.

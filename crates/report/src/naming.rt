@@ -339,7 +339,7 @@ impl Listener for Believing<'_> {
 }
 
 /// What hosts believe in the journal with whose text the bytes begin, if it is legal: for each packet that a host
-/// sends, where it would send it by what came to it before; and last how many these are.
+/// sends, to where it would send it by what came to it before; and last how many these are.
 pub fn names(alloc: Global, script: &Script, bytes: &[u8]) -> Result<Vec<u8>, ReplayRefusal>
     requires few { length bytes.now < 2 ^ 32 - 1 }
     ensures names { IfOk result (λ text. AreNamesIn script.now bytes.now text.items) }

@@ -61,7 +61,7 @@ impl Decimals {
         Ok(())
     }
 
-    /// Appends a number where there is room for three digits, which it has at most.
+    /// Appends a number. There is room for three digits, which it has at most.
     pub fn push_reserved(&self, text: &mut Vec<u8>, n: u8)
         requires { vec_len text.old + 3 ≤ vec_capacity text.old }
         ensures text { text.new.items ≡ text.old.items ++ decimal n }

@@ -31,7 +31,7 @@ fn switch_name<'a>(names: &'a Names, switches: &[SwitchAt], uid: u64) -> &'a [u8
     names.get(s)
 }
 
-/// Appends bytes where there is room for them.
+/// Appends bytes, for which there is room.
 pub fn push_bytes(text: &mut Vec<u8>, bytes: &[u8])
     requires { vec_len text.old + length bytes.now ≤ vec_capacity text.old }
     ensures text { text.new.items ≡ text.old.items ++ bytes.now }
@@ -69,7 +69,7 @@ fn place_in(numbers: &[u8], number: u8) -> Option<usize>
     numbers.iter().position(|other| *other == number)
 }
 
-/// Appends the name of the member that has a number, and nothing where none has. The members have these numbers.
+/// Appends the name of the member that has a number, and nothing if none has. The members have these numbers.
 pub fn push_name(
     alloc: Global,
     text: &mut Vec<u8>,

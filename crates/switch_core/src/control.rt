@@ -214,7 +214,7 @@ impl Control {
         Ok(())
     }
 
-    // Pushes a body in the session of its port, and puts it out where the window lets it.
+    // Pushes a body in the session of its port, and puts it out if the window lets it.
     fn push(&mut self, outgoing: Outgoing, out: &mut Frames) -> Result<(), OutOfMemory>
         requires { HasNumbers self.old (outgoing ∷ []) }
         ensures { OnOk result (Does (pushed outgoing) self.old self.new out.old out.new) }
@@ -549,7 +549,7 @@ impl Control {
         Ok(())
     }
 
-    // Whether a change is due: at the first clock, and where the good links are others than these.
+    // Whether a change is due: at the first clock, or if the good links are others than these.
     fn is_change_due(&self, before: &Links) -> bool
         ensures { (s : SwitchOf) → Stands self.now s → result ≡ (not s.joined || not (are_same_links before.now (good_links s))) }
     {

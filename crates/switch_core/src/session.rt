@@ -35,7 +35,7 @@ impl Session {
         }
     }
 
-    // Pushes a body, and answers its number where it is to be sent now.
+    // Pushes a body, and answers its number if it is to be sent now.
     fn push(&mut self, body: Body, now: u64) -> Result<Option<u32>, OutOfMemory>
         requires { self.old.sender.acked + length self.old.sender.bodies < 2 ^ 31 }
         ensures ok { IfOk result (λ number. SendsBy (push body now) (sent_by_push body) self.old self.new number) }
@@ -44,7 +44,7 @@ impl Session {
         self.sender.push(body, now)
     }
 
-    // The number of the first waiting body, where it is to be sent now.
+    // The number of the first waiting body, if it is to be sent now.
     fn more(&mut self, now: u64) -> Option<u32>
         ensures sent { SendsBy (send_next now) next_to_send self.old self.new result }
         ensures out { IfSome result (IsOut self.new.sender) }
@@ -117,7 +117,7 @@ impl Sessions {
         }
     }
 
-    /// Pushes a body at a port, and answers its number where it is to be sent now.
+    /// Pushes a body at a port, and answers its number if it is to be sent now.
     pub fn push(&mut self, port: u8, body: Body, now: u64) -> Result<Option<u32>, OutOfMemory>
         requires least { 1 ≤ port }
         requires most { port ≤ LAST_PORT }
@@ -131,7 +131,7 @@ impl Sessions {
         Ok(number)
     }
 
-    /// The number of the first waiting body of a port, where it is to be sent now.
+    /// The number of the first waiting body of a port, if it is to be sent now.
     pub fn more(&mut self, port: u8, now: u64) -> Option<u32>
         requires least { 1 ≤ port }
         requires most { port ≤ LAST_PORT }
@@ -155,7 +155,7 @@ impl Sessions {
     }
 
     /// The lowest number of an outstanding body of a port that was last sent at least four ticks ago;
-    /// none exactly where there is none.
+    /// none exactly if there is none.
     pub fn due(&self, port: u8, now: u64) -> Option<u32>
         requires least { 1 ≤ port }
         requires most { port ≤ LAST_PORT }

@@ -80,7 +80,7 @@ fn counted(old_epoch: u64, new_epoch: u64, before: u32, now: u32) -> u32
 
 impl Switch {
     /// A switch at power-on in this life, in an epoch that it has not joined, with the number that it
-    /// had before, 1 to 126. Its tables are to have all legal routes where `any` holds, else the least
+    /// had before, 1 to 126. Its tables are to have all legal routes if `any` holds, else the least
     /// ones alone.
     pub fn start(
         alloc: Global,
@@ -109,7 +109,7 @@ impl Switch {
         })
     }
 
-    /// Bytes come by a port, 1 to 12. Where they are a frame, this is what happens; where they are none,
+    /// Bytes come by a port, 1 to 12. If they are a frame, this is what happens; if they are none,
     /// nothing does, and that is told. A frame that carries a body is counted in its epoch. After want of
     /// memory the switch is as it was started, no frame goes out, and no body is counted.
     pub fn handle(&mut self, frame: &[u8], port: u8, out: &mut Out) -> Result<(), OutOfMemory>
@@ -147,7 +147,7 @@ impl Switch {
     }
 
     /// A clock comes at this tick, with a sample of each port: first the probes go out, by rising port;
-    /// then the positions of a join, where a change is due, else the bodies that are sent again.
+    /// then the positions of a join, if a change is due, else the bodies that are sent again.
     /// `EpochsSpent` says that a change is due and no epoch is left for it; then the ports have changed,
     /// nothing is joined and no frame goes out. After want of memory the switch is as it was started, and
     /// no frame goes out.
@@ -213,7 +213,7 @@ impl Switch {
         })
     }
 
-    /// What the switch has finished with in its present epoch; none exactly where it has not finished.
+    /// What the switch has finished with in its present epoch; none exactly if it has not finished.
     pub fn finish(&self) -> Option<&TopoBody>
         ensures { (s : SwitchOf) → StandsFor self.now s → option_copied result ≡ finish_of s }
     {

@@ -1,4 +1,4 @@
-//! What the switches do whatever happens to their frames, and what holds where nothing is under way.
+//! What the switches do whatever happens to their frames, and what holds if nothing is under way.
 
 ghost use Rattle.std.specs.Prelude.{◌≡◌, ◌<◌, ◌≤◌, ℕ, Contains, List, None, Some, false, length, true};
 ghost use Rattle.an_base.specs.Values.{EndId, EntryOf, LifeId, TopoOf};
@@ -50,7 +50,7 @@ pub fn the_links_are_the_good_ones()
 {}
 
 /// Where a life has joined, and some body that it sent on a link is acknowledged, the far end of the link
-/// has joined that epoch, names the link, and has accepted as many bodies; and where all are acknowledged,
+/// has joined that epoch, names the link, and has accepted as many bodies; and if all are acknowledged,
 /// it has accepted all that was sent on it. So it is even if the far end has left the epoch since.
 pub fn what_is_acknowledged_is_accepted()
     ensures some { (lives : List LifeId) (on : PowerOn) (network : Network) (game : Game) (life : LifeId)

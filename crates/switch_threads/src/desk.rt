@@ -269,7 +269,7 @@ impl Desk {
         matches!(self.pending, Pending::Put)
     }
 
-    // A table is to be loaded next, where one is due and nothing else is to be asked for.
+    // A table is to be loaded next, if one is due and nothing else is to be asked for.
     fn due(&mut self, papers: &mut Papers) -> Result<(), OutOfMemory>
         ensures place { self.new.s ≡ self.old.s }
         ensures told { self.new.tale.account ≡ self.old.tale.account }

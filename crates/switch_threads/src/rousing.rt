@@ -53,7 +53,7 @@ pub(crate) struct Rousing {
     roused: [u64; MOST_PARTIES],
 }
 
-// All workers of a party, or none where there is no such party.
+// All workers of a party, or none if there is no such party.
 fn all_of(party: usize, parties: usize) -> u64 {
     if party < parties { u64::MAX } else { 0 }
 }

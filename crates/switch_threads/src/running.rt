@@ -39,8 +39,8 @@ pub struct Told {
 // The most workers that have a thread of their own.
 const FEW: usize = MOST_PARTIES;
 
-// How many threads have the workers between them where there are more. The calls of the book follow one another, and
-// with fewer workers in each, threads wait for one another longer than they work.
+// How many threads have the workers between them if these are more. The calls of the book follow one another,
+// and with fewer workers in each, threads wait for one another longer than they work.
 const THREADS: usize = 2;
 
 // A worker for each switch of a script, and the seat that is left.
@@ -115,7 +115,7 @@ fn have_failed(workers: &[Worker]) -> bool {
     false
 }
 
-// The workers of a party ask where some have something to ask for, and rest where none has. What is large in the
+// The workers of a party ask if some have something to ask for, and rest if none has. What is large in the
 // book comes to a processor once for all of them, since the other threads wait at the door. Answers what the party
 // is to do next.
 fn ask_or_rest<R: Wait>(

@@ -4,12 +4,12 @@
 //! at a time is behind the door: there the driver, or all workers of a party one after the other, ask. With the
 //! door closed behind it a party reads and changes what all have in common, the `Hall`, and nowhere else.
 //!
-//! A party that has nothing to ask for rests, until one of its workers is roused. Where all rest and nobody is
+//! A party that has nothing to ask for rests, until one of its workers is roused. If all rest and nobody is
 //! roused the first one goes on, with the driver, after whose steps all workers are roused. So as long as the shift
 //! is not over one party at least does not rest. It is over once the driver is told an end, or memory was wanting
 //! to a worker or the driver. Who rests looks for a while whether it is to go on, and then sleeps at a condition
-//! variable. A shift needs a thread for each party: where one does not begin soon, the shift is over at once, and
-//! each party makes what there is to do for it alone, in whatever order they come.
+//! variable. A shift needs a thread for each party: if one does not begin soon, the shift is over at once,
+//! and each party makes what there is to do for it alone, in whatever order they come.
 //!
 //! `wakes.pml` beside the sources is a model of all this, and `tests/wakes` walks through its states.
 
@@ -107,7 +107,7 @@ impl Hall {
     }
 }
 
-/// A shift of so many parties, each where it can in a thread of its own.
+/// A shift of so many parties, each in a thread of its own if it can.
 #[derive(Drop)]
 pub(crate) struct Shift {
     door: Mutex<Hall>,
@@ -153,7 +153,7 @@ impl Shift {
         }
     }
 
-    /// A party begins. The shift is over where others do not begin within a while.
+    /// A party begins. The shift is over if others do not begin within a while.
     pub fn begin<R: Wait>(&self, rt: &R) {
         let mut hall = self.enter(rt);
         hall.begun = hall.begun.saturating_add(1);
@@ -191,8 +191,8 @@ impl Shift {
         roused
     }
 
-    /// A party that has nothing to ask for rests until it is to go on. The shift is over where memory was wanting
-    /// to one of its workers. Answers what it is to do next.
+    /// A party that has nothing to ask for rests until it is to go on. The shift is over if memory was
+    /// wanting to one of its workers. Answers what it is to do next.
     pub fn rest<R: Wait>(
         &self,
         rt: &R,
@@ -214,8 +214,8 @@ impl Shift {
         then
     }
 
-    /// The driver made its steps: all workers are roused, and the shift is over where the driver has ended. Answers
-    /// which are roused, of those of its party.
+    /// The driver made its steps: all workers are roused, and the shift is over if the driver has ended.
+    /// Answers which are roused, of those of its party.
     pub fn rouse_all(&self, hall: MutexGuard<'_, Hall>, has_ended: bool) -> Roused {
         let mut hall = hall;
         hall.is_over = hall.is_over || has_ended;

@@ -19,7 +19,7 @@ use std::sync::Wait;
 
 /// The worker of a switch: its number, its seat, how many turns it made, whether it makes one, the switches at its
 /// links, what it works with, and what it is to do next. Contracts see its seat. While it asks it has no papers,
-/// and where memory was wanting to get ready it has none any more: its switch and the book have parted then.
+/// and if memory was wanting to get ready it has none any more: its switch and the book have parted then.
 #[derive(Drop)]
 pub(crate) struct Worker {
     number: u8,

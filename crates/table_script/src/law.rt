@@ -32,7 +32,7 @@ pub fn tables_or_fault()
         ⊎ ((line : ℕ) × (c : ScriptCause) × IsFaultWith bytes line c) }
 {}
 
-/// Links join two switches exactly where a walk leads from one to the other.
+/// Links join two switches exactly if a walk leads from one to the other.
 pub fn joined_by_walks()
     ensures { (w : Wires) (x y : ℕ) → IsWired w → (are_joined w.links x y ≡ true)
         ↔ ((m : ℕ) × Walk (network w) m x y) }

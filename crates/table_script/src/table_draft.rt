@@ -126,7 +126,7 @@ impl TableDraft {
         self.entries.iter().any(|x| x.s == s && x.entry == entry)
     }
 
-    /// The number of a switch, 0 where it had no line.
+    /// The number of a switch, 0 if it had no line.
     #[tactic(auto, unfolding(crate::specs::TableRules::number_of))]
     pub fn number_of(&self, s: Place) -> u8
         ensures { result ≡ number_of self.now s }

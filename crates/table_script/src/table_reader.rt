@@ -176,7 +176,7 @@ fn read_table_words(
     read_table_form(draft, network, &words)
 }
 
-// The script and the tables that the lines say, where the switches have these numbers.
+// The script and the tables that the lines say, if the switches have these numbers.
 fn finished(reading: Reading, numbers: Vec<u8>) -> (Script, Tables)
     requires ready { IsReady reading }
     requires ended { AreEnded (told_of reading) }

@@ -12,7 +12,7 @@ use std::alloc::Global;
 /// The most bytes of a line, without what ends it.
 pub const MOST_LINE: usize = 200;
 
-/// The first line of the bytes, without what ends it, and the bytes after that. There is none where
+/// The first line of the bytes, without what ends it, and the bytes after that. There is none if
 /// there are no bytes.
 pub fn first_line(bytes: &[u8]) -> Option<(&[u8], &[u8])>
     ensures some { IfSome result (λ r. lines_of bytes.now ≡ r.0.now ∷ lines_of r.1.now) }
@@ -35,7 +35,7 @@ pub fn first_of(bytes: &[u8], byte: u8) -> Option<usize>
     bytes.iter().position(|c| *c == byte)
 }
 
-// The same, where it stands far off or nowhere: it looks at many bytes at a time.
+// The same, if it stands far off or nowhere: it looks at many bytes at a time.
 fn first_far(bytes: &[u8], byte: u8) -> Option<usize>
     ensures { result ≡ position (λ c. c == byte) bytes.now }
 {

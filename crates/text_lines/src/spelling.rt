@@ -23,7 +23,7 @@ pub fn push_line(text: &mut Vec<u8>, words: &[&[u8]]) -> Result<(), OutOfMemory>
     Ok(())
 }
 
-// Appends a space where words stand before this place.
+// Appends a space if words stand before this place.
 fn push_space(text: &mut Vec<u8>, place: usize) -> Result<(), OutOfMemory>
     ensures { OnOk result (text.new.items ≡ text.old.items ++ (if nat_lt 0 place then 32 ∷ [] else [])) }
 {
@@ -42,7 +42,7 @@ pub fn decimal(alloc: Global, number: u64) -> Result<Vec<u8>, OutOfMemory>
     Ok(text)
 }
 
-/// An identifier in twelve hexadecimal digits, the last twelve where it has more.
+/// An identifier in twelve hexadecimal digits, the last twelve if it has more.
 pub fn identifier(alloc: Global, uid: u64) -> Result<Vec<u8>, OutOfMemory>
     ensures { IfOk result (λ text. text.items ≡ hex_text 12 uid) }
 {

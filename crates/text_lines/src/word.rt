@@ -51,7 +51,7 @@ fn are_digits(bytes: &[u8]) -> bool
     bytes.iter().all(|c| c.is_ascii_digit())
 }
 
-/// What a number says, where that is below 2^64.
+/// What a number says, if that is below 2^64.
 #[tactic(auto, unfolding(crate::specs::Words::number_value))]
 pub fn number_of(word: &[u8]) -> Option<u64>
     requires digits { list_all is_ascii_digit word.now ≡ true }
@@ -65,7 +65,7 @@ pub fn number_of(word: &[u8]) -> Option<u64>
     Some(number)
 }
 
-/// The number that a word says, where it is one from `least` to `most`.
+/// The number that a word says, if it is one from `least` to `most`.
 pub fn number_between(word: &[u8], least: u64, most: u64) -> Option<u64>
     ensures number { MatchOption result (is_number_in least most word.now ≡ false)
         (λ n. (is_number_in least most word.now ≡ true) × (n ≡ number_value word.now)) }
@@ -80,7 +80,7 @@ pub fn number_between(word: &[u8], least: u64, most: u64) -> Option<u64>
     }
 }
 
-// What the digits of a number say with one more, where that is below 2^64.
+// What the digits of a number say with one more, if that is below 2^64.
 fn with_digit(number: u64, digit: u8) -> Option<u64>
     requires least { 48 ≤ digit }
     requires most { digit ≤ 57 }

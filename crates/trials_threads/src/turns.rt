@@ -45,7 +45,7 @@ impl Tally {
 impl Staged for Tally {
     type Ask = u64;
 
-    // How many lines there were before, or `None` where there was no memory.
+    // How many lines there were before, or `None` if there was no memory.
     type Reply = Option<usize>;
 
     type Entry = Line;
