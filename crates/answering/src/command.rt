@@ -75,6 +75,11 @@ fn status_of<C: Command, S: Source, O: Sink>(
 
 /// Answers a command: reads the input from the source, writes what the command gives for it to out,
 /// and tells the status. The answer is the number of a status, whose line goes to err.
+///
+/// If the source fails or has more bytes than the limit, if the command refuses the input, or if memory is
+/// wanting, out is left alone, and err gains the line of that status. If out fails, a front of the text was
+/// written, and the status is that of a write fault. If err fails, a front of the line was written, and the
+/// answer is 5, the number of a write fault. If a stream does not tell its bytes, nothing is said of them.
 pub fn answer<C: Command, S: Source, O: Sink, E: Sink>(
     command: &C,
     alloc: Global,

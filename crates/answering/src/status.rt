@@ -95,7 +95,7 @@ fn tell_line<E: Sink>(err: &mut E, status: &Status, parts: &[&[u8]]) -> u8
 }
 
 /// Writes the line of a status to err, and answers the status' number, or that of a write fault
-/// if err did not take the whole line.
+/// if err did not take the whole line. In that case err failed, and a front of the line was written.
 pub fn finish<E: Sink>(err: &mut E, status: Status) -> u8
     ensures { IsTold (E.seen err.old) (E.seen err.new) status result }
 {

@@ -11,7 +11,7 @@ use outside::sink::Sink;
 /// The number of a call whose line was not written whole.
 pub const WRITE_FAULT: u8 = 5;
 
-// Writes parts of a line, in order. Where a write fails, a front of them was written.
+// Writes parts of a line, in order. If a write fails, a front of them was written.
 fn write_parts<E: Sink>(err: &mut E, parts: &[&[u8]]) -> Result<(), WriteFault>
     ensures all { OnOk result
         (Gains (E.seen err.old) (E.seen err.new) (flat_map (λ part. part.now) parts.now)) }

@@ -6,7 +6,7 @@ use std::env;
 use std::io::ErrorKind;
 use std::rt::Env;
 
-/// The words after the program's name. Where they are no text they are taken for no words.
+/// The words after the program's name. If they are no text they are taken for no words.
 pub fn words_of_call<R: Env + AllocGlobal>(rt: &R) -> Result<Vec<Word>, OutOfMemory> {
     let mut words = Vec::new(rt.alloc());
     let mut args = match env::args(rt) {

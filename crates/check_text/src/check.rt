@@ -450,7 +450,7 @@ fn copied_rows(
     rows_of(alloc, switches, tables, &runs, entries)
 }
 
-// The same rows. Where all are those of the component, none is copied.
+// The same rows. If all are those of the component, none is copied.
 fn taken_rows(
     alloc: Global,
     script: &Script,
@@ -508,7 +508,7 @@ fn judge_into(
     judge_all(alloc, text, script, &tables, &forest)
 }
 
-/// Checks the tables of a network, those of one component after another by rising root. Where all pass
+/// Checks the tables of a network, those of one component after another by rising root. If all pass
 /// the text has the rank of each channel of each component, by rising number and then by rising port,
 /// and `ok`; else it has the one line that says why those of the first refused component are.
 pub fn judge(alloc: Global, script: &Script, tables: Tables) -> Result<Judgement, OutOfMemory>

@@ -93,7 +93,7 @@ fn status_of<O: Sink>(alloc: Global, seed: u64, count: u8, out: &mut O) -> Statu
 
 /// Answers `gen SEED N`, with N from 1 to 100: writes to out the script that is made from a seed with so many
 /// switches, and after it one line on how its run on one thread ends. The answer is the number of a status,
-/// whose line goes to err.
+/// whose line goes to err. If memory is wanting out is left alone.
 pub fn autonet_gen<O: Sink, E: Sink>(
     alloc: Global,
     seed: u64,

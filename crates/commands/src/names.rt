@@ -48,8 +48,9 @@ impl Command for Names {
     }
 }
 
-/// Answers `names`: reads a script with a journal after it from the source, and writes what hosts believe in it to
-/// out. The answer is the number of a status, whose line goes to err.
+/// Answers `names`: reads a script with a journal after it from the source, and writes what hosts believe in
+/// it to out. The answer is the number of a status, whose line goes to err. If the source fails or has more
+/// bytes than the limit, if script or journal is refused, or if memory is wanting, out is left alone.
 pub fn autonet_names<S: Source, O: Sink, E: Sink>(
     alloc: Global,
     source: &mut S,

@@ -81,8 +81,9 @@ impl Command for Replay {
     }
 }
 
-/// Answers `replay`: reads a script with a journal after it from the source, and writes the report of the journal to
-/// out. The answer is the number of a status, whose line goes to err.
+/// Answers `replay`: reads a script with a journal after it from the source, and writes the report of the
+/// journal to out. The answer is the number of a status, whose line goes to err. If the source fails or has
+/// more bytes than the limit, if script or journal is refused, or if memory is wanting, out is left alone.
 pub fn autonet_replay<S: Source, O: Sink, E: Sink>(
     alloc: Global,
     source: &mut S,

@@ -48,7 +48,7 @@ pub fn positions_only_improve()
 
 /// In every run of at most 126 lives a life that is stable stays so while its version stays. Who was not
 /// stable when it had another life as root last has one above it that was not either when it had that
-/// root last. Where some life has left a root, some one of those that left it was never stable in its
+/// root last. If some life has left a root, some one of those that left it was never stable in its
 /// last version with it. So nobody leaves a life that was once stable with itself as root, and whoever
 /// ever had it as root is stable.
 pub fn nobody_leaves_a_stable_root()

@@ -229,8 +229,8 @@ impl Book {
     }
 
     /// The driver does its next thing. After it, the line that is told of it, if there is one. The history
-    /// settles as soon as is claimed of each lawful one, and a history that had the time to settle is not told to
-    /// have ended unsettled.
+    /// settles as soon as is claimed of each lawful one, and a history that had the time to settle is not
+    /// told to have ended unsettled.
     pub fn drive(&mut self) -> (Drive, Option<PlacedLine>)
         ensures script { self.new.script ≡ self.old.script }
         ensures did { Drives self.old.script self.old.events result.0 result.1 self.new.events }

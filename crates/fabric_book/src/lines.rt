@@ -68,7 +68,7 @@ impl Lines {
         }
     }
 
-    /// Adds those lines at the end that are there.
+    /// Adds those lines at the end that are there. After want of memory nothing is said of the lines.
     pub fn push_all(&mut self, told: &[Option<Line>]) -> Result<(), OutOfMemory>
         ensures { OnOk result (self.new ≡ self.old ++ flat_map option_to_list told.now) }
     {

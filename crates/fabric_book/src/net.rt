@@ -196,7 +196,8 @@ impl Net {
         self.book.into_journal()
     }
 
-    /// Makes an event, if it is lawful, and adds what is told of it.
+    /// Makes an event, if it is lawful, and adds what is told of it. If it is not lawful, the network and the
+    /// lines are as they were. After want of memory nothing is said of either.
     pub fn step(&mut self, event: &Event, lines: &mut Lines) -> Result<(), StepRefusal>
         requires { self.old.lost ≡ false }
         ensures lawful { OnOk result (is_lawful (fabric_of (history_of self.old)) event.now ≡ true) }

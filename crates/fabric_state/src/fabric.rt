@@ -647,7 +647,7 @@ impl Fabric {
         loss_line(s, port, self.wires.put(s, port, frame.bytes()))
     }
 
-    /// The last of the three parts of handling: a switch shows this now, and the event has come. Where it has
+    /// The last of the three parts of handling: a switch shows this now, and the event has come. If it has
     /// joined another epoch its table goes out of use.
     pub fn show(&mut self, s: Place, note: &Note, spent: bool)
         requires within { s < count self.old }

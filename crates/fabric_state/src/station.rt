@@ -183,7 +183,7 @@ impl Station {
         }
     }
 
-    // The switch shows this now. Where it has joined another epoch the table goes out of use.
+    // The switch shows this now. If it has joined another epoch the table goes out of use.
     pub(crate) fn show(&mut self, note: &Note, spent: bool)
         ensures { self.new ≡ record self.old {
           table = kept_table (note.now.epoch == self.old.note.epoch) self.old.table;

@@ -13,7 +13,7 @@ ghost use Rattle.fabric_world.specs.Examples.{told_script, told_history};
 /// the next one is not: a load before anything is finished, or once more; a clock that is not due; a second clock or a
 /// restart with a full hand; what is in an empty hand handled; a frame taken that nobody sent; a load in an
 /// epoch that was joined and not finished; a packet moved after it was delivered; a tick while one is under
-/// way; a tick after the end. Where the last load is left out, no end has come.
+/// way; a tick after the end. If the last load is left out, no end has come.
 pub fn some_changes_are_refused()
     ensures early { IsRefusedAfter 0 restart_script (with_added 0 (Load 0) restart_history) }
     ensures twice { IsRefusedAfter 3 restart_script (with_added 3 (Load 0) restart_history) }

@@ -63,7 +63,7 @@ pub fn a_switch_is_sound()
         → finish_of ((world_after script history).switches place) ≡ Some topo → TopoFits topo }
 {}
 
-/// Where no end has come, some event may come next.
+/// If no end has come, some event may come next.
 pub fn some_event_may_come_next()
     ensures next { (script : ScriptOf) → IsScript script → (history : List Event)
         → is_some (ending_of (world_after script history).fabric) ≡ false

@@ -58,8 +58,9 @@ impl Command for Check {
     }
 }
 
-/// Answers `check`: reads a script with routing tables from the source, and writes their judgement to out. The
-/// answer is the number of a status, whose line goes to err.
+/// Answers `check`: reads a script with routing tables from the source, and writes their judgement to out.
+/// The answer is the number of a status, whose line goes to err. If the source fails or has more bytes than
+/// the limit, if it gives no script with tables, or if memory is wanting, out is left alone.
 pub fn autonet_check<S: Source, O: Sink, E: Sink>(
     alloc: Global,
     source: &mut S,

@@ -46,7 +46,8 @@ pub fn command_of(words: &[Word]) -> Option<FileCommand>
     Some(FileCommand::Flow(room))
 }
 
-/// Answers one of these commands. The answer is the number of a status, whose line goes to err.
+/// Answers one of these commands. The answer is the number of a status, whose line goes to err. If there is
+/// no text to be written, out is left alone.
 pub fn answer_file<S: Source, O: Sink, E: Sink>(
     command: FileCommand,
     alloc: Global,

@@ -32,8 +32,9 @@ impl Command for Flood {
     }
 }
 
-/// Answers `flood`: reads a script from the source, and writes how broadcasts go in its network to out. The answer
-/// is the number of a status, whose line goes to err.
+/// Answers `flood`: reads a script from the source, and writes how broadcasts go in its network to out. The
+/// answer is the number of a status, whose line goes to err. If the source fails or has more bytes than the
+/// limit, if it gives no script, or if memory is wanting, out is left alone.
 pub fn autonet_flood<S: Source, O: Sink, E: Sink>(
     alloc: Global,
     source: &mut S,

@@ -37,7 +37,9 @@ impl Command for Flow {
 }
 
 /// Answers `flow B`: reads a script from the source, and writes to out what becomes of the packets that it
-/// sends if each channel holds so many. The answer is the number of a status, whose line goes to err.
+/// sends if each channel holds so many. The answer is the number of a status, whose line goes to err. If the
+/// source fails or has more bytes than the limit, if it gives no script, or if memory is wanting, out is left
+/// alone.
 pub fn autonet_flow<S: Source, O: Sink, E: Sink>(
     alloc: Global,
     room: Room,

@@ -48,7 +48,8 @@ fn read(alloc: Global, bytes: &[u8]) -> Result<Frame, DecodeRefusal>
     Ok(frame)
 }
 
-/// The frame that has this spelling. `NotAFrame` says that no frame has it.
+/// The frame that has this spelling. `NotAFrame` says that no frame has it; `OutOfMemory` says nothing of the
+/// bytes.
 pub fn decode(alloc: Global, bytes: &[u8]) -> Result<Frame, DecodeRefusal>
     ensures found { IfOk result (λ f. IsFrame f × (bytes.now ≡ spelling f)) }
     ensures refused { result ≡ Err NotAFrame → IsNoFrame bytes.now }

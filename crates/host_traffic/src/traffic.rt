@@ -178,7 +178,7 @@ impl Traffic {
         file(&mut self.order, Filed { packet, key });
     }
 
-    /// The packet of this number, which is under way, makes its next hop. Where that takes it to another
+    /// The packet of this number, which is under way, makes its next hop. If that takes it to another
     /// switch it is there then, and else it is under way no longer.
     pub fn hop<V: HopView>(&mut self, packet: u32, view: &V) -> Hop
         requires under_way { is_some (packet_of packet self.old.packets) ≡ true }

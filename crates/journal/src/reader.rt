@@ -52,7 +52,8 @@ impl<'a> Model for Reader<'a> {
 }
 
 impl<'a> Reader<'a> {
-    /// After the first line.
+    /// A reader that stands after the first line. A refusal says the first fault of all the bytes, or that no
+    /// memory was found.
     pub fn begin(alloc: Global, script: &'a Script, bytes: &'a [u8]) -> Result<Self, JournalRefusal>
         requires few { length bytes.now < 2 ^ 32 - 1 }
         ensures begun { IfOk result (HasRead script.now bytes.now []) }
@@ -122,7 +123,8 @@ impl<'a> Reader<'a> {
         }
     }
 
-    /// Reads on to the line `end`, and keeps nothing: if no line is at fault, there is a journal.
+    /// Reads on to the line `end`, and keeps nothing: if no line is at fault, there is a journal. A refusal
+    /// says the first fault of all the bytes, or that no memory was found.
     pub fn check_rest(&mut self) -> Result<(), JournalRefusal>
         ensures journal { (script : ScriptOf) (bytes : List ℕ) (events : List Event) →
             HasRead script bytes events self.old → OnOk result (BeginsJournal script bytes events) }

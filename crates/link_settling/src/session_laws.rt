@@ -38,7 +38,7 @@ pub fn what_is_sent_is_a_run()
         → Run later start v }
 {}
 
-/// Where its windows are filled, what a switch sends at a clock at each port is permitted in the session
+/// If its windows are filled, what a switch sends at a clock at each port is permitted in the session
 /// there, and after it no outstanding body went out four ticks ago or earlier. At a clock at which a change
 /// is due the sessions begin anew.
 pub fn a_clock_works_in_each_session()

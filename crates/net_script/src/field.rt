@@ -26,7 +26,7 @@ const MOST_COMMANDS: usize = 10_000;
 // The latest time of a command.
 const MOST_TIME: u64 = 1_000_000;
 
-/// The number of a range that a word says.
+/// The number from `least` to `most` that a word says; `BadNumber` if it says none.
 pub fn number_in(word: &[u8], least: u64, most: u64) -> Result<u64, ScriptCause>
     ensures number { IsField result (number_cause least most word.now) (number_value word.now) }
     ensures range { IfOk result (λ n. (least ≤ n) × (n ≤ most)) }
@@ -34,7 +34,7 @@ pub fn number_in(word: &[u8], least: u64, most: u64) -> Result<u64, ScriptCause>
     number_between(word, least, most).ok_or(ScriptCause::BadNumber)
 }
 
-/// The port that a word says.
+/// The port, 1 to 12, that a word says; `BadNumber` if it is no number, and `PortRange` if that is no port.
 pub fn port_in(word: &[u8]) -> Result<Port, ScriptCause>
     ensures port { IsField result (port_cause word.now) (number_value word.now) }
     ensures range { IfOk result (λ p. (1 ≤ p) × (p ≤ LAST_PORT)) }
@@ -48,7 +48,7 @@ pub fn port_in(word: &[u8]) -> Result<Port, ScriptCause>
     }
 }
 
-/// Refuses a word that is no name, or that a switch or a host has.
+/// Refuses a word that is no name (`BadName`), or that a switch or a host has (`NameTwice`).
 pub fn new_name(script: &Script, word: &[u8]) -> Result<(), ScriptCause>
     ensures test { IsTest result (new_name_cause script.now word.now) }
     ensures is_new { OnOk result (IsNewName script.now word.now) }
@@ -69,7 +69,8 @@ fn is_taken(script: &Script, name: &[u8]) -> bool
     script.place_of_switch(name).is_some() || script.place_of_host(name).is_some()
 }
 
-/// The identifier that a word says and that no switch or host has.
+/// The identifier, below 2^48, that a word says and that no switch or host has; `BadNumber` if it says none,
+/// and `UidTwice` if a switch or a host has it.
 pub fn new_uid(script: &Script, word: &[u8]) -> Result<u64, ScriptCause>
     ensures uid { IsField result (new_uid_cause script.now word.now) (uid_value word.now) }
     ensures is_new { IfOk result (λ uid. (uid < 2 ^ 48) × ¬ Contains (uids script.now.wires) uid) }
@@ -83,7 +84,7 @@ pub fn new_uid(script: &Script, word: &[u8]) -> Result<u64, ScriptCause>
     Ok(uid)
 }
 
-// The place that a word names, if it is found there if the word is a name.
+// The place that a word names; `place` is that at which it was found.
 fn known<Found: Copy>(word: &[u8], place: Option<Found>) -> Result<Found, ScriptCause>
     ensures { IsGoodField result
         (first_of (unless (is_name word.now) BadName ∷ unless (is_some place) NoSuchName ∷ []))
@@ -95,7 +96,7 @@ fn known<Found: Copy>(word: &[u8], place: Option<Found>) -> Result<Found, Script
     place.ok_or(ScriptCause::NoSuchName)
 }
 
-/// The place of the switch that a word names.
+/// The place of the switch that a word names; `BadName` if it is no name, `NoSuchName` if no switch has it.
 pub fn known_switch(script: &Script, word: &[u8]) -> Result<Place, ScriptCause>
     ensures place { IsField result (known_cause script.now.switch_names word.now)
         (place script.now.switch_names word.now) }
@@ -104,7 +105,7 @@ pub fn known_switch(script: &Script, word: &[u8]) -> Result<Place, ScriptCause>
     known(word, script.place_of_switch(word))
 }
 
-/// The place of the host that a word names.
+/// The place of the host that a word names; `BadName` if it is no name, `NoSuchName` if no host has it.
 pub fn known_host(script: &Script, word: &[u8]) -> Result<u16, ScriptCause>
     ensures place { IsField result (known_cause script.now.names_of_hosts word.now)
         (place script.now.names_of_hosts word.now) }
@@ -113,7 +114,8 @@ pub fn known_host(script: &Script, word: &[u8]) -> Result<u16, ScriptCause>
     known(word, script.place_of_host(word))
 }
 
-/// The number that a switch had last, if there is a word for it.
+/// The number, 1 to 126, that a switch had last, as a word says it, or 1 without a word; `BadNumber` if the
+/// word says none.
 pub fn had_in(word: Option<&[u8]>) -> Result<u8, ScriptCause>
     ensures had { IsField result (had_cause (option_map (λ w. w.now) word.entry))
         (had_of (option_map (λ w. w.now) word.entry)) }
@@ -128,7 +130,8 @@ pub fn had_in(word: Option<&[u8]>) -> Result<u8, ScriptCause>
     }
 }
 
-/// The time that a word says for the next command.
+/// The time in ticks, up to 1,000,000, that a word says for the next command; `BadNumber` if it says none,
+/// and `TimesFall` if the last command is due later.
 pub fn time_in(script: &Script, word: &[u8]) -> Result<u32, ScriptCause>
     ensures time { IsField result (time_cause script.now word.now) (number_value word.now) }
     ensures range { IfOk result (λ t. (last_time script.now.commands ≤ t) × (t ≤ 1000000)) }
@@ -147,7 +150,7 @@ fn last_time(script: &Script) -> u32
     script.commands().last().map_or(0, |c| c.time)
 }
 
-/// Refuses one more life above the limit.
+/// Refuses one more life if there are 126 (`TooMany`).
 pub fn room_for_life(script: &Script) -> Result<(), ScriptCause>
     ensures test { IsTest result (lives_cause script.now) }
     ensures room { OnOk result (lives_of script.now < MOST_SWITCHES) }
@@ -159,7 +162,7 @@ pub fn room_for_life(script: &Script) -> Result<(), ScriptCause>
     }
 }
 
-/// Refuses one more command above the limit.
+/// Refuses one more command if there are 10,000 (`TooMany`).
 pub fn room_for_command(script: &Script) -> Result<(), ScriptCause>
     ensures test { IsTest result (commands_cause script.now) }
     ensures room { OnOk result (length script.now.commands < 10000) }
@@ -179,7 +182,7 @@ fn is_used(wiring: &Wiring, s: Place, port: Port) -> bool
     wiring.far(s, port).is_some()
 }
 
-/// Refuses a link of which a port is used, or whose ports are one.
+/// Refuses a link of which a port is used, or whose ports are one, with `PortUsed`.
 pub fn free_link(wiring: &Wiring, link: &LinkAt) -> Result<(), ScriptCause>
     ensures test { IsTest result (unless (is_free wiring.now link.now) PortUsed) }
     ensures apart { OnOk result (a_end link.now ≢ b_end link.now) }
@@ -198,7 +201,7 @@ pub fn free_link(wiring: &Wiring, link: &LinkAt) -> Result<(), ScriptCause>
     Ok(())
 }
 
-/// Refuses a port that is used.
+/// Refuses a port that is used, with `PortUsed`.
 pub fn free_port(wiring: &Wiring, s: Place, port: Port) -> Result<(), ScriptCause>
     ensures test { IsTest result (unless (not (is_used wiring.now s port)) PortUsed) }
     ensures free { OnOk result (¬ Contains (used_ports wiring.now) (s, port)) }
@@ -209,7 +212,7 @@ pub fn free_port(wiring: &Wiring, s: Place, port: Port) -> Result<(), ScriptCaus
     Ok(())
 }
 
-/// Refuses a port without link and host.
+/// Refuses a port without link and host, with `NoLink`.
 pub fn used_port(wiring: &Wiring, s: Place, port: Port) -> Result<(), ScriptCause>
     ensures test { IsTest result (unless (is_used wiring.now s port) NoLink) }
     ensures used { OnOk result (is_used wiring.now s port ≡ true) }
@@ -221,7 +224,7 @@ pub fn used_port(wiring: &Wiring, s: Place, port: Port) -> Result<(), ScriptCaus
     }
 }
 
-/// Refuses a port without link.
+/// Refuses a port without link, with `NoLink`.
 pub fn linked_port(wiring: &Wiring, s: Place, port: Port) -> Result<(), ScriptCause>
     ensures test { IsTest result (unless (is_linked wiring.now s port) NoLink) }
     ensures linked { OnOk result (is_linked wiring.now s port ≡ true) }

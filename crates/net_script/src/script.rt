@@ -171,7 +171,7 @@ impl Script {
         self.wiring().switches().len() + restarts(&self.commands)
     }
 
-    /// Adds a switch at the next place. Where no memory is found nothing is added.
+    /// Adds a switch at the next place. If no memory is found nothing is added.
     pub fn add_switch(&mut self, name: Word, switch: SwitchAt) -> Result<(), OutOfMemory>
         requires can { CanAddSwitch self.old name switch }
         ensures ok { OnOk result (self.new ≡ with_switch self.old name switch) }
@@ -187,7 +187,7 @@ impl Script {
         }
     }
 
-    /// Adds a link between two ports that are not used. Where no memory is found nothing is added.
+    /// Adds a link between two ports that are not used. If no memory is found nothing is added.
     pub fn add_link(&mut self, link: LinkAt) -> Result<(), OutOfMemory>
         requires can { CanAddLink self.old link }
         ensures ok { OnOk result (self.new ≡ with_link self.old link) }
@@ -197,7 +197,7 @@ impl Script {
         Ok(())
     }
 
-    /// Adds a host at the next place. Where no memory is found nothing is added.
+    /// Adds a host at the next place. If no memory is found nothing is added.
     pub fn add_host(&mut self, name: Word, host: HostOn) -> Result<(), OutOfMemory>
         requires can { CanAddHost self.old name host }
         ensures ok { OnOk result (self.new ≡ with_host self.old name host) }
@@ -213,7 +213,7 @@ impl Script {
         }
     }
 
-    /// Adds the command of an event and the tick from which it is due, after the others. Where no memory
+    /// Adds the command of an event and the tick from which it is due, after the others. If no memory
     /// is found nothing is added.
     pub fn add_command(&mut self, time: u32, event: Event) -> Result<(), OutOfMemory>
         requires can { CanAddCommand self.old (record { time = time; event = event }) }

@@ -112,7 +112,7 @@ fn after_end(alloc: Global, bytes: &[u8]) -> Result<&[u8], OutOfMemory>
     Ok(rest)
 }
 
-/// The part of an input that is to be a script, and after it that of a journal. Where no line is `end`, all
+/// The part of an input that is to be a script, and after it that of a journal. If no line is `end`, all
 /// is the script.
 pub fn divide(alloc: Global, bytes: &[u8]) -> Result<(&[u8], &[u8]), OutOfMemory>
     ensures { IfOk result (λ parts. IsDivision bytes.now parts.0.now parts.1.now) }

@@ -13,10 +13,10 @@ use journal_cause::cause::JournalCause;
 pub enum ReplayRefusal {
     /// It is no lawful journal with an end.
     Illegal {
-        /// The line of its text: that of the first event that is not lawful, or the last. Where the text is no
+        /// The line of its text: that of the first event that is not lawful, or the last. If the text is no
         /// journal, its first faulty line.
         line: u32,
-        /// What is wrong: `NotLawful` or `Unfinished`. Where the text is no journal, its fault.
+        /// What is wrong: `NotLawful` or `Unfinished`. If the text is no journal, its fault.
         cause: JournalCause,
     },
     /// No memory was found.

@@ -60,7 +60,8 @@ pub struct Report {
     pub tick: u32,
 }
 
-/// The report of a journal, if it is legal.
+/// The report of a journal, if it is legal. `Illegal` says the line of its first event that is not lawful, or
+/// the last line if it comes to no end. `OutOfMemory` says nothing of the journal.
 pub fn reported(alloc: Global, script: &Script, journal: &Journal) -> Result<Report, ReplayRefusal>
     ensures report { IfOk result (λ report. IsReport script.now journal.now report.end report.text.items) }
     ensures tick { IfOk result (λ report. report.tick ≡ (world_after script.now journal.now).fabric.tick) }
@@ -76,7 +77,9 @@ pub fn reported(alloc: Global, script: &Script, journal: &Journal) -> Result<Rep
     })
 }
 
-/// The report of the journal with whose text the bytes begin, if it is legal. Its events are made as they are read.
+/// The report of the journal with whose text the bytes begin, if it is legal. Its events are made as they are
+/// read. `Illegal` says the first fault of a text that is no journal, or why the journal is not legal.
+/// `OutOfMemory` says nothing of the bytes.
 pub fn reported_text(alloc: Global, script: &Script, bytes: &[u8]) -> Result<Report, ReplayRefusal>
     requires few { length bytes.now < 2 ^ 32 - 1 }
     ensures report { IfOk result (λ report.

@@ -233,7 +233,7 @@ fn push_time(text: &mut Vec<u8>, time: u32) -> Result<(), OutOfMemory>
     Ok(())
 }
 
-/// Appends a word, the name of a switch and numbers, and ends the line. Where no memory is found nothing is
+/// Appends a word, the name of a switch and numbers, and ends the line. If no memory is found nothing is
 /// said of the text.
 pub fn push_at(
     text: &mut Vec<u8>,
@@ -266,7 +266,7 @@ fn push_numbers(text: &mut Vec<u8>, numbers: &[u32]) -> Result<(), OutOfMemory>
 }
 
 /// Appends `send`, the name of the host that sends and that of the host to which it does, which may be
-/// the same, and ends the line. Where no memory is found nothing is said of the text.
+/// the same, and ends the line. If no memory is found nothing is said of the text.
 pub fn push_send(text: &mut Vec<u8>, hosts: &Names, host: u16, to: u16) -> Result<(), OutOfMemory>
     requires host { host < length hosts.now }
     requires to { to < length hosts.now }

@@ -105,7 +105,7 @@ impl Frames {
         self.len = 0;
     }
 
-    // Adds a frame at the end. Where no memory is found nothing is added.
+    // Adds a frame at the end. If no memory is found nothing is added.
     pub(crate) fn push(&mut self, port: u8, bytes: &[u8]) -> Result<(), OutOfMemory>
         requires { IsFrameOut (record { port = port; bytes = bytes.now }) }
         ensures ok { OnOk result (self.new ≡ self.old ++ record { port = port; bytes = bytes.now } ∷ []) }

@@ -49,7 +49,7 @@ pub fn the_links_are_the_good_ones()
         → good_peer (network.switches life) port ≡ None }
 {}
 
-/// Where a life has joined, and some body that it sent on a link is acknowledged, the far end of the link
+/// If a life has joined, and some body that it sent on a link is acknowledged, the far end of the link
 /// has joined that epoch, names the link, and has accepted as many bodies; and if all are acknowledged,
 /// it has accepted all that was sent on it. So it is even if the far end has left the epoch since.
 pub fn what_is_acknowledged_is_accepted()
@@ -67,7 +67,7 @@ pub fn what_is_acknowledged_is_accepted()
         → FarHasAll game life port (network.switches life) far }
 {}
 
-/// Where two lives are good peers of each other and nothing waits or is unacknowledged at either end, both
+/// If two lives are good peers of each other and nothing waits or is unacknowledged at either end, both
 /// are in one epoch, and each has accepted all that the other sent on their link.
 pub fn a_quiet_link_is_settled()
     ensures { (lives : List LifeId) (on : PowerOn) (network : Network) (game : Game) (life other : LifeId)

@@ -177,7 +177,8 @@ impl Papers {
         })
     }
 
-    // What there is to do after work was taken. Where there is none it is to be asked for once the worker is roused.
+    // What there is to do after work was taken. If there is none it is to be asked for once the worker is
+    // roused.
     fn after_take(&self) -> Next
         ensures { (script : ScriptOf) (history : List Event) (desk : DeskOf)
             → IsToDo script history desk self.now self.now.letter.value.work

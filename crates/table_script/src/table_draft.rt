@@ -114,7 +114,7 @@ impl TableDraft {
         true
     }
 
-    /// Whether an entry of a switch had its line. Where the lines come by rising switch and entry it looks
+    /// Whether an entry of a switch had its line. If the lines come by rising switch and entry it looks
     /// at none of them.
     #[tactic(auto, unfolding(crate::specs::TableRules::is_entered))]
     pub fn is_entered(&self, s: Place, entry: Port) -> bool
@@ -137,7 +137,7 @@ impl TableDraft {
             .map_or(0, |x| x.number)
     }
 
-    /// Adds the number of a switch. Where no memory is found nothing is added.
+    /// Adds the number of a switch. If no memory is found nothing is added.
     pub fn push_number(&mut self, number: NumberAt) -> Result<(), OutOfMemory>
         ensures { OnOk result (self.new ≡ record self.old { numbers = self.old.numbers ++ number ∷ [] }) }
     {
@@ -145,7 +145,7 @@ impl TableDraft {
         Ok(())
     }
 
-    /// Adds an entry of a switch. Where no memory is found nothing is added.
+    /// Adds an entry of a switch. If no memory is found nothing is added.
     pub fn push_entry(&mut self, entry: EntryAt) -> Result<(), OutOfMemory>
         ensures { OnOk result (self.new ≡ record self.old { entries = self.old.entries ++ entry ∷ [] }) }
     {
@@ -157,7 +157,7 @@ impl TableDraft {
         Ok(())
     }
 
-    /// Adds a row. Where no memory is found nothing is added.
+    /// Adds a row. If no memory is found nothing is added.
     pub fn push_row(&mut self, row: Row) -> Result<(), OutOfMemory>
         ensures { OnOk result (self.new ≡ record self.old { rows = self.old.rows ++ row ∷ [] }) }
     {

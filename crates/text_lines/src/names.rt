@@ -64,7 +64,7 @@ impl Names {
         self.texts.get_index_of(name)
     }
 
-    /// Adds a name that is none of these, at the next place. Where no memory is found nothing is added.
+    /// Adds a name that is none of these, at the next place. If no memory is found nothing is added.
     pub fn push(&mut self, name: Word) -> Result<(), OutOfMemory>
         requires { ¬ Contains self.old name }
         ensures ok { OnOk result (self.new ≡ self.old ++ name ∷ []) }

@@ -9,7 +9,7 @@ use an_base::memory::OutOfMemory;
 use an_base::text::push_decimal;
 use std::alloc::{AllocError, Global};
 
-/// Appends a line of words: they are joined by one space each, and a line feed follows. Where no memory
+/// Appends a line of words: they are joined by one space each, and a line feed follows. If no memory
 /// is found nothing is said of the text.
 pub fn push_line(text: &mut Vec<u8>, words: &[&[u8]]) -> Result<(), OutOfMemory>
     ensures { OnOk result
@@ -51,7 +51,8 @@ pub fn identifier(alloc: Global, uid: u64) -> Result<Vec<u8>, OutOfMemory>
     Ok(text)
 }
 
-/// Appends the last so many hexadecimal digits of a number. Where no memory is found nothing is said of the text.
+/// Appends the last so many hexadecimal digits of a number. If no memory is found nothing is said of the
+/// text.
 pub fn push_hex(text: &mut Vec<u8>, digits: u8, number: u64) -> Result<(), AllocError>
     ensures { OnOk result (text.new.items ≡ text.old.items ++ hex_text digits number) }
 {
