@@ -114,6 +114,7 @@ impl Exits {
     pub fn of_set(set: u16) -> Self
         ensures { result ≡ ports_of set }
     {
+        // The bits 1 to 12.
         Exits { set: set & 8190 }
     }
 

@@ -14,7 +14,9 @@ pub record IsLonger (most : ℕ) (old new : List Visit) : Type 0 where
   pub visits : AreVisits new
   pub few : length new ≤ length old + most
 
--- a visit was made: what there is still to do is no more than before it was taken from the path, less one
+-- A visit was made: what there is still to do is no more than before it was taken from the path, less one. A
+-- spot that is not seen, of all 1,651, counts 15: once it is seen it adds at most 14 visits to the path, one
+-- to leave it and one for each of 13 spots.
 pub record HasVisited (old : List Bool) (before : List Visit) (seen : List Bool) (path : List Visit)
     (left : List Channel) : Type 0 where
   pub count : length seen ≡ 1651

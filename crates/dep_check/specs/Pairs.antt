@@ -23,7 +23,7 @@ pub record IsStuckFrom (numbers : List ℕ) (steps : Steps) (to from : ℕ) : Ty
   pub end : Channel
   pub gets : GetsStuck steps (record { at = from; port = 0 }) end
 
--- it is none, and what is seen stays clear
+-- it is none, and what is seen, by a flag for each of the 1,651 spots, stays clear
 pub record StaysClear (numbers : List ℕ) (steps : Steps) (to from : ℕ) (seen : List Bool) : Type 0 where
   pub count : length seen ≡ 1651
   pub clear : IsClear steps seen

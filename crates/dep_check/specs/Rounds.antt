@@ -8,7 +8,7 @@ use Rattle.dep_check.specs.declared.level.Rule.TheVariants.{Nearest, Rank}
 use Rattle.dep_check.specs.Tables.{IsSpot, level_at}
 use Rattle.dep_check.specs.Search.{Step, IsDue, IsHeld, AreNearest, AreNearestBelow, AreRanked, AreRankedBelow}
 
--- the level 0 at each goal, and no other level
+-- in a table with a place for each of the 1,651 spots: the level 0 at each goal, and no other level
 pub record AreGoals (Goal : Channel → Type 0) (levels : List (Option ℕ)) : Type 0 where
   pub count : length levels ≡ 1651
   pub some : (spot : Channel) (level : ℕ) → IsSpot spot → level_at levels spot ≡ Some level

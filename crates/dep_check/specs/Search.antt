@@ -56,7 +56,7 @@ abbrev pub HasLoosePort : List (Option Channel) → ℕ → ℕ → Type 0
 HasLoosePort wires at ports =
     (port : ℕ) × (bit_at ports port ≡ 1) × (wire_at wires (record { at = at; port = port }) ≡ None)
 
--- the steps are between these far sides, whatever their exits are
+-- the steps are between these far sides, whatever their exits are, a set for each of the 1,651 spots
 pub record AreBetween (wires : List (Option Channel)) (steps : Steps) : Type 0 where
   pub wires_are : steps.wires.items ≡ wires
   pub count : length steps.exits.items ≡ 1651

@@ -14,7 +14,7 @@ pub record IsSpot (spot : Channel) : Type 0 where
 abbrev pub is_spot : Channel → Bool
 is_spot spot = nat_lt spot.at 127 && nat_lt spot.port 13
 
--- its place in a table of all spots
+-- its place in a table of all spots, which are 127 times 13, so 1,651
 abbrev pub place_of : Channel → ℕ
 place_of spot = spot.at * 13 + spot.port
 
@@ -84,7 +84,7 @@ pub record HasBelow (rows : List RowOf) (to : Option ℕ) (end : ℕ) (spot : Ch
   pub entry : (row_at rows index).entry ≡ spot.port
   pub has : Contains (row_at rows index).exits port
 
--- the table has the exits of the first rows
+-- the table, with a set for each of the 1,651 spots, has the exits of the first rows
 pub record AreExitsBelow (rows : List RowOf) (to : Option ℕ) (end : ℕ) (table : List ℕ) : Type 0 where
   pub count : length table ≡ 1651
   pub ports : (spot : Channel) (port : ℕ) → IsSpot spot → HasBelow rows to end spot port → port < 13

@@ -42,7 +42,8 @@ pub record IsLookedAt (steps : Steps) (seen : List Bool) (stuck : Bool) (spot : 
   pub next : (after : Channel) → Step steps spot after → seen_at seen after ≡ true
   pub told : IsStuck steps spot → stuck ≡ true
 
--- on a walk from a spot: what was seen before, what is now, and what is still to be looked at
+-- on a walk from a spot: what was seen before, what is now, by a flag for each of the 1,651 spots, and what
+-- is still to be looked at
 pub record IsWalking (steps : Steps) (start : Channel) (had seen : List Bool) (ahead : List Channel)
     (stuck : Bool) : Type 0 where
   pub count : length seen ≡ 1651

@@ -27,5 +27,6 @@ pub fn only_ports(set: u16) -> u16
     ensures ports { HasOnlyPorts result }
     ensures same { (port : ℕ) → port < 13 → has_port result port ≡ has_port set port }
 {
+    // The bits 0 to 12.
     set & 8191
 }

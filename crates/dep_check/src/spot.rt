@@ -5,8 +5,8 @@ ghost use Rattle.dep_check.specs.Tables.{IsSpot, place_of};
 
 use crate::channel::Channel;
 
-/// How many spots there are: a switch by its number, 0 to 126, and one of its ports, 1 to 12, or 0
-/// for the switch itself.
+/// How many spots there are, 127 times 13: a switch by its number, 0 to 126, and one of its ports, 1 to 12,
+/// or 0 for the switch itself.
 pub const SPOTS: u16 = 1651;
 
 /// The place of a spot in a table of all spots.

@@ -42,7 +42,7 @@ fn first_table(
     }
 }
 
-// The tables before any row.
+// The tables before any row, one for each number, 0 to 126.
 fn first_tables(alloc: Global, numbers: &Numbers) -> Result<Vec<Vec<u16>>, OutOfMemory>
     ensures { IfOk result (λ tables. (rows : List RowOf) → AreTablesBelow rows numbers.now 0 tables.items) }
 {

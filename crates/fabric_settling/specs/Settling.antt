@@ -39,7 +39,8 @@ PortsAreFinal script history =
     last_disturbance is_either script history + 259 ≤ (world_after script history).fabric.tick
     → AreFinal script history
 
--- And three ticks later, if nothing is left to do, each body that was pushed is acknowledged.
+-- And three ticks later, 262 after the last disturbance, if nothing is left to do, each body that was pushed
+-- is acknowledged.
 abbrev pub BodiesAreThrough : ScriptOf → List Event → Type 0
 BodiesAreThrough script history =
     last_disturbance is_either script history + 262 ≤ (world_after script history).fabric.tick
@@ -64,7 +65,8 @@ pub record AgreesAt (script : ScriptOf) (before later : List Event) : Type 0 whe
   pub stay : ports_shown (world_after script (before ++ later)).fabric
       ≡ ports_shown (world_after script before).fabric
 
--- so at each moment of a history that is more than 512 ticks after that tick
+-- So at each moment of a history that is more than 512 ticks after that tick. 512 is above the 259 ticks
+-- after which the ports are final.
 abbrev pub PortsSettle : ScriptOf → List Event → Type 0
 PortsSettle script history = (before later : List Event) → history ≡ before ++ later
     → last_told script history + 512 < (world_after script before).fabric.tick
@@ -78,7 +80,8 @@ pub record SettlesAt (script : ScriptOf) (last : ℕ) (before : List Event) : Ty
       → last + 1024 ≤ (world_after script before).fabric.tick
       → is_settled (world_after script before).fabric ≡ true
 
--- so at each moment of a history at which all commands are done
+-- So at each moment of a history at which all commands are done. 1,024 is above the 262 ticks after which
+-- the bodies are through.
 abbrev pub MomentsSettle : ScriptOf → List Event → Type 0
 MomentsSettle script history = (before later : List Event) → history ≡ before ++ later
     → are_all_done (world_after script before).fabric ≡ true

@@ -59,7 +59,7 @@ WaitApart waits = AllPairs (λ one other. one.packet.packet ≢ other.packet.pac
 
 -- All that holds of a flow, and of the packets that entered
 pub record IsSound (layout : LayoutOf) (known : List ℕ) (flow : FlowOf) : Type 0 where
-  -- there is a list for each channel and for each switch
+  -- there is a list for each of the 1,651 spots and for each of the 127 numbers
   pub queues : length flow.queues ≡ 1651
   pub waiting : length flow.waiting ≡ 127
   -- a channel has no more packets than it holds, and each is on its way

@@ -104,7 +104,7 @@ fn starts_in_turn(alloc: Global) -> Result<Vec<u32>, OutOfMemory>
     Ok(starts)
 }
 
-// Adds the exits of a row to sets that stand by spot and then by number.
+// Adds the exits of a row to sets that stand by spot and then by number: 1,651 times 127 are 209,677.
 fn add_row(sets: &mut Vec<u16>, row: &Row)
     requires { length sets.old.items ≡ 209677 }
     ensures count { length sets.new.items ≡ length sets.old.items }
@@ -164,6 +164,7 @@ impl ExitTable {
         ensures { IfOk result (AreExitsOf rows.now) }
     {
         let starts = starts_in_turn(alloc)?;
+        // A set for each of the 1,651 spots and each of the 127 numbers.
         let mut sets = vec![in alloc; 0u16; 209_677]?;
         'rows: for row in rows {
             add_row(&mut sets, row);

@@ -144,6 +144,7 @@ fn push_port(text: &mut Vec<u8>, exit: u8) -> Result<(), OutOfMemory>
     }
     if exit < 20 {
         push_bytes(text, b" out ");
+        // The second digit: that of `exit - 10`, as `b'0'` is 48.
         push_bytes(text, &[b'1', 38 + exit, b'\n']);
         return Ok(());
     }
@@ -152,7 +153,8 @@ fn push_port(text: &mut Vec<u8>, exit: u8) -> Result<(), OutOfMemory>
     push_line(text, &[b"out", digits.format(exit).as_bytes()])
 }
 
-// Sees to it that there is room for so many bytes, and for 23 more.
+// Sees to it that there is room for so many bytes, and for 23 more: `move `, a packet of at most ten digits,
+// and eight bytes for an exit.
 fn make_room(text: &mut Vec<u8>, bytes: usize) -> Result<(), OutOfMemory>
     ensures items { text.new.items ≡ text.old.items }
     ensures room { OnOk result (vec_len text.new + bytes + 23 ≤ vec_capacity text.new) }

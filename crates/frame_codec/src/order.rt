@@ -7,6 +7,7 @@ ghost use Rattle.frame_codec.specs.Reading.{are_numbers};
 pub fn are_numbers(numbers: &[u8]) -> bool
     ensures { result ≡ are_numbers numbers.now }
 {
+    // A place for each number, 0 to 126.
     let mut seen = [false; 127];
     'numbers: for number in numbers {
         let number = *number;

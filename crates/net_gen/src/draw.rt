@@ -38,6 +38,8 @@ impl Draw {
         ensures below { result < bound }
         ensures seed { self.new ≡ next_seed self.old }
     {
+        // A linear congruential generator modulo 2^64, with the constants of Knuth's MMIX. Of the next seed
+        // the upper 31 bits are used.
         self.seed = self
             .seed
             .wrapping_mul(6_364_136_223_846_793_005)

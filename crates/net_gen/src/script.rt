@@ -44,7 +44,7 @@ fn add_switches(alloc: Global, script: &mut Script, count: u8) -> Result<(), Out
     Ok(())
 }
 
-// Adds a host at each of so many switches.
+// Adds a host at port 12 of each of so many switches. Its identifier is 2^40 above that of the switch.
 fn add_hosts(alloc: Global, script: &mut Script, count: u8) -> Result<(), OutOfMemory>
     requires made { script.old ≡ made_of count script.old.wires.links 0 [] }
     requires low { AreLow script.old.wires.links }
@@ -206,7 +206,7 @@ fn add_sends(script: &mut Script, count: u8, time: u32) -> Result<(), OutOfMemor
     Ok(())
 }
 
-// The first link goes down and comes up again, if there is one.
+// The first link goes down, at tick 20, and comes up again, at tick 60, if there is one.
 fn add_failure(script: &mut Script, count: u8) -> Result<(), OutOfMemory>
     requires made { IsMade script.old count }
     requires can { CanSend script.old.commands 20 }
@@ -240,7 +240,7 @@ fn fill(alloc: Global, script: &mut Script, seed: u64, count: u8) -> Result<(), 
 }
 
 /// The script that is drawn from a seed: a tree of so many switches with some more links, a host at each of
-/// them, and packets before and after a failure of the first link and its repair.
+/// them, and packets, at ticks 10 and 80, before and after a failure of the first link and its repair.
 pub fn script_of(alloc: Global, seed: u64, count: u8) -> Result<Script, OutOfMemory>
     requires least { 1 ≤ count }
     requires most { count ≤ 100 }

@@ -14,7 +14,7 @@ use std::alloc::Global;
 use std::cmp::Ordering;
 use std::marker::Model;
 
-/// The most entries that a report keeps of lives other than its own.
+/// The most entries that a report keeps of lives other than its own: one less than `MOST_SWITCHES`.
 pub const MOST_OTHERS: usize = 125;
 
 // The lesser of two entries of one life.

@@ -61,7 +61,9 @@ pub record AreDownSoFar (entries : List EntryOf) (to : ℕ) (order : List Height
       → IsLeast (HasDown entries (place_at order index) to) (length_at down (place_at order index))
   pub most : AreAtMost down MOST_LEVEL
 
--- the table has the lengths of legal routes of the places of the order before this index
+-- The table has the lengths of legal routes of the places of the order before this index. A legal route from
+-- the place at an index has fewer links than the sum of the index and of how many entries there are. There
+-- are at most 126 entries, and so an index is at most 125: at most 250 links.
 pub record AreUpSoFar (entries : List EntryOf) (to : ℕ) (order : List Height) (up : List (Option ℕ)) (end : ℕ)
     : Type 0 where
   pub count : length up ≡ length entries

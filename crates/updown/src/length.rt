@@ -48,7 +48,8 @@ fn least_left(graph: &Graph, up: &[Option<u8>], down: &[Option<u8>], x: u8) -> O
     best
 }
 
-// The length of a shortest way from x, from what is left to go after its ports.
+// The length of a shortest way from x, from what is left to go after its ports. No length in the tables is
+// above 250, as `AreUpSoFar` says.
 fn length_from(graph: &Graph, up: &[Option<u8>], down: &[Option<u8>], to: u8, x: u8) -> Option<u8>
     requires graph { IsGraph graph.now }
     requires up_most { AreAtMost up.now 250 }
