@@ -7,11 +7,11 @@ ghost use Rattle.ib_routes.specs.Waves.{IsGraphOf};
 ghost use Rattle.ib_mixtures.specs.Mixtures.{MayBeFollowed};
 ghost use Rattle.ib_mixtures.specs.Steps.{AreSteps, IsGrown, IsTurnAt, IsTurnBelow, IsTurnBy, IsTurnTo};
 
-use crate::rows::no_steps;
 use an_base::memory::OutOfMemory;
 use channel_graph::graph::Graph;
 use ib_cells::cells::Cells;
 use ib_net::fabric::Fabric;
+use ib_routes::find::no_dependencies;
 use ib_routes::hop::{Hop, hop_at};
 use ib_routes::start::is_target;
 use ib_routes::traffic::Traffic;
@@ -107,7 +107,7 @@ pub fn find_followers(
     requires owners_new { length fabric.now.owners ≤ 64 * new.now.blocks }
     ensures { IfOk result (AreSteps fabric.now (MayBeFollowed fabric.now (tables_of old.now) (tables_of new.now))) }
 {
-    let mut graph = no_steps(alloc, fabric)?;
+    let mut graph = no_dependencies(alloc, fabric)?;
     add_lids(fabric, old, new, &mut graph);
     Ok(graph)
 }

@@ -11,5 +11,4 @@ pub mod changed;
 mod follow;
 pub mod judge;
 pub mod law;
-mod rows;
 pub mod turn;

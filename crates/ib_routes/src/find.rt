@@ -171,9 +171,9 @@ fn find_bases(alloc: Global, fabric: &Fabric) -> Result<Vec<u32>, OutOfMemory>
     Ok(bases)
 }
 
-// A graph of the channels of a fabric, of which none leads to another. A row has a bit for each port, 64 in a
-// word.
-fn no_dependencies(alloc: Global, fabric: &Fabric) -> Result<Graph, OutOfMemory>
+/// A graph of the channels of a fabric, of which none leads to another. A row has a bit for each port, 64 in a
+/// word. The error is want of memory alone.
+pub fn no_dependencies(alloc: Global, fabric: &Fabric) -> Result<Graph, OutOfMemory>
     ensures graph { IfOk result (λ graph. IsGraphOf fabric.now graph) }
     ensures none { IfOk result (λ graph. (one other : ℕ) → LeadsTo graph one other → ⊥) }
 {
