@@ -1,5 +1,5 @@
-//! The yardstick of `fabric`: an unverified program with the answers of `fabric judge`, which also makes fabrics. README.md
-//! has its words.
+//! The yardstick of `fabric`: an unverified program that finds what `fabric judge` and `fabric lanes` find, and makes
+//! fabrics. yardsticks/README.md has its words.
 
 #![forbid(unsafe_code)]
 
