@@ -1,7 +1,7 @@
-"""What bench/expect, bench/check, bench/flood, bench/flow and bench/replay share: the proved program and, where rustc
+"""What bench/expect, bench/check, bench/flood, bench/flow and bench/replay share: the proved program and, if rustc
 is there, the yardstick (yardsticks/build, an unverified Rust program with the same answers), each on the same input in turn.
 
-The proved program is out/autonet, or the one that the variable AUTONET names. Where it is not there, the yardstick
+The proved program is out/autonet, or the one that the variable AUTONET names. If it is not there, the yardstick
 is measured alone, and its columns have `-`."""
 
 import os
@@ -17,7 +17,7 @@ HEAD = " milliseconds  processor   peak KiB   yardstick's processor   peak KiB  
 
 
 def help_if_asked(text):
-    """Prints the head of a script, and ends, where its only word is -h or --help."""
+    """Prints the head of a script, and ends, if its only word is -h or --help."""
     if sys.argv[1:] in (["-h"], ["--help"]):
         print(text)
         sys.exit()

@@ -31,14 +31,14 @@ WIDE = "/".join(str(port) for port in range(7, 13))
 
 
 def cycle_at_the_end():
-    """Packets go up the path by all six links, and only behind the last switch two channels lead round."""
+    """Packets go up the path by all six links, and only after the last switch two channels lead round."""
     rows = [(s, entry, f"126:{WIDE}") for s in range(SWITCHES - 1) for entry in range(7)]
     rows += [(SWITCHES - 2, 7, "126:7"), (SWITCHES - 1, 1, "126:1")]
     return text(path(), rows)
 
 
 def gap_at_the_end():
-    """The same with a gap behind the last switch but one, of which the numbers are 1, 126 and 2."""
+    """The same with a gap after the last switch but one, of which the numbers are 1, 126 and 2."""
     numbers = list(range(3, SWITCHES)) + [1, 126, 2]
     rows = [(s, entry, f"2:{WIDE}") for s in range(SWITCHES - 1) for entry in (0, 1)]
     rows = [row for row in rows if row[:2] != (SWITCHES - 2, 1)]

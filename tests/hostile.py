@@ -25,7 +25,7 @@ CLOCK = 900
 
 
 def help_if_asked(text):
-    """Prints the head of a script, and ends, where its only word is -h or --help."""
+    """Prints the head of a script, and ends, if its only word is -h or --help."""
     if sys.argv[1:] in (["-h"], ["--help"]):
         print(text)
         sys.exit()
@@ -36,7 +36,7 @@ def help_if_asked(text):
 # with the error number FAILURE, and a write with FAILURE 0 takes nothing. SHORT has each move one byte at most. At
 # the end COUNTS is the file that gets how many there were of each, and of how many bytes the growths were. Only calls
 # of the program FAULTY count, and only those after it was loaded. STACK is how much of its stack it has from the
-# beginning: where a limit on memory lets a stack not grow, the system ends a program by a signal, which none can
+# beginning: if a limit on memory lets a stack not grow, the system ends a program by a signal, which none can
 # answer.
 FAULTS = r"""
 #define _GNU_SOURCE
@@ -152,7 +152,7 @@ class Tally:
         self.passed = self.failed = 0
 
     def count(self, holds, what):
-        """Counts what is named as passed, where it holds, and else as failed."""
+        """Counts what is named as passed if it holds, and else as failed."""
         if holds:
             self.passed += 1
         else:
@@ -160,7 +160,7 @@ class Tally:
             print(f"failed: {what}", flush=True)
 
     def end(self):
-        """The last line, and the status, which is no good one where nothing was tried."""
+        """The last line, and the status, which is no good one if nothing was tried."""
         print(f"{self.passed} passed, {self.failed} failed")
         raise SystemExit(1 if self.failed or not self.passed else 0)
 
@@ -210,7 +210,7 @@ def used(pid):
 
 
 def ended(pid, seconds):
-    """The status in which a process ends; or None, where it had to be killed."""
+    """The status in which a process ends; or None, if it had to be killed."""
     begun, wait, end = time.monotonic(), min(seconds, CLOCK), os.pidfd_open(pid)
     try:
         while not select.select([end], [], [], wait)[0]:
@@ -252,7 +252,7 @@ PROCESSES = {}
 
 
 def run(words, text, library=None, memory=None, **faults_of):
-    """A run of the program on these bytes, with the library of FAULTS where it is given, or in so much memory."""
+    """A run of the program on these bytes, with the library of FAULTS if it is given, or in so much memory."""
     path = program()
     if memory:
         path, words = shutil.which("prlimit"), [f"--as={memory}", path, *words]

@@ -3,7 +3,7 @@
 passed=0
 failed=0
 
-# Counts what $2 names as passed, where the status $1 is 0, or as failed.
+# Counts what $2 names as passed if the status $1 is 0, else as failed.
 count() {
     if [ "$1" = 0 ]; then
         passed=$((passed + 1))

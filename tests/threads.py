@@ -32,7 +32,7 @@ class Count:
         self.passed = self.failed = 0
 
     def add(self, holds, what, network):
-        """Counts one, and keeps the network where it failed."""
+        """Counts one, and keeps the network if it failed."""
         self.passed += holds
         self.failed += not holds
         if not holds:

@@ -10,7 +10,7 @@ ANSWERED = (0, 7, 8)
 
 
 def build():
-    """Builds the yardstick where it is older than its sources."""
+    """Builds the yardstick if it is older than its sources."""
     subprocess.run([TOP / "yardsticks" / "build"], check=True)
 
 

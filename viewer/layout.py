@@ -1,4 +1,4 @@
-"""Where switches stand: by levels from the root down, as a grid where the ports tell one, or on a ring."""
+"""Where switches stand: by levels from the root down, as a grid if the ports tell one, or on a ring."""
 
 import math
 
@@ -46,7 +46,7 @@ class Plan:
 
 
 def by_levels(plan, tables):
-    """Places each component by the levels of its tree, one beside the other, and below where there are many."""
+    """Places each component by the levels of its tree, one beside the other, and below if there are many."""
     left, top, low = 0.0, 0.0, 0.0
     for members in components(plan.network):
         rows = rows_of(plan.network, members, tables)
@@ -148,7 +148,7 @@ def bands_of(plan, tables):
 
 
 def by_grid(plan):
-    """Places a mesh or torus of two dimensions, where all links join ports of two pairs, one pair a dimension. Says
+    """Places a mesh or torus of two dimensions, if all links join ports of two pairs, one pair a dimension. Says
     whether it is one."""
     pairs = port_pairs(plan.network)
     if pairs is None:

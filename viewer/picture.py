@@ -40,7 +40,7 @@ def box(x, y, wide, high, **more):
 
 
 class Picture:
-    """Draws a plan with the values of slots, of which each has what is drawn where it has none."""
+    """Draws a plan with the values of slots, each of which has what is drawn if it has no value."""
 
     def __init__(self, plan, values, channels=False, port_width=16):
         """With room for words at each channel, or without; a port's sign is so wide."""
