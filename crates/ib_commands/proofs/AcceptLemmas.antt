@@ -9,14 +9,12 @@ use Rattle.ib_verdict.specs.declared.verify.Rise.{Rise}
 use Rattle.ib_verdict.specs.Verified.{Fall}
 use Rattle.ib_verdict.proofs.RankLemmas.{none_rises}
 use Rattle.ib_ranks.proofs.RankLemmas.{one_list, text_or}
-use Rattle.ib_lines.specs.declared.ranks.Risen.{Risen}
-use Rattle.ib_lines.specs.declared.ranks.Verified.{Verified as Answer}
 use Rattle.ib_lines.specs.Ranks.{verified_text}
 use Rattle.ib_answering.specs.declared.status.Status.{Status}
 use Rattle.ib_commands.specs.Certified.{AreRanksVerified, IsEndBy, TellsRanks, risen_of}
 use Rattle.ib_commands.specs.Words.{traffic_word}
 
-pub accepted : (traffic : Traffic) (text : List ℕ) (fabric : FabricOf) (found : Tables) (status again : Status) (written answer : List ℕ) → TellsRanks fabric (tables_of found.cells) traffic status written → AreRanksVerified traffic written text fabric found again answer → IsEndBy fabric (tables_of found.cells) traffic None again × (answer ≡ verified_text (record { traffic = traffic_word traffic; rise = None }))
+pub accepted : (traffic : Traffic) (text : List ℕ) (fabric : FabricOf) (found : Tables) (status again : Status) (written answer : List ℕ) → TellsRanks fabric (tables_of found.cells) traffic status written → AreRanksVerified traffic written text fabric found again answer → IsEndBy fabric (tables_of found.cells) traffic None again × (answer ≡ verified_text (traffic_word traffic) None)
 accepted traffic text fabric found status again written answer tells is = elim is [
   | inl judged ↦
       let tables = tables_of found.cells in
@@ -24,8 +22,7 @@ accepted traffic text fabric found status again written answer tells is = elim i
       let none : judged.found.rise ≡ None = none_rises fabric (tables_of found.cells) traffic judged.ranks judged.found.rise (subst (λ (ranks : List ℕ). Fall fabric (tables_of found.cells) traffic ranks) same tells.falls) judged.verified.rise in (
         subst (λ (rise : Option Rise). IsEndBy fabric (tables_of found.cells) traffic rise again) none judged.ends,
         judged.says
-            ∙ ap (λ (word : List ℕ). verified_text (let a : Answer = record { traffic = word; rise = judged.answer.rise } in a)) judged.traffic_is
-            ∙ ap (λ (rise : Option Risen). verified_text (let a : Answer = record { traffic = traffic_word traffic; rise = rise } in a)) (judged.rise ∙ ap (option_map (risen_of fabric)) none),
+            ∙ ap (λ (rise : Option Rise). verified_text (traffic_word traffic) (option_map (risen_of fabric) rise)) none,
       )
   | inr refused ↦ absurd (text_or fabric written tells.told refused.line refused.cause tells.reads refused.fault)
 ]

@@ -20,7 +20,6 @@ use Rattle.ib_words.specs.declared.ranks_cause.RanksCause.{RanksCause}
 use Rattle.ib_ranks.specs.Ranks.{IsRanksFault, IsRanksText}
 use Rattle.ib_lines.specs.declared.ranks.Rank.{Rank}
 use Rattle.ib_lines.specs.declared.ranks.Risen.{Risen}
-use Rattle.ib_lines.specs.declared.ranks.Verified.{Verified as Answer}
 use Rattle.ib_lines.specs.Ranks.{ranks_text, verified_text}
 use Rattle.ib_answering.specs.declared.status.Status.{Status}
 use Rattle.ib_answering.specs.declared.status.Status.TheVariants.{Cycle, Ok, RanksRefused, RanksRise, RoutesLost}
@@ -92,10 +91,7 @@ pub record AreRanksJudged (traffic : Traffic) (bytes : List ℕ) (fabric : Fabri
   pub found : Verified
   pub verified : IsVerified fabric tables traffic ranks found
   pub ends : IsEndBy fabric tables traffic found.rise status
-  pub answer : Answer
-  pub traffic_is : answer.traffic ≡ traffic_word traffic
-  pub rise : answer.rise ≡ option_map (risen_of fabric) found.rise
-  pub says : written ≡ verified_text answer
+  pub says : written ≡ verified_text (traffic_word traffic) (option_map (risen_of fabric) found.rise)
 
 -- or they are none, by their first fault, and nothing is written
 pub record AreNoRanks (bytes : List ℕ) (fabric : FabricOf) (status : Status) (written : List ℕ) : Type 0 where

@@ -39,7 +39,7 @@ switches_of arrows = insert_all nat_eq [] (map (λ arrow. arrow.step.guid) arrow
 -- a picture of the channels of a loop, with the names of their switches
 pub record IsPictureOf (traffic : Traffic) (text : List ℕ) (fabric : FabricOf) (loop : List LoopChannel) (picture : Picture)
     : Type 0 where
-  pub traffic_is : picture.traffic ≡ traffic_word traffic
+  pub traffic_is : picture.traffic.now ≡ traffic_word traffic
   pub arrows : picture.arrows.items ≡ arrows_of fabric loop
   pub names : picture.names.items ≡ names_for text (switches_of picture.arrows.items)
 

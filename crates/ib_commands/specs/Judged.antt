@@ -104,7 +104,7 @@ pub record IsAnswerFor (asked : Traffic) (text : List ℕ) (fabric : FabricOf) (
     (answer : Answer)
     : Type 0 where
   pub read : IsRead fabric found answer.read
-  pub traffic : answer.traffic ≡ traffic_word asked
+  pub traffic : answer.traffic.now ≡ traffic_word asked
   pub counts : Counts
   pub counted : AreCounts fabric (tables_of found.cells) asked counts
   pub routes : answer.routes ≡ routes_of counts

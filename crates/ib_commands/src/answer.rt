@@ -14,7 +14,6 @@ use crate::names::names_in;
 use crate::steps::steps_of;
 use crate::words::word_of;
 use an_base::memory::OutOfMemory;
-use an_base::text::Word;
 use ib_answering::input::Topology;
 use ib_answering::status::Status;
 use ib_counts::count::count_routes;
@@ -64,7 +63,7 @@ pub fn answer_for(
     let links = count_links(fabric);
     Ok(Answer {
         read: read_of(fabric, tables, links.links),
-        traffic: Word::of(alloc, word_of(traffic).as_bytes())?,
+        traffic: word_of(traffic),
         routes: routes_of(counts),
         channels: links.channels,
         dependencies: judged.dependencies,

@@ -11,7 +11,6 @@ use crate::names::names_for;
 use crate::steps::step_of;
 use crate::words::word_of;
 use an_base::memory::OutOfMemory;
-use an_base::text::Word;
 use ib_answering::command::{Command, Given};
 use ib_answering::input::Topology;
 use ib_lines::picture::{Arrow, Picture, print_picture};
@@ -62,7 +61,7 @@ fn picture_of(
     let switches = switches_of(alloc, &arrows)?;
     let names = names_for(alloc, &topology.text, &switches)?;
     Ok(Picture {
-        traffic: Word::of(alloc, word_of(traffic).as_bytes())?,
+        traffic: word_of(traffic),
         names,
         arrows,
     })

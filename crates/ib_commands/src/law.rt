@@ -18,5 +18,5 @@ pub fn ranks_are_accepted()
         → TellsRanks fabric (tables_of found.cells) traffic status written
         → AreRanksVerified traffic written text fabric found again answer
         → IsEndBy fabric (tables_of found.cells) traffic None again
-        × (answer ≡ verified_text (record { traffic = traffic_word traffic; rise = None })) }
+        × (answer ≡ verified_text (traffic_word traffic) None) }
 {}

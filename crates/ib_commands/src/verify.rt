@@ -15,7 +15,6 @@ ghost use Rattle.ib_commands.specs.Certified.{AreRanksJudged, IsEndBy, risen_of}
 use crate::ranks::risen_of;
 use crate::words::word_of;
 use an_base::memory::OutOfMemory;
-use an_base::text::Word;
 use ib_answering::command::{Command, Given};
 use ib_answering::input::Topology;
 use ib_answering::status::Status;
@@ -86,7 +85,7 @@ fn given_verified(
     let fabric = &topology.fabric;
     let found = verify(alloc, fabric, &tables.cells, traffic, ranks)?;
     let answer = Answer {
-        traffic: Word::of(alloc, word_of(traffic).as_bytes())?,
+        traffic: word_of(traffic),
         rise: told_rise(fabric, found.rise),
     };
     Ok(Given {

@@ -51,7 +51,7 @@ picture_is {Channel} row_of title names channels t0 t1 t2 t3 t4 t5 t6 h1 h2 h3 h
     e06 ∙ ap (λ (t : List ℕ). t0 ++ (p1 ++ (p2 ++ t))) (sym (last_rows (map switch_row names) (map row_of channels)))
 
 -- the parts of a picture, as they are lent
-pub picture_by : (p : Picture) (traffic : List ℕ) (many : ℕ) (names : List Name) (arrows : List Arrow) (text : List ℕ) → traffic ≡ p.traffic → many ≡ length p.arrows.items → names ≡ p.names.items → arrows ≡ p.arrows.items → text ≡ picture_text_by arrow_row (traffic ∷ loop_word many ∷ []) names arrows → text ≡ picture_text p
+pub picture_by : (p : Picture) (traffic : List ℕ) (many : ℕ) (names : List Name) (arrows : List Arrow) (text : List ℕ) → traffic ≡ p.traffic.now → many ≡ length p.arrows.items → names ≡ p.names.items → arrows ≡ p.arrows.items → text ≡ picture_text_by arrow_row (traffic ∷ loop_word many ∷ []) names arrows → text ≡ picture_text p
 picture_by p traffic many names arrows text one two three four is = is ∙ rw (one, two, three, four) refl
 
 -- what loop there is, if there is one

@@ -1,12 +1,11 @@
 -- The rows of an answer, one after another.
-use Rattle.std.proofs.Common.{◌≡◌, ◌∙◌, sym, ap, ℕ, List, [], ◌∷◌, ◌++◌, append_assoc, append-nil, map, Some, None}
+use Rattle.std.proofs.Common.{◌≡◌, ◌∙◌, sym, ap, ℕ, List, [], ◌∷◌, ◌++◌, append_assoc, append-nil, map, Option, Some, None}
 use Rattle.std.specs.Prelude.{codes}
 use Rattle.std.proofs.lemmas.Grind.{flat_map-append}
 use Rattle.text_lines.specs.Lines.{line_text, lines_text}
 use Rattle.ib_lines.specs.declared.answer.Answer.{Answer}
 use Rattle.ib_lines.specs.declared.ranks.Rank.{Rank}
 use Rattle.ib_lines.specs.declared.ranks.Risen.{Risen}
-use Rattle.ib_lines.specs.declared.ranks.Verified.{Verified}
 use Rattle.ib_lines.specs.Ranks.{rank_row, ranks_text, risen_rows, verified_rows, verified_text}
 use Rattle.ib_lines.specs.Answers.{Row, answer_rows, answer_text, read_row, judged_row, routes_row, channel_row, channels_row, cycle_rows, lost_rows, name_row}
 
@@ -26,12 +25,12 @@ last_rows a =
     let names = map name_row a.names.items in
     flat_map-append line_text (cycle ++ lost) names ∙ ap (λ (t : List ℕ). t ++ lines_text names) (flat_map-append line_text cycle lost) ∙ append_assoc (lines_text cycle) (lines_text lost) (lines_text names)
 
-pub answer_is : (a : Answer) (t0 t1 t2 t3 t4 t5 t6 t7 t8 traffic : List ℕ) → traffic ≡ a.traffic → t1 ≡ t0 ++ line_text (codes "fabric" ∷ codes "1" ∷ []) → t2 ≡ t1 ++ line_text (read_row a.read) → t3 ≡ t2 ++ line_text (judged_row traffic) → t4 ≡ t3 ++ line_text (routes_row a.routes) → t5 ≡ t4 ++ line_text (channels_row a.channels a.dependencies) → t6 ≡ t5 ++ lines_text (cycle_rows a.cycle.items) → t7 ≡ t6 ++ lines_text (lost_rows a.losses a.lost.items) → t8 ≡ t7 ++ lines_text (map name_row a.names.items) → t8 ≡ t0 ++ answer_text a
+pub answer_is : (a : Answer) (t0 t1 t2 t3 t4 t5 t6 t7 t8 traffic : List ℕ) → traffic ≡ a.traffic.now → t1 ≡ t0 ++ line_text (codes "fabric" ∷ codes "1" ∷ []) → t2 ≡ t1 ++ line_text (read_row a.read) → t3 ≡ t2 ++ line_text (judged_row traffic) → t4 ≡ t3 ++ line_text (routes_row a.routes) → t5 ≡ t4 ++ line_text (channels_row a.channels a.dependencies) → t6 ≡ t5 ++ lines_text (cycle_rows a.cycle.items) → t7 ≡ t6 ++ lines_text (lost_rows a.losses a.lost.items) → t8 ≡ t7 ++ lines_text (map name_row a.names.items) → t8 ≡ t0 ++ answer_text a
 unfolding answer_rows
 answer_is a t0 t1 t2 t3 t4 t5 t6 t7 t8 traffic word h1 h2 h3 h4 h5 h6 h7 h8 =
     let p1 = line_text (codes "fabric" ∷ codes "1" ∷ []) in
     let p2 = line_text (read_row a.read) in
-    let p3 = line_text (judged_row a.traffic) in
+    let p3 = line_text (judged_row a.traffic.now) in
     let p4 = line_text (routes_row a.routes) in
     let p5 = line_text (channels_row a.channels a.dependencies) in
     let p6 = lines_text (cycle_rows a.cycle.items) in
@@ -62,13 +61,13 @@ risen_is rise t0 t1 t2 t3 t4 h1 h2 h3 h4 =
 pub fall_is : (t0 t1 : List ℕ) → t1 ≡ t0 ++ line_text (codes "ranks" ∷ codes "fall" ∷ []) → t1 ≡ t0 ++ lines_text (risen_rows None)
 fall_is t0 t1 h1 = h1 ∙ ap (λ (t : List ℕ). t0 ++ t) (sym (append-nil (line_text (codes "ranks" ∷ codes "fall" ∷ []))))
 
-pub verified_is : (a : Verified) (t0 t1 t2 t3 traffic : List ℕ) → traffic ≡ a.traffic → t1 ≡ t0 ++ line_text (codes "fabric" ∷ codes "1" ∷ []) → t2 ≡ t1 ++ line_text (judged_row traffic) → t3 ≡ t2 ++ lines_text (risen_rows a.rise) → t3 ≡ t0 ++ verified_text a
+pub verified_is : (word traffic : List ℕ) (rise : Option Risen) (t0 t1 t2 t3 : List ℕ) → word ≡ traffic → t1 ≡ t0 ++ line_text (codes "fabric" ∷ codes "1" ∷ []) → t2 ≡ t1 ++ line_text (judged_row word) → t3 ≡ t2 ++ lines_text (risen_rows rise) → t3 ≡ t0 ++ verified_text traffic rise
 unfolding verified_rows
-verified_is a t0 t1 t2 t3 traffic word h1 h2 h3 =
+verified_is word traffic rise t0 t1 t2 t3 same h1 h2 h3 =
     let p1 = line_text (codes "fabric" ∷ codes "1" ∷ []) in
-    let p2 = line_text (judged_row a.traffic) in
-    let p3 = lines_text (risen_rows a.rise) in
-    let judged : t2 ≡ t1 ++ p2 = h2 ∙ ap (λ (w : List ℕ). t1 ++ line_text (judged_row w)) word in
+    let p2 = line_text (judged_row traffic) in
+    let p3 = lines_text (risen_rows rise) in
+    let judged : t2 ≡ t1 ++ p2 = h2 ∙ ap (λ (w : List ℕ). t1 ++ line_text (judged_row w)) same in
     let e13 = onward t1 p2 p3 t2 t3 judged h3 in
     onward t0 p1 (p2 ++ p3) t1 t3 h1 e13
 

@@ -87,7 +87,7 @@ name_row name = codes "name" ∷ guid_word name.guid ∷ name.text ∷ []
 -- all of it
 unfoldable pub answer_rows : Answer → List Row
 answer_rows answer =
-    (codes "fabric" ∷ codes "1" ∷ []) ∷ read_row answer.read ∷ judged_row answer.traffic
+    (codes "fabric" ∷ codes "1" ∷ []) ∷ read_row answer.read ∷ judged_row answer.traffic.now
     ∷ routes_row answer.routes ∷ channels_row answer.channels answer.dependencies
     ∷ (cycle_rows answer.cycle.items ++ lost_rows answer.losses answer.lost.items
     ++ map name_row answer.names.items)

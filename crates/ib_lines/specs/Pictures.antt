@@ -77,5 +77,5 @@ picture_text_by row_of title names channels = lines_text (picture_rows_by row_of
 
 abbrev pub picture_text : Picture → List ℕ
 picture_text picture =
-    picture_text_by arrow_row (picture.traffic ∷ loop_word (length picture.arrows.items) ∷ [])
+    picture_text_by arrow_row (picture.traffic.now ∷ loop_word (length picture.arrows.items) ∷ [])
     picture.names.items picture.arrows.items

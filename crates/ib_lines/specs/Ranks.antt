@@ -5,7 +5,6 @@ use Rattle.std.specs.Fmt.{decimal}
 use Rattle.text_lines.specs.Lines.{lines_text}
 use Rattle.ib_lines.specs.declared.ranks.Rank.{Rank}
 use Rattle.ib_lines.specs.declared.ranks.Risen.{Risen}
-use Rattle.ib_lines.specs.declared.ranks.Verified.{Verified}
 use Rattle.ib_lines.specs.Answers.{Row, channel_row, guid_word, judged_row}
 
 -- the rank of the channel out of a port of a switch
@@ -22,9 +21,9 @@ risen_rows None = (codes "ranks" ∷ codes "fall" ∷ []) ∷ []
 risen_rows (Some rise) =
     (codes "ranks" ∷ codes "rise" ∷ []) ∷ channel_row rise.step ∷ rank_row rise.own ∷ rank_row rise.next ∷ []
 
--- all of the answer
-unfoldable pub verified_rows : Verified → List Row
-verified_rows answer = (codes "fabric" ∷ codes "1" ∷ []) ∷ judged_row answer.traffic ∷ risen_rows answer.rise
+-- all of the answer: which routes were judged, and whether the ranks fall
+unfoldable pub verified_rows : (traffic : List ℕ) → Option Risen → List Row
+verified_rows traffic rise = (codes "fabric" ∷ codes "1" ∷ []) ∷ judged_row traffic ∷ risen_rows rise
 
-abbrev pub verified_text : Verified → List ℕ
-verified_text answer = lines_text (verified_rows answer)
+abbrev pub verified_text : (traffic : List ℕ) → Option Risen → List ℕ
+verified_text traffic rise = lines_text (verified_rows traffic rise)

@@ -98,7 +98,7 @@ pub struct Answer {
     /// What was read.
     pub read: Read,
     /// The word of the traffic that was judged.
-    pub traffic: Word,
+    pub traffic: &'static str,
     /// Its routes.
     pub routes: Routes,
     /// How many channels the fabric has.

@@ -9,7 +9,6 @@ use crate::answer::{Name, Step};
 use crate::row::RowWord::{Closed, Label, Loop, Number, Quoted, Text};
 use crate::row::{HasRow, RowWord, push_row, push_rows};
 use an_base::memory::OutOfMemory;
-use an_base::text::Word;
 use std::alloc::Global;
 
 /// A channel of a credit loop.
@@ -27,7 +26,7 @@ pub struct Arrow {
 #[derive(Drop)]
 pub struct Picture {
     /// The word of the traffic that was judged.
-    pub traffic: Word,
+    pub traffic: &'static str,
     /// The names of the switches.
     pub names: Vec<Name>,
     /// The channels, or none if there is no credit loop.

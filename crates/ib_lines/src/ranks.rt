@@ -9,7 +9,6 @@ use crate::printer::push_judged;
 use crate::row::RowWord::{Guid, Number, Text};
 use crate::row::{HasRow, push_row, push_rows};
 use an_base::memory::OutOfMemory;
-use an_base::text::Word;
 use std::alloc::Global;
 
 /// The rank of a channel.
@@ -35,10 +34,10 @@ pub struct Risen {
 }
 
 /// The answer for ranks, a topology and tables.
-#[derive(Drop)]
+#[derive(Clone, Copy)]
 pub struct Verified {
     /// The word of the traffic that was judged.
-    pub traffic: Word,
+    pub traffic: &'static str,
     /// The first dependency along which the ranks do not fall, or None if they fall along each.
     pub rise: Option<Risen>,
 }
@@ -82,7 +81,7 @@ impl HasRow for Rank {
 
 /// The text of the answer for ranks.
 pub fn print_verified(alloc: Global, answer: &Verified) -> Result<Vec<u8>, OutOfMemory>
-    ensures { IfOk result (λ text. text.items ≡ verified_text answer.now) }
+    ensures { IfOk result (λ text. text.items ≡ verified_text answer.now.traffic.now answer.now.rise) }
 {
     let mut text = Vec::new(alloc);
     match push_verified(alloc, &mut text, answer) {
@@ -92,7 +91,8 @@ pub fn print_verified(alloc: Global, answer: &Verified) -> Result<Vec<u8>, OutOf
 }
 
 fn push_verified(alloc: Global, text: &mut Vec<u8>, answer: &Verified) -> Result<(), OutOfMemory>
-    ensures { OnOk result (text.new.items ≡ text.old.items ++ verified_text answer.now) }
+    ensures { OnOk result
+        (text.new.items ≡ text.old.items ++ verified_text answer.now.traffic.now answer.now.rise) }
 {
     push_row(alloc, text, Text(b"fabric"), &[Text(b"1")])?;
     push_judged(alloc, text, answer.traffic.as_bytes())?;

@@ -13,7 +13,7 @@ returns c =
     let lost = ap (λ (routes : List Lost). names_for topology.text.items (mentioned c.in_ok-cycle.cycle.items routes)) c.deref-3.ensures.value in
     record {
       read = c.read_of.ensures c.count_links-links.ensures.links;
-      traffic = c.in_ok-of.ensures ∙ c.as_bytes.ensures.value ∙ c.word_of.ensures;
+      traffic = c.word_of.ensures;
       counts = c.in_ok-counts.counts;
       counted = c.in_ok-counts.ensures.counts;
       routes = c.routes_of.ensures;

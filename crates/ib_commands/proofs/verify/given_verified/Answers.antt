@@ -1,5 +1,8 @@
-use Rattle.std.proofs.Common.{◌∙◌}
+use Rattle.std.proofs.Common.{◌∙◌, ap, ℕ, List, Option}
 use Rattle.ib_cells.specs.Cells.{tables_of}
+use Rattle.ib_lines.specs.declared.ranks.Risen.{Risen}
+use Rattle.ib_lines.specs.Ranks.{verified_text}
+use Rattle.ib_commands.specs.Words.{traffic_word}
 use Rattle.ib_commands.proofs.EndLemmas.{is_ending_by}
 use Rattle.ib_commands.proofs.verify.given_verified.Goals as goal
 
@@ -10,10 +13,7 @@ returns-clause-given c bytes told = record {
   found = c.in_ok-found.found;
   verified = c.in_ok-found.ensures;
   ends = c.status_of.ensures c.args.topology.now.fabric (tables_of c.args.tables.now.cells) c.args.traffic c.args.ranks.now c.in_ok-found.ensures;
-  answer = _;
-  traffic_is = c.in_ok-of.ensures ∙ c.as_bytes.ensures.value ∙ c.word_of.ensures;
-  rise = c.told_rise.ensures;
-  says = c.in_ok-print_verified.ensures;
+  says = c.in_ok-print_verified.ensures ∙ ap (λ (word : List ℕ). verified_text word c.told_rise.result) c.word_of.ensures ∙ ap (λ (rise : Option Risen). verified_text (traffic_word c.args.traffic) rise) c.told_rise.ensures;
 }
 
 pub returns-clause-ends : goal.returns-clause-ends
