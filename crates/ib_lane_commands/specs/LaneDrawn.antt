@@ -39,7 +39,7 @@ lane_switches_of arrows = insert_all nat_eq [] (map (λ one. one.arrow.step.guid
 pub record IsLanePictureOf (traffic : Traffic) (asked : LevelsAsked) (told : Told) (loop : List LaneLoopChannel)
     (picture : LanePicture)
     : Type 0 where
-  pub traffic_is : picture.traffic ≡ traffic_word traffic
+  pub traffic_is : picture.traffic.now ≡ traffic_word traffic
   pub lanes : IsLaneCount (lanes_of told.lanes) picture.lanes
   pub levels : picture.levels ≡ asked
   pub arrows : picture.arrows.items ≡ lane_arrows_of told.fabric loop

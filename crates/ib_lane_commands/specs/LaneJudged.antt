@@ -115,7 +115,7 @@ lane_lost_of fabric lost =
 -- each part of the answer
 pub record IsLaneAnswerFor (traffic : Traffic) (asked : LevelsAsked) (told : Told) (answer : LaneAnswer) : Type 0 where
   pub read : IsRead told.fabric told.found answer.read
-  pub traffic_is : answer.traffic ≡ traffic_word traffic
+  pub traffic_is : answer.traffic.now ≡ traffic_word traffic
   pub lanes : IsLaneCount (lanes_of told.lanes) answer.lanes
   pub levels : answer.levels ≡ asked
   pub counts : LaneCounts

@@ -15,7 +15,6 @@ use crate::losses::{losses_of, lost_of};
 use crate::names::names_in;
 use crate::steps::steps_of;
 use an_base::memory::OutOfMemory;
-use an_base::text::Word;
 use ib_commands::answer::read_of;
 use ib_commands::words::word_of;
 use ib_lane_counts::count::count_lane_routes;
@@ -49,7 +48,7 @@ pub fn answer_for(
     let links = count_links(fabric).links;
     Ok(LaneAnswer {
         read: read_of(fabric, &input.tables, links),
-        traffic: Word::of(alloc, word_of(traffic).as_bytes())?,
+        traffic: word_of(traffic),
         lanes: input.lanes.count() as u64,
         levels: asked,
         routes: routes_of(counts),

@@ -11,7 +11,6 @@ use crate::input::Input;
 use crate::judged::{cycle_of, judged_for, status_of};
 use crate::steps::without_lane;
 use an_base::memory::OutOfMemory;
-use an_base::text::Word;
 use ib_answering::command::Given;
 use ib_commands::dot::arrow_for;
 use ib_commands::names::names_for;
@@ -65,7 +64,7 @@ fn picture_for(
     let switches = switches_of(alloc, &arrows)?;
     let names = names_for(alloc, &input.topology.text, &switches)?;
     Ok(LanePicture {
-        traffic: Word::of(alloc, word_of(traffic).as_bytes())?,
+        traffic: word_of(traffic),
         lanes: input.lanes.count() as u64,
         levels: asked,
         names,

@@ -21,12 +21,12 @@ last_rows silent channels cycle note lost names =
     ∙ two (silent ++ channels) cycle (lines_text note ++ (lines_text lost ++ lines_text names))
     ∙ two silent channels (lines_text cycle ++ (lines_text note ++ (lines_text lost ++ lines_text names)))
 
-pub answer_is : (a : LaneAnswer) (t0 t1 t2 t3 t4 t5 t6 t7 t8 t9 t10 traffic : List ℕ) → traffic ≡ a.traffic → t1 ≡ t0 ++ line_text (codes "fabric" ∷ codes "1" ∷ []) → t2 ≡ t1 ++ line_text (read_row a.read) → t3 ≡ t2 ++ line_text (lane_judged_row traffic a.lanes a.levels) → t4 ≡ t3 ++ line_text (routes_row a.routes) → t5 ≡ t4 ++ lines_text (silent_rows a.silent) → t6 ≡ t5 ++ line_text (channels_row a.channels a.dependencies) → t7 ≡ t6 ++ lines_text (cycle_rows_by lane_channel_row a.cycle.items) → t8 ≡ t7 ++ lines_text (note_rows a.levels a.cycle.items) → t9 ≡ t8 ++ lines_text (lane_lost_rows a.losses a.lost.items) → t10 ≡ t9 ++ lines_text (map name_row a.names.items) → t10 ≡ t0 ++ lane_answer_text a
+pub answer_is : (a : LaneAnswer) (t0 t1 t2 t3 t4 t5 t6 t7 t8 t9 t10 traffic : List ℕ) → traffic ≡ a.traffic.now → t1 ≡ t0 ++ line_text (codes "fabric" ∷ codes "1" ∷ []) → t2 ≡ t1 ++ line_text (read_row a.read) → t3 ≡ t2 ++ line_text (lane_judged_row traffic a.lanes a.levels) → t4 ≡ t3 ++ line_text (routes_row a.routes) → t5 ≡ t4 ++ lines_text (silent_rows a.silent) → t6 ≡ t5 ++ line_text (channels_row a.channels a.dependencies) → t7 ≡ t6 ++ lines_text (cycle_rows_by lane_channel_row a.cycle.items) → t8 ≡ t7 ++ lines_text (note_rows a.levels a.cycle.items) → t9 ≡ t8 ++ lines_text (lane_lost_rows a.losses a.lost.items) → t10 ≡ t9 ++ lines_text (map name_row a.names.items) → t10 ≡ t0 ++ lane_answer_text a
 unfolding lane_answer_rows
 answer_is a t0 t1 t2 t3 t4 t5 t6 t7 t8 t9 t10 traffic word h1 h2 h3 h4 h5 h6 h7 h8 h9 h10 =
     let p1 = line_text (codes "fabric" ∷ codes "1" ∷ []) in
     let p2 = line_text (read_row a.read) in
-    let p3 = line_text (lane_judged_row a.traffic a.lanes a.levels) in
+    let p3 = line_text (lane_judged_row a.traffic.now a.lanes a.levels) in
     let p4 = line_text (routes_row a.routes) in
     let p5 = lines_text (silent_rows a.silent) in
     let channels : List Row = channels_row a.channels a.dependencies ∷ [] in

@@ -67,7 +67,7 @@ lane_lost_rows losses lost = if losses.all == 0 then [] else lane_losses_row los
 unfoldable pub lane_answer_rows : LaneAnswer → List Row
 lane_answer_rows answer =
     (codes "fabric" ∷ codes "1" ∷ []) ∷ read_row answer.read
-    ∷ lane_judged_row answer.traffic answer.lanes answer.levels
+    ∷ lane_judged_row answer.traffic.now answer.lanes answer.levels
     ∷ routes_row answer.routes
     ∷ (silent_rows answer.silent ++ (channels_row answer.channels answer.dependencies ∷ [])
     ++ cycle_rows_by lane_channel_row answer.cycle.items ++ note_rows answer.levels answer.cycle.items

@@ -15,7 +15,7 @@ lane_arrow_row one = arrow_row_by (lane_label one.lane one.level) one.arrow
 -- which routes were judged, on how many lanes, with which levels, and what loop there is
 abbrev pub lane_title : LanePicture → Row
 lane_title picture =
-    picture.traffic ∷ codes "lanes" ∷ decimal picture.lanes ∷ codes "levels" ∷ levels_word picture.levels
+    picture.traffic.now ∷ codes "lanes" ∷ decimal picture.lanes ∷ codes "levels" ∷ levels_word picture.levels
     ∷ loop_word (length picture.arrows.items) ∷ []
 
 abbrev pub lane_picture_text : LanePicture → List ℕ

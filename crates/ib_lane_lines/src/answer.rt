@@ -1,6 +1,5 @@
 //! What the program answers for tables with lanes.
 
-use an_base::text::Word;
 use ib_lines::answer::{Name, Read, Routes, Step};
 
 /// With which service levels end ports send.
@@ -78,7 +77,7 @@ pub struct LaneAnswer {
     /// What was read of the topology and the tables.
     pub read: Read,
     /// The word of the traffic that was judged.
-    pub traffic: Word,
+    pub traffic: &'static str,
     /// How many lanes there are.
     pub lanes: u64,
     /// With which service levels it was judged.

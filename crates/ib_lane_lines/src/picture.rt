@@ -6,7 +6,6 @@ ghost use Rattle.ib_lane_lines.specs.LanePictures.{lane_picture_text};
 use crate::answer::LevelsAsked;
 use crate::printer::levels_word;
 use an_base::memory::OutOfMemory;
-use an_base::text::Word;
 use ib_lines::answer::Name;
 use ib_lines::picture::{Arrow, print_picture_by, push_arrow};
 use ib_lines::row::HasRow;
@@ -28,7 +27,7 @@ pub struct LaneArrow {
 #[derive(Drop)]
 pub struct LanePicture {
     /// The word of the traffic that was judged.
-    pub traffic: Word,
+    pub traffic: &'static str,
     /// How many lanes there are.
     pub lanes: u64,
     /// With which service levels it was judged.

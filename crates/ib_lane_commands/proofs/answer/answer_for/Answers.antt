@@ -17,7 +17,7 @@ returns-clause-answer c =
     let lost = ap (λ (routes : List LaneLost). names_for input.topology.text.items (lane_mentioned c.in_ok-cycle.cycle.items routes)) c.deref-3.ensures.value in
     record {
       read = c.read_of.ensures c.count_links-links.ensures.links;
-      traffic_is = c.in_ok-of.ensures ∙ c.as_bytes.ensures.value ∙ c.word_of.ensures;
+      traffic_is = c.word_of.ensures;
       lanes = c.count.ensures.lanes;
       levels = refl;
       counts = c.in_ok-counts.counts;

@@ -5,4 +5,4 @@ use Rattle.ib_lane_lines.proofs.LanePictureLemmas.{picture_by}
 use Rattle.ib_lane_lines.proofs.picture.print_picture.Goals as goal
 
 pub returns : goal.returns
-returns c = IfOk-weaker c.print_picture_by.result _ _ (λ text. picture_by c.args.picture.now c.as_bytes.result.now (word_text c.levels_word.result) c.len.result c.deref.result.now c.deref-2.result.now text.items c.as_bytes.ensures c.levels_word.ensures (omega (arith, c.len.ensures, c.args.picture.now.arrows.ok.0)) c.deref.ensures.value c.deref-2.ensures.value) c.print_picture_by.ensures
+returns c = IfOk-weaker c.print_picture_by.result _ _ (λ text. picture_by c.args.picture.now c.as_bytes.result.now (word_text c.levels_word.result) c.len.result c.deref.result.now c.deref-2.result.now text.items c.as_bytes.ensures.value c.levels_word.ensures (omega (arith, c.len.ensures, c.args.picture.now.arrows.ok.0)) c.deref.ensures.value c.deref-2.ensures.value) c.print_picture_by.ensures
