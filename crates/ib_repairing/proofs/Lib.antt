@@ -1,1 +1,3 @@
 mod ReportLemmas
+mod AlikeLemmas
+mod SetLemmas

@@ -1,3 +1,4 @@
 pub mod Repairs
 pub mod Reports
 pub mod Given
+pub mod SetRows

@@ -7,6 +7,7 @@
 #![tactic(auto)]
 
 pub mod commands;
+pub mod law;
 pub mod repaired;
 pub mod report;
 pub mod rows;
