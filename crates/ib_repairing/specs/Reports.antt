@@ -23,7 +23,8 @@ measures_row when of =
     when ∷ codes "routes" ∷ decimal of.routes ∷ codes "hops" ∷ decimal of.hops
     ∷ codes "longest" ∷ decimal of.longest ∷ codes "greatest" ∷ decimal of.greatest ∷ []
 
--- more rows are set than a twentieth of the cells: it is told that `route` makes better tables
+-- more rows are set than a twentieth of the cells: it is told that `route` is likely to make
+-- better tables
 abbrev pub better_rows : Report → List Row
 better_rows report = if nat_lt (report.cells / 20) (length report.rows.items)
     then (codes "better" ∷ codes "route" ∷ []) ∷ []

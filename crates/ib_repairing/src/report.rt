@@ -119,7 +119,7 @@ fn push_measures(
     )
 }
 
-// Where more than a twentieth of the rows are set, that `route` makes better tables.
+// If more than a twentieth of the rows are set, that `route` is likely to make better tables.
 fn push_better(text: &mut Vec<u8>, report: &Report) -> Result<(), OutOfMemory>
     ensures { OnOk result (text.new.items ≡ text.old.items ++ lines_text (better_rows report.now)) }
 {
