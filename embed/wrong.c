@@ -1,18 +1,30 @@
-/* What a caller in C can do wrong, and what it is answered; and each allocation failing in turn. Prints a
- * line for each answer that is another than it should be, and then 'N passed, M failed'. It is linked with
- * --wrap=malloc,--wrap=realloc. */
+/* What a caller in C can do wrong, and what it is answered; each allocation failing in turn; and that all
+ * memory is given back. Prints a line for each answer that is another than it should be, and then 'N passed,
+ * M failed'. It is linked with --wrap=malloc,--wrap=realloc,--wrap=free. */
 #include "autonet.h"
 #include <stdio.h>
 #include <string.h>
 
 void *__real_malloc(size_t size);
 void *__real_realloc(void *at, size_t size);
+void __real_free(void *at);
 static long until = -1; /* how many allocations go well before one fails; -1: all */
+static uint32_t blocks; /* how many the library holds */
 
 static int fails(void) { return until >= 0 && until-- == 0; }
 
-void *__wrap_malloc(size_t size) { return fails() ? NULL : __real_malloc(size); }
+void *__wrap_malloc(size_t size) {
+    void *at = fails() ? NULL : __real_malloc(size);
+    blocks += at != NULL;
+    return at;
+}
+
 void *__wrap_realloc(void *at, size_t size) { return fails() ? NULL : __real_realloc(at, size); }
+
+void __wrap_free(void *at) {
+    blocks -= at != NULL;
+    __real_free(at);
+}
 
 static int passed, failed;
 
@@ -46,6 +58,7 @@ static void none_is_held(const char *when, autonet_switch *s) {
     autonet_switch before = *s;
     uint32_t written = 0;
     printf("%s\n", when);
+    want("blocks held", blocks, 0);
     memset(&passed, 0xa5, sizeof passed);
     want("clock", autonet_clock(s, 0, 2, 0), AUTONET_NOT_STARTED);
     want("frame", autonet_frame(s, 1, bytes, 0), AUTONET_NOT_STARTED);
@@ -176,6 +189,7 @@ int main(void) {
     spent(&s);
     long well = 0;
     while (without(&s, well)) well++;
+    none_is_held("after all", &s);
     printf("%ld allocations failed in turn\n", well);
     printf("%d passed, %d failed\n", passed, failed);
     return failed != 0;
