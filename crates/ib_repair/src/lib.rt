@@ -3,7 +3,8 @@
 //!
 //! It stands on `an_base`, `ib_net`, `ib_cells`, `ib_routes`, `ib_channels`, `ib_orders`, `ib_sorting`, `ib_rising` and
 //! `ib_laying`. Its contract: `repair` answers tables of as many switches as the fabric and for all its LIDs, and takes no
-//! port away. That these are good, and that few rows are set, is not proved: who takes them has them judged.
+//! port away. That these are good, and that few rows are set, is not proved: who takes them has them judged. `keep`
+//! answers such tables in which no row is set.
 #![tactic(auto)]
 
 mod changes;

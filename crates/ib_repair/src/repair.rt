@@ -1,21 +1,21 @@
 //! Tables repaired along the best of several orders.
 
 ghost use Rattle.std.specs.Prelude.{◌≡◌, ◌≤◌, ◌*◌, length, IfOk, IfSome};
-ghost use Rattle.ib_net.specs.Fabric.{switch_count};
-ghost use Rattle.ib_repair.specs.Repaired.{AreRepairedOf};
+ghost use Rattle.ib_net.specs.Fabric.{IsFabric, switch_count};
+ghost use Rattle.ib_cells.specs.Cells.{tables_of};
+ghost use Rattle.ib_repair.specs.Repaired.{AreAlike, AreRepairedOf};
 
 use crate::changes::Changes;
 use crate::figures::measure;
 use crate::mending::{Scope, mend};
 use crate::roots::{falling, find_root, tree_from};
-use crate::task::{Ports, Task};
+use crate::task::{Parts, Task};
 use crate::weights::{reweigh, weigh};
 use crate::wishes::wish;
-use crate::writing::write_tables;
+use crate::writing::{copy_tables, write_tables};
 use an_base::memory::OutOfMemory;
 use ib_cells::cells::Cells;
 use ib_channels::channels::{Channel, Channels, Turn};
-use ib_channels::demand::Demand;
 use ib_channels::order::Order;
 use ib_channels::table::Table;
 use ib_laying::measures::Measures;
@@ -414,15 +414,30 @@ pub fn repair(
     requires lids { length fabric.now.owners ≤ 64 * cells.now.blocks }
     ensures { IfOk result (λ found. IfSome found (λ made. AreRepairedOf fabric.now cells.now made.cells)) }
 {
-    let channels = Channels::of(alloc, fabric)?;
-    let demand = Demand::of(alloc, fabric)?;
-    let ports = Ports::of(alloc, &channels)?;
-    let task = Task {
-        channels: &channels,
-        demand: &demand,
-        ports: &ports,
-        cells,
-        traffic,
-    };
-    repair_task(alloc, fabric, cells, task)
+    let parts = Parts::of(alloc, fabric)?;
+    repair_task(alloc, fabric, cells, parts.task(cells, traffic))
+}
+
+/// Given tables in which no row is set: each port for a LID that has an owner, and no other. The error is want of
+/// memory alone.
+pub fn keep(
+    alloc: Global,
+    fabric: &Fabric,
+    cells: &Cells,
+    traffic: Traffic,
+) -> Result<Repaired, OutOfMemory>
+    requires switches { cells.now.switches ≡ switch_count fabric.now }
+    requires lids { length fabric.now.owners ≤ 64 * cells.now.blocks }
+    ensures shape { IfOk result (λ made. AreRepairedOf fabric.now cells.now made.cells) }
+    ensures alike { IfOk result (λ made. AreAlike fabric.now (tables_of cells.now) (tables_of made.cells)) }
+    ensures fabric { IfOk result (λ _. IsFabric fabric.now) }
+{
+    let parts = Parts::of(alloc, fabric)?;
+    let measures = measure(alloc, parts.task(cells, traffic), None)?;
+    Ok(Repaired {
+        cells: copy_tables(alloc, fabric, cells)?,
+        lids: 0,
+        before: measures,
+        after: measures,
+    })
 }

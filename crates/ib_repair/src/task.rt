@@ -5,6 +5,7 @@ use ib_cells::cells::Cells;
 use ib_channels::channels::{Channel, Channels};
 use ib_channels::demand::{Demand, Target};
 use ib_channels::table::Table;
+use ib_net::fabric::Fabric;
 use ib_rising::plan::{sends_from, sends_to};
 use ib_routes::traffic::Traffic;
 use std::alloc::Global;
@@ -39,6 +40,39 @@ impl Ports {
     /// The channel of a port.
     pub fn channel(&self, switch: u32, port: u8) -> Option<Channel> {
         self.slots.get(slot_of(switch, port))
+    }
+}
+
+/// What a task has of the fabric.
+#[derive(Drop)]
+pub struct Parts {
+    channels: Channels,
+    demand: Demand,
+    ports: Ports,
+}
+
+impl Parts {
+    /// The parts of a fabric.
+    pub fn of(alloc: Global, fabric: &Fabric) -> Result<Parts, OutOfMemory> {
+        let channels = Channels::of(alloc, fabric)?;
+        let demand = Demand::of(alloc, fabric)?;
+        let ports = Ports::of(alloc, &channels)?;
+        Ok(Parts {
+            channels,
+            demand,
+            ports,
+        })
+    }
+
+    /// To repair tables of the fabric for a traffic.
+    pub fn task<'a>(&'a self, cells: &'a Cells, traffic: Traffic) -> Task<'a> {
+        Task {
+            channels: &self.channels,
+            demand: &self.demand,
+            ports: &self.ports,
+            cells,
+            traffic,
+        }
     }
 }
 

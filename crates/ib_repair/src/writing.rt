@@ -1,10 +1,10 @@
 //! Tables with rows set otherwise than in given ones.
 
-ghost use Rattle.std.specs.Prelude.{◌≡◌, ◌≢◌, ◌<◌, ◌≤◌, ◌*◌, ℕ, length, None, IfOk};
-ghost use Rattle.ib_net.specs.Fabric.{owner_of, switch_count};
-ghost use Rattle.ib_cells.specs.Cells.{tables_of};
+ghost use Rattle.std.specs.Prelude.{◌≡◌, ◌≢◌, ◌<◌, ◌≤◌, ◌*◌, ℕ, length, Some, None, IfOk};
+ghost use Rattle.ib_net.specs.Fabric.{IsFabric, owner_of, switch_count};
+ghost use Rattle.ib_cells.specs.Cells.{TablesOf, tables_of};
 ghost use Rattle.ib_laying.specs.Made.{AreTablesFor};
-ghost use Rattle.ib_repair.specs.Repaired.{AreRepairedOf, HasKept};
+ghost use Rattle.ib_repair.specs.Repaired.{AreAlike, ArePartOf, AreRepairedOf, HasKept};
 
 use crate::changes::Row;
 use an_base::memory::OutOfMemory;
@@ -33,6 +33,8 @@ fn put_port(fabric: &Fabric, made: &mut Cells, switch: usize, lid: usize, port: 
     ensures tables { AreTablesFor fabric.now made.new }
     ensures kept { (other other_lid : ℕ) → HasKept (tables_of made.old) (tables_of made.new) other other_lid }
     ensures put { owner_of fabric.now lid ≢ None → port < 255 → tables_of made.new switch lid ≢ None }
+    ensures part { (given : TablesOf) → Some port ≡ given switch lid
+        → ArePartOf given (tables_of made.old) → ArePartOf given (tables_of made.new) }
 {
     if port < u8::MAX && fabric.owner(lid).is_some() {
         let _ = made.put(switch, lid, port);
@@ -59,6 +61,8 @@ fn copy_cell(fabric: &Fabric, given: &Cells, made: &mut Cells, switch: usize, li
     ensures tables { AreTablesFor fabric.now made.new }
     ensures kept { (other other_lid : ℕ) → HasKept (tables_of made.old) (tables_of made.new) other other_lid }
     ensures here { owner_of fabric.now lid ≢ None → HasKept (tables_of given.now) (tables_of made.new) switch lid }
+    ensures part { ArePartOf (tables_of given.now) (tables_of made.old)
+        → ArePartOf (tables_of given.now) (tables_of made.new) }
 {
     if let Some(port) = given.port(switch, lid / 64, lid % 64) {
         put_port(fabric, made, switch, lid, port);
@@ -75,9 +79,25 @@ fn copy_switch(fabric: &Fabric, given: &Cells, made: &mut Cells, switch: usize)
     ensures kept { (other other_lid : ℕ) → HasKept (tables_of made.old) (tables_of made.new) other other_lid }
     ensures here { (lid : ℕ) → owner_of fabric.now lid ≢ None
         → HasKept (tables_of given.now) (tables_of made.new) switch lid }
+    ensures part { ArePartOf (tables_of given.now) (tables_of made.old)
+        → ArePartOf (tables_of given.now) (tables_of made.new) }
 {
     'lids: for lid in 0..fabric.lids() {
         copy_cell(fabric, given, made, switch, lid);
+    }
+}
+
+// Copies the tables of all switches.
+fn copy_switches(fabric: &Fabric, given: &Cells, made: &mut Cells)
+    requires switches { given.now.switches ≡ switch_count fabric.now }
+    requires lids { length fabric.now.owners ≤ 64 * given.now.blocks }
+    requires tables { AreTablesFor fabric.now made.old }
+    ensures made { AreRepairedOf fabric.now given.now made.new }
+    ensures part { ArePartOf (tables_of given.now) (tables_of made.old)
+        → ArePartOf (tables_of given.now) (tables_of made.new) }
+{
+    'switches: for switch in 0..fabric.switches() {
+        copy_switch(fabric, given, made, switch);
     }
 }
 
@@ -94,8 +114,19 @@ pub fn write_tables(
 {
     let mut made = Cells::new(alloc, fabric.switches(), fabric.lids())?;
     put_rows(fabric, &mut made, rows);
-    'switches: for switch in 0..fabric.switches() {
-        copy_switch(fabric, given, &mut made, switch);
-    }
+    copy_switches(fabric, given, &mut made);
+    Ok(made)
+}
+
+/// Given tables with no row set: what they have in all cells of LIDs that have an owner.
+pub fn copy_tables(alloc: Global, fabric: &Fabric, given: &Cells) -> Result<Cells, OutOfMemory>
+    requires switches { given.now.switches ≡ switch_count fabric.now }
+    requires lids { length fabric.now.owners ≤ 64 * given.now.blocks }
+    ensures made { IfOk result (AreRepairedOf fabric.now given.now) }
+    ensures alike { IfOk result (λ made. AreAlike fabric.now (tables_of given.now) (tables_of made)) }
+    ensures fabric { IfOk result (λ _. IsFabric fabric.now) }
+{
+    let mut made = Cells::new(alloc, fabric.switches(), fabric.lids())?;
+    copy_switches(fabric, given, &mut made);
     Ok(made)
 }

@@ -1,20 +1,17 @@
 -- Tables with the same ports for each LID that has an owner pass alike.
-use Rattle.std.proofs.Common.{◌≡◌, ◌≢◌, ◌∙◌, sym, ap, subst, ℕ, zero, suc, ◌<◌, None, inl, inr}
+use Rattle.std.proofs.Common.{◌≡◌, ◌∙◌, sym, ap, subst, ℕ, zero, suc, ◌<◌, inl, inr}
 use Rattle.std.proofs.lemmas.Option.{none-some}
 use Rattle.channel_graph.proofs.PathLemmas.{more_steps}
 use Rattle.ib_cells.specs.Cells.{TablesOf}
 use Rattle.ib_net.specs.declared.node.EndPort.{EndPort}
-use Rattle.ib_net.specs.Fabric.{FabricOf, IsFabric, owner_of, switch_count}
+use Rattle.ib_net.specs.Fabric.{FabricOf, IsFabric, switch_count}
 use Rattle.ib_routes.specs.declared.traffic.Traffic.{Traffic}
 use Rattle.ib_routes.specs.Routes.{Channel, ComesBy, DependsOn, Sends, hop, hop_by}
 use Rattle.ib_routes.proofs.ChannelLemmas.{hop_within}
 use Rattle.ib_routes.proofs.StartLemmas.{start_low}
 use Rattle.ib_verdict.specs.Verdict.{AllArrive}
+use Rattle.ib_repair.specs.Repaired.{AreAlike}
 use Rattle.ib_repairing.specs.Repairs.{Pass}
-
--- for each LID that has an owner a switch has one port in both, or none in both
-abbrev pub AreAlike : FabricOf → (one other : TablesOf) → Type 0
-AreAlike fabric one other = (switch lid : ℕ) → switch < switch_count fabric → owner_of fabric lid ≢ None → one switch lid ≡ other switch lid
 
 module _ (fabric : FabricOf) (fits : IsFabric fabric) (traffic : Traffic) (one other : TablesOf) (alike : AreAlike fabric one other) where
   module _ (lid : ℕ) (source : EndPort) (sends : Sends fabric traffic lid source) where

@@ -15,11 +15,10 @@ use Rattle.ib_net.specs.declared.node.EndPort.TheVariants as kind
 use Rattle.ib_net.specs.declared.node.Switch.{Switch}
 use Rattle.ib_net.specs.Fabric.{FabricOf, IsFabric, guid_in, guid_of, owner_of, switch_count}
 use Rattle.ib_cells.specs.Cells.{TablesOf}
-use Rattle.ib_repair.specs.Repaired.{HasKept}
+use Rattle.ib_repair.specs.Repaired.{AreAlike, HasKept}
 use Rattle.ib_repairing.specs.declared.rows.SetRow.{SetRow}
 use Rattle.ib_repairing.specs.Repairs.{differs, row_at, row_of, rows_for, rows_set}
 use Rattle.ib_repairing.specs.SetRows.{is_row_of, with_row, with_rows}
-use Rattle.ib_repairing.proofs.AlikeLemmas.{AreAlike}
 
 -- GUIDs rise with the places, so a switch has its GUID alone
 module _ (fabric : FabricOf) (fits : IsFabric fabric) where

@@ -1,8 +1,8 @@
 -- What the commands give for the text of a topology, its fabric and tables.
 
-use Rattle.std.specs.Prelude.{◌≡◌, ◌⊎◌, ℕ, List, Option, MatchOption}
-use Rattle.ib_net.specs.Fabric.{FabricOf}
-use Rattle.ib_cells.specs.Cells.{CellsOf, tables_of}
+use Rattle.std.specs.Prelude.{◌≡◌, ◌≢◌, ◌⊎◌, ℕ, List, Option, MatchOption}
+use Rattle.ib_net.specs.Fabric.{FabricOf, switch_count}
+use Rattle.ib_cells.specs.Cells.{CellsOf, TablesOf, tables_of}
 use Rattle.ib_routes.specs.declared.traffic.Traffic.{Traffic}
 use Rattle.ib_tables.specs.declared.reader.Tables.{Tables}
 use Rattle.ib_tables_text.specs.Texts.{IsTextOf}
@@ -36,27 +36,31 @@ pub record AreRowsTold (traffic : Traffic) (fabric : FabricOf) (found : Tables) 
   pub says : written ≡ report_text report
   pub status_is : status ≡ Ok
 
--- the text of these tables is told
-pub record AreTablesTold (traffic : Traffic) (fabric : FabricOf) (found : Tables) (status : Status) (written : List ℕ)
-    : Type 0 where
-  pub repaired : WereRepaired traffic fabric found
-  pub text : IsTextOf fabric written (tables_of repaired.made)
-  pub status_is : status ≡ Ok
-
--- no tables were found that pass, and the status is that of the given ones; an end port and a LID to which it sends
--- that no links join are told, if there are such
-pub record IsNoRepair (traffic : Traffic) (fabric : FabricOf) (found : Tables) (status : Status) (written : List ℕ)
-    : Type 0 where
-  pub ends : IsEndOf fabric (tables_of found.cells) traffic status
+-- it is told that there are no tables; and an end port and a LID to which it sends that no links join, if there are such
+pub record IsNoneTold (traffic : Traffic) (fabric : FabricOf) (written : List ℕ) : Type 0 where
   pub apart : Option Pair
   pub is_apart :
       MatchOption apart (AllJoined fabric traffic) (λ pair. IsApart fabric traffic pair.lid pair.source)
   pub says : written ≡ none_text fabric apart
 
--- the tables are told, or that none were found
-abbrev pub AreTablesGiven : Traffic → FabricOf → Tables → Status → List ℕ → Type 0
-AreTablesGiven traffic fabric found status written =
-    AreTablesTold traffic fabric found status written ⊎ IsNoRepair traffic fabric found status written
+-- the text of tables is told; of a fabric without switches, which has no tables, that there are none
+abbrev pub AreTablesOrNone : Traffic → FabricOf → TablesOf → List ℕ → Type 0
+AreTablesOrNone traffic fabric tables written =
+    IsTextOf fabric written tables ⊎ ((switch_count fabric ≡ 0) × IsNoneTold traffic fabric written)
+
+-- these tables are told
+pub record AreTablesTold (traffic : Traffic) (fabric : FabricOf) (found : Tables) (status : Status) (written : List ℕ)
+    : Type 0 where
+  pub repaired : WereRepaired traffic fabric found
+  pub told : AreTablesOrNone traffic fabric (tables_of repaired.made) written
+  pub status_is : status ≡ Ok
+
+-- no tables were found that pass, and the given ones do not: the status is theirs
+pub record IsNoRepair (traffic : Traffic) (fabric : FabricOf) (found : Tables) (status : Status) (written : List ℕ)
+    : Type 0 where
+  pub ends : IsEndOf fabric (tables_of found.cells) traffic status
+  pub fails : status ≢ Ok
+  pub told : IsNoneTold traffic fabric written
 
 -- `repair` gives the rows that are to be set, `repaired` the tables in which they are
 abbrev pub gives_repair : Traffic → Gives
@@ -64,4 +68,5 @@ gives_repair traffic text fabric found status written =
     AreRowsTold traffic fabric found status written ⊎ IsNoRepair traffic fabric found status written
 
 abbrev pub gives_repaired : Traffic → Gives
-gives_repaired traffic text fabric found status written = AreTablesGiven traffic fabric found status written
+gives_repaired traffic text fabric found status written =
+    AreTablesTold traffic fabric found status written ⊎ IsNoRepair traffic fabric found status written

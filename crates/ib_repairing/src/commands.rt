@@ -5,9 +5,10 @@ ghost use Rattle.ib_cells.specs.Cells.{tables_of};
 ghost use Rattle.ib_net.specs.Fabric.{FabricOf};
 ghost use Rattle.ib_tables.specs.Reads.{HasCells};
 ghost use Rattle.ib_answering.specs.Answer.{IsEnding};
+ghost use Rattle.ib_laying.specs.Made.{AreTablesFor};
 ghost use Rattle.ib_repair.specs.Repaired.{AreRepairedOf};
 ghost use Rattle.ib_repairing.specs.Repairs.{Pass, cell_count};
-ghost use Rattle.ib_repairing.specs.Given.{AreRowsTold, AreTablesGiven, IsNoRepair, gives_repair, gives_repaired};
+ghost use Rattle.ib_repairing.specs.Given.{AreRowsTold, AreTablesOrNone, IsNoneTold, gives_repair, gives_repaired};
 
 use crate::repaired::find_repaired;
 use crate::report::{Report, print_none, print_report};
@@ -17,7 +18,7 @@ use an_base::text::Word;
 use ib_answering::command::{Command, Given};
 use ib_answering::input::Topology;
 use ib_answering::status::Status;
-use ib_commands::answer::status_of;
+use ib_cells::cells::Cells;
 use ib_commands::words::word_of;
 use ib_net::fabric::Fabric;
 use ib_repair::repair::Repaired;
@@ -25,7 +26,6 @@ use ib_routes::traffic::Traffic;
 use ib_routing::apart::find_apart;
 use ib_tables::reader::Tables;
 use ib_tables_text::printer::print;
-use ib_verdict::judge::judge;
 use std::alloc::Global;
 
 /// The command `repair`: the rows of given tables that are to be set so that they pass for a traffic.
@@ -45,8 +45,11 @@ impl Command for Repair {
         tables: &Tables,
     ) -> Result<Given, OutOfMemory> {
         match find_repaired(alloc, &topology.fabric, &tables.cells, self.traffic)? {
-            Some(made) => given_rows(alloc, &topology.fabric, tables, self.traffic, &made),
-            None => given_none(alloc, &topology.fabric, tables, self.traffic),
+            Ok(made) => given_rows(alloc, &topology.fabric, tables, self.traffic, &made),
+            Err(status) => Ok(Given {
+                status,
+                text: tell_none(alloc, &topology.fabric, self.traffic)?,
+            }),
         }
     }
 }
@@ -92,24 +95,12 @@ fn count_cells(fabric: &Fabric) -> u64
     owned * fabric.switches() as u64
 }
 
-// What both commands give if no tables were found that pass: how the given ones end, and who is not joined to
-// whom.
-fn given_none(
-    alloc: Global,
-    fabric: &Fabric,
-    tables: &Tables,
-    traffic: Traffic,
-) -> Result<Given, OutOfMemory>
-    requires { HasCells fabric.now tables.now }
-    ensures given { IfOk result (λ given. IsNoRepair traffic fabric.now tables.now given.status given.text.items) }
-    ensures ends { IfOk result (λ given. IsEnding given.status) }
+// The text if there are no tables that pass: who is not joined to whom.
+fn tell_none(alloc: Global, fabric: &Fabric, traffic: Traffic) -> Result<Vec<u8>, OutOfMemory>
+    ensures { IfOk result (λ text. IsNoneTold traffic fabric.now text.items) }
 {
-    let judged = judge(alloc, fabric, &tables.cells, traffic)?;
     let apart = find_apart(alloc, fabric, traffic)?;
-    Ok(Given {
-        status: status_of(&judged),
-        text: print_none(alloc, fabric, apart)?,
-    })
+    print_none(alloc, fabric, apart)
 }
 
 /// The command `repaired`: the tables in which these rows are set.
@@ -129,31 +120,30 @@ impl Command for RepairedTables {
         tables: &Tables,
     ) -> Result<Given, OutOfMemory> {
         match find_repaired(alloc, &topology.fabric, &tables.cells, self.traffic)? {
-            Some(made) => given_tables(alloc, &topology.fabric, tables, self.traffic, &made),
-            None => given_none(alloc, &topology.fabric, tables, self.traffic),
+            Ok(made) => Ok(Given {
+                status: Status::Ok,
+                text: print_tables(alloc, &topology.fabric, self.traffic, &made.cells)?,
+            }),
+            Err(status) => Ok(Given {
+                status,
+                text: tell_none(alloc, &topology.fabric, self.traffic)?,
+            }),
         }
     }
 }
 
-// What `repaired` gives for tables that were repaired. A fabric without switches has no tables.
-fn given_tables(
+// The text of tables. A fabric without switches has none.
+fn print_tables(
     alloc: Global,
     fabric: &Fabric,
-    tables: &Tables,
     traffic: Traffic,
-    made: &Repaired,
-) -> Result<Given, OutOfMemory>
-    requires cells { HasCells fabric.now tables.now }
-    requires shape { AreRepairedOf fabric.now tables.now.cells made.now.cells }
-    requires pass { Pass traffic fabric.now (tables_of made.now.cells) }
-    ensures given { IfOk result (λ given. AreTablesGiven traffic fabric.now tables.now given.status given.text.items) }
-    ensures ends { IfOk result (λ given. IsEnding given.status) }
+    cells: &Cells,
+) -> Result<Vec<u8>, OutOfMemory>
+    requires { AreTablesFor fabric.now cells.now }
+    ensures { IfOk result (λ text. AreTablesOrNone traffic fabric.now (tables_of cells.now) text.items) }
 {
     if fabric.switches() == 0 {
-        return given_none(alloc, fabric, tables, traffic);
+        return tell_none(alloc, fabric, traffic);
     }
-    Ok(Given {
-        status: Status::Ok,
-        text: print(alloc, fabric, &made.cells)?,
-    })
+    print(alloc, fabric, cells)
 }

@@ -2,8 +2,9 @@
 //! which they are.
 //!
 //! It stands on `ib_repair`, which finds the rows, on the verdict, and on the text of tables. Its one contract: what each
-//! command gives for the text of a topology, its fabric and tables. With status 0 the tables pass in which the rows are
-//! set: there is no credit loop, and each route of the traffic arrives. That few rows are set is not claimed.
+//! command gives for the text of a topology, its fabric and tables. With status 0 rows or tables are told, and the given
+//! tables pass once the rows are set: there is no credit loop, and each route of the traffic arrives. That few rows are
+//! set is not claimed.
 #![tactic(auto)]
 
 pub mod commands;
