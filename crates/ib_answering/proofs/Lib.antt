@@ -1,1 +1,2 @@
 pub mod NoFabricLemmas
+pub mod FoundLemmas

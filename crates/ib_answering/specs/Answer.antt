@@ -1,6 +1,7 @@
 -- The answer of a command: a status that came about by its cause, and was told.
 
-use Rattle.std.specs.Prelude.{◌≡◌, ◌^◌, ℕ, List}
+use Rattle.std.specs.Prelude.{◌≡◌, ◌^◌, ℕ, List, Result}
+use Rattle.std.specs.Result.{IsErrAnd, IsOkAnd}
 use Rattle.outside.specs.Told.{Seen, Gains, GainsFront, IsKept, Failed}
 use Rattle.text_lines.specs.declared.stop.Refusal.{Refusal}
 use Rattle.text_lines.specs.declared.stop.Refusal.TheVariants as topology_refusal
@@ -15,6 +16,7 @@ use Rattle.ib_reader.specs.declared.reader.TextRefusal.TheVariants as tables_ref
 use Rattle.ib_tables.specs.declared.cause.TablesCause.{TablesCause}
 use Rattle.ib_tables.specs.declared.reader.Tables.{Tables}
 use Rattle.ib_tables.specs.Reads.{GaveTables, IsRefusedBy}
+use Rattle.ib_answering.specs.declared.command.Given.{Given}
 use Rattle.ib_answering.specs.declared.status.Status.{Status}
 use Rattle.ib_answering.specs.declared.status.Status.TheVariants.{Ok, Usage, TopologyRefused, TopologyTooLong, TablesRefused, ReadFault, WriteFault, RoutesLost, Cycle, OutOfMemory}
 use Rattle.ib_answering.specs.declared.status.Status.TheVariants.{RanksRefused, RanksRise}
@@ -109,31 +111,47 @@ pub record IsGiven (gives : Gives) (old new : Sources) (status : Status) (writte
   pub given : gives text fabric found status written
   pub ends : IsEnding status
 
--- the text was written
-pub record IsWritten (gives : Gives) (old new : Sources) (out out' : Seen) (status : Status) : Type 0 where
+-- the text that is found was written
+pub record IsWritten (found : Status → List ℕ → Type 0) (out out' : Seen) (status : Status) : Type 0 where
   pub written : List ℕ
-  pub given : IsGiven gives old new status written
+  pub given : found status written
   pub gains : Gains out out' written
 
 -- out failed, and has a front of the text
-pub record IsCutOff (gives : Gives) (old new : Sources) (out out' : Seen) : Type 0 where
+pub record IsCutOff (found : Status → List ℕ → Type 0) (out out' : Seen) : Type 0 where
   pub end : Status
   pub written : List ℕ
-  pub given : IsGiven gives old new end written
+  pub given : found end written
   pub gains : GainsFront out out' written
   pub failed : Failed out out'
 
--- The cause of a status, and what out gained: the text, a front of it if out failed, and else nothing.
-pub data IsCause (gives : Gives) (old new : Sources) (out out' : Seen) (status : Status) : Type 0 where
-  written : IsWritten gives old new out out' status → IsCause gives old new out out' status
-  cut : status ≡ WriteFault → IsCutOff gives old new out out' → IsCause gives old new out out' status
-  stopped : IsStop old new status → IsKept out out' → IsCause gives old new out out' status
+-- The cause of a status, if this is found or nothing for such a cause, and what out gained: the text, a front of it if
+-- out failed, and else nothing.
+pub data IsCause (found : Status → List ℕ → Type 0) (none : Status → Type 0) (out out' : Seen) (status : Status)
+    : Type 0 where
+  written : IsWritten found out out' status → IsCause found none out out' status
+  cut : status ≡ WriteFault → IsCutOff found out out' → IsCause found none out out' status
+  stopped : none status → IsKept out out' → IsCause found none out out' status
 
--- the answer of a command: a status came about by its cause, and was told
-pub record IsAnswer (gives : Gives) (old new : Streams) (answer : ℕ) : Type 0 where
+-- the answer to a call: a status came about by its cause, and was told
+pub record IsAnswerBy (found : Status → List ℕ → Type 0) (none : Status → Type 0) (out out' err err' : Seen)
+    (answer : ℕ)
+    : Type 0 where
   pub status : Status
-  pub cause : IsCause gives old.read new.read old.out new.out status
-  pub told : IsToldOf old.err new.err status answer
+  pub cause : IsCause found none out out' status
+  pub told : IsToldOf err err' status answer
+
+-- what was found: this status and this text, or nothing, and this status says why
+abbrev pub WasFound : Result Given Status → Status → List ℕ → Type 0
+WasFound found status text = IsOkAnd found (λ given. (status ≡ given.status) × (text ≡ given.text.items))
+
+abbrev pub WasNone : Result Given Status → Status → Type 0
+WasNone found status = IsErrAnd found (λ why. status ≡ why)
+
+-- that of a command
+abbrev pub IsAnswer : Gives → (old new : Streams) → (answer : ℕ) → Type 0
+IsAnswer gives old new answer =
+    IsAnswerBy (IsGiven gives old.read new.read) (IsStop old.read new.read) old.out new.out old.err new.err answer
 
 -- the answer to words that are no call: the sources and out are left alone
 pub record IsUsageAnswer (old new : Streams) (answer : ℕ) : Type 0 where

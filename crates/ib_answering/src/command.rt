@@ -4,7 +4,7 @@
 ghost use Rattle.std.specs.Prelude.{IfOk, IfErr};
 ghost use Rattle.ib_tables.specs.Reads.{HasCells};
 ghost use Rattle.outside.specs.Told.{Seen};
-ghost use Rattle.ib_answering.specs.Answer.{sources, streams, GaveFabric, Gives, IsAnswer, IsCause, IsEnding, IsGiven, IsStop};
+ghost use Rattle.ib_answering.specs.Answer.{sources, streams, GaveFabric, Gives, IsAnswer, IsAnswerBy, IsCause, IsEnding, IsGiven, IsStop, WasFound, WasNone};
 
 use crate::input::{Topology, read_topology};
 use crate::status::{Status, finish};
@@ -80,19 +80,10 @@ fn found_for<C: Command, S: Source>(
 }
 
 // Writes the text to out, or answers why there is none.
-fn status_of<C: Command, T: Source, S: Source, O: Sink>(
-    command: &C,
-    alloc: Global,
-    topology: &mut T,
-    tables: &mut S,
-    out: &mut O,
-) -> Status
-    ensures { IsCause (C.gives command.now)
-        (sources (T.seen topology.old) (S.seen tables.old))
-        (sources (T.seen topology.new) (S.seen tables.new))
-        (O.seen out.old) (O.seen out.new) result }
+fn status_of<O: Sink>(out: &mut O, found: Result<Given, Status>) -> Status
+    ensures { IsCause (WasFound found) (WasNone found) (O.seen out.old) (O.seen out.new) result }
 {
-    let given = match found(command, alloc, topology, tables) {
+    let given = match found {
         Ok(given) => given,
         Err(status) => return status,
     };
@@ -100,6 +91,16 @@ fn status_of<C: Command, T: Source, S: Source, O: Sink>(
         Ok(()) => given.status,
         Err(_fault) => Status::WriteFault,
     }
+}
+
+/// Writes the text that is found to out, or nothing if there is none, and tells the status, that of a write fault if out
+/// did not take the whole text. The answer is the number of the status, whose line goes to err.
+pub fn tell_found<O: Sink, E: Sink>(out: &mut O, err: &mut E, found: Result<Given, Status>) -> u8
+    ensures { IsAnswerBy (WasFound found) (WasNone found) (O.seen out.old) (O.seen out.new)
+        (E.seen err.old) (E.seen err.new) result }
+{
+    let status = status_of(out, found);
+    finish(err, status)
 }
 
 /// Answers a command: reads a topology and tables from the sources, writes what the command gives for them to out, and
@@ -116,6 +117,5 @@ pub fn answer<C: Command, T: Source, S: Source, O: Sink, E: Sink>(
         (streams (T.seen topology.old) (S.seen tables.old) (O.seen out.old) (E.seen err.old))
         (streams (T.seen topology.new) (S.seen tables.new) (O.seen out.new) (E.seen err.new)) result }
 {
-    let status = status_of(command, alloc, topology, tables, out);
-    finish(err, status)
+    tell_found(out, err, found(command, alloc, topology, tables))
 }

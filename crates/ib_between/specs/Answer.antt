@@ -1,7 +1,7 @@
 -- The answer to a call of `between`.
 
 use Rattle.std.specs.Prelude.{◌≡◌, ℕ, List}
-use Rattle.outside.specs.Told.{Seen, Failed, Gains, GainsFront, IsKept}
+use Rattle.outside.specs.Told.{Seen}
 use Rattle.ib_net.specs.Fabric.{FabricOf}
 use Rattle.ib_reader.specs.declared.reader.TextRefusal.{TextRefusal}
 use Rattle.ib_reader.specs.declared.reader.TextRefusal.TheVariants as refusal
@@ -9,9 +9,8 @@ use Rattle.ib_tables.specs.declared.cause.TablesCause.{TablesCause}
 use Rattle.ib_tables.specs.declared.reader.Tables.{Tables}
 use Rattle.ib_tables.specs.Reads.{GaveTables, IsRefusedBy}
 use Rattle.ib_answering.specs.declared.status.Status.{Status}
-use Rattle.ib_answering.specs.declared.status.Status.TheVariants.{NewTablesRefused, OutOfMemory, ReadFault, WriteFault}
-use Rattle.ib_answering.specs.Answer.{GaveFabric, IsNoFabric, tables_refused}
-use Rattle.ib_answering.specs.Status.{IsToldOf}
+use Rattle.ib_answering.specs.declared.status.Status.TheVariants.{NewTablesRefused, OutOfMemory, ReadFault}
+use Rattle.ib_answering.specs.Answer.{GaveFabric, IsAnswerBy, IsNoFabric, tables_refused}
 use Rattle.ib_between.specs.Judged.{IsBetween}
 
 -- the sources of a call at one moment
@@ -69,28 +68,6 @@ pub record IsGiven (was is : Sources) (status : Status) (written : List ℕ) : T
   pub gave_new : GaveTables fabric was.new is.new new
   pub given : IsBetween text fabric old new status written
 
--- the text was written
-pub record IsWritten (was is : Sources) (out out' : Seen) (status : Status) : Type 0 where
-  pub written : List ℕ
-  pub given : IsGiven was is status written
-  pub gains : Gains out out' written
-
--- out failed, and has a front of the text
-pub record IsCutOff (was is : Sources) (out out' : Seen) : Type 0 where
-  pub end : Status
-  pub written : List ℕ
-  pub given : IsGiven was is end written
-  pub gains : GainsFront out out' written
-  pub failed : Failed out out'
-
--- The cause of a status, and what out gained: the text, a front of it if out failed, and else nothing.
-pub data IsCause (was is : Sources) (out out' : Seen) (status : Status) : Type 0 where
-  written : IsWritten was is out out' status → IsCause was is out out' status
-  cut : status ≡ WriteFault → IsCutOff was is out out' → IsCause was is out out' status
-  stopped : IsStop was is status → IsKept out out' → IsCause was is out out' status
-
--- the answer to a call of `between`: a status came about by its cause, and was told
-pub record IsBetweenAnswer (was is : Sources) (out out' err err' : Seen) (answer : ℕ) : Type 0 where
-  pub status : Status
-  pub cause : IsCause was is out out' status
-  pub told : IsToldOf err err' status answer
+-- the answer to a call of `between`
+abbrev pub IsBetweenAnswer : (was is : Sources) (out out' err err' : Seen) (answer : ℕ) → Type 0
+IsBetweenAnswer was is = IsAnswerBy (IsGiven was is) (IsStop was is)

@@ -4,15 +4,14 @@ ghost use Rattle.std.specs.Prelude.{◌≡◌, IfErr, IfOk};
 ghost use Rattle.outside.specs.Told.{Seen};
 ghost use Rattle.ib_tables.specs.Reads.{GaveTables, HasCells};
 ghost use Rattle.ib_answering.specs.Answer.{GaveFabric};
-ghost use Rattle.ib_between.specs.Answer.{IsBetweenAnswer, IsCause, IsGiven, IsStop, new_refused, sources};
+ghost use Rattle.ib_between.specs.Answer.{IsBetweenAnswer, IsGiven, IsStop, new_refused, sources};
 
 use crate::answer::given_for;
-use ib_answering::command::Given;
+use ib_answering::command::{Given, tell_found};
 use ib_answering::input::{Topology, read_topology};
-use ib_answering::status::{Status, finish};
+use ib_answering::status::Status;
 use ib_reader::reader::TextRefusal;
 use ib_tables::reader::{Tables, TablesRefusal, read_tables};
-use outside::all::write_all;
 use outside::sink::Sink;
 use outside::source::Source;
 use std::alloc::Global;
@@ -33,31 +32,7 @@ pub fn between<T: Source, S: Source, N: Source, O: Sink, E: Sink>(
         (sources (T.seen topology.new) (S.seen old.new) (N.seen new.new))
         (O.seen out.old) (O.seen out.new) (E.seen err.old) (E.seen err.new) result }
 {
-    let status = status_of(alloc, topology, old, new, out);
-    finish(err, status)
-}
-
-// Writes the text to out, or answers why there is none.
-fn status_of<T: Source, S: Source, N: Source, O: Sink>(
-    alloc: Global,
-    topology: &mut T,
-    old: &mut S,
-    new: &mut N,
-    out: &mut O,
-) -> Status
-    ensures { IsCause
-        (sources (T.seen topology.old) (S.seen old.old) (N.seen new.old))
-        (sources (T.seen topology.new) (S.seen old.new) (N.seen new.new))
-        (O.seen out.old) (O.seen out.new) result }
-{
-    let given = match found(alloc, topology, old, new) {
-        Ok(given) => given,
-        Err(status) => return status,
-    };
-    match write_all(out, &given.text) {
-        Ok(()) => given.status,
-        Err(_fault) => Status::WriteFault,
-    }
+    tell_found(out, err, found(alloc, topology, old, new))
 }
 
 // What is given for what the sources give, or why there is nothing.

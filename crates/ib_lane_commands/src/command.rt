@@ -5,15 +5,14 @@ ghost use Rattle.std.specs.Prelude.{◌≡◌, IfErr, IfOk};
 ghost use Rattle.ib_answering.specs.declared.status.Status.TheVariants.{OutOfMemory as Wanting};
 ghost use Rattle.ib_lane_commands.specs.Asked.{IsOneOfSixteen};
 ghost use Rattle.ib_lane_commands.specs.Inputs.{HasPlaces, IsStop, lane_sources, told_in};
-ghost use Rattle.ib_lane_commands.specs.LaneCall.{IsGiven, IsLaneAnswer, IsLaneCause, LaneGives};
+ghost use Rattle.ib_lane_commands.specs.LaneCall.{IsGiven, IsLaneAnswer, LaneGives};
 ghost use Rattle.ib_lane_lines.specs.declared.answer.LevelsAsked.{LevelsAsked};
 
 use crate::input::{Input, read_inputs};
 use an_base::memory::OutOfMemory;
-use ib_answering::command::Given;
-use ib_answering::status::{Status, finish};
+use ib_answering::command::{Given, tell_found};
+use ib_answering::status::Status;
 use ib_lane_lines::answer::LevelsAsked;
-use outside::all::write_all;
 use outside::sink::Sink;
 use outside::source::Source;
 use std::alloc::Global;
@@ -70,33 +69,6 @@ fn given_of<C: LaneCommand>(
     Ok(command.given(alloc, input, asked)?)
 }
 
-// Writes the text to out, or answers why there is none.
-fn status_of<C: LaneCommand, T: Source, S: Source, L: Source, P: Source, O: Sink>(
-    command: &C,
-    alloc: Global,
-    topology: &mut T,
-    tables: &mut S,
-    lanes: &mut L,
-    levels: &mut P,
-    asked: LevelsAsked,
-    out: &mut O,
-) -> Status
-    requires { IsOneOfSixteen asked }
-    ensures { IsLaneCause (C.gives command.now asked) asked
-        (lane_sources (T.seen topology.old) (S.seen tables.old) (L.seen lanes.old) (P.seen levels.old))
-        (lane_sources (T.seen topology.new) (S.seen tables.new) (L.seen lanes.new) (P.seen levels.new))
-        (O.seen out.old) (O.seen out.new) result }
-{
-    let given = match found(command, alloc, topology, tables, lanes, levels, asked) {
-        Ok(given) => given,
-        Err(status) => return status,
-    };
-    match write_all(out, &given.text) {
-        Ok(()) => given.status,
-        Err(_fault) => Status::WriteFault,
-    }
-}
-
 /// Answers a command: reads a topology, tables, lanes and, if they are asked for, service levels from the sources, in
 /// this order, writes what the command gives for them to out, and tells the status. The answer is the number of the
 /// status, whose line goes to err. If a source is wrong, those after it are left alone, and so is out.
@@ -117,6 +89,6 @@ pub fn answer<C: LaneCommand, T: Source, S: Source, L: Source, P: Source, O: Sin
         (lane_sources (T.seen topology.new) (S.seen tables.new) (L.seen lanes.new) (P.seen levels.new))
         (O.seen out.old) (O.seen out.new) (E.seen err.old) (E.seen err.new) result }
 {
-    let status = status_of(command, alloc, topology, tables, lanes, levels, asked, out);
-    finish(err, status)
+    let found = found(command, alloc, topology, tables, lanes, levels, asked);
+    tell_found(out, err, found)
 }
