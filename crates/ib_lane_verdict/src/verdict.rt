@@ -17,7 +17,7 @@ pub struct LaneLoopChannel {
 #[derive(Drop)]
 pub enum LaneVerdict {
     /// There is none. The rank of each channel: 0 if it depends on none, else one more than the greatest of those on which
-    /// it depends. Where there are L lanes, the channel out of port p of switch s on lane v has the place
+    /// it depends. If there are L lanes, the channel out of port p of switch s on lane v has the place
     /// (s times the most ports of a switch, plus p - 1) times L, plus v; at the places of ports that lead to no switch
     /// stands 0.
     Ranks {

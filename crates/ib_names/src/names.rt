@@ -19,7 +19,7 @@ use std::alloc::Global;
 use text_lines::line::first_line;
 
 /// What a text calls the nodes of these GUIDs: a switch by its GUID, an end port of an adapter or router by
-/// that of the port. Where several lines name a node, the first counts. A node that none names is left out,
+/// that of the port. If several lines name a node, the first counts. A node that none names is left out,
 /// and so is each that is not asked for. A line that is no line of a topology ends the text.
 pub fn names_of(
     alloc: Global,

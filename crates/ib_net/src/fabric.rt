@@ -367,7 +367,7 @@ impl Fabric {
         self.put_side(other, Side::To(one.switch, one.port));
     }
 
-    /// Links two ports of switches. A link that stands counts once. Where it is refused nothing is changed.
+    /// Links two ports of switches. A link that stands counts once. If it is refused nothing is changed.
     pub fn link(&mut self, one: Spot, other: Spot) -> Result<(), LinkFault>
         requires one { one.switch < switch_count self.old }
         requires other { other.switch < switch_count self.old }
@@ -404,7 +404,7 @@ impl Fabric {
     }
 
     /// Cables an end port of an adapter or router to a port of a switch. A cable that stands counts once.
-    /// Where it is refused nothing is changed.
+    /// If it is refused nothing is changed.
     pub fn cable(&mut self, end: u32, spot: Spot) -> Result<(), LinkFault>
         requires end { end < length self.old.cables }
         requires switch { spot.switch < switch_count self.old }

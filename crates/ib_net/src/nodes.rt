@@ -133,7 +133,7 @@ impl Nodes {
         })
     }
 
-    /// Adds a switch. One that was told alike counts once. Where it is refused nothing is added.
+    /// Adds a switch. One that was told alike counts once. If it is refused nothing is added.
     pub fn add_switch(&mut self, guid: u64, switch: Switch) -> Result<(), Stop<NodeFault>>
         ensures added { IsStep result (AddsSwitch self.old self.new guid switch)
             (IsRefusedSwitch self.old guid switch) }
@@ -176,7 +176,7 @@ impl Nodes {
         Ok(())
     }
 
-    /// Adds an end port of an adapter or router. One that was told alike counts once. Where it is refused
+    /// Adds an end port of an adapter or router. One that was told alike counts once. If it is refused
     /// nothing is added.
     pub fn add_end(&mut self, guid: u64, lids: LidRange) -> Result<(), Stop<NodeFault>>
         ensures added { IsStep result (AddsEnd self.old self.new guid lids)

@@ -127,7 +127,7 @@ impl Weights {
         Ok(())
     }
 
-    /// Adds the routes to a switch that leave each other one by the first port that they can, where ways has some shortest
+    /// Adds the routes to a switch that leave each other one by the first port that they can, if ways has some shortest
     /// ones: it becomes theirs.
     pub fn add_first_ports(
         &mut self,

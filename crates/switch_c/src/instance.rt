@@ -92,7 +92,7 @@ fn is_in_range(uid: u64, boot: u32, had: u8) -> bool
     uid < UID_END && 0 < boot && 0 < had && had <= MOST_NUMBER
 }
 
-// Tells a frame, and answers whether there is room for its bytes. Where there is none its length alone is told.
+// Tells a frame, and answers whether there is room for its bytes. If there is none its length alone is told.
 fn tell(frame: &FrameOut, shown: &mut FrameShown, bytes: &mut [u8]) -> bool
     ensures room { length bytes.old < length frame.now.bytes → (result ≡ false) × HasNoRoom frame.now shown.old shown.new bytes.old bytes.new }
     ensures done { length frame.now.bytes ≤ length bytes.old → (result ≡ true) × IsTold frame.now shown.new bytes.old bytes.new }
@@ -125,7 +125,7 @@ impl Instance {
         }
     }
 
-    // A switch at power-on on the heap, where the numbers are in their ranges.
+    // A switch at power-on on the heap, if the numbers are in their ranges.
     fn started(
         alloc: Global,
         life: Life,

@@ -103,7 +103,7 @@ pub extern "C" fn autonet_frame(alloc: Global, switch: &mut Handle, port: u8, by
 }
 
 /// Hands out the next frame of the last clock or frame: its port, its length, and its bytes at the front
-/// of `bytes`. Where they have too little room the length alone is told.
+/// of `bytes`. If they have too little room the length alone is told.
 #[unsafe(no_mangle)]
 pub extern "C" fn autonet_next(
     alloc: Global,

@@ -73,7 +73,7 @@ fn load(switch: &mut Switch, text: &mut String) -> Result<(), Fault> {
     Ok(push_table(text, switch, &loaded)?)
 }
 
-/// A switch, where one was started, with what goes out of it and the answer to the last line.
+/// A switch, if one was started, with what goes out of it and the answer to the last line.
 #[derive(Drop)]
 pub struct Trace {
     alloc: Global,
