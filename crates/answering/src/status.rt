@@ -1,6 +1,7 @@
 //! How a call ends, and the line that says so.
 
-ghost use Rattle.std.specs.Prelude.{◌≡◌};
+ghost use Rattle.std.specs.Fmt.{decimal};
+ghost use Rattle.std.specs.Prelude.{◌++◌, ◌≡◌, codes};
 ghost use Rattle.std.specs.List.{flat_map};
 ghost use Rattle.answering.specs.declared.status.Status.TheVariants as ended;
 ghost use Rattle.answering.specs.Status.{code_of, line_of};
@@ -94,12 +95,21 @@ fn tell_line<E: Sink>(err: &mut E, status: &Status, parts: &[&[u8]]) -> u8
     tell(err, status.code(), parts)
 }
 
+// Tells a fault in a line of a text, from 1: the words before the line's number, that number and the cause.
+fn tell_fault<E: Sink>(err: &mut E, status: &Status, head: &[u8], line: u32, cause: &str) -> u8
+    requires { head.now ++ decimal line ++ codes ": " ++ cause.now ++ codes "\n" ≡ line_of status.now }
+    ensures { IsTold (E.seen err.old) (E.seen err.new) status.now result }
+{
+    let mut digits = Buffer::new();
+    let line = digits.format(line).as_bytes();
+    tell_line(err, status, &[head, line, b": ", cause.as_bytes(), b"\n"])
+}
+
 /// Writes the line of a status to err, and answers the status' number, or that of a write fault
 /// if err did not take the whole line. In that case err failed, and a front of the line was written.
 pub fn finish<E: Sink>(err: &mut E, status: Status) -> u8
     ensures { IsTold (E.seen err.old) (E.seen err.new) status result }
 {
-    let mut digits = Buffer::new();
     match &status {
         Status::Ok => tell_line(err, &status, &[]),
         Status::Usage => tell_line(
@@ -108,18 +118,13 @@ pub fn finish<E: Sink>(err: &mut E, status: Status) -> u8
             &[b"usage: autonet expect, run, replay, check, flow B, flood, names or gen SEED N\n"],
         ),
         Status::ScriptRefused { line, cause } => {
-            let line = digits.format(*line).as_bytes();
-            let cause = cause.text().as_bytes();
-            tell_line(
-                err,
-                &status,
-                &[b"autonet: script line ", line, b": ", cause, b"\n"],
-            )
+            tell_fault(err, &status, b"autonet: script line ", *line, cause.text())
         }
         Status::ReadFault => tell_line(err, &status, &[b"autonet: read fault\n"]),
         Status::WriteFault => tell_line(err, &status, &[b"autonet: write fault\n"]),
         Status::TablesRefused => tell_line(err, &status, &[b"autonet: tables refused\n"]),
         Status::Unsettled { tick } => {
+            let mut digits = Buffer::new();
             let tick = digits.format(*tick).as_bytes();
             tell_line(err, &status, &[b"autonet: unsettled at tick ", tick, b"\n"])
         }
@@ -129,13 +134,7 @@ pub fn finish<E: Sink>(err: &mut E, status: Status) -> u8
             &[b"autonet: epochs spent at ", name.as_bytes(), b"\n"],
         ),
         Status::JournalRefused { line, cause } => {
-            let line = digits.format(*line).as_bytes();
-            let cause = cause.text().as_bytes();
-            tell_line(
-                err,
-                &status,
-                &[b"autonet: journal line ", line, b": ", cause, b"\n"],
-            )
+            tell_fault(err, &status, b"autonet: journal line ", *line, cause.text())
         }
         Status::JournalFull => tell_line(err, &status, &[b"autonet: journal full\n"]),
         Status::OutOfMemory => tell_line(err, &status, &[b"autonet: out of memory\n"]),
