@@ -4,6 +4,7 @@
 //! driver. Who is roused is a guess, and what a run gives does not rest on it: a worker that is roused for nothing
 //! finds nothing again, and all are roused again in each round, after the driver's steps.
 
+use an_base::limits::PORTS;
 use an_base::place::Place;
 use an_base::port::Port;
 use net_graph::wiring::Far;
@@ -18,7 +19,7 @@ pub(crate) const MOST_PARTIES: usize = 4;
 const MOST_WORKERS: usize = 64;
 
 // How many ports a switch has, with port 0.
-const PORTS: usize = 13;
+const ALL_PORTS: usize = PORTS + 1;
 
 /// Which workers of a party are roused, by their places among them.
 #[derive(Clone, Copy)]
@@ -115,14 +116,14 @@ impl Rousing {
 /// finds them beside its own.
 #[derive(Clone, Copy)]
 pub(crate) struct Neighbours {
-    switches: [Option<Place>; PORTS],
+    switches: [Option<Place>; ALL_PORTS],
 }
 
 impl Neighbours {
     /// Those of the switch at a place of a script.
     pub fn of(script: &Script, s: Place) -> Neighbours {
-        let mut switches = [None; PORTS];
-        'ports: for port in 0..PORTS as u8 {
+        let mut switches = [None; ALL_PORTS];
+        'ports: for port in 0..ALL_PORTS as u8 {
             if let Some(Far::Switch { s, port: _ }) = &script.wiring().far(s, Port(port)) {
                 switches[usize::from(port)] = Some(*s);
             }

@@ -97,22 +97,12 @@ fn finish<R: Wait, G: Gate>(rt: &R, gate: &G, workers: &mut [Worker])
 
 // Whether some of these workers are to make a turn.
 fn are_asking(workers: &[Worker]) -> bool {
-    'workers: for worker in workers {
-        if worker.is_asking() {
-            return true;
-        }
-    }
-    false
+    workers.iter().any(|worker| worker.is_asking())
 }
 
 // Whether memory was wanting to some of these workers.
 fn have_failed(workers: &[Worker]) -> bool {
-    'workers: for worker in workers {
-        if worker.failed() {
-            return true;
-        }
-    }
-    false
+    workers.iter().any(|worker| worker.failed())
 }
 
 // The workers of a party ask if some have something to ask for, and rest if none has. What is large in the
