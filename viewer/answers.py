@@ -6,7 +6,7 @@ from .texts import Forms, one_of
 VERDICTS = (
     "ok",
     "rank SWITCH PORT N",
-    "refused cycle CHANNEL..",
+    "refused cycle CHANNEL CHANNEL..",
     "refused pair SWITCH to SWITCH at SWITCH entry ENTRY",
     "refused exit SWITCH entry ENTRY to ADDRESS by PORT",
 )

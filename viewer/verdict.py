@@ -63,8 +63,9 @@ class Verdict(Story):
 
     # A cycle
 
-    def cycle(self, channels):
+    def cycle(self, first, others):
         """Channels that wait for one another in a ring."""
+        channels = [first, *others]
         many, ways = len(channels), listed(f"{switch} by port {port}" for switch, port in channels)
         self.fade_tree()
         turns = [self.turn(one, other) for one, other in zip(channels, channels[1:] + channels[:1])]
