@@ -104,17 +104,19 @@ class Flow(Story):
 
     def local(self, line, packet, switch):
         """A packet that enters nowhere: both hosts are at one switch."""
-        words = self.packet(line, packet)
-        self.leave(packet)
-        self.tell_count()
-        return f"{words} enters nowhere: both are at {switch}"
+        return f"{self.nowhere(line, packet)}: both are at {switch}"
 
     def unjoined(self, line, packet):
         """A packet that enters nowhere: its hosts are not joined."""
+        return f"{self.nowhere(line, packet)}: no way joins the two"
+
+    def nowhere(self, line, packet):
+        """A packet enters nowhere, and is told no more."""
         words = self.packet(line, packet)
         self.leave(packet)
         self.tell_count()
-        return f"{words} enters nowhere: no way joins the two"
+        del self.targets[packet]
+        return f"{words} enters nowhere"
 
     def end(self, _line, moves, arrived, local, unjoined):
         """All moves are done."""
