@@ -83,11 +83,16 @@ class Forms:
         self.forms = [form.split() for form in forms]
 
     def read(self, line, words):
-        """The form of these words of the line, by its number, and the values of its fields."""
+        """The form of these words of the line, by its number, and the values of its fields. Of several, as if a switch
+        has a fixed word as its name, it is the first whose fields can be read."""
+        first = None
         for which, form in enumerate(self.forms):
             if has_form(form, words):
-                return which, self.values(line, form, words)
-        raise line.fault("unknown word")
+                try:
+                    return which, self.values(line, form, words)
+                except Fault as fault:
+                    first = first or fault
+        raise first or line.fault("unknown word")
 
     def values(self, line, form, words):
         """The values of the fields, from left to right."""
