@@ -29,18 +29,20 @@ class Tables:
 
 
 class TablesReader:
-    """Takes the lines of trees and tables up to their `end`."""
+    """Takes the lines of trees and tables up to their `end`. As by `check`, of a `component` or `member` line other
+    words than those of `expect` are passed over."""
 
     def __init__(self, network):
         self.tables = Tables()
         self.takers = {
-            "component SWITCH members N": None,
+            "component WORD..": None,
             "member SWITCH level N": self.root,
             "member SWITCH level N parent SWITCH port PORT": self.member,
+            "member WORD..": None,
             "number SWITCH ADDRESS": self.number,
             "row SWITCH ENTRY PAIR..": self.row,
         }
-        self.forms = Forms(fields(network), *self.takers)
+        self.forms = Forms({**fields(network), "WORD": str}, *self.takers)
 
     def take(self, line):
         """Takes a line."""
