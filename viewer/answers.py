@@ -1,7 +1,7 @@
 """What `check`, `flow`, `flood`, `run` and `replay` print."""
 
 from .network import fields
-from .texts import Forms, one_of
+from .texts import Forms, number, one_of
 
 VERDICTS = (
     "ok",
@@ -69,10 +69,11 @@ WHYS = one_of("no-port", "no-table", "no-host", "wrong-host", "no-exit", "link-d
 class Told:
     """Lines that were told, each as its form, the values of its fields, and its own line."""
 
-    def __init__(self, network, *forms):
+    def __init__(self, network, *forms, **kinds):
+        """With further kinds of fields, or others of these names."""
         self.names = forms
         self.told = []
-        self.forms = Forms({**fields(network), "STATE": STATES, "WHY": WHYS}, *forms)
+        self.forms = Forms({**fields(network), "STATE": STATES, "WHY": WHYS, **kinds}, *forms)
 
     def take(self, line, words=None):
         """Takes a line, of which the words are all unless they are given, and gives its form."""
@@ -85,7 +86,7 @@ class Journal:
     """The events of a run. `ticks` has the tick of each, from the first."""
 
     def __init__(self, network):
-        self.events = Told(network, *EVENTS)
+        self.events = Told(network, *EVENTS, PORT=number(1, 12))  # (there is no `port range` in a journal)
         self.ticks = []
         self.tick = 0
 

@@ -83,7 +83,7 @@ def fields(network):
         "HOST": names_of("host", network),
         "CHANNEL": lambda word: channel(network, word),
         "PORT": port,
-        "ENTRY": number(0, 12),
+        "ENTRY": lambda word: port(word, least=0),
         "ADDRESS": number(1, MOST_SWITCHES),
         "N": number(0, 2**64 - 1),
         "PAIR": pair,

@@ -54,10 +54,10 @@ def number(low, high):
     return read
 
 
-def port(word):
-    """Reads a port of a switch, 1 to 12."""
+def port(word, least=1):
+    """Reads a port of a switch, 1 to 12, or from another least one."""
     found = number(0, 2**64 - 1)(word)
-    if not 1 <= found <= 12:
+    if not least <= found <= 12:
         raise Cause("port range")
     return found
 
