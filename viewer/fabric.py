@@ -8,7 +8,7 @@ from .texts import Cause, Forms, number
 SECTION = re.compile(r'(Switch|Ca|Rt)\s+\d+\s+"[SHR]-([0-9a-fA-F]+)"\s*#\s*"(.*)"')
 PORT_LINE = re.compile(r'\[(\d+)\](?:\([0-9a-fA-F]+\))?\s+"([SHR])-([0-9a-fA-F]+)"\[(\d+)\](?:\(([0-9a-fA-F]+)\))?')
 DUMPED = re.compile(
-    r"\{ (SW|CA|RT)\S* Ports:\w+ SystemGUID:\w+ NodeGUID:([0-9a-fA-F]+) PortGUID:([0-9a-fA-F]+) "
+    r"\{ (SW|CA|Rt)\S* Ports:\w+ SystemGUID:\w+ NodeGUID:([0-9a-fA-F]+) PortGUID:([0-9a-fA-F]+) "
     r"VenID:\w+ DevID:\w+ Rev:\w+ \{(.*?)\} LID:\w+ PN:(\w+) \}"
 )
 
