@@ -6,7 +6,8 @@ from .network import Network
 from .texts import Cause, Forms, number
 
 SECTION = re.compile(r'(Switch|Ca|Rt)\s+\d+\s+"[SHR]-([0-9a-fA-F]+)"\s*#\s*"(.*)"')
-PORT_LINE = re.compile(r'\[(\d+)\](?:\([0-9a-fA-F]+\))?\s+"([SHR])-([0-9a-fA-F]+)"\[(\d+)\](?:\(([0-9a-fA-F]+)\))?')
+PORT_LINE = re.compile(r'\[(\d+)\]([^"]*)"([SHR])-([0-9a-fA-F]+)"\[(\d+)\](?:\(([0-9a-fA-F]+)\))?')
+CHASSIS = "Chassis", "Non-Chassis"  # the first words of lines by which `ibnetdiscover -g` groups nodes
 DUMPED = re.compile(
     r"\{ (SW|CA|Rt)\S* Ports:\w+ SystemGUID:\w+ NodeGUID:([0-9a-fA-F]+) PortGUID:([0-9a-fA-F]+) "
     r"VenID:\w+ DevID:\w+ Rev:\w+ \{(.*?)\} LID:\w+ PN:(\w+) \}"
@@ -16,7 +17,7 @@ DUMPED = re.compile(
 def is_topology(line):
     """Whether a text that begins with this line is the topology of a fabric."""
     first = line.all[0]
-    return line.all == ["topology", "1"] or first == "{" or first in ("Switch", "Ca", "Rt") or "=" in first
+    return line.all == ["topology", "1"] or first in ("{", "Switch", "Ca", "Rt", *CHASSIS) or "=" in first
 
 
 def guid_name(guid):
@@ -136,19 +137,19 @@ class Discovered:
                 fabric.add(self.node[1], head[3])
         elif port and self.node:
             self.take_port(fabric, line, port)
-        elif port or "=" not in line.all[0]:
+        elif port or not (line.all[0] in CHASSIS or "=" in line.all[0]):
             raise line.fault("unknown word")
 
     def take_port(self, fabric, line, port):
         """Takes a port of the present node: of a switch its links, of another one to which switch it is cabled."""
         kind, node, text = self.node
-        p, far, q = int(port[1]), int(port[3], 16), int(port[4])
-        if kind == "Switch" and port[2] == "S":
+        p, far, q = int(port[1]), int(port[4], 16), int(port[5])
+        if kind == "Switch" and port[3] == "S":
             fabric.join(line, node, p, far, q)
-        elif kind == "Switch" and port[5]:
-            fabric.attach(line, int(port[5], 16), "", node, p)
-        elif kind != "Switch" and port[2] == "S":
-            own = re.match(r"\[\d+\]\(([0-9a-fA-F]+)\)", line.text)
+        elif kind == "Switch" and port[6]:
+            fabric.attach(line, int(port[6], 16), "", node, p)
+        elif kind != "Switch" and port[3] == "S":
+            own = re.search(r"\(([0-9a-fA-F]+)\)", port[2])
             fabric.attach(line, int(own[1], 16) if own else node, text, far, q)
 
 
