@@ -68,11 +68,17 @@ class Fabric(Network):
         self.names[guid_name(guid)] = "host"
 
     def complete(self, line):
-        """Whether each link is between switches that were told, in the end."""
+        """Refuses a link or end port at a switch that was not told."""
         for end in [*self.link_at, *self.host_at]:
             if end[0] not in self.switches:
                 raise line.fault(f"no such switch {end[0]}")
-        return self
+
+    def leave_out(self):
+        """Leaves out links and end ports at switches that were not told."""
+        self.links = [link for link in self.links if {end[0] for end in link} <= self.switches.keys()]
+        self.link_at = {end: k for k, link in enumerate(self.links) for end in link}
+        self.hosts = {host: end for host, end in self.hosts.items() if end[0] in self.switches}
+        self.host_at = {end: host for host, end in self.hosts.items()}
 
 
 def read_topology(lines):
@@ -85,7 +91,11 @@ def read_topology(lines):
             read(fabric, line)
         except ValueError as error:
             raise line.fault("bad number") from error
-    return fabric.complete(lines[-1])
+    if first == "topology":
+        fabric.complete(lines[-1])
+    else:
+        fabric.leave_out()  # (the others may lack the section of a node)
+    return fabric
 
 
 def take_plain(fabric, line):
