@@ -1,6 +1,7 @@
 /* Reads on standard input what happens to a switch, and prints what the switch of the library answers, in
  * the lines of crates/switch_trace. A line that says nothing of the kind ends the program with 1. */
 #include "autonet.h"
+#include <ctype.h>
 #include <stdio.h>
 #include <stdlib.h>
 #include <string.h>
@@ -79,15 +80,18 @@ static void tick(const char *line) {
     note();
 }
 
+static int is_digit(char letter) { return isxdigit((unsigned char)letter); }
+
 static void comes(const char *line) {
     unsigned port;
     int at = 0;
     size_t length = 0;
     if (sscanf(line, "frame %u %n", &port, &at) != 1 || !at) fail(line);
-    for (const char *text = line + at; text[0] != '-' && text[0] != '\n' && text[0]; text += 2) {
+    const char *text = line + at + (line[at] == '-'); /* which stands for no bytes */
+    for (; text[0] != '\n' && text[0]; text += 2) {
         unsigned byte;
-        int digits = 0;
-        if (length == sizeof bytes || sscanf(text, "%2x%n", &byte, &digits) != 1 || digits != 2) fail(line);
+        if (length == sizeof bytes || !is_digit(text[0]) || !is_digit(text[1])) fail(line);
+        sscanf(text, "%2x", &byte);
         bytes[length++] = (uint8_t)byte;
     }
     if (autonet_frame(&s, (uint8_t)port, bytes, length) != AUTONET_DONE) fail(line);
