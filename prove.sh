@@ -58,9 +58,9 @@ progress() {
         $((seconds / 60)) $((seconds % 60)) >&2
 }
 
-# Shows how far the build of $1 crates is, again and again: each second on a terminal, else each minute.
+# Shows how far the build of $1 crates is, as long as the wrapper lives: each second on a terminal, else each minute.
 show() {
-    while sleep 1; do
+    while sleep 1 && kill -0 $$ 2> /dev/null; do
         if [ -t 2 ]; then
             printf '\r' >&2
             progress "$1"
