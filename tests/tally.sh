@@ -2,6 +2,7 @@
 # shellcheck shell=sh
 passed=0
 failed=0
+trap 'exit 130' HUP INT TERM # so that a signal, too, runs the trap of EXIT
 
 # Counts what $2 names as passed if the status $1 is 0, else as failed.
 count() {
