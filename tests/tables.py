@@ -1,12 +1,32 @@
-"""What tests/routed, tests/repaired and tests/large_fabric share: a topology and tables as plain Python, the routes
-that are followed there, and fabrics that are made."""
+"""What tests/routed, tests/repaired and tests/large_fabric share: calls of the program, a topology and tables as plain
+Python, the routes that are followed there, and fabrics that are made."""
 
 import itertools
+import os
+import pathlib
 import random
 import re
+import subprocess
 
+TOP = pathlib.Path(__file__).resolve().parent.parent
+FABRIC = os.environ.get("FABRIC", str(TOP / "fabric"))
+TRAFFICS = ("hosts", "lids", "all")
 HEAD = re.compile(r"(?:Unicast lids .*guid 0x(\w+)|switch 0x(\w+))")
 ROW = re.compile(r"(0x[0-9a-f]+|\d+)\s+(\d+)(?:\s|$)")
+
+
+def run(*words, **streams):
+    """The status of a call, and what it writes to out and to err."""
+    done = subprocess.run([FABRIC, *map(str, words)], text=True, timeout=900,
+                          **{"stdout": subprocess.PIPE, "stderr": subprocess.PIPE, **streams})
+    return done.returncode, done.stdout, done.stderr
+
+
+def put(folder, name, text):
+    """The path of a new file of this text."""
+    path = pathlib.Path(folder) / name
+    path.write_text(text)
+    return path
 
 
 class Fabric:
