@@ -5,6 +5,8 @@ import os
 import subprocess
 import tempfile
 
+import hostile
+
 ENDS = (0, 1, 6, 10)  # the statuses of a run
 
 
@@ -25,20 +27,16 @@ class Program:
         return [self.answer(["run"], network, processors) for network in networks]
 
 
-class Count:
+class Count(hostile.Tally):
     """How many tries passed, and how many failed."""
-
-    def __init__(self):
-        self.passed = self.failed = 0
 
     def add(self, holds, what, network):
         """Counts one, and keeps the network if it failed."""
-        self.passed += holds
-        self.failed += not holds
         if not holds:
-            kept = tempfile.NamedTemporaryFile(prefix="run_threads-", suffix=".net", delete=False)
-            kept.write(network)
-            print(f"failed: {what}; the network is in {kept.name}", flush=True)
+            with tempfile.NamedTemporaryFile(prefix="run_threads-", suffix=".net", delete=False) as kept:
+                kept.write(network)
+            what = f"{what}; the network is in {kept.name}"
+        self.count(holds, what)
 
 
 def journal_of(output):
