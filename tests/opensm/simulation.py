@@ -55,6 +55,14 @@ def end_on_signals():
         signal.signal(number, lambda number, _: sys.exit(128 + number))
 
 
+def fabric_to_cut(name, link):
+    """The named fabric, which has a link at this place. If there is none, this program ends."""
+    fabric = fabrics.fabric_called(name)
+    if fabric is None or not 0 <= link < len(fabric.links):
+        sys.exit(f"no fabric is called {name}, or it has no link {link}")
+    return fabric
+
+
 def rows_in(text):
     """The port of each switch and LID that tables tell, without those that name none."""
     rows, switch = {}, None
