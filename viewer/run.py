@@ -1,6 +1,7 @@
 """A run, as `run` and `replay` print it: epochs, what ports show, tables, cables, packets, frames lost."""
 
 from .story import Story, listed, plural
+from .strip import tint
 
 STATES = {
     "s.dead": ("✕", "dead"),
@@ -10,7 +11,6 @@ STATES = {
     "s.switch.loop": ("↺", "a loop to this switch"),
     "s.switch.good": ("✓", "good"),
 }
-TINTS = 5
 
 
 class Run(Story):
@@ -114,8 +114,8 @@ class Run(Story):
         """The signs of the epochs, each colour with all that have it."""
         shown = {}
         for epoch in sorted(self.epochs):
-            shown.setdefault((epoch - 1) % TINTS + 1, []).append(epoch)
-        return [(f"switch epoch-{tint}", f"a switch in epoch {listed(epochs, 5)}") for tint, epochs in shown.items()]
+            shown.setdefault(tint(epoch), []).append(epoch)
+        return [(f"switch {kind}", f"a switch in epoch {listed(epochs, 5)}") for kind, epochs in shown.items()]
 
     def tell_end(self):
         """How the run ended, and what happened in it."""
@@ -164,8 +164,8 @@ class Run(Story):
     def put_switch(self, switch):
         """The box of a switch."""
         epoch, table = self.epoch[switch], self.table[switch]
-        tint = f" epoch-{(epoch - 1) % TINTS + 1}" if epoch else ""
-        kind = "switch" + tint + ("" if table else " no-table") + (" spent" if switch in self.spent else "")
+        kind = f"switch {tint(epoch)}".rstrip()
+        kind += ("" if table else " no-table") + (" spent" if switch in self.spent else "")
         second = f"epoch {epoch}" if epoch is not None else "in no epoch yet"
         third = f"table {table[0]} · no. {table[1]}" if table else "no table"
         third = "no epoch left" if switch in self.spent else third

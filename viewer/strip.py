@@ -5,6 +5,12 @@ from .picture import box, tag, text, title
 LEFT, WIDE, ROW = 96, 1000, 17
 MOST_LABELS = 4
 TICKS = 8
+TINTS = 5
+
+
+def tint(epoch):
+    """The class of what has the colour of an epoch; empty for none."""
+    return f"epoch-{(epoch - 1) % TINTS + 1}" if epoch else ""
 
 
 class Strip:
@@ -75,8 +81,7 @@ class Strip:
 
     def span(self, switch, y, begin, end, epoch, table):
         """A switch in one epoch, with its table or without."""
-        tint = f"epoch-{(epoch - 1) % 5 + 1}" if epoch else ""
-        kind = tint if table else f"{tint} no-table"
+        kind = tint(epoch) if table else f"{tint(epoch)} no-table"
         used = f"table of epoch {table}" if table else "no table"
         words = f"{switch}: {f'epoch {epoch}' if epoch else 'no epoch'}, {used}, events {begin} to {end}"
         wide = max(self.x(end) - self.x(begin), 0.5)
