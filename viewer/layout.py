@@ -108,7 +108,7 @@ def place_rows(plan, rows):
             for switch, x in spread(plan, part, wanted).items():
                 at[switch] = x, y
             y += LEVEL_GAP if piece + 1 == pieces else SIDE
-        y += 26 * longest_arc(part, near)
+        y += 26 * has_arc(part, near)
     return at
 
 
@@ -118,7 +118,7 @@ def middle_above(switch, near, at):
     return sum(found) / len(found) if found else 0.0
 
 
-def longest_arc(row, near):
+def has_arc(row, near):
     """Whether a link joins switches of the row between which others stand."""
     place = {switch: k for k, switch in enumerate(row)}
     return any(place.get(other, -9) > place[switch] + 1 for switch in row for _, other, _ in near[switch])
