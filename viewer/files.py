@@ -29,7 +29,7 @@ class Files:
 
     def __init__(self, names):
         self.names = names
-        self.network = self.tables = self.journal = self.topology = None
+        self.network = self.tables = self.journal = None
         self.verdict = self.flow = self.flood = self.report = self.judgement = None
         for name in names:
             self.take_file(read_file(name))

@@ -68,7 +68,7 @@ class Picture:
 
     def all_curves(self):
         """The curve of each link of which both ends are placed, from box to box."""
-        many, turn, curves = {}, {}, {}
+        many, curves = {}, {}
         placed = [k for k, ((s, _), (t, _)) in enumerate(self.network.links) if {s, t} <= set(self.plan.at)]
         for k in placed:
             many.setdefault(self.pair(k), []).append(k)
