@@ -1,5 +1,5 @@
-"""What bench/expect, bench/check, bench/flood, bench/flow and bench/replay share: the proved program and, if rustc
-is there, the yardstick (yardsticks/build, an unverified Rust program with the same answers), each on the same input in turn.
+"""What the scripts of this folder that measure autonet share: the proved program and, if rustc is there, the
+yardstick (yardsticks/build, an unverified Rust program with the same answers), each on the same input in turn.
 
 The proved program is out/autonet, or the one that the variable AUTONET names. If it is not there, the yardstick
 is measured alone, and its columns have `-`."""

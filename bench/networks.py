@@ -1,4 +1,4 @@
-"""The networks of bench/expect, bench/check and bench/flow, each as lines without the last, `end`."""
+"""Networks that scripts of this folder and tests/view share, each as lines without the last, `end`."""
 
 import random
 
